@@ -1,0 +1,171 @@
+-- What a record about a mailbox or a message changes, and the lines that it owes at once (01, What is written, 1 to 19 and 22).
+use mathlib.Core.List.{List, [], _∷_, _++_}
+use mathlib.Core.Bool.{Bool, true, false, not, cond, _&&_, _||_}
+use Prim.Native.Nat.{ℕ, _+_, _*_, _/_, _%_}
+use lib.Dec.{eqb, ltb}
+use lib.ListN.{length}
+use Rattle.model.specs.Lists.{when}
+use Rattle.model.specs.Names.{Name}
+use Rattle.model.specs.Memory.{Memory, boxes, mails, nameOf, selectable, subscribed as isSubscribed, mayList, bothRights, withAttributes, withNext, withName, stored, theMailbox, isSelected, selectedBox, inMailbox, isMessage, existing, withFlags, withStates, putBox, addBox, dropBox, addMail, dropMails, changeMails, withSession, silenced}
+use Rattle.model.specs.Groups.{asked, askedOf, asksNew, asksExpunge, asksName, asksSubscription}
+use Rattle.model.specs.Lines.{Line, status, list, renamed, expunge, overflow, ListMark, plain, noselect, nonExistent, subscribed}
+use Rattle.model.specs.Queue.{fits, say}
+use Rattle.model.specs.View.{view, placeOf, newAtOnce, expungeAtOnce, flagsAtOnce, flagsWait, announcing, flagsLine}
+use Rattle.model.specs.declared.Mailbox.{Mailbox}
+use Rattle.model.specs.declared.Message.{Message}
+use Rattle.model.specs.declared.MessageNumber.{MessageNumber}
+use Rattle.model.specs.declared.Uid.{Uid}
+use Rattle.model.specs.declared.Session.{Session}
+
+-- an event: the memory with its change made, and the lines owed at once
+pub record Event : Type 0 where
+  pub stored : Memory
+  pub lines : List Line
+
+-- ---- mailbox events (5 to 9). A line is owed with both rights, if a group asks
+-- a quiet record owes no notice (Records from the host, 4)
+abbrev pub loud : ℕ → List Line → List Line
+loud q ls = cond (eqb q 0) ls []
+
+abbrev pub listMark : Mailbox → ListMark
+listMark x = cond (selectable x) plain noselect
+
+abbrev pub createLines : Session → Mailbox → List Line
+createLines s x = when (bothRights x && askedOf s x asksName) (list (listMark x) (nameOf x))
+
+abbrev pub deleteLines : Session → Mailbox → List Line
+deleteLines s x = when (bothRights x && askedOf s x asksName) (list nonExistent (nameOf x))
+
+-- a new mailbox; its UIDNEXT is 1 (3)
+abbrev pub newBox : ℕ → ℕ → ℕ → Name → Mailbox
+newBox i a v n = record { id = i; attributes = a; namelen = length n; uidvalidity = v; uidnext = 1; name = stored n }
+
+abbrev pub created : Memory → ℕ → ℕ → ℕ → ℕ → Name → Event
+created m i a q v n = record {
+  stored = addBox m (newBox i a v n);
+  lines = loud q (createLines (m .session) (newBox i a v n));
+}
+
+-- its messages go with it
+abbrev pub deleted : Memory → ℕ → ℕ → Event
+deleted m i q = record {
+  stored = dropMails (dropBox m i) (inMailbox i);
+  lines = loud q (deleteLines (m .session) (theMailbox i (boxes m)));
+}
+
+-- a rename is matched by the old name or the new one (8)
+abbrev pub renameLines : Session → Mailbox → Mailbox → List Line
+renameLines s x y = when (bothRights x && (askedOf s x asksName || askedOf s y asksName)) (renamed (listMark x) (nameOf y) (nameOf x))
+
+abbrev pub renamedTo : Memory → ℕ → ℕ → Name → Event
+renamedTo m i q n =
+    let x = theMailbox i (boxes m) in
+    record {
+      stored = putBox m i (withName x n);
+      lines = loud q (renameLines (m .session) x (withName x n));
+    }
+
+-- bit 3 becomes b
+abbrev pub withSubscribed : ℕ → ℕ → ℕ
+withSubscribed a b = a % 8 + (8 * b + 16 * (a / 16))
+
+-- a change of subscription is matched as if the mailbox were subscribed (9)
+abbrev pub subscriptionLines : Session → Mailbox → ℕ → List Line
+subscriptionLines s x b =
+    let differs = cond (isSubscribed x) (eqb b 0) (eqb b 1) in
+    when (differs && (bothRights x && asked s (nameOf x) (withSubscribed (x .attributes) 1) asksSubscription))
+    (list (cond (eqb b 1) subscribed plain) (nameOf x))
+
+abbrev pub subscribedTo : Memory → ℕ → ℕ → ℕ → Event
+subscribedTo m i b q =
+    let x = theMailbox i (boxes m) in
+    record {
+      stored = putBox m i (withAttributes x (withSubscribed (x .attributes) b));
+      lines = loud q (subscriptionLines (m .session) x b);
+    }
+
+-- rights: the mailbox before and after. To gain l is a create, by the rights after; to lose it a delete, by those before (1, 6)
+abbrev pub rightsLines : Session → Mailbox → Mailbox → List Line
+rightsLines s x y =
+    cond (mayList x) (cond (mayList y) [] (deleteLines s x))
+    (cond (mayList y) (createLines s y) [])
+
+-- bits 4 and 5 become r's
+abbrev pub withRights : Mailbox → ℕ → Mailbox
+withRights x r = withAttributes x (x .attributes % 16 + r)
+
+abbrev pub granted : Memory → ℕ → ℕ → Event
+granted m i r =
+    let x = theMailbox i (boxes m) in
+    record {
+      stored = putBox m i (withRights x r);
+      lines = rightsLines (m .session) x (withRights x r);
+    }
+
+-- ---- message events
+-- a STATUS of a mailbox that is not selected (3)
+abbrev pub statusLines : Memory → Mailbox → Bool → List Line
+statusLines m x wanted = when (bothRights x && wanted) (status (nameOf x) (x .uidnext) (length (existing (x .id) (mails m))))
+
+-- the message is stored, and UIDNEXT is one above its UID (3)
+abbrev pub message : ℕ → ℕ → ℕ → ℕ → Message
+message i u f z = record { mailbox = i; uid = record { 0 = u }; flags = f; size = z; states = 0 }
+
+abbrev pub withArrived : Memory → ℕ → ℕ → ℕ → ℕ → Memory
+withArrived m i u f z = addMail (putBox m i (withNext (theMailbox i (boxes m)) (u + 1))) (message i u f z)
+
+abbrev pub arrived : Memory → ℕ → ℕ → ℕ → ℕ → Event
+arrived m i u f z =
+    let after = withArrived m i u f z in
+    let x = theMailbox i (boxes after) in
+    record {
+      stored = after;
+      lines = cond (isSelected m i)
+          (cond (newAtOnce m) (announcing after) [])
+          (statusLines after x (askedOf (m .session) x asksNew));
+    }
+
+-- an expunged message of the view waits, or is told at once; another is gone at once (One session beside one store, 3; 14 to 16)
+abbrev pub inView : Memory → ℕ → ℕ → Bool
+inView m i u = isSelected m i && ltb u (m .session .told)
+
+abbrev pub expire : ℕ → ℕ → Message → Message
+expire i u e = cond (isMessage i u e) (withStates e 1) e
+
+abbrev pub removed : Memory → ℕ → ℕ → Event
+removed m i u =
+    let x = theMailbox i (boxes m) in
+    let without = dropMails m (isMessage i u) in
+    cond (inView m i u)
+    (cond (expungeAtOnce m)
+    (record { stored = m; lines = expunge (placeOf u (view m)) (record { 0 = u }) ∷ [] })
+    (record { stored = changeMails m (expire i u); lines = [] }))
+    (record { stored = without; lines = cond (isSelected m i) [] (statusLines without x (askedOf (m .session) x asksExpunge)) })
+
+-- a flag change of a message in the view is told at once, waits as a mark, or is dropped; elsewhere it is told to nobody (4, 10, 17 to 19)
+abbrev pub reflag : ℕ → ℕ → ℕ → Message → Message
+reflag i u f e = cond (isMessage i u e) (withFlags e f) e
+
+abbrev pub mark : ℕ → ℕ → Message → Message
+mark i u e = cond (isMessage i u e) (withStates e 2) e
+
+abbrev pub reflagged : Memory → ℕ → ℕ → ℕ → Event
+reflagged m i u f =
+    let after = changeMails m (reflag i u f) in
+    cond (inView m i u)
+    (cond (flagsAtOnce m)
+    (record { stored = after; lines = flagsLine (placeOf u (view m) .0) (message i u f 0) ∷ [] })
+    (cond (flagsWait m)
+    (record { stored = changeMails after (mark i u); lines = [] })
+    (record { stored = after; lines = [] })))
+    (record { stored = after; lines = [] })
+
+-- ---- an event is told: its lines are written together, or else it is treated as after NOTIFY NONE, and the overflow line is written (22)
+abbrev pub silence : Memory → Memory
+silence m = withSession m (silenced (m .session))
+
+unfoldable pub tellings : Memory → (Memory → Event) → List Line
+tellings m event = cond (fits m (event m .lines)) (event m .lines) (overflow ∷ [])
+
+unfoldable pub settled : Memory → (Memory → Event) → Memory
+settled m event = cond (fits m (event m .lines)) (event m .stored) (event (silence m) .stored)

@@ -1,0 +1,110 @@
+-- The groups of a session: how they are kept, whom each meets, what it asks (01, Who matches, 1 to 4).
+use mathlib.Core.List.{List, [], _∷_, map}
+use mathlib.Core.Bool.{Bool, true, false, not, cond, _&&_, _||_}
+use Prim.Native.Nat.{ℕ}
+use lib.Dec.{eqb}
+use lib.ListN.{take, drop, length}
+use Rattle.model.specs.Lists.{anyb, same}
+use Rattle.model.specs.Names.{Name, subtree}
+use Rattle.model.specs.Text.{bit}
+use Rattle.model.specs.Memory.{nameOf}
+use Rattle.model.specs.declared.Mailbox.{Mailbox}
+use Rattle.model.specs.declared.NameRange.{NameRange}
+use Rattle.model.specs.declared.Selector.{Selector}
+use Rattle.model.specs.declared.Selector.the-variants.{Selected, Delayed, Inboxes, Personal, Subscribed, Subtree, Mailboxes}
+use Rattle.model.specs.declared.Group.{Group}
+use Rattle.model.specs.declared.LentGroup.{LentGroup}
+use Rattle.model.specs.declared.LentName.{LentName}
+use Rattle.model.specs.declared.Session.{Session}
+
+-- ---- as they are kept: a selector by its number, the first two without a mailbox of their own, the last two with names
+abbrev pub selectorOf : ℕ → NameRange → Selector
+selectorOf k r =
+    cond (eqb k 0) Selected
+    (cond (eqb k 1) Delayed
+    (cond (eqb k 2) Inboxes
+    (cond (eqb k 3) Personal
+    (cond (eqb k 4) Subscribed
+    (cond (eqb k 5) (Subtree r) (Mailboxes r))))))
+
+abbrev pub groupOf : LentGroup → Group
+groupOf g = record { selector = selectorOf (g .selector) (record { first = g .first; count = g .count }); events = g .events; attributes = g .attributes }
+
+abbrev pub groupsOf : Session → List Group
+groupsOf s = map groupOf (take (s .groupcount) (s .groups))
+
+-- the names of a range
+abbrev pub lentName : LentName → Name
+lentName n = take (n .len) (n .octets)
+
+abbrev pub namesAt : Session → NameRange → List Name
+namesAt s r = map lentName (take (r .count) (drop (r .first) (s .names)))
+
+-- ---- the events that are asked, a bit each
+abbrev pub asksNew : Group → Bool
+asksNew g = bit 0 (g .events)
+
+abbrev pub asksExpunge : Group → Bool
+asksExpunge g = bit 1 (g .events)
+
+abbrev pub asksFlags : Group → Bool
+asksFlags g = bit 2 (g .events)
+
+abbrev pub asksName : Group → Bool
+asksName g = bit 3 (g .events)
+
+abbrev pub asksSubscription : Group → Bool
+asksSubscription g = bit 4 (g .events)
+
+-- the message events, and the two mailbox events
+abbrev pub asksMessages : Group → Bool
+asksMessages g = asksNew g || asksExpunge g || asksFlags g
+
+abbrev pub asksMailbox : Group → Bool
+asksMailbox g = asksName g || asksSubscription g
+
+-- ---- whom a group meets, by name and attributes (1 and 2): the selected groups meet no mailbox by themselves
+module _ (s : Session) (n : Name) (a : ℕ) where
+  abbrev pub meets : Selector → Bool
+  meets Selected = false
+  meets Delayed = false
+  meets Inboxes = bit 0 a && (bit 1 a && bit 2 a)
+  meets Personal = bit 0 a && bit 1 a
+  meets Subscribed = bit 3 a
+  meets (Subtree r) = bit 0 a && anyb (λ (top : Name). subtree top n) (namesAt s r)
+  meets (Mailboxes r) = anyb (λ (t : Name). same t n) (namesAt s r)
+
+  -- a group that meets it asks for the event: their events add up (3)
+  abbrev pub asked : (Group → Bool) → Bool
+  asked asks = anyb (λ (g : Group). meets (g .selector) && asks g) (groupsOf s)
+
+-- the same of a mailbox
+abbrev pub askedOf : Session → Mailbox → (Group → Bool) → Bool
+askedOf s x asks = asked s (nameOf x) (x .attributes) asks
+
+-- ---- the selected group (4): it stands for the selected mailbox's message events
+abbrev pub isSelecting : Selector → Bool
+isSelecting Selected = true
+isSelecting Delayed = true
+isSelecting Inboxes = false
+isSelecting Personal = false
+isSelecting Subscribed = false
+isSelecting (Subtree r) = false
+isSelecting (Mailboxes r) = false
+
+-- it asks for the event
+abbrev pub selectedAsks : Session → (Group → Bool) → Bool
+selectedAsks s asks = anyb (λ (g : Group). isSelecting (g .selector) && asks g) (groupsOf s)
+
+abbrev pub isImmediate : Selector → Bool
+isImmediate Selected = true
+isImmediate Delayed = false
+isImmediate Inboxes = false
+isImmediate Personal = false
+isImmediate Subscribed = false
+isImmediate (Subtree r) = false
+isImmediate (Mailboxes r) = false
+
+-- and is not a delayed one
+abbrev pub immediateAsks : Session → (Group → Bool) → Bool
+immediateAsks s asks = anyb (λ (g : Group). isImmediate (g .selector) && asks g) (groupsOf s)

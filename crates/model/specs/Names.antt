@@ -1,0 +1,62 @@
+-- Mailbox names (01, Records from the host, 19 and 20; Who matches, 1).
+use mathlib.Core.Bool.{Bool, true, false, not, cond, _&&_, _||_}
+use mathlib.Core.List.{List, [], _∷_}
+use Prim.Native.Nat.{ℕ, _+_}
+use lib.Dec.{eqb, leb, ltb}
+use lib.ListN.{length, drop}
+use Rattle.model.specs.Lists.{allb, anyb, same}
+use Rattle.model.specs.Text.{octets, sameWord}
+
+-- a name is a list of octets
+abbrev pub Name : Type 0
+Name = List ℕ
+
+-- an octet that may stand in a name: 0x20 to 0x7E
+abbrev pub printable : ℕ → Bool
+printable b = leb 0x20 b && leb b 0x7E
+
+-- no part between `/` is empty; `begun` says whether the part that is being read has an octet
+unfoldable pub noPartEmpty : Bool → Name → Bool
+noPartEmpty begun [] = begun
+noPartEmpty begun (b ∷ n) =
+    let closed = begun && noPartEmpty false n in
+    let longer = noPartEmpty true n in
+    cond (eqb b 47) closed longer
+
+-- a valid name: 1 to 64 octets that may stand in a name, in parts of one or more
+abbrev pub valid : Name → Bool
+valid n = (leb 1 (length n) && leb (length n) 64) && (allb printable n && noPartEmpty false n)
+
+-- INBOX in any case is INBOX; a part of a name keeps its octets
+abbrev pub inbox : Name
+inbox = octets "INBOX"
+
+abbrev pub fold : Name → Name
+fold n = cond (sameWord n inbox) inbox n
+
+-- a mailbox argument of a command: the name it gives, or the empty one, which no mailbox has (Commands, 4)
+abbrev pub argument : List ℕ → Name
+argument a = cond (valid a) (fold a) []
+
+-- n lies beneath top: it begins with top and `/`
+unfoldable pub beneath : Name → Name → Bool
+beneath [] [] = false
+beneath [] (b ∷ n) = eqb b 47
+beneath (a ∷ top) [] = false
+beneath (a ∷ top) (b ∷ n) = let rest = beneath top n in cond (eqb a b) rest false
+
+-- a subtree is the mailbox named and every mailbox below it
+abbrev pub subtree : Name → Name → Bool
+subtree top n = same top n || beneath top n
+
+-- one level of it is the mailbox named and those directly below it
+abbrev pub subtreeOne : Name → Name → Bool
+subtreeOne top n = same top n || (beneath top n && not (anyb (eqb 47) (drop (length top + 1) n)))
+
+-- names in octet order: a comes before b, or is b
+unfoldable pub before : Name → Name → Bool
+before [] b = true
+before (x ∷ a) [] = false
+before (x ∷ a) (y ∷ b) =
+    let rest = before a b in
+    cond (ltb x y) true (cond (eqb x y) rest false)

@@ -1,0 +1,91 @@
+-- The queue, and what the writing of a line ends (01, One session beside one store, 1, 3 and 4; What is written, 11 to 22).
+use mathlib.Core.List.{List, [], _∷_, _++_}
+use mathlib.Core.Bool.{Bool, true, false, not, cond, _&&_, _||_}
+use Prim.Native.Nat.{ℕ, _+_, _-_}
+use lib.Dec.{eqb, leb, ltb}
+use lib.ListN.{length, take, drop}
+use Rattle.model.specs.Lists.{anyb}
+use Rattle.model.specs.Memory.{Memory, boxes, mails, filled, selectedBox, withSession, withView, dropMails, changeMails, isMessage, withStates}
+use Rattle.model.specs.Lines.{Line, status, statusAtSet, list, renamed, exists, expunge, fetch, found, overflow, answer, Item, uid, flags, size, render, renderAll}
+use Rattle.model.specs.declared.Message.{Message}
+use Rattle.model.specs.declared.MessageNumber.{MessageNumber}
+use Rattle.model.specs.declared.Uid.{Uid}
+
+-- what is left for lines: 64 octets are kept for the overflow line
+abbrev pub room : Memory → ℕ
+room m = length (m .queue) - 64 - filled m
+
+abbrev pub fits : Memory → List Line → Bool
+fits m ls = leb (length (renderAll ls)) (room m)
+
+-- as many whole lines from the front as fit (20)
+unfoldable pub fitting : ℕ → List Line → List Line
+fitting free [] = []
+fitting free (l ∷ ls) =
+    let rest = fitting (free - length (render l)) ls in
+    cond (leb (length (render l)) free) (l ∷ rest) []
+
+-- a text behind what the queue holds; what lies behind it stays
+unfoldable pub written : List ℕ → ℕ → List ℕ → List ℕ
+written q at t = take at q ++ (t ++ drop (at + length t) q)
+
+abbrev pub enqueue : Memory → List ℕ → Memory
+enqueue m t = record {
+  rows = m .rows;
+  entries = m .entries;
+  counts = record { mailboxes = m .counts .mailboxes; messages = m .counts .messages; filled = m .counts .filled + length t };
+  session = m .session;
+  queue = written (m .queue) (filled m) t;
+}
+
+-- octets leave the queue's front; the others move up, and what lies behind them stays (Records from the host, 18)
+unfoldable pub shifted : List ℕ → ℕ → ℕ → List ℕ
+shifted q f n = drop n (take f q) ++ drop (f - n) q
+
+abbrev pub dequeue : Memory → ℕ → Memory
+dequeue m n = record {
+  rows = m .rows;
+  entries = m .entries;
+  counts = record { mailboxes = m .counts .mailboxes; messages = m .counts .messages; filled = m .counts .filled - n };
+  session = m .session;
+  queue = shifted (m .queue) (filled m) n;
+}
+
+-- ---- what a line ends
+-- all of the selected mailbox's messages are announced: the view is all below its UIDNEXT (13)
+abbrev pub announce : Memory → Memory
+announce m = withSession m (withView (m .session) (m .session .selected) (selectedBox m .uidnext))
+
+-- the flags are shown
+abbrev pub isFlags : Item → Bool
+isFlags (uid u) = false
+isFlags (flags f) = true
+isFlags (size z) = false
+
+abbrev pub showsFlags : List Item → Bool
+showsFlags is = anyb isFlags is
+
+-- message u of mailbox i waits for nothing
+abbrev pub unmark : ℕ → ℕ → Message → Message
+unmark i u e = cond (isMessage i u e) (withStates e 0) e
+
+-- EXISTS announces; EXPUNGE gives the entry free; a FETCH of the flags ends the mark (3, 13, 18). Other lines end nothing
+abbrev pub effect : Memory → Line → Memory
+effect m (exists n) = announce m
+effect m (expunge n u) = dropMails m (isMessage (m .session .selected) (u .0))
+effect m (fetch n u is) = cond (showsFlags is) (changeMails m (unmark (m .session .selected) (u .0))) m
+effect m (status n u k) = m
+effect m (statusAtSet n k u v) = m
+effect m (list k n) = m
+effect m (renamed k new old) = m
+effect m (found t n v rs) = m
+effect m overflow = m
+effect m (answer t v r) = m
+
+unfoldable pub effects : Memory → List Line → Memory
+effects m [] = m
+effects m (l ∷ ls) = effects (effect m l) ls
+
+-- lines are written: their octets go into the queue, and they end what they end
+abbrev pub say : Memory → List Line → Memory
+say m ls = effects (enqueue m (renderAll ls)) ls

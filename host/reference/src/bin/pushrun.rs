@@ -1,0 +1,24 @@
+//! `pushrun`: a stream on standard input, cut by its length fields. After each record `! n` for a
+//! refusal, then what the queue holds, which is drained. Counts are not printed.
+
+use reference::memory::{MAILBOXES, MESSAGES};
+use reference::{call_trusting, records, Memory};
+use std::io::{self, BufWriter, Read, Write};
+
+fn main() -> io::Result<()> {
+    let mut stream = Vec::new();
+    io::stdin().lock().read_to_end(&mut stream)?;
+    let mut out = BufWriter::new(io::stdout().lock());
+    let mut memory = Memory::new(8192, MAILBOXES, MESSAGES);
+    for record in records::cut(&stream) {
+        let answer = call_trusting(&mut memory, record);
+        if answer.refusal != 0 {
+            write!(out, "! {}\r\n", answer.refusal)?;
+        }
+        out.write_all(memory.held())?;
+        let mut drained = *b"DR\x04\x00\x00\x00\x00\x00";
+        drained[4..].copy_from_slice(&(memory.filled as u32).to_le_bytes());
+        call_trusting(&mut memory, &drained);
+    }
+    out.flush()
+}

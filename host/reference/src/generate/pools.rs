@@ -1,0 +1,46 @@
+//! Ids and names, few enough that records and commands meet.
+
+use crate::random::Random;
+
+/// Ids that streams speak of, and some that no `MB` makes.
+pub const OPEN_IDS: &[u16] = &[1, 2, 3, 4, 5, 258];
+pub const STRAY_IDS: &[u16] = &[0, 6, 77, 0xFFFF];
+
+/// Ids of the mailboxes that hold no right in either stream of a pair.
+pub const HIDDEN_IDS: &[u16] = &[11, 12, 13, 0x0101];
+
+/// Names that meet one another: INBOX in several cases, subtrees, near misses, quoting.
+pub const NAMES: &[&str] = &[
+    "INBOX",
+    "inbox",
+    "Ops",
+    "Ops/Mains",
+    "Opsroom",
+    "a",
+    "a/b",
+    "InBoX",
+    "INBOX/x",
+    "iNbox/x",
+    "Ops/Mains/deep",
+    "Ops/Spare",
+    "ops",
+    "a/b/c",
+    "a b",
+    "q\"uo",
+    "back\\slash",
+    "NONE",
+    "abcdefghijklmnopqrstuvwxyz/abcdefghijklmnopqrstuvwxyz/0123456789",
+];
+
+/// The names that come up most, so that records and commands often mean the same mailbox.
+const USUAL_NAMES: usize = 7;
+
+pub fn name(random: &mut Random) -> &'static str {
+    if random.chance(65) {
+        random.pick(&NAMES[..USUAL_NAMES])
+    } else {
+        random.pick(NAMES)
+    }
+}
+
+pub const BAD_NAMES: &[&str] = &["", "/", "/a", "a/", "a//b", "\u{1f}", "x\u{7f}", "\u{e9}"];

@@ -1,0 +1,134 @@
+//! Refusal 1: may lent memory be worked on at all?
+
+use crate::memory::*;
+
+/// Lengths of queue and tables.
+pub fn lengths_lawful(memory: &Memory) -> bool {
+    (QUEUE_LEAST..=QUEUE_MOST).contains(&memory.queue.len())
+        && memory.mailboxes.len() <= MAILBOXES
+        && memory.messages.len() <= MESSAGES
+}
+
+/// All of it. What lies behind the three counts is not looked at.
+pub fn lawful(memory: &Memory) -> bool {
+    lengths_lawful(memory)
+        && counts_lawful(memory)
+        && mailboxes_lawful(memory.rows())
+        && groups_lawful(&memory.session)
+        && view_lawful(memory)
+        && messages_lawful(memory)
+}
+
+fn counts_lawful(memory: &Memory) -> bool {
+    let free = if memory.session.mode == SET {
+        RESERVE
+    } else {
+        0
+    };
+    memory.mailbox_count <= memory.mailboxes.len()
+        && memory.message_count <= memory.messages.len()
+        && memory.filled <= memory.queue.len() - free
+}
+
+fn mailboxes_lawful(rows: &[Mailbox]) -> bool {
+    let fields = |row: &Mailbox| {
+        row.id != 0
+            && row.attributes <= 0x3F
+            && row.uid_validity != 0
+            && row.uid_next != 0
+            && row.name.is_lawful()
+    };
+    let apart = |place: usize| {
+        let row = &rows[place];
+        rows[..place]
+            .iter()
+            .all(|other| other.id != row.id && other.name != row.name)
+    };
+    rows.iter().all(fields) && (0..rows.len()).all(apart)
+}
+
+/// Groups that some accepted NOTIFY makes, and zero where no group or name stands.
+fn groups_lawful(session: &Session) -> bool {
+    let groups = &session.groups;
+    let (count, names) = (groups.count as usize, groups.name_count as usize);
+    if count > GROUPS || names > NAMES || session.mode > SET {
+        return false;
+    }
+    // names are handed out to the groups in order, all of them
+    let mut next = 0;
+    let mut about_selected = 0;
+    for group in groups.used() {
+        if !group_lawful(group, next) {
+            return false;
+        }
+        next += usize::from(group.name_count);
+        about_selected += usize::from(group.selector <= IS_DELAYED);
+    }
+    let zero = Group::default();
+    (session.mode == SET) == (count > 0)
+        && about_selected <= 1
+        && next == names
+        && groups.name[..names]
+            .iter()
+            .all(|name| *name == Default::default() || name.is_lawful())
+        && groups.name[names..]
+            .iter()
+            .all(|name| *name == Default::default())
+        && groups.group[count..].iter().all(|group| *group == zero)
+}
+
+fn group_lawful(group: &Group, next: usize) -> bool {
+    let about_selected = matches!(group.selector, IS_SELECTED | IS_DELAYED);
+    let named = matches!(group.selector, IS_SUBTREE | IS_MAILBOXES);
+    let asks = |event: u8| group.events & event != 0;
+    let names = if named {
+        usize::from(group.first_name) == next && group.name_count > 0
+    } else {
+        group.first_name == 0 && group.name_count == 0
+    };
+    (IS_SELECTED..=IS_MAILBOXES).contains(&group.selector)
+        && group.events <= MESSAGE_EVENTS | MAILBOX_EVENTS
+        && paired(group.events)
+        && !(about_selected && asks(MAILBOX_EVENTS))
+        && group.attributes <= WITH_UID | WITH_FLAGS | WITH_SIZE
+        && (group.attributes == 0 || about_selected && asks(NEW))
+        && names
+}
+
+/// New and expunged messages are asked together, flag changes with both.
+pub fn paired(events: u8) -> bool {
+    let both = NEW | EXPUNGE;
+    events & both == both || events & (both | FLAGS) == 0
+}
+
+/// With none selected the view is nothing; else it reaches no further than UIDs ever used.
+fn view_lawful(memory: &Memory) -> bool {
+    let session = &memory.session;
+    match session.selected {
+        0 => session.told == 0,
+        id => memory
+            .mailbox(id)
+            .is_some_and(|row| session.told <= row.uid_next),
+    }
+}
+
+fn messages_lawful(memory: &Memory) -> bool {
+    let session = &memory.session;
+    let fields = |entry: &Message| {
+        let in_view = entry.mailbox == session.selected && entry.uid < session.told;
+        entry.mailbox != 0
+            && entry.uid != 0
+            && entry.flags <= FLAG_BITS
+            && (entry.state == 0 || (entry.state == EXPUNGED || entry.state == MARKED) && in_view)
+            && memory
+                .mailbox(entry.mailbox)
+                .is_some_and(|row| entry.uid < row.uid_next)
+    };
+    if !memory.entries().iter().all(fields) {
+        return false;
+    }
+    let key = |entry: &Message| u64::from(entry.mailbox) << 32 | u64::from(entry.uid);
+    let mut keys: Vec<u64> = memory.entries().iter().map(key).collect();
+    keys.sort_unstable();
+    keys.windows(2).all(|pair| pair[0] != pair[1])
+}

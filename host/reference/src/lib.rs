@@ -1,0 +1,23 @@
+//! The independent implementation of document 01: one session beside one store, written from the
+//! papers alone, to find wrong definitions elsewhere and to measure against.
+
+pub mod abnf;
+pub mod answers;
+pub mod call;
+pub mod command;
+pub mod generate;
+pub mod lawful;
+pub mod lines;
+pub mod mailboxes;
+pub mod matching;
+pub mod memory;
+pub mod messages;
+pub mod names;
+pub mod notation;
+pub mod octets;
+pub mod random;
+pub mod records;
+pub mod selected;
+
+pub use call::{call, call_trusting, Answer};
+pub use memory::Memory;

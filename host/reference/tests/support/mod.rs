@@ -1,0 +1,101 @@
+//! Records from text, in the notation of the vectors, and small conveniences for tests.
+#![allow(dead_code)]
+
+use reference::{call, Memory};
+use std::path::PathBuf;
+
+/// One record from one line of text.
+pub fn assemble(line: &str) -> Vec<u8> {
+    reference::notation::assemble(line).expect("a record in text")
+}
+
+/// All records of a text; empty lines and lines that begin with `#` are passed over.
+pub fn records(text: &str) -> Vec<Vec<u8>> {
+    reference::notation::records(text).expect("records in text")
+}
+
+pub fn hex(octets: &[u8]) -> String {
+    if octets.is_empty() {
+        return "-".to_string();
+    }
+    octets.iter().map(|octet| format!("{octet:02x}")).collect()
+}
+
+/// Octets in `callrun`'s form of input.
+pub fn calls(records: &[Vec<u8>]) -> Vec<u8> {
+    let length = |record: &Vec<u8>| (record.len() as u32).to_le_bytes();
+    records
+        .iter()
+        .flat_map(|record| [&length(record)[..], record].concat())
+        .collect()
+}
+
+pub fn vector_path(name: &str) -> PathBuf {
+    PathBuf::from(env!("CARGO_MANIFEST_DIR"))
+        .join("../vectors")
+        .join(name)
+}
+
+pub fn vector(name: &str) -> String {
+    let path = vector_path(name);
+    std::fs::read_to_string(&path).unwrap_or_else(|fault| panic!("{}: {fault}", path.display()))
+}
+
+/// One row of the INDEX.
+pub struct Listed {
+    pub number: String,
+    pub queue: usize,
+    pub mailboxes: usize,
+    pub messages: usize,
+    pub title: String,
+}
+
+pub fn index() -> Vec<Listed> {
+    let size = |word: &str| word.parse().expect("a size in INDEX");
+    vector("INDEX")
+        .lines()
+        .map(|line| {
+            let words: Vec<&str> = line.splitn(6, ' ').collect();
+            Listed {
+                number: words[0].to_string(),
+                queue: size(words[1]),
+                mailboxes: size(words[2]),
+                messages: size(words[3]),
+                title: words[5].to_string(),
+            }
+        })
+        .collect()
+}
+
+/// Runs a text on fresh memory, checked, drained after each record: what `pushrun` prints, with
+/// `= n` for a count.
+pub fn transcript(queue: usize, text: &str) -> String {
+    let mut memory = Memory::new(queue, 64, 1024);
+    let mut out = String::new();
+    for octets in records(text) {
+        let answer = call(&mut memory, &octets);
+        if answer.refusal != 0 {
+            out += &format!("! {}\r\n", answer.refusal);
+        }
+        if let Some(count) = answer.count {
+            out += &format!("= {count}\r\n");
+        }
+        out += std::str::from_utf8(memory.held()).expect("lines are ASCII");
+        let drained = format!("DR {}", memory.filled);
+        call(&mut memory, &assemble(&drained));
+    }
+    out
+}
+
+/// Does the text give exactly these lines?
+#[track_caller]
+pub fn gives(text: &str, lines: &[&str]) {
+    let wanted: String = lines.iter().map(|line| format!("{line}\r\n")).collect();
+    assert_eq!(transcript(8192, text), wanted, "{text}");
+}
+
+pub fn contains(octets: &[u8], part: &str) -> bool {
+    octets
+        .windows(part.len())
+        .any(|window| window == part.as_bytes())
+}

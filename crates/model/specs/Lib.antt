@@ -24,3 +24,11 @@ pub mod Lawful
 pub mod Refusals
 pub mod Answering
 pub mod Rules
+pub mod Call
+pub mod Hidden
+pub mod Pushrun
+pub mod Session
+pub mod Laws
+pub mod Isolation
+pub mod Lasting
+pub mod Demands

@@ -1,0 +1,171 @@
+-- Demands 1 and 3, proved of the definitions. Assumes nothing.
+-- Demand 1: the answer is the lowest refusal that applies, a refused call changes nothing, and memory stays lawful.
+-- Demand 3: Hidden.Demand3 holds, for any two starts.
+use mathlib.Core.Path.{_≡_, refl, sym, _∙_, ap, subst}
+use mathlib.Core.List.{List, [], _∷_}
+use mathlib.Core.Bool.{Bool, true, false, not, cond, _&&_, _||_}
+use Prim.Native.Nat.{ℕ, suc, _+_, _≤_, _<_}
+use native.Mathlib.Omega.{arith}
+use borrow.Author.Tests.{eqb-true, eqb-false, le-leb, leb-true, leb-false}
+use lib.Dec.{eqb, leb, leb·zero}
+use lib.ListN.{length}
+use Rattle.model.specs.Lists.{allb}
+use Rattle.model.specs.Laws.{tf}
+use Rattle.model.specs.Records.{Record, create, delete, rename, subscribe, grant, arrive, expunge, reflag, select, ended, command, drained, noRecord, recordOf}
+use Rattle.model.specs.Memory.{Memory}
+use Rattle.model.specs.Answers.{refusalNumber, numberOf}
+use Rattle.model.specs.Lawful.{queueOk, lawful}
+use Rattle.model.specs.Rules.{Outcome, accepted}
+use Rattle.model.specs.Call.{applies, refuse, call}
+use Rattle.model.specs.Hidden.{Octets, Called, calls, Starts, Demand3}
+use Rattle.model.specs.Isolation.Streams.{demand}
+use Rattle.model.specs.Lasting.Calls.{keeps}
+use Rattle.model.specs.declared.Refusal.{Refusal}
+use Rattle.model.specs.declared.Refusal.the-variants.{UnlawfulMemory, BadRecord, WrongId, NameHeld, WrongUid, WrongState, TableFull, NoRoom}
+use Rattle.model.specs.declared.Answer.{Answer}
+use Rattle.model.specs.declared.Answer.the-variants.{Done, Counted, Refused}
+
+-- ---- DEMAND 3
+pub isolated : Demand3
+isolated = demand keeps
+
+-- ---- DEMAND 1
+-- the refusal applies, and none with a lower number does
+abbrev pub Lowest : Memory → Octets → Refusal → Type 0
+Lowest m o r = (applies m o r ≡ true) × ((q : Refusal) → refusalNumber q < refusalNumber r → applies m o q ≡ false)
+
+-- the refusal with a number
+at : ℕ → Refusal
+at n = cond (eqb n 1) UnlawfulMemory (cond (eqb n 2) BadRecord (cond (eqb n 3) WrongId (cond (eqb n 4) NameHeld (cond (eqb n 5) WrongUid (cond (eqb n 6) WrongState (cond (eqb n 7) TableFull NoRoom))))))
+
+at-number : (r : Refusal) → at (refusalNumber r) ≡ r
+unfolding at
+at-number UnlawfulMemory = refl
+at-number BadRecord = refl
+at-number WrongId = refl
+at-number NameHeld = refl
+at-number WrongUid = refl
+at-number WrongState = refl
+at-number TableFull = refl
+at-number NoRoom = refl
+
+same-number : (q r : Refusal) → refusalNumber q ≡ refusalNumber r → q ≡ r
+same-number q r e = sym (at-number q) ∙ (ap at e ∙ at-number r)
+
+-- what is accepted is not refused
+unrefused : (m : Memory) (r : Record) → numberOf (accepted m r .answer) ≡ 0
+unfolding accepted
+unrefused m (create i a q v n) = refl
+unrefused m (delete i q) = refl
+unrefused m (rename i q n) = refl
+unrefused m (subscribe i s q) = refl
+unrefused m (grant i r) = refl
+unrefused m (arrive i u f z) = refl
+unrefused m (expunge i u) = refl
+unrefused m (reflag i u f) = refl
+unrefused m (select i) = refl
+unrefused m (ended c) = refl
+unrefused m (command t) = refl
+unrefused m (drained n) = refl
+unrefused m noRecord = refl
+
+number-positive : (r : Refusal) → 1 ≤ refusalNumber r
+number-positive UnlawfulMemory = omega arith
+number-positive BadRecord = omega arith
+number-positive WrongId = omega arith
+number-positive NameHeld = omega arith
+number-positive WrongUid = omega arith
+number-positive WrongState = omega arith
+number-positive TableFull = omega arith
+number-positive NoRoom = omega arith
+
+module _ (m : Memory) (o : Octets) where
+  -- none with a number below n applies
+  abbrev Below : ℕ → Type 0
+  Below n = (q : Refusal) → refusalNumber q < n → applies m o q ≡ false
+
+  nothing : Below 1
+  nothing q h = let p = number-positive q in absurd (let z : ⊥ = omega arith in z)
+
+  further : (q : Refusal) → Below (refusalNumber q) → applies m o q ≡ false → Below (refusalNumber q + 1)
+  further q b f k h = go (eqb (refusalNumber k) (refusalNumber q)) refl
+    where
+      go : (c : Bool) → eqb (refusalNumber k) (refusalNumber q) ≡ c → applies m o k ≡ false
+      go true e = ap (applies m o) (same-number k q (eqb-true (refusalNumber k) (refusalNumber q) e)) ∙ f
+      go false e = b k (let n : refusalNumber k ≡ refusalNumber q → ⊥ = eqb-false (refusalNumber k) (refusalNumber q) e in apartly (refusalNumber k) (refusalNumber q) h n)
+        where
+          apartly : (a c : ℕ) → a < c + 1 → (a ≡ c → ⊥) → a < c
+          apartly a c h n = decide (leb (suc a) c) refl
+            where
+              decide : (d : Bool) → leb (suc a) c ≡ d → a < c
+              decide true e = leb-true (suc a) c e
+              decide false e = absurd (n (let z = leb-false (suc a) c e in omega arith))
+
+  -- one rung: the refusal is given, or the answer is that of the rest
+  rung : {P : Type 0} (q : Refusal) (rest : Outcome) (r : Refusal) → cond (applies m o q) (refuse m q) rest .answer ≡ Refused r → Below (refusalNumber q) → (Lowest m o r → P) → (Below (refusalNumber q + 1) → rest .answer ≡ Refused r → P) → P
+  rung {P} q rest r e b given other = go (applies m o q) refl
+    where
+      go : (c : Bool) → applies m o q ≡ c → P
+      go true a =
+          let z : q ≡ r = same-number q r (ap numberOf (rw a at e)) in
+          given (subst (Lowest m o) z (a, b))
+      go false a = other (further q b a) (rw a at e)
+
+  -- the answer is n exactly if n is the least refusal whose condition holds
+  pub refused-lowest : (r : Refusal) → call m o .answer ≡ Refused r → Lowest m o r
+  unfolding call
+  refused-lowest r e =
+      rung UnlawfulMemory _ r e nothing (λ l. l) λ b₁ e₁.
+      rung BadRecord _ r e₁ b₁ (λ l. l) λ b₂ e₂.
+      rung WrongId _ r e₂ b₂ (λ l. l) λ b₃ e₃.
+      rung NameHeld _ r e₃ b₃ (λ l. l) λ b₄ e₄.
+      rung WrongUid _ r e₄ b₄ (λ l. l) λ b₅ e₅.
+      rung WrongState _ r e₅ b₅ (λ l. l) λ b₆ e₆.
+      rung TableFull _ r e₆ b₆ (λ l. l) λ b₇ e₇.
+      rung NoRoom _ r e₇ b₇ (λ l. l) λ b₈ e₈.
+      let z = unrefused m (recordOf o) in
+      let n : numberOf (accepted m (recordOf o) .answer) ≡ refusalNumber r = ap numberOf e₈ in
+      let p = number-positive r in
+      absurd (let w : ⊥ = omega arith in w)
+
+  -- and then the call gives that refusal, no line, and the memory as it was
+  pub lowest-refused : (r : Refusal) → Lowest m o r → call m o ≡ refuse m r
+  unfolding call
+  lowest-refused UnlawfulMemory l = rw (l .0)
+  lowest-refused BadRecord l = rw (l .1 UnlawfulMemory (omega arith), l .0)
+  lowest-refused WrongId l = rw (l .1 UnlawfulMemory (omega arith), l .1 BadRecord (omega arith), l .0)
+  lowest-refused NameHeld l = rw (l .1 UnlawfulMemory (omega arith), l .1 BadRecord (omega arith), l .1 WrongId (omega arith), l .0)
+  lowest-refused WrongUid l = rw (l .1 UnlawfulMemory (omega arith), l .1 BadRecord (omega arith), l .1 WrongId (omega arith), l .1 NameHeld (omega arith), l .0)
+  lowest-refused WrongState l = rw (l .1 UnlawfulMemory (omega arith), l .1 BadRecord (omega arith), l .1 WrongId (omega arith), l .1 NameHeld (omega arith), l .1 WrongUid (omega arith), l .0)
+  lowest-refused TableFull l = rw (l .1 UnlawfulMemory (omega arith), l .1 BadRecord (omega arith), l .1 WrongId (omega arith), l .1 NameHeld (omega arith), l .1 WrongUid (omega arith), l .1 WrongState (omega arith), l .0)
+  lowest-refused NoRoom l = rw (l .1 UnlawfulMemory (omega arith), l .1 BadRecord (omega arith), l .1 WrongId (omega arith), l .1 NameHeld (omega arith), l .1 WrongUid (omega arith), l .1 WrongState (omega arith), l .1 TableFull (omega arith), l .0)
+
+  -- a refused call leaves every octet
+  pub refused-same : (r : Refusal) → call m o .answer ≡ Refused r → call m o .after ≡ m
+  refused-same r e = ap (λ (x : Outcome). x .after) (lowest-refused r (refused-lowest r e))
+
+-- from lawful memory every call leaves lawful memory
+pub stays-lawful : (m : Memory) (o : Octets) → lawful m ≡ true → lawful (call m o .after) ≡ true
+stays-lawful m o h = keeps m o ∙ h
+
+-- so refusal 1 never comes up in a stream from lawful memory
+pub never-unlawful : (m : Memory) → lawful m ≡ true → (os : List Octets) → allb (λ (c : Called). not (eqb (numberOf (c .answer)) 1)) (calls m os) ≡ true
+never-unlawful m h [] = refl
+never-unlawful m h (o ∷ os) = rw (not-one (call m o .answer) refl) (never-unlawful (call m o .after) (stays-lawful m o h) os)
+  where
+    not-one : (a : Answer) → call m o .answer ≡ a → not (eqb (numberOf a) 1) ≡ true
+    not-one Done e = refl
+    not-one (Counted n) e = refl
+    not-one (Refused UnlawfulMemory) e = tf (not (lawful m)) (refused-lowest m o UnlawfulMemory e .0) (ap not h)
+    not-one (Refused BadRecord) e = refl
+    not-one (Refused WrongId) e = refl
+    not-one (Refused NameHeld) e = refl
+    not-one (Refused WrongUid) e = refl
+    not-one (Refused WrongState) e = refl
+    not-one (Refused TableFull) e = refl
+    not-one (Refused NoRoom) e = refl
+
+-- a start with a lawful Q and lawful lengths is lawful
+pub start-lawful : (m : Memory) → Starts m m → queueOk (length (m .queue)) ≡ true → leb (length (m .rows)) 64 ≡ true → leb (length (m .entries)) 1024 ≡ true → lawful m ≡ true
+unfolding lawful
+start-lawful m z q r e = rw (z .counts, z .session, q, r, e, leb·zero (length (m .queue)), leb·zero (length (m .rows)), leb·zero (length (m .entries)))

@@ -1,0 +1,201 @@
+-- Laws of the tests and list functions of Lists. Assumes nothing.
+use mathlib.Core.Path.{_≡_, refl, sym, _∙_, ap, ap₂}
+use mathlib.Core.List.{List, [], _∷_, _++_, map}
+use mathlib.Core.Bool.{Bool, true, false, not, cond, _&&_, _||_}
+use Prim.Native.Nat.{ℕ, zero, suc, _+_, _≤_, _<_}
+use native.Mathlib.Omega.{arith}
+use lib.Dec.{eqb, leb, ltb}
+use lib.ListN.{length, getD, set}
+use Rattle.model.specs.Lists.{keep, filterb, anyb, allb, every, sorted, insert, apart, concatMap}
+
+-- ---- tests
+pub tf : {A : Type 0} (b : Bool) → b ≡ true → b ≡ false → A
+tf {A} b p q = let z : _≡_ {A = ℕ} 0 1 = cc in absurd (let n : ⊥ = omega arith in n)
+
+pub or-l : (a b : Bool) → (a || b) ≡ false → a ≡ false
+or-l true b e = e
+or-l false b e = refl
+
+pub or-r : (a b : Bool) → (a || b) ≡ false → b ≡ false
+or-r true b e = tf true refl e
+or-r false b e = e
+
+pub or-true : (a : Bool) → (a || true) ≡ true
+or-true true = refl
+or-true false = refl
+
+pub or-false : (a : Bool) → (a || false) ≡ a
+or-false true = refl
+or-false false = refl
+
+pub and-l : (a b : Bool) → (a && b) ≡ true → a ≡ true
+and-l true b e = refl
+and-l false b e = tf false e refl
+
+pub and-r : (a b : Bool) → (a && b) ≡ true → b ≡ true
+and-r true b e = e
+and-r false b e = tf false e refl
+
+pub and-true : (a : Bool) → (a && true) ≡ a
+and-true true = refl
+and-true false = refl
+
+pub and-false : (a : Bool) → (a && false) ≡ false
+and-false true = refl
+and-false false = refl
+
+pub cond-same : {A : Type 0} (b : Bool) (x : A) → cond b x x ≡ x
+cond-same true x = refl
+cond-same false x = refl
+
+-- ---- a list of conditions as facts, one for each
+abbrev pub Each : List Bool → Type 0
+Each [] = Unit
+Each (b ∷ bs) = (b ≡ true) × Each bs
+
+pub each : (bs : List Bool) → every bs ≡ true → Each bs
+each [] e = tt
+each (b ∷ bs) e = (and-l b (every bs) e, each bs (and-r b (every bs) e))
+
+pub all-hold : (bs : List Bool) → Each bs → every bs ≡ true
+all-hold [] e = refl
+all-hold (b ∷ bs) e = rw (e .0) (all-hold bs (e .1))
+
+-- ---- filters
+module _ {A : Type 0} where
+  pub filter-append : (p : A → Bool) (l r : List A) → filterb p (l ++ r) ≡ filterb p l ++ filterb p r
+  filter-append p [] r = refl
+  filter-append p (x ∷ l) r = go (p x) (filter-append p l r)
+    where
+      go : (b : Bool) → filterb p (l ++ r) ≡ filterb p l ++ filterb p r → keep b x (filterb p (l ++ r)) ≡ keep b x (filterb p l) ++ filterb p r
+      go true ih = ap (λ t. x ∷ t) ih
+      go false ih = ih
+
+  pub filter-length : (p : A → Bool) (l : List A) → length (filterb p l) ≤ length l
+  filter-length p [] = omega arith
+  filter-length p (x ∷ l) = go (p x) (filter-length p l)
+    where
+      go : (b : Bool) → length (filterb p l) ≤ length l → length (keep b x (filterb p l)) ≤ suc (length l)
+      go true ih = omega arith
+      go false ih = omega arith
+
+  -- two filters in either order
+  pub filter-swap : (p q : A → Bool) (l : List A) → filterb p (filterb q l) ≡ filterb q (filterb p l)
+  filter-swap p q [] = refl
+  filter-swap p q (x ∷ l) = go (p x) refl (q x) refl (filter-swap p q l)
+    where
+      go : (b : Bool) → p x ≡ b → (c : Bool) → q x ≡ c → filterb p (filterb q l) ≡ filterb q (filterb p l) → filterb p (keep (q x) x (filterb q l)) ≡ filterb q (keep (p x) x (filterb p l))
+      go true f true g ih = rw (f, g, f) (ap (λ t. x ∷ t) ih)
+      go true f false g ih = rw (g, f, g) ih
+      go false f true g ih = rw (g, f) ih
+      go false f false g ih = rw (g, f) ih
+
+  -- a filter that lets pass whatever the second does
+  pub filter-filter : (p q : A → Bool) (l : List A) → ((x : A) → p x ≡ true → q x ≡ true) → filterb p (filterb q l) ≡ filterb p l
+  filter-filter p q [] h = refl
+  filter-filter p q (x ∷ l) h = go (q x) refl (p x) refl (filter-filter p q l h)
+    where
+      go : (c : Bool) → q x ≡ c → (b : Bool) → p x ≡ b → filterb p (filterb q l) ≡ filterb p l → filterb p (keep (q x) x (filterb q l)) ≡ keep (p x) x (filterb p l)
+      go true g b f ih = rw (g, ih)
+      go false g true f ih = tf (q x) (h x f) g
+      go false g false f ih = rw (g, f) ih
+
+  -- the same where it is so for those in the list
+  pub filter-within : (p q : A → Bool) (l : List A) → allb (λ (x : A). not (p x) || q x) l ≡ true → filterb p (filterb q l) ≡ filterb p l
+  filter-within p q [] h = refl
+  filter-within p q (x ∷ l) h = go (q x) refl (p x) refl (and-l (not (p x) || q x) _ h) (filter-within p q l (and-r (not (p x) || q x) _ h))
+    where
+      go : (c : Bool) → q x ≡ c → (b : Bool) → p x ≡ b → (not (p x) || q x) ≡ true → filterb p (filterb q l) ≡ filterb p l → filterb p (keep (q x) x (filterb q l)) ≡ keep (p x) x (filterb p l)
+      go true g b f k ih = rw (g, ih)
+      go false g true f k ih = tf false (rw (f, g) at k) refl
+      go false g false f k ih = rw (g, f) ih
+
+  pub filter-none : (p : A → Bool) (l : List A) → allb (λ (x : A). not (p x)) l ≡ true → filterb p l ≡ []
+  filter-none p [] h = refl
+  filter-none p (x ∷ l) h = go (p x) refl (and-l (not (p x)) _ h) (filter-none p l (and-r (not (p x)) _ h))
+    where
+      go : (b : Bool) → p x ≡ b → not (p x) ≡ true → filterb p l ≡ [] → keep (p x) x (filterb p l) ≡ []
+      go true f k ih = tf false (rw f at k) refl
+      go false f k ih = rw f ih
+
+  pub any-filter : (p q : A → Bool) (l : List A) → ((x : A) → p x ≡ true → q x ≡ true) → anyb p (filterb q l) ≡ anyb p l
+  any-filter p q [] h = refl
+  any-filter p q (x ∷ l) h = go (q x) refl (p x) refl (any-filter p q l h)
+    where
+      go : (c : Bool) → q x ≡ c → (b : Bool) → p x ≡ b → anyb p (filterb q l) ≡ anyb p l → anyb p (keep (q x) x (filterb q l)) ≡ p x || anyb p l
+      go true g b f ih = rw (g, ih)
+      go false g true f ih = tf (q x) (h x f) g
+      go false g false f ih = rw (g, f) ih
+
+  -- fewer have none that pass
+  pub any-fewer : (p q : A → Bool) (l : List A) → anyb p l ≡ false → anyb p (filterb q l) ≡ false
+  any-fewer p q [] h = refl
+  any-fewer p q (x ∷ l) h = go (q x) (or-l (p x) _ h) (any-fewer p q l (or-r (p x) _ h))
+    where
+      go : (c : Bool) → p x ≡ false → anyb p (filterb q l) ≡ false → anyb p (keep c x (filterb q l)) ≡ false
+      go true f ih = rw (f, ih)
+      go false f ih = ih
+
+  pub any-snoc : (p : A → Bool) (l : List A) (x : A) → anyb p (l ++ (x ∷ [])) ≡ anyb p l || p x
+  any-snoc p [] x = or-false (p x)
+  any-snoc p (y ∷ l) x = go (p y) (any-snoc p l x)
+    where
+      go : (b : Bool) → anyb p (l ++ (x ∷ [])) ≡ anyb p l || p x → (b || anyb p (l ++ (x ∷ []))) ≡ (b || anyb p l) || p x
+      go true ih = refl
+      go false ih = ih
+
+-- ---- maps that keep what a filter looks at
+module _ {A : Type 0} (f : A → A) (p : A → Bool) (h : (x : A) → p (f x) ≡ p x) where
+  pub filter-map : (l : List A) → filterb p (map f l) ≡ map f (filterb p l)
+  filter-map [] = refl
+  filter-map (x ∷ l) = rw (h x) (go (p x) (filter-map l))
+    where
+      go : (b : Bool) → filterb p (map f l) ≡ map f (filterb p l) → keep b (f x) (filterb p (map f l)) ≡ map f (keep b x (filterb p l))
+      go true ih = ap (λ t. f x ∷ t) ih
+      go false ih = ih
+
+-- a map that changes none of those that pass
+module _ {A : Type 0} (f : A → A) (p : A → Bool) (h : (x : A) → p (f x) ≡ p x) (k : (x : A) → p x ≡ true → f x ≡ x) where
+  pub filter-map-same : (l : List A) → filterb p (map f l) ≡ filterb p l
+  filter-map-same [] = refl
+  filter-map-same (x ∷ l) = rw (h x) (go (p x) refl (filter-map-same l))
+    where
+      go : (b : Bool) → p x ≡ b → filterb p (map f l) ≡ filterb p l → keep b (f x) (filterb p (map f l)) ≡ keep b x (filterb p l)
+      go true e ih = rw (k x e, ih)
+      go false e ih = ih
+
+-- ---- all of a list
+module _ {A : Type 0} where
+  pub all-filtered : (p q : A → Bool) (l : List A) → allb p l ≡ true → allb p (filterb q l) ≡ true
+  all-filtered p q [] h = refl
+  all-filtered p q (x ∷ l) h = go (q x) (and-l (p x) _ h) (all-filtered p q l (and-r (p x) _ h))
+    where
+      go : (c : Bool) → p x ≡ true → allb p (filterb q l) ≡ true → allb p (keep c x (filterb q l)) ≡ true
+      go true f ih = rw (f, ih)
+      go false f ih = ih
+
+  pub all-passed : (p : A → Bool) (l : List A) → allb p (filterb p l) ≡ true
+  all-passed p [] = refl
+  all-passed p (x ∷ l) = go (p x) refl (all-passed p l)
+    where
+      go : (c : Bool) → p x ≡ c → allb p (filterb p l) ≡ true → allb p (keep c x (filterb p l)) ≡ true
+      go true f ih = rw (f, ih)
+      go false f ih = ih
+
+  pub all-insert : (p : A → Bool) (before : A → A → Bool) (x : A) (l : List A) → p x ≡ true → allb p l ≡ true → allb p (insert before x l) ≡ true
+  all-insert p before x [] f h = rw f
+  all-insert p before x (y ∷ l) f h = go (before x y) (all-insert p before x l f (and-r (p y) _ h))
+    where
+      go : (c : Bool) → allb p (insert before x l) ≡ true → allb p (cond c (x ∷ y ∷ l) (y ∷ insert before x l)) ≡ true
+      go true ih = rw f h
+      go false ih = rw (and-l (p y) _ h, ih)
+
+  pub all-sorted : (p : A → Bool) (before : A → A → Bool) (l : List A) → allb p l ≡ true → allb p (sorted before l) ≡ true
+  all-sorted p before [] h = refl
+  all-sorted p before (x ∷ l) h = all-insert p before x (sorted before l) (and-l (p x) _ h) (all-sorted p before l (and-r (p x) _ h))
+
+-- the same is put for each of those in the list
+module _ {A B : Type 0} where
+  pub concat-same : (f g : A → List B) (p : A → Bool) → ((x : A) → p x ≡ true → f x ≡ g x) → (l : List A) → allb p l ≡ true → concatMap f l ≡ concatMap g l
+  concat-same f g p e [] h = refl
+  concat-same f g p e (x ∷ l) h = ap₂ _++_ (e x (and-l (p x) _ h)) (concat-same f g p e l (and-r (p x) _ h))

@@ -7,16 +7,9 @@ use lib.ListN.{length}
 use Rattle.model.specs.Requests.{Filter, namesOf, Asked}
 use Rattle.model.specs.Requests.{Part, Test, all, unsupported, flagged, larger, smaller, uids, numbers, Key, test, non, either, group, Keys, end, more}
 use Rattle.model.specs.Requests.{Command, notifyNone, notifySet, search}
+use Rattle.model.specs.declared.Limits.{Limits}
 
--- the most of each: groups or sources, names in all of them together, keys, how deep lists are nested, parts of a single set
-pub record Limits : Type 0 where
-  pub groups : ℕ
-  pub names : ℕ
-  pub keys : ℕ
-  pub depth : ℕ
-  pub parts : ℕ
-
--- those that 01 gives
+-- those that 01 gives (Commands, 17): groups or sources, names in all of them together, keys, how deep lists are nested, parts of a single set
 abbrev pub limits : Limits
 limits = record { groups = 8; names = 16; keys = 32; depth = 8; parts = 16 }
 

@@ -11,7 +11,8 @@ use Rattle.model.specs.Requests.{Event, messageNew, messageExpunge, flag
 use Rattle.model.specs.Requests.{Test, all, unsupported, flagged, larger, smaller, uids, numbers}
 use Rattle.model.specs.Requests.{Charset, none, known, unknown, Command, notifyNone, notifySet, search}
 use Rattle.model.specs.Reading.{Parsed, bad, ok}
-use Rattle.model.specs.Limits.{Limits, someTests, tooLarge}
+use Rattle.model.specs.Limits.{someTests, tooLarge}
+use Rattle.model.specs.declared.Limits.{Limits}
 use Rattle.model.specs.declared.Reply.{Reply}
 use Rattle.model.specs.declared.Reply.the-variants.{Bad, BadEvent, Unsupported, BadCharset, TooLarge, Accepted}
 

@@ -74,7 +74,8 @@ pub struct Session {
     pub names: [LentName; 16],
 }
 
-// How many rows, entries and octets of the queue are in use. They stand beside the session, which commands alone change.
+// How many rows, entries and octets of the queue are in use. They stand beside the session: a command that is not accepted
+// leaves the session as it was, and yet fills the queue.
 pub struct Counts {
     pub mailboxes: u64,
     pub messages: u64,
@@ -108,4 +109,13 @@ pub enum Reply {
     BadCharset,
     TooLarge,
     Accepted,
+}
+
+// The most that a command may have: groups or sources, names in all of them, keys, lists one inside another, parts of one set.
+pub struct Limits {
+    pub groups: u64,
+    pub names: u64,
+    pub keys: u64,
+    pub depth: u64,
+    pub parts: u64,
 }

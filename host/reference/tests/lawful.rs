@@ -122,6 +122,10 @@ fn mailboxes() {
         ("longer length", |memory| memory.mailboxes[1].name.len = 10),
         ("length 65", |memory| memory.mailboxes[1].name.len = 65),
         ("length 255", |memory| memory.mailboxes[1].name.len = 255),
+        ("length 65 of a full name", |memory| {
+            memory.mailboxes[1].name = name(&"a".repeat(64));
+            memory.mailboxes[1].name.len = 65
+        }),
         ("octet behind the name", |memory| {
             memory.mailboxes[1].name.octets[63] = b'x'
         }),
@@ -293,6 +297,10 @@ fn groups() {
         }),
         ("octet behind a name", |memory| {
             memory.session.groups.name[0].octets[3] = 1
+        }),
+        ("length 65 of a full name", |memory| {
+            memory.session.groups.name[0] = name(&"a".repeat(64));
+            memory.session.groups.name[0].len = 65
         }),
         ("name length 65", |memory| {
             memory.session.groups.name[0].len = 65

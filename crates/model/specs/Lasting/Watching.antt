@@ -15,7 +15,8 @@ use Rattle.model.specs.Names.{valid, fold}
 use Rattle.model.specs.Requests.{Filter, selected, delayed, inboxes, personal, subscribed, subtree, subtreeOne, mailboxes, namesOf, ofSelected, Asked, Command, notifySet}
 use Rattle.model.specs.Requests.{Event, messageNew, messageExpunge, flagChange, annotationChange, mailboxName, subscriptionChange, otherEvent, isNew, isExpunge, isFlagChange, isMailboxName, isSubscriptionChange, attributesOf, Attribute}
 use Rattle.model.specs.Reading.{ok}
-use Rattle.model.specs.Limits.{Limits, limits, tooLarge, nameCount as asked}
+use Rattle.model.specs.declared.Limits.{Limits}
+use Rattle.model.specs.Limits.{limits, tooLarge, nameCount as asked}
 use Rattle.model.specs.Answers.{replyNumber}
 use Rattle.model.specs.Replies.{replyOf, refused, badEvent, notSupported, badCharset, selectedGroup, selectedTwice, messageEvent, misplacedEvent, hasAttributes, misplacedAttributes, unpaired}
 use Rattle.model.specs.Memory.{noGroup, noName, silenced}

@@ -1,0 +1,159 @@
+-- What each test on names says from a place on: the way to the next place, and the ways out. Assumes nothing.
+use mathlib.Core.Path.{_≡_, refl, ap, sym, _∙_}
+use mathlib.Core.Bool.{Bool, true, false, not, cond, _&&_, _||_}
+use mathlib.Core.List.{List, [], _∷_, _++_, map}
+use Prim.Native.Nat.{ℕ, zero, suc, _+_, _-_, _<_, _≤_}
+use native.Mathlib.Numerals.{add-one}
+use native.Mathlib.Omega.{arith}
+use lib.Dec.{eqb, leb, ltb}
+use lib.ListN.{length, take, drop, getD, set, replicate, length-map, drop-of-length-le}
+use lib.Seq.{drop-cons, take-suc, take-all, set-at, append-snoc, length-take-le}
+use borrow.Author.Tests.{eq-eqb, ne-eqb, lt-leb, le-leb, le-ltb}
+use Rattle.model.specs.Lists.{same, anyb, allb}
+use Rattle.model.specs.Text.{upper, sameWord}
+use Rattle.model.specs.Names.{printable, noPartEmpty, beneath, before}
+use Rattle.model.specs.declared.LentName.{LentName}
+use Rattle.names.specs.Kept.{keptName}
+
+-- a test that fails whichever way it goes, and one that is its answer
+neither : (t r : Bool) → r ≡ false → cond t r false ≡ false
+neither true r e = e
+neither false r e = refl
+
+itself : (t : Bool) → cond t true false ≡ t
+itself true = refl
+itself false = refl
+
+-- ---- the same octets
+pub same-lengths : (a b : List ℕ) → (length a ≡ length b → ⊥) → same a b ≡ false
+unfolding same
+same-lengths [] [] h = absurd (h refl)
+same-lengths [] (y ∷ b) h = refl
+same-lengths (x ∷ a) [] h = refl
+same-lengths (x ∷ a) (y ∷ b) h = neither (eqb x y) (same a b) (same-lengths a b (λ e. h (ap suc e)))
+
+module _ (a b : List ℕ) (i : ℕ) where
+  pub same-next : i < length a → i < length b → getD a i 0 ≡ getD b i 0 → same (drop i a) (drop i b) ≡ same (drop (i + 1) a) (drop (i + 1) b)
+  unfolding same
+  same-next h k e = rw (add-one, drop-cons a i 0 h, drop-cons b i 0 k, eq-eqb _ _ e)
+
+  pub same-differs : i < length a → i < length b → (getD a i 0 ≡ getD b i 0 → ⊥) → same (drop i a) (drop i b) ≡ false
+  unfolding same
+  same-differs h k e = rw (drop-cons a i 0 h, drop-cons b i 0 k, ne-eqb _ _ e)
+
+  pub same-past : length a ≤ i → length b ≤ i → same (drop i a) (drop i b) ≡ true
+  unfolding same
+  same-past h k = rw (drop-of-length-le a h, drop-of-length-le b k)
+
+-- ---- beneath
+pub beneath-short : (a b : List ℕ) → length b ≤ length a → beneath a b ≡ false
+unfolding beneath
+beneath-short [] [] h = refl
+beneath-short [] (y ∷ b) h = absurd (omega arith)
+beneath-short (x ∷ a) [] h = refl
+beneath-short (x ∷ a) (y ∷ b) h = neither (eqb x y) (beneath a b) (beneath-short a b (omega arith))
+
+module _ (a b : List ℕ) (i : ℕ) where
+  pub beneath-next : i < length a → i < length b → getD a i 0 ≡ getD b i 0 → beneath (drop i a) (drop i b) ≡ beneath (drop (i + 1) a) (drop (i + 1) b)
+  unfolding beneath
+  beneath-next h k e = rw (add-one, drop-cons a i 0 h, drop-cons b i 0 k, eq-eqb _ _ e)
+
+  pub beneath-differs : i < length a → i < length b → (getD a i 0 ≡ getD b i 0 → ⊥) → beneath (drop i a) (drop i b) ≡ false
+  unfolding beneath
+  beneath-differs h k e = rw (drop-cons a i 0 h, drop-cons b i 0 k, ne-eqb _ _ e)
+
+  pub beneath-past : length a ≤ i → i < length b → beneath (drop i a) (drop i b) ≡ eqb (getD b i 0) 47
+  unfolding beneath
+  beneath-past h k = rw (drop-of-length-le a h, drop-cons b i 0 k)
+
+-- ---- octet order
+module _ (a b : List ℕ) (i : ℕ) where
+  pub before-next : i < length a → i < length b → getD a i 0 ≡ getD b i 0 → before (drop i a) (drop i b) ≡ before (drop (i + 1) a) (drop (i + 1) b)
+  unfolding before
+  before-next h k e = rw (add-one, drop-cons a i 0 h, drop-cons b i 0 k, le-ltb (getD a i 0) (getD b i 0) (omega arith), eq-eqb _ _ e)
+
+  pub before-differs : i < length a → i < length b → (getD a i 0 ≡ getD b i 0 → ⊥) → before (drop i a) (drop i b) ≡ ltb (getD a i 0) (getD b i 0)
+  unfolding before
+  before-differs h k e = rw (drop-cons a i 0 h, drop-cons b i 0 k, ne-eqb _ _ e) (itself (ltb (getD a i 0) (getD b i 0)))
+
+  pub before-short : i < length a → length b ≤ i → before (drop i a) (drop i b) ≡ false
+  unfolding before
+  before-short h k = rw (drop-cons a i 0 h, drop-of-length-le b k)
+
+  pub before-past : length a ≤ i → before (drop i a) (drop i b) ≡ true
+  unfolding before
+  before-past h = rw (drop-of-length-le a h)
+
+-- ---- a slash from a place on
+module _ (n : List ℕ) (i : ℕ) where
+  pub slash-here : i < length n → getD n i 0 ≡ 47 → anyb (eqb 47) (drop i n) ≡ true
+  slash-here h e = rw (drop-cons n i 0 h, eq-eqb 47 (getD n i 0) (sym e))
+
+  pub slash-next : i < length n → (getD n i 0 ≡ 47 → ⊥) → anyb (eqb 47) (drop i n) ≡ anyb (eqb 47) (drop (i + 1) n)
+  slash-next h e = rw (add-one, drop-cons n i 0 h, ne-eqb 47 (getD n i 0) (λ z. e (sym z)))
+
+  pub slash-past : length n ≤ i → anyb (eqb 47) (drop i n) ≡ false
+  slash-past h = rw (drop-of-length-le n h)
+
+-- ---- the same letters in any case
+pub words-lengths : (a b : List ℕ) → (length a ≡ length b → ⊥) → sameWord a b ≡ false
+words-lengths a b h = same-lengths (map upper a) (map upper b) (λ e. h (sym (length-map a upper) ∙ e ∙ length-map b upper))
+
+module _ (a b : List ℕ) (i : ℕ) where
+  pub words-next : i < length a → i < length b → upper (getD a i 0) ≡ upper (getD b i 0) → sameWord (drop i a) (drop i b) ≡ sameWord (drop (i + 1) a) (drop (i + 1) b)
+  unfolding same
+  words-next h k e = rw (add-one, drop-cons a i 0 h, drop-cons b i 0 k, eq-eqb _ _ e)
+
+  pub words-differ : i < length a → i < length b → (upper (getD a i 0) ≡ upper (getD b i 0) → ⊥) → sameWord (drop i a) (drop i b) ≡ false
+  unfolding same
+  words-differ h k e = rw (drop-cons a i 0 h, drop-cons b i 0 k, ne-eqb _ _ e)
+
+  pub words-past : length a ≤ i → length b ≤ i → sameWord (drop i a) (drop i b) ≡ true
+  unfolding same
+  words-past h k = rw (drop-of-length-le a h, drop-of-length-le b k)
+
+-- ---- octets that may stand in a name
+module _ (n : List ℕ) (i : ℕ) where
+  pub prints-next : i < length n → 0x20 ≤ getD n i 0 → getD n i 0 ≤ 0x7E → allb printable (drop i n) ≡ allb printable (drop (i + 1) n)
+  prints-next h l u = rw (add-one, drop-cons n i 0 h, le-leb 0x20 (getD n i 0) l, le-leb (getD n i 0) 0x7E u)
+
+  pub prints-low : i < length n → getD n i 0 < 0x20 → allb printable (drop i n) ≡ false
+  prints-low h l = rw (drop-cons n i 0 h, lt-leb 0x20 (getD n i 0) l)
+
+  pub prints-high : i < length n → 0x20 ≤ getD n i 0 → 0x7E < getD n i 0 → allb printable (drop i n) ≡ false
+  prints-high h l u = rw (drop-cons n i 0 h, le-leb 0x20 (getD n i 0) l, lt-leb (getD n i 0) 0x7E u)
+
+  pub prints-past : length n ≤ i → allb printable (drop i n) ≡ true
+  prints-past h = rw (drop-of-length-le n h)
+
+-- ---- parts: `was` says whether the part has an octet, `next` whether it has one at the next place
+module _ (n : List ℕ) (i : ℕ) (was next : Bool) where
+  pub part-closed : i < length n → getD n i 0 ≡ 47 → was ≡ true → next ≡ false → noPartEmpty was (drop i n) ≡ noPartEmpty next (drop (i + 1) n)
+  unfolding noPartEmpty
+  part-closed h e w x = rw (w, x, add-one, drop-cons n i 0 h, eq-eqb (getD n i 0) 47 e)
+
+  pub part-longer : i < length n → (getD n i 0 ≡ 47 → ⊥) → next ≡ true → noPartEmpty was (drop i n) ≡ noPartEmpty next (drop (i + 1) n)
+  unfolding noPartEmpty
+  part-longer h e x = rw (x, add-one, drop-cons n i 0 h, ne-eqb (getD n i 0) 47 e)
+
+module _ (n : List ℕ) (i : ℕ) (was : Bool) where
+  pub part-empty : i < length n → getD n i 0 ≡ 47 → was ≡ false → noPartEmpty was (drop i n) ≡ false
+  unfolding noPartEmpty
+  part-empty h e w = rw (w, drop-cons n i 0 h, eq-eqb (getD n i 0) 47 e)
+
+  pub part-past : length n ≤ i → noPartEmpty was (drop i n) ≡ was
+  unfolding noPartEmpty
+  part-past h = rw (drop-of-length-le n h)
+
+-- ---- a name that is copied to the front of 64 zeros
+module _ (n o : List ℕ) (i : ℕ) where
+  pub copied-next : length n ≤ 64 → i < length n → o ≡ take i n ++ replicate (64 - i) 0 → set o i (getD n i 0) ≡ take (i + 1) n ++ replicate (64 - (i + 1)) 0
+  copied-next f h e =
+      let z : 64 - i ≡ suc (64 - (i + 1)) = omega arith in
+      let l : length (take i n) ≡ i = length-take-le i n (omega arith) in
+      rw (e, z, set-at (take i n) 0 (replicate (64 - (i + 1)) 0) (getD n i 0) i l, add-one i, take-suc n i 0 h) (sym (append-snoc (take i n) (getD n i 0) (replicate (64 - suc i) 0)))
+
+  pub copied-all : i ≤ length n → length n ≤ i → o ≡ take i n ++ replicate (64 - i) 0 → _≡_ {A = LentName} (record { len = i; octets = o }) (keptName n)
+  copied-all h k e =
+      let z : i ≡ length n = omega arith in
+      rw (e, z, take-all (length n) n (omega arith))

@@ -1,0 +1,55 @@
+-- `names::kept` meets its contract. The invariant: the octets are those of the name up to the place, and zeros behind it. Assumes nothing.
+use Rattle.names.proofs.kept.Statement.{statement}
+use Rattle.names.proofs.kept.Tie as tie
+use mathlib.Core.Path.{_≡_, refl}
+use Prim.Native.Nat.{_≤_, _-_, _+_}
+use native.Mathlib.Omega.{arith}
+use lib.ListN.{length, take, replicate}
+use mathlib.Core.List.{_++_}
+use Rattle.names.proofs.Walks.{copied-next, copied-all}
+use borrow.Author.Needs.{needs}
+
+abbrev Inv-loop : tie.InvT-loop
+Inv-loop name octets₀ i₀ octets i = (i ≤ length name) × (octets ≡ take i name ++ replicate (64 - i) 0)
+
+abbrev μ-loop : tie.MeasureT-loop
+μ-loop name octets₀ i₀ octets i = length name - i
+
+loop-holds : tie.Need-loop-holds Inv-loop μ-loop
+loop-holds c = (search needs, refl)
+
+shared-slice-read-octets : tie.Need-shared-slice-read-octets Inv-loop μ-loop
+shared-slice-read-octets c = search needs
+
+array-write-octets : tie.Need-array-write-octets Inv-loop μ-loop
+array-write-octets c = search needs
+
+add-i : tie.Need-add-i Inv-loop μ-loop
+add-i c = search needs
+
+loop-less : tie.Need-loop-less Inv-loop μ-loop
+loop-less c = search needs
+
+loop-again : tie.Need-loop-again Inv-loop μ-loop
+loop-again c = (search needs, copied-next (c .before .before .before .args .name .now) (c .before .before .loop .octets) (c .before .before .loop .i) (c .before .before .before .pre) (omega arith) (c .before .before .loop .inv .1))
+
+cast-t10 : tie.Need-cast-t10 Inv-loop μ-loop
+cast-t10 c = search needs
+
+returns : tie.Need-returns Inv-loop μ-loop
+returns c = copied-all (c .before .before .args .name .now) (c .before .loop .octets) (c .before .loop .i) (omega arith) (omega arith) (c .before .loop .inv .1)
+
+pub kept-spec : {M : Type 1} → statement M
+kept-spec =
+    tie.close
+    (tie.spec
+    Inv-loop
+    μ-loop
+    loop-holds
+    shared-slice-read-octets
+    array-write-octets
+    add-i
+    loop-less
+    loop-again
+    cast-t10
+    returns)

@@ -27,8 +27,8 @@ pub mod Rules
 pub mod Call
 pub mod Hidden
 pub mod Pushrun
-pub mod Session
+pub mod Examples
 pub mod Laws
 pub mod Isolation
 pub mod Lasting
-pub mod Demands
+pub mod Theorems

@@ -1,0 +1,94 @@
+-- Records and streams for the examples: a builder for each kind of record, the texts that are written, and all that is computed with
+-- (01, Records from the host, 1 to 18; Examples on each side, 10).
+use mathlib.Core.Path.{_≡_}
+use mathlib.Core.List.{List, [], _∷_, _++_}
+use Prim.Native.Nat.{ℕ, _/_, _%_}
+use Prim.Native.String.{String}
+use lib.ListN.{length}
+use Rattle.model.specs.Lists.{same, concatMap}
+use Rattle.model.specs.Text.{octets, decimal, digits, quoted, escape}
+use Rattle.model.specs.Names.{noPartEmpty, beneath, before}
+use Rattle.model.specs.Memory.{place}
+use Rattle.model.specs.Records.{recordOf}
+use Rattle.model.specs.Reading.{run, valueFrom, unquote, rowAt, numberAt, setAt, dateAt}
+use Rattle.model.specs.Attributes.{sectionWord, sectionAt, labelOf, attributeAt}
+use Rattle.model.specs.NotifyGrammar.{scopeOf, filterAt, eventOf, eventsAt, groupAt, notifyAt}
+use Rattle.model.specs.SearchGrammar.{keywordOf, startAt, keyAt, returnsAt, charsetAt, searchAt}
+use Rattle.model.specs.Commands.{tagOf, commandOf}
+use Rattle.model.specs.Limits.{someTest, keyCount, keyDepth}
+use Rattle.model.specs.Lines.{crlf, runsText, render, renderAll}
+use Rattle.model.specs.Queue.{fitting, written, shifted, effects}
+use Rattle.model.specs.View.{expungeLines, markedLines, newLines}
+use Rattle.model.specs.Events.{tellings, settled}
+use Rattle.model.specs.Searching.{holds, matching}
+use Rattle.model.specs.Lawful.{lawful}
+use Rattle.model.specs.Answering.{answerLines, answered}
+use Rattle.model.specs.Rules.{accepted}
+use Rattle.model.specs.Call.{call}
+use Rattle.model.specs.Hidden.{Octets}
+use Rattle.model.specs.Pushrun.{cut, printed, pushrun}
+
+-- ---- records
+-- a mark, the length of the body in two octets, the body
+abbrev pub frame : String → List ℕ → Octets
+frame mark body = octets mark ++ ((length body % 256) ∷ (length body / 256) ∷ body)
+
+-- a number of two octets, and of four
+abbrev pub two : ℕ → List ℕ
+two n = (n % 256) ∷ (n / 256) ∷ []
+
+abbrev pub four : ℕ → List ℕ
+four n = (n % 256) ∷ (n / 256 % 256) ∷ (n / 65536 % 256) ∷ (n / 16777216) ∷ []
+
+-- create, with attributes, quiet or not, UIDVALIDITY and name
+abbrev pub mb : ℕ → ℕ → ℕ → ℕ → String → Octets
+mb i a q v n = frame "MB" (two i ++ (a ∷ q ∷ four v ++ octets n))
+
+-- delete, rename, subscribe, rights
+abbrev pub dl : ℕ → ℕ → Octets
+dl i q = frame "DL" (two i ++ (q ∷ []))
+
+abbrev pub rn : ℕ → ℕ → String → Octets
+rn i q n = frame "RN" (two i ++ (q ∷ octets n))
+
+abbrev pub sb : ℕ → ℕ → ℕ → Octets
+sb i s q = frame "SB" (two i ++ (s ∷ q ∷ []))
+
+abbrev pub rt : ℕ → ℕ → Octets
+rt i r = frame "RT" (two i ++ (r ∷ []))
+
+-- a message with its flags and its size, an expunge, a change of flags
+abbrev pub me : ℕ → ℕ → ℕ → ℕ → Octets
+me i u f z = frame "ME" (two i ++ (four u ++ (f ∷ four z)))
+
+abbrev pub xp : ℕ → ℕ → Octets
+xp i u = frame "XP" (two i ++ four u)
+
+abbrev pub fl : ℕ → ℕ → ℕ → Octets
+fl i u f = frame "FL" (two i ++ (four u ++ (f ∷ [])))
+
+-- select, the end of a command, a command, a drain
+abbrev pub se : ℕ → Octets
+se i = frame "SE" (two i)
+
+abbrev pub ce : ℕ → Octets
+ce c = frame "CE" (c ∷ [])
+
+abbrev pub cm : String → Octets
+cm t = frame "CM" (octets t)
+
+abbrev pub dr : ℕ → Octets
+dr n = frame "DR" (four n)
+
+-- ---- what is written: lines, each with its end
+abbrev pub lines : List String → List ℕ
+lines ts = concatMap (λ (t : String). octets t ++ crlf) ts
+
+-- what pushrun prints for records one after the other
+abbrev pub Prints : List Octets → List String → Type 0
+Prints os ts = pushrun (concatMap (λ (o : Octets). o) os) ≡ lines ts
+
+-- all that an example computes with: it says `unfolding computed`
+unfoldable pub computed : Unit {0}
+unfolding cut printed call accepted lawful answerLines answered tellings settled effects written shifted fitting renderAll render runsText decimal digits quoted escape same noPartEmpty beneath before place recordOf run valueFrom unquote rowAt numberAt setAt dateAt sectionWord sectionAt labelOf attributeAt scopeOf filterAt eventOf eventsAt groupAt notifyAt keywordOf startAt keyAt returnsAt charsetAt searchAt commandOf tagOf someTest keyCount keyDepth expungeLines markedLines newLines holds matching
+computed = tt

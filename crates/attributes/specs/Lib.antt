@@ -1,0 +1,3 @@
+-- What the readers of fetch attributes answer, over the definitions of crate `model`.
+pub mod Sections
+pub mod Asked

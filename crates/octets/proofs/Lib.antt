@@ -1,0 +1,10 @@
+-- Lemmas on plain values, for the proofs of this crate.
+mod Table
+mod Runs
+mod Pieces
+mod Digits
+mod Strings
+mod Filling
+pub mod Chains
+mod Days
+mod Weights

@@ -1,0 +1,4 @@
+-- Lemmas on plain values, for the proofs of this crate.
+mod Rows
+mod Counting
+mod Grouping

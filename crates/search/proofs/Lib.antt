@@ -1,0 +1,5 @@
+pub mod Rows
+pub mod Optional
+pub mod Searches
+pub mod Replying
+pub mod Judging

@@ -1,0 +1,4 @@
+pub mod Sourced
+pub mod Parts
+pub mod Searched
+pub mod Judged

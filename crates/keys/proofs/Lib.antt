@@ -5,3 +5,4 @@ mod SetLaws
 mod Shapes
 mod KeyLaws
 pub mod Most
+pub mod Whole

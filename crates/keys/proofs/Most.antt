@@ -7,8 +7,8 @@ use lib.Dec.{ltb}
 use lib.ListN.{length}
 use borrow.Author.Tests.{ltb-true, ltb-false, lt-ltb, le-ltb}
 use Rattle.model.specs.Requests.{Test, Key, test, non, either, group, Keys, end, more}
-use Rattle.model.specs.Limits.{partsOf, someTest, someTests, tooManyParts}
 use Rattle.model.specs.declared.Limits.{Limits}
+use Rattle.model.specs.Limits.{partsOf, someTest, someTests, tooManyParts}
 use Rattle.keys.specs.Table.{partsMost, partsMosts}
 
 -- a limit and the larger of two numbers

@@ -4,3 +4,4 @@ pub mod Table
 pub mod Sets
 pub mod Begin
 pub mod Keys
+pub mod Examples

@@ -12,13 +12,12 @@ use Rattle.model.specs.Requests.{Filter, selected, delayed, inboxes, personal, 
 use Rattle.model.specs.Requests.{Event, messageNew, messageExpunge, flagChange, annotationChange, mailboxName, subscriptionChange, otherEvent, isNew, isExpunge, isFlagChange, isMailboxName, isSubscriptionChange, attributesOf}
 use Rattle.model.specs.Limits.{nameCount}
 use Rattle.model.specs.Replies.{selectedGroup, messageEvent, misplacedEvent, hasAttributes, misplacedAttributes, unpaired, unsupportedEvent, unsupportedAttribute, asksUnsupported}
-use Rattle.model.specs.NotifyGrammar.{groupable}
 use Rattle.attributes.specs.Asked.{gather}
 use Rattle.filters.specs.Scopes.{scopeFor}
 use Rattle.filters.specs.declared.Scope.{Scope}
 use Rattle.events.specs.Gathered.{gatherEvents, isAnnotationChange, isOther}
 use Rattle.events.specs.declared.Events.{Events}
-use Rattle.notify.specs.Tallies.{filtersOf, tallyOf, aboutSelected, mayGroup, asksMessages, asksOthers, unpairedBy, misplacedBy, amissBy, tallyBy, add}
+use Rattle.notify.specs.Tallies.{filtersOf, tallyOf, aboutSelected, asksMessages, asksOthers, unpairedBy, misplacedBy, amissBy, tallyBy, add}
 use Rattle.notify.specs.declared.Tally.{Tally}
 
 -- ---- tests
@@ -104,16 +103,6 @@ scope-selected subscribed = refl
 scope-selected (subtree n ns) = refl
 scope-selected (subtreeOne n ns) = refl
 scope-selected (mailboxes n ns) = refl
-
-pub scope-groupable : (f : Filter) → mayGroup (scopeFor f) ≡ groupable f
-scope-groupable selected = refl
-scope-groupable delayed = refl
-scope-groupable inboxes = refl
-scope-groupable personal = refl
-scope-groupable subscribed = refl
-scope-groupable (subtree n ns) = refl
-scope-groupable (subtreeOne n ns) = refl
-scope-groupable (mailboxes n ns) = refl
 
 tally-eq : {g g′ n n′ s s′ : ℕ} {a a′ b b′ u u′ : Bool} → g ≡ g′ → n ≡ n′ → s ≡ s′ → a ≡ a′ → b ≡ b′ → u ≡ u′
     → _≡_ {A = Tally} (record { groups = g; names = n; selected = s; amiss = a; badevent = b; unsupported = u }) (record { groups = g′; names = n′; selected = s′; amiss = a′; badevent = b′; unsupported = u′ })

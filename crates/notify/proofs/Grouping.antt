@@ -11,13 +11,13 @@ use Rattle.model.specs.Text.{one}
 use Rattle.model.specs.Requests.{Filter, namesOf, Event, Asked, Command, notifyNone, notifySet}
 use Rattle.model.specs.Reading.{Parsed, bad, ok, andThen, is, piece, endOf, wordAt, rowAt, lineEnd, nextAt}
 use Rattle.model.specs.NotifyGrammar.{filterAt, eventsAt, groupable, groupBy, groupAt, groupsAt, setBy, notifyAt}
-use Rattle.filters.specs.Scopes.{scopeFor, readFilter}
+use Rattle.filters.specs.Scopes.{scopeFor, Grouped, readFilter}
 use Rattle.filters.specs.declared.Scope.{Scope}
 use Rattle.filters.specs.declared.FilterRead.the-variants.{Is as Filtered, Bad as Unfiltered}
 use Rattle.events.specs.Gathered.{gatherEvents, readEvents}
 use Rattle.events.specs.declared.Events.{Events}
 use Rattle.events.specs.declared.EventsRead.the-variants.{Is as Evented, Bad as Eventless}
-use Rattle.notify.specs.Tallies.{tallyOf, tallyBy, mayGroup, add, Room, readGroup, readTally}
+use Rattle.notify.specs.Tallies.{tallyOf, tallyBy, add, Room, readGroup, readTally}
 use Rattle.notify.specs.Readings.{join, JoinRoom, Bounded, Within, BoundedBehind, WithinBehind, note, readNotify, NotifyWithin}
 use Rattle.notify.specs.declared.Tally.{Tally}
 use Rattle.notify.specs.declared.TallyRead.{TallyRead}
@@ -25,22 +25,22 @@ use Rattle.notify.specs.declared.TallyRead.the-variants.{Is, Bad}
 use Rattle.notify.specs.declared.NotifyRead.{NotifyRead}
 use Rattle.notify.specs.declared.NotifyRead.the-variants.{Nothing, Groups, Bad as Unread}
 use Rattle.notify.proofs.Rows.{after-yes, after-no, row-none, row-another, row-over, row-neither, next-another, next-over, next-neither}
-use Rattle.notify.proofs.Counting.{scope-groupable, tally-one, tally-more}
+use Rattle.notify.proofs.Counting.{tally-one, tally-more}
 
 -- ---- what was read, from the code's answer
-events-found : {e : Events} {q : ℕ} (x : Parsed (List Event)) → Evented e q ≡ readEvents x → (es : List Event) × (x ≡ ok q es) × (gatherEvents es ≡ e)
+pub events-found : {e : Events} {q : ℕ} (x : Parsed (List Event)) → Evented e q ≡ readEvents x → (es : List Event) × (x ≡ ok q es) × (gatherEvents es ≡ e)
 events-found bad h = absurd (let z : _≡_ {A = ℕ} 0 1 = cc in omega arith)
 events-found (ok p es) h = (es, (cc), (cc))
 
-events-lost : (x : Parsed (List Event)) → Eventless ≡ readEvents x → x ≡ bad
+pub events-lost : (x : Parsed (List Event)) → Eventless ≡ readEvents x → x ≡ bad
 events-lost bad h = refl
 events-lost (ok p es) h = absurd (let z : _≡_ {A = ℕ} 0 1 = cc in omega arith)
 
-filter-found : {scope : Scope} {n q : ℕ} (x : Parsed Filter) → Filtered scope n q ≡ readFilter x → (f : Filter) × (x ≡ ok q f) × (scopeFor f ≡ scope) × (length (namesOf f) ≡ n)
+pub filter-found : {scope : Scope} {n q : ℕ} (x : Parsed Filter) → Filtered scope n q ≡ readFilter x → (f : Filter) × (x ≡ ok q f) × (scopeFor f ≡ scope) × (length (namesOf f) ≡ n)
 filter-found bad h = absurd (let z : _≡_ {A = ℕ} 0 1 = cc in omega arith)
 filter-found (ok p f) h = (f, (cc), (cc), (cc))
 
-filter-lost : (x : Parsed Filter) → Unfiltered ≡ readFilter x → x ≡ bad
+pub filter-lost : (x : Parsed Filter) → Unfiltered ≡ readFilter x → x ≡ bad
 filter-lost bad h = refl
 filter-lost (ok p f) h = absurd (let z : _≡_ {A = ℕ} 0 1 = cc in omega arith)
 
@@ -86,18 +86,18 @@ module _ (s : List ℕ) (at : ℕ) where
     group-none h = rw (eq-eqb (getD s at 0) 40 b, filter-lost (filterAt s (at + 1)) h)
 
     module _ {scope : Scope} {n q : ℕ} (h : Filtered scope n q ≡ readFilter (filterAt s (at + 1))) where
-      pub group-odd : mayGroup scope ≡ false → Bad ≡ readGroup (groupAt s at)
+      pub group-odd : {b : Bool} → Grouped scope b → b ≡ false → Bad ≡ readGroup (groupAt s at)
       unfolding groupAt
-      group-odd m =
+      group-odd k m =
           let i = filter-found (filterAt s (at + 1)) h in
-          let g : groupable (i .0) ≡ false = sym (scope-groupable (i .0)) ∙ ap mayGroup (i .2) ∙ m in
+          let g : groupable (i .0) ≡ false = sym (k (i .0) (i .2)) ∙ m in
           rw (eq-eqb (getD s at 0) 40 b, i .1, g)
 
-      pub group-by : mayGroup scope ≡ true → {r : TallyRead} → ((f : Filter) → scopeFor f ≡ scope → length (namesOf f) ≡ n → r ≡ readGroup (groupBy true f s q)) → r ≡ readGroup (groupAt s at)
+      pub group-by : {b : Bool} → Grouped scope b → b ≡ true → {r : TallyRead} → ((f : Filter) → scopeFor f ≡ scope → length (namesOf f) ≡ n → r ≡ readGroup (groupBy true f s q)) → r ≡ readGroup (groupAt s at)
       unfolding groupAt
-      group-by m k =
+      group-by a m k =
           let i = filter-found (filterAt s (at + 1)) h in
-          let g : groupable (i .0) ≡ true = sym (scope-groupable (i .0)) ∙ ap mayGroup (i .2) ∙ m in
+          let g : groupable (i .0) ≡ true = sym (a (i .0) (i .2)) ∙ m in
           rw (eq-eqb (getD s at 0) 40 b, i .1, g) (k (i .0) (i .2) (i .3))
 
 -- ---- groups up to the end of the line

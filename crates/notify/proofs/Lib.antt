@@ -2,3 +2,7 @@
 mod Rows
 mod Counting
 mod Grouping
+mod Filling
+mod Storing
+mod Lending
+mod Watching

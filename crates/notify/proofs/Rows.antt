@@ -42,7 +42,7 @@ module _ {A : Type 0} (item : ℕ → Parsed A) (next : ℕ → RowNext) (at : �
   row-none zero e = refl
   row-none (suc n) e = rw e
 
-  row-open : (n : ℕ) → 0 < n → rowAt n item next at ≡ andThen (item at) (λ q a. rowBy (next q) (λ r. rowAt (n - 1) item next r) a)
+  pub row-open : (n : ℕ) → 0 < n → rowAt n item next at ≡ andThen (item at) (λ q a. rowBy (next q) (λ r. rowAt (n - 1) item next r) a)
   unfolding rowAt
   row-open zero h = absurd (not-suc-le-zero h)
   row-open (suc m) h = rw (sub-one (suc m))

@@ -2,3 +2,4 @@
 pub mod Tallies
 pub mod Readings
 pub mod Ladder
+pub mod Watched

@@ -54,16 +54,6 @@ aboutSelected Subtree = false
 aboutSelected SubtreeOne = false
 aboutSelected Mailboxes = false
 
-abbrev pub mayGroup : Scope → Bool
-mayGroup Selected = true
-mayGroup Delayed = true
-mayGroup Inboxes = true
-mayGroup Personal = true
-mayGroup Subscribed = true
-mayGroup Subtree = true
-mayGroup SubtreeOne = false
-mayGroup Mailboxes = true
-
 abbrev pub asksMessages : Events → Bool
 asksMessages e = (e .new || e .expunge) || (e .flag || e .annotation)
 

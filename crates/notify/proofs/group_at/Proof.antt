@@ -11,7 +11,7 @@ use Rattle.notify.proofs.group_at.Reads as reads
 use Rattle.notify.proofs.group_at.Lts as lts
 use Rattle.filters.proofs.filter_at.Reads as filter-at-reads
 use Rattle.notify.proofs.events_behind.Reads as events-behind-reads
-use Rattle.notify.proofs.may_group.Reads as may-group-reads
+use Rattle.filters.proofs.is_groupable.Reads as is-groupable-reads
 use Rattle.octets.proofs.octet_at.Reads as octet-at-reads
 
 -- src/lib.rt:160:8
@@ -35,8 +35,8 @@ enum-known-scope : tie.Need-enum-known-scope
 enum-known-scope c = search needs
 
 -- src/lib.rt:165:16
-may-group-requires : tie.Need-may-group-requires
-may-group-requires c κs = search needs
+is-groupable-requires : tie.Need-is-groupable-requires
+is-groupable-requires c κs = search needs
 
 -- src/lib.rt:166:17
 events-behind-requires : tie.Need-events-behind-requires
@@ -48,11 +48,11 @@ enum-told c = search needs
 
 -- src/lib.rt:156:1
 returns-2 : tie.Need-returns-2
-returns-2 c = let w = rw (c .before .before .before .before .scope .given .1) at (c .before .before .before .before .before .before .filter-at .ensures .within) in record { exact = group-by (c .before .before .before .before .before .before .before .before .before .before .args .text .now) (c .before .before .before .before .before .before .before .before .before .before .args .at) (sym (c .before .before .before .before .before .before .before .before .octet-at .ensures) ∙ c .before .before .before .before .before .before .before .if1 .left) (sym (c .before .before .before .before .scope .given .1) ∙ c .before .before .before .before .before .before .filter-at .ensures .exact) (sym (c .before .before .may-group .ensures) ∙ c .before .if2 .taken) (c .events-behind .ensures .exact); within = within-group (c .before .before .before .before .before .before .before .before .before .before .args .text .now) (c .before .before .before .before .before .before .before .before .before .before .args .at) (c .before .before .before .before .scope .given .0 .1 .0) (c .before .before .before .before .scope .given .0 .1 .1 .0) (c .events-behind .result) (omega arith) (c .events-behind .ensures .within) }
+returns-2 c = let w = rw (c .before .before .before .before .scope .given .1) at (c .before .before .before .before .before .before .filter-at .ensures .within) in record { exact = group-by (c .before .before .before .before .before .before .before .before .before .before .args .text .now) (c .before .before .before .before .before .before .before .before .before .before .args .at) (sym (c .before .before .before .before .before .before .before .before .octet-at .ensures) ∙ c .before .before .before .before .before .before .before .if1 .left) (sym (c .before .before .before .before .scope .given .1) ∙ c .before .before .before .before .before .before .filter-at .ensures .exact) (c .before .before .is-groupable .ensures) (c .before .if2 .taken) (c .events-behind .ensures .exact); within = within-group (c .before .before .before .before .before .before .before .before .before .before .args .text .now) (c .before .before .before .before .before .before .before .before .before .before .args .at) (c .before .before .before .before .scope .given .0 .1 .0) (c .before .before .before .before .scope .given .0 .1 .1 .0) (c .events-behind .result) (omega arith) (c .events-behind .ensures .within) }
 
 -- src/lib.rt:156:1
 returns-3 : tie.Need-returns-3
-returns-3 c = record { exact = group-odd (c .before .before .before .before .before .before .before .before .before .args .text .now) (c .before .before .before .before .before .before .before .before .before .args .at) (sym (c .before .before .before .before .before .before .before .octet-at .ensures) ∙ c .before .before .before .before .before .before .if1 .left) (sym (c .before .before .before .scope .given .1) ∙ c .before .before .before .before .before .filter-at .ensures .exact) (sym (c .before .may-group .ensures) ∙ c .if2 .left); within = tt }
+returns-3 c = record { exact = group-odd (c .before .before .before .before .before .before .before .before .before .args .text .now) (c .before .before .before .before .before .before .before .before .before .args .at) (sym (c .before .before .before .before .before .before .before .octet-at .ensures) ∙ c .before .before .before .before .before .before .if1 .left) (sym (c .before .before .before .scope .given .1) ∙ c .before .before .before .before .before .filter-at .ensures .exact) (c .before .is-groupable .ensures) (c .if2 .left); within = tt }
 
 -- src/lib.rt:156:1
 returns-4 : tie.Need-returns-4
@@ -67,7 +67,7 @@ group-at-spec =
     add-filter-at
     filter-at-requires
     enum-known-scope
-    may-group-requires
+    is-groupable-requires
     events-behind-requires
     enum-told
     returns-2

@@ -3,7 +3,6 @@ use mathlib.Core.Path.{_≡_, refl, sym, ap, _∙_}
 use mathlib.Core.Bool.{Bool, true, false, cond, not}
 use mathlib.Core.List.{List, [], _∷_}
 use Prim.Native.Nat.{ℕ, _+_}
-use Prim.Native.String.{String}
 use native.Mathlib.Omega.{arith}
 use lib.ListN.{getD}
 use borrow.Author.Tests.{eq-eqb, ne-eqb}
@@ -12,21 +11,17 @@ use Rattle.model.specs.Requests.{Filter, Charset, none, known, unknown}
 use Rattle.model.specs.Replies.{unknownCharset}
 use Rattle.model.specs.Reading.{Parsed, bad, ok, andThen, afterBy, after, stands, endOf, isOf, wordAt, textAt, listAt}
 use Rattle.model.specs.NotifyGrammar.{filterAt}
-use Rattle.model.specs.SearchGrammar.{Return, returnsAt, charsetOf, charsetAt, optionBy, optionAt}
-use Rattle.octets.specs.declared.Next.{Next}
+use Rattle.model.specs.SearchGrammar.{Return, returnsAt, charsetOf, charsetAt, optionBy}
 use Rattle.octets.specs.declared.Next.the-variants.{At, Bad as Missing}
 use Rattle.options.specs.Returning.{returnsOf, readReturns}
-use Rattle.options.specs.Charsets.{knownOf, readCharset}
+use Rattle.options.specs.Charsets.{readCharset}
 use Rattle.options.specs.declared.Returns.{Returns}
-use Rattle.options.specs.declared.ReturnsRead.{ReturnsRead}
 use Rattle.options.specs.declared.ReturnsRead.the-variants.{Is as IsReturns, Bad as NoReturns}
 use Rattle.options.specs.declared.CharsetRead.the-variants.{Is as IsCharset, Bad as NoCharset}
 use Rattle.search.specs.Sourced.{sourcesOf, readSources}
 use Rattle.search.specs.Parts.{spaceAt, inBy, inAt, returnBy, returnAt, charsetBy, charsetPartAt, readPart}
 use Rattle.search.specs.declared.Sources.{Sources}
-use Rattle.search.specs.declared.SourcesRead.{SourcesRead}
 use Rattle.search.specs.declared.SourcesRead.the-variants.{Is as IsSources, Bad as NoSources}
-use Rattle.search.specs.declared.CharsetPart.{CharsetPart}
 use Rattle.search.specs.declared.CharsetPart.the-variants.{Is, Bad}
 
 -- ---- a space
@@ -49,24 +44,24 @@ module _ {A : Type 0} where
   -- ---- a part whose word stands there
 
   module _ (value : ℕ → Parsed A) (d : A) (s : List ℕ) (at : ℕ) where
-    closed : Missing ≡ spaceAt s (endOf atomOctet s at) → optionBy true value d s at ≡ bad
+    pub closed : Missing ≡ spaceAt s (endOf atomOctet s at) → optionBy true value d s at ≡ bad
     closed e = by-none (stands s (endOf atomOctet s at) " ") (endOf atomOctet s at + 1) (λ (q : ℕ). andThen (value q) (λ r a. after s r " " λ e. ok e a)) e
 
     module _ {q : ℕ} (g : At q ≡ spaceAt s (endOf atomOctet s at)) where
       opened : optionBy true value d s at ≡ andThen (value q) (λ r a. after s r " " λ e. ok e a)
       opened = by-space (stands s (endOf atomOctet s at) " ") (endOf atomOctet s at + 1) q (λ (q : ℕ). andThen (value q) (λ r a. after s r " " λ e. ok e a)) g
 
-      unfit : value q ≡ bad → optionBy true value d s at ≡ bad
+      pub unfit : value q ≡ bad → optionBy true value d s at ≡ bad
       unfit h = opened ∙ ap (λ (x : Parsed A). andThen x (λ r a. after s r " " λ e. ok e a)) h
 
       module _ {r : ℕ} {a : A} (h : value q ≡ ok r a) where
         valued : optionBy true value d s at ≡ after s r " " (λ e. ok e a)
         valued = opened ∙ ap (λ (x : Parsed A). andThen x (λ r a. after s r " " λ e. ok e a)) h
 
-        unspaced : Missing ≡ spaceAt s r → optionBy true value d s at ≡ bad
+        pub unspaced : Missing ≡ spaceAt s r → optionBy true value d s at ≡ bad
         unspaced k = valued ∙ by-none (stands s r " ") (r + 1) (λ (e : ℕ). ok e a) k
 
-        whole : {e : ℕ} → At e ≡ spaceAt s r → optionBy true value d s at ≡ ok e a
+        pub whole : {e : ℕ} → At e ≡ spaceAt s r → optionBy true value d s at ≡ ok e a
         whole {e} k = valued ∙ by-space (stands s r " ") (r + 1) e (λ (e : ℕ). ok e a) k
 
 -- ---- sources

@@ -1,15 +1,15 @@
 -- The reply by what the code knows of a search is the reply of the definitions. Assumes nothing.
-use mathlib.Core.Path.{_≡_, refl, sym, ap, _∙_}
-use mathlib.Core.Bool.{Bool, true, false, cond, not, _&&_, _||_}
+use mathlib.Core.Path.{_≡_, refl, ap, _∙_}
+use mathlib.Core.Bool.{Bool, cond, not, _&&_, _||_}
 use mathlib.Core.List.{List, [], _∷_}
-use Prim.Native.Nat.{ℕ, zero, suc, _≤_, _<_, max}
+use Prim.Native.Nat.{ℕ, suc}
 use native.Mathlib.Omega.{arith}
 use lib.Dec.{eqb, ltb}
 use lib.ListN.{length}
-use borrow.Author.Tests.{ne-eqb, le-ltb, ltb-true, ltb-false}
+use borrow.Author.Tests.{ne-eqb}
 use Rattle.model.specs.Lists.{anyb}
-use Rattle.model.specs.Requests.{Filter, ofSelected, Charset, Test, Key, test, non, either, group, Keys, end, more, Search, Command, notifyNone, notifySet, search}
-use Rattle.model.specs.Limits.{someTest, someTests, partsOf, tooManyParts, tooManyFilters, keysCount, keysDepth}
+use Rattle.model.specs.Requests.{Filter, ofSelected, Charset, Keys, Search, Command, notifyNone, notifySet, search}
+use Rattle.model.specs.Limits.{someTests, tooManyFilters, keysCount, keysDepth}
 use Rattle.model.specs.Replies.{isDelayed, needsSelected, unsupportedTest, unknownCharset, replyOf}
 use Rattle.model.specs.Reading.{Parsed, bad, ok, andThen}
 use Rattle.model.specs.SearchGrammar.{Return, programAt, searchFor, searchAt}

@@ -1,6 +1,6 @@
 -- Rows of sources and what is counted of them, over plain values. Assumes nothing.
 use mathlib.Core.Path.{_≡_, refl, sym, ap, _∙_}
-use mathlib.Core.Bool.{Bool, true, false, cond}
+use mathlib.Core.Bool.{Bool}
 use mathlib.Core.List.{List, [], _∷_}
 use mathlib.Core.Logic.{⊎-elim}
 use Prim.Native.Nat.{ℕ, zero, suc, _+_, _-_, _≤_, _<_}
@@ -30,22 +30,22 @@ in-text s p {b} e l = ⊎-elim (λ q. absurd (past (omega arith))) (λ q. omega 
     past q = omega (arith, List·getD-eq-default s 0 q)
 
 -- what stands behind a thing of a row
-next-space : (s : List ℕ) (p : ℕ) → getD s p 0 ≡ 32 → nextAt closing s p ≡ another (p + 1)
+pub next-space : (s : List ℕ) (p : ℕ) → getD s p 0 ≡ 32 → nextAt closing s p ≡ another (p + 1)
 next-space s p e = rw (eq-eqb (getD s p 0) 32 e)
 
-next-close : (s : List ℕ) (p : ℕ) → getD s p 0 ≡ 41 → nextAt closing s p ≡ over (p + 1)
+pub next-close : (s : List ℕ) (p : ℕ) → getD s p 0 ≡ 41 → nextAt closing s p ≡ over (p + 1)
 next-close s p e = rw e
 
-next-neither : (s : List ℕ) (p : ℕ) → (getD s p 0 ≡ 32 → ⊥) → (getD s p 0 ≡ 41 → ⊥) → nextAt closing s p ≡ neither
+pub next-neither : (s : List ℕ) (p : ℕ) → (getD s p 0 ≡ 32 → ⊥) → (getD s p 0 ≡ 41 → ⊥) → nextAt closing s p ≡ neither
 next-neither s p e f = rw (ne-eqb (getD s p 0) 32 e, ne-eqb (getD s p 0) 41 f)
 
 -- ---- a filter that was read, from the code's answer
 
-found : {scope : Scope} {n p : ℕ} (x : Parsed Filter) → IsFilter scope n p ≡ readFilter x → (f : Filter) × (x ≡ ok p f) × (scopeFor f ≡ scope) × (length (namesOf f) ≡ n)
+pub found : {scope : Scope} {n p : ℕ} (x : Parsed Filter) → IsFilter scope n p ≡ readFilter x → (f : Filter) × (x ≡ ok p f) × (scopeFor f ≡ scope) × (length (namesOf f) ≡ n)
 found bad e = absurd (let z : _≡_ {A = ℕ} 0 1 = cc in omega arith)
 found (ok q f) e = (f, (cc), (cc), (cc))
 
-missing : (x : Parsed Filter) → NoFilter ≡ readFilter x → x ≡ bad
+pub missing : (x : Parsed Filter) → NoFilter ≡ readFilter x → x ≡ bad
 missing bad e = refl
 missing (ok q f) e = absurd (let z : _≡_ {A = ℕ} 0 1 = cc in omega arith)
 
@@ -75,7 +75,7 @@ put-ahead f (ok p fs) = ap (λ (r : Sources). Is r p) (ahead-of f fs)
 
 -- ---- one step of a row
 
-row-open : (item : ℕ → Parsed Filter) (next : ℕ → Next) (at n : ℕ) → 0 < n
+pub row-open : (item : ℕ → Parsed Filter) (next : ℕ → Next) (at n : ℕ) → 0 < n
     → rowAt n item next at ≡ andThen (item at) (λ q a. rowBy (next q) (λ r. rowAt (n - 1) item next r) a)
 unfolding rowAt
 row-open item next at zero h = absurd (not-suc-le-zero h)

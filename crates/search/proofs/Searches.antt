@@ -1,12 +1,11 @@
 -- A search and its parts, over plain values. Assumes nothing.
-use mathlib.Core.Path.{_≡_, refl, sym, ap, _∙_}
-use mathlib.Core.Bool.{Bool, true, false}
+use mathlib.Core.Path.{_≡_, refl, _∙_}
+use mathlib.Core.Bool.{Bool}
 use mathlib.Core.List.{List}
-use Prim.Native.Nat.{ℕ, _+_, _*_, _≤_}
+use Prim.Native.Nat.{ℕ, _+_}
 use native.Mathlib.Omega.{arith}
 use lib.ListN.{length}
-use lib.Seq.{sets}
-use Rattle.model.specs.Requests.{Filter, Charset, Keys, Command, search}
+use Rattle.model.specs.Requests.{Filter, Charset, Keys, search}
 use Rattle.model.specs.Limits.{keysCount, keysDepth, someTests}
 use Rattle.model.specs.Replies.{unsupportedTest, unknownCharset}
 use Rattle.model.specs.Reading.{Parsed, bad, ok, andThen}
@@ -20,11 +19,10 @@ use Rattle.options.specs.declared.Returns.{Returns}
 use Rattle.options.specs.declared.ReturnsRead.the-variants.{Is as IsReturns, Bad as NoReturns}
 use Rattle.search.specs.Sourced.{sourcesOf, readSources}
 use Rattle.search.specs.Parts.{inAt, returnAt, charsetPartAt, readPart}
-use Rattle.search.specs.Searched.{askedBy, askedOf, readSearch, Cells, KeysIn, ReadsSearch}
+use Rattle.search.specs.Searched.{askedBy, readSearch, Cells, KeysIn, ReadsSearch}
 use Rattle.search.specs.declared.Sources.{Sources}
 use Rattle.search.specs.declared.SourcesRead.the-variants.{Is as IsSources, Bad as NoSources}
 use Rattle.search.specs.declared.CharsetPart.the-variants.{Is as IsPart, Bad as NoPart}
-use Rattle.search.specs.declared.Asked.{Asked}
 use Rattle.search.specs.declared.SearchRead.{SearchRead}
 use Rattle.search.specs.declared.SearchRead.the-variants.{Is, Bad}
 use Rattle.search.proofs.Optional.{sources-found, sources-missing, returns-found, returns-missing, part-found, part-missing}

@@ -1,6 +1,5 @@
 -- How a search is answered, by what the code knows of it. Assumes nothing: these are definitions.
 use mathlib.Core.Bool.{Bool, cond, not, _&&_, _||_}
-use Prim.Native.Nat.{ℕ}
 use lib.Dec.{eqb, ltb}
 use Rattle.model.specs.declared.Limits.{Limits}
 use Rattle.model.specs.declared.Reply.{Reply}

@@ -1,28 +1,21 @@
 -- `behind_space`: a space, or none. Assumes nothing.
-use mathlib.Core.Path.{_≡_, sym, ap, _∙_}
+use mathlib.Core.Path.{sym, _∙_}
 use native.Mathlib.Omega.{arith}
 use Rattle.search.proofs.Rows.{in-text}
 use Rattle.search.proofs.Optional.{space-there, space-missing}
 use borrow.Author.Needs.{needs}
 use Rattle.search.proofs.behind_space.Statement.{statement}
 use Rattle.search.proofs.behind_space.Tie as tie
-use Rattle.search.proofs.behind_space.Reads as reads
-use Rattle.search.proofs.behind_space.Lts as lts
-use Rattle.octets.proofs.octet_at.Reads as octet-at-reads
 
--- src/lib.rt:133:8
 octet-at-requires : tie.Need-octet-at-requires
 octet-at-requires c κs = search needs
 
--- src/lib.rt:134:25
 add-t5 : tie.Need-add-t5
 add-t5 c = let i = in-text (c .before .before .before .args .text .now) (c .before .before .before .args .at) (sym (c .before .octet-at .ensures) ∙ c .if1 .taken) (omega arith) in omega arith
 
--- src/lib.rt:134:9
 returns : tie.Need-returns
 returns c = space-there (c .before .before .before .args .text .now) (c .before .before .before .args .at) (sym (c .before .octet-at .ensures) ∙ c .if1 .taken)
 
--- src/lib.rt:130:1
 returns-2 : tie.Need-returns-2
 returns-2 c = space-missing (c .before .before .before .args .text .now) (c .before .before .before .args .at) (λ e. c .if1 .left (c .before .octet-at .ensures ∙ e))
 

@@ -1,23 +1,16 @@
 -- `behind_word`: the space behind the atom. Assumes nothing.
-use mathlib.Core.Path.{_≡_, sym, ap, _∙_}
+use mathlib.Core.Path.{ap, _∙_}
 use Rattle.search.specs.Parts.{spaceAt}
 use borrow.Author.Needs.{needs}
 use Rattle.search.proofs.behind_word.Statement.{statement}
 use Rattle.search.proofs.behind_word.Tie as tie
-use Rattle.search.proofs.behind_word.Reads as reads
-use Rattle.search.proofs.behind_word.Lts as lts
-use Rattle.octets.proofs.run_end.Reads as run-end-reads
-use Rattle.search.proofs.behind_space.Reads as behind-space-reads
 
--- src/lib.rt:143:9
 run-end-requires : tie.Need-run-end-requires
 run-end-requires c κs = search needs
 
--- src/lib.rt:144:5
 behind-space-requires : tie.Need-behind-space-requires
 behind-space-requires c κs = search needs
 
--- src/lib.rt:140:1
 returns : tie.Need-returns
 returns c = c .behind-space .ensures ∙ ap (spaceAt (c .before .before .before .args .text .now)) (c .before .run-end .ensures .exact)
 

@@ -1,69 +1,49 @@
 -- `charset_by`: the value between its spaces. Assumes nothing.
-use mathlib.Core.Path.{_≡_, sym, ap, _∙_}
+use mathlib.Core.Path.{sym, _∙_}
 use Rattle.search.proofs.Optional.{charset-closed, charset-unfit, charset-unspaced, charset-whole}
 use borrow.Author.Needs.{needs}
 use Rattle.search.proofs.charset_by.Statement.{statement}
 use Rattle.search.proofs.charset_by.Tie as tie
-use Rattle.search.proofs.charset_by.Reads as reads
-use Rattle.search.proofs.charset_by.Lts as lts
-use Rattle.options.proofs.charset_at.Reads as charset-at-reads
-use Rattle.search.proofs.behind_space.Reads as behind-space-reads
-use Rattle.search.proofs.behind_word.Reads as behind-word-reads
-use Rattle.search.proofs.opposite.Reads as opposite-reads
 
--- src/lib.rt:221:23
 behind-word-requires : tie.Need-behind-word-requires
 behind-word-requires c κs = search needs
 
--- src/lib.rt:221:18
 enum-known-q : tie.Need-enum-known-q
 enum-known-q c = search needs
 
--- src/lib.rt:222:9
 enum-told : tie.Need-enum-told
 enum-told c = search needs
 
--- src/lib.rt:222:9
 returns : tie.Need-returns
 returns c = charset-closed (c .before .before .before .before .args .text .now) (c .before .before .before .before .args .at) (sym (c .enum-told .given .1) ∙ c .before .before .behind-word .ensures)
 
--- src/lib.rt:224:37
 charset-at-requires : tie.Need-charset-at-requires
 charset-at-requires c κs = search needs
 
--- src/lib.rt:224:25
 enum-known-known : tie.Need-enum-known-known
 enum-known-known c = search needs
 
--- src/lib.rt:225:9
 enum-told-2 : tie.Need-enum-told-2
 enum-told-2 c = search needs
 
--- src/lib.rt:225:9
 returns-2 : tie.Need-returns-2
 returns-2 c = charset-unfit (c .before .before .before .before .before .before .before .before .args .text .now) (c .before .before .before .before .before .before .before .before .args .at) (sym (c .before .before .before .before .q .given .1) ∙ c .before .before .before .before .before .before .behind-word .ensures) (sym (c .enum-told2 .given .1) ∙ c .before .before .charset-at .ensures .exact)
 
--- src/lib.rt:227:26
 behind-space-requires : tie.Need-behind-space-requires
 behind-space-requires c κs = search needs
 
--- src/lib.rt:227:18
 enum-known-next : tie.Need-enum-known-next
 enum-known-next c = search needs
 
--- src/lib.rt:228:9
 enum-told-3 : tie.Need-enum-told-3
 enum-told-3 c = search needs
 
--- src/lib.rt:228:9
 returns-3 : tie.Need-returns-3
 returns-3 c = charset-unspaced (c .before .before .before .before .before .before .before .before .before .before .before .before .args .text .now) (c .before .before .before .before .before .before .before .before .before .before .before .before .args .at) (sym (c .before .before .before .before .before .before .before .before .q .given .1) ∙ c .before .before .before .before .before .before .before .before .before .before .behind-word .ensures) (sym (c .before .before .before .before .known .given .1) ∙ c .before .before .before .before .before .before .charset-at .ensures .exact) (sym (c .enum-told3 .given .1) ∙ c .before .before .behind-space .ensures)
 
--- src/lib.rt:230:21
 opposite-requires : tie.Need-opposite-requires
 opposite-requires c κs = search needs
 
--- src/lib.rt:218:1
 returns-4 : tie.Need-returns-4
 returns-4 c = rw (c .opposite .ensures) (charset-whole (c .before .before .before .before .before .before .before .before .before .before .before .before .before .before .args .text .now) (c .before .before .before .before .before .before .before .before .before .before .before .before .before .before .args .at) (sym (c .before .before .before .before .before .before .before .before .before .before .q .given .1) ∙ c .before .before .before .before .before .before .before .before .before .before .before .before .behind-word .ensures) (sym (c .before .before .before .before .before .before .known .given .1) ∙ c .before .before .before .before .before .before .before .before .charset-at .ensures .exact) (sym (c .before .before .next .given .1) ∙ c .before .before .before .before .behind-space .ensures))
 

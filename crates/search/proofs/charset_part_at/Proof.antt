@@ -1,31 +1,22 @@
 -- `charset_part_at`: the part, or none where its word does not stand. Assumes nothing.
-use mathlib.Core.Path.{_≡_, sym, ap, _∙_}
+use mathlib.Core.Path.{sym, _∙_}
 use Rattle.search.proofs.Optional.{charset-given, charset-left}
 use borrow.Author.Needs.{needs}
 use Rattle.search.proofs.charset_part_at.Statement.{statement}
 use Rattle.search.proofs.charset_part_at.Tie as tie
-use Rattle.search.proofs.charset_part_at.Reads as reads
-use Rattle.search.proofs.charset_part_at.Lts as lts
-use Rattle.octets.proofs.word_at.Reads as word-at-reads
-use Rattle.search.proofs.charset_by.Reads as charset-by-reads
 
--- src/lib.rt:237:34
 slice-aggregate-word-at : tie.Need-slice-aggregate-word-at
 slice-aggregate-word-at c = search needs
 
--- src/lib.rt:237:8
 word-at-requires : tie.Need-word-at-requires
 word-at-requires c κs = search needs
 
--- src/lib.rt:238:9
 charset-by-requires : tie.Need-charset-by-requires
 charset-by-requires c κs = search needs
 
--- src/lib.rt:238:9
 returns : tie.Need-returns
 returns c = c .charset-by .ensures ∙ charset-given (c .before .before .before .before .before .args .text .now) (c .before .before .before .before .before .args .at) (sym (c .before .before .word-at .ensures) ∙ c .before .if1 .taken)
 
--- src/lib.rt:234:1
 returns-2 : tie.Need-returns-2
 returns-2 c = charset-left (c .before .before .before .before .args .text .now) (c .before .before .before .before .args .at) (sym (c .before .word-at .ensures) ∙ c .if1 .left)
 

@@ -1,64 +1,46 @@
 -- `in_by`: the value between its spaces. Assumes nothing.
-use mathlib.Core.Path.{_≡_, sym, ap, _∙_}
+use mathlib.Core.Path.{sym, _∙_}
 use Rattle.search.proofs.Optional.{in-closed, in-unfit, in-unspaced, in-whole}
 use borrow.Author.Needs.{needs}
 use Rattle.search.proofs.in_by.Statement.{statement}
 use Rattle.search.proofs.in_by.Tie as tie
-use Rattle.search.proofs.in_by.Reads as reads
-use Rattle.search.proofs.in_by.Lts as lts
-use Rattle.search.proofs.behind_space.Reads as behind-space-reads
-use Rattle.search.proofs.behind_word.Reads as behind-word-reads
-use Rattle.search.proofs.sources_at.Reads as sources-at-reads
 
--- src/lib.rt:151:23
 behind-word-requires : tie.Need-behind-word-requires
 behind-word-requires c κs = search needs
 
--- src/lib.rt:151:18
 enum-known-q : tie.Need-enum-known-q
 enum-known-q c = search needs
 
--- src/lib.rt:152:9
 enum-told : tie.Need-enum-told
 enum-told c = search needs
 
--- src/lib.rt:152:9
 returns : tie.Need-returns
 returns c = in-closed (c .before .before .before .before .args .text .now) (c .before .before .before .before .args .at) (sym (c .enum-told .given .1) ∙ c .before .before .behind-word .ensures)
 
--- src/lib.rt:154:39
 sources-at-requires : tie.Need-sources-at-requires
 sources-at-requires c κs = search needs
 
--- src/lib.rt:154:25
 enum-known-sources : tie.Need-enum-known-sources
 enum-known-sources c = search needs
 
--- src/lib.rt:155:9
 enum-told-2 : tie.Need-enum-told-2
 enum-told-2 c = search needs
 
--- src/lib.rt:155:9
 returns-2 : tie.Need-returns-2
 returns-2 c = in-unfit (c .before .before .before .before .before .before .before .before .args .text .now) (c .before .before .before .before .before .before .before .before .args .at) (sym (c .before .before .before .before .q .given .1) ∙ c .before .before .before .before .before .before .behind-word .ensures) (sym (c .enum-told2 .given .1) ∙ c .before .before .sources-at .ensures .exact)
 
--- src/lib.rt:157:26
 behind-space-requires : tie.Need-behind-space-requires
 behind-space-requires c κs = search needs
 
--- src/lib.rt:157:18
 enum-known-next : tie.Need-enum-known-next
 enum-known-next c = search needs
 
--- src/lib.rt:158:9
 enum-told-3 : tie.Need-enum-told-3
 enum-told-3 c = search needs
 
--- src/lib.rt:158:9
 returns-3 : tie.Need-returns-3
 returns-3 c = in-unspaced (c .before .before .before .before .before .before .before .before .before .before .before .before .args .text .now) (c .before .before .before .before .before .before .before .before .before .before .before .before .args .at) (sym (c .before .before .before .before .before .before .before .before .q .given .1) ∙ c .before .before .before .before .before .before .before .before .before .before .behind-word .ensures) (sym (c .before .before .before .before .sources .given .1) ∙ c .before .before .before .before .before .before .sources-at .ensures .exact) (sym (c .enum-told3 .given .1) ∙ c .before .before .behind-space .ensures)
 
--- src/lib.rt:148:1
 returns-4 : tie.Need-returns-4
 returns-4 c = in-whole (c .before .before .before .before .before .before .before .before .before .before .before .before .before .args .text .now) (c .before .before .before .before .before .before .before .before .before .before .before .before .before .args .at) (sym (c .before .before .before .before .before .before .before .before .before .q .given .1) ∙ c .before .before .before .before .before .before .before .before .before .before .before .behind-word .ensures) (sym (c .before .before .before .before .before .sources .given .1) ∙ c .before .before .before .before .before .before .before .sources-at .ensures .exact) (sym (c .before .next .given .1) ∙ c .before .before .before .behind-space .ensures)
 

@@ -1,25 +1,18 @@
 -- `is_refused`: its tests in their order. Assumes nothing.
-use mathlib.Core.Path.{_≡_, sym, ap, _∙_}
 use Rattle.search.proofs.Judging.{refused-none, refused-some}
 use borrow.Author.Needs.{needs}
 use Rattle.search.proofs.is_refused.Statement.{statement}
 use Rattle.search.proofs.is_refused.Tie as tie
-use Rattle.search.proofs.is_refused.Reads as reads
-use Rattle.search.proofs.is_refused.Lts as lts
 
--- src/lib.rt:326:9
 returns : tie.Need-returns
 returns c = search needs
 
--- src/lib.rt:329:9
 returns-2 : tie.Need-returns-2
 returns-2 c = search needs
 
--- src/lib.rt:332:9
 returns-3 : tie.Need-returns-3
 returns-3 c = refused-none (c .before .before .before .before .args .selected) (c .before .before .before .before .args .sources) (c .before .before .before .if1 .left) (c .before .before .if2 .left) (c .if3 .taken)
 
--- src/lib.rt:321:1
 returns-4 : tie.Need-returns-4
 returns-4 c = refused-some (c .before .before .before .before .args .selected) (c .before .before .before .before .args .sources) (c .before .before .before .if1 .left) (c .before .before .if2 .left) (c .if3 .left)
 

@@ -1,26 +1,18 @@
 -- `is_too_large`: the sources, then the keys. Assumes nothing.
-use mathlib.Core.Path.{_≡_, sym, ap, _∙_}
+use mathlib.Core.Path.{sym, _∙_}
 use borrow.Author.Needs.{needs}
 use Rattle.search.proofs.is_too_large.Statement.{statement}
 use Rattle.search.proofs.is_too_large.Tie as tie
-use Rattle.search.proofs.is_too_large.Reads as reads
-use Rattle.search.proofs.is_too_large.Lts as lts
-use Rattle.search.proofs.too_many_keys.Reads as too-many-keys-reads
-use Rattle.search.proofs.too_many_sources.Reads as too-many-sources-reads
 
--- src/lib.rt:363:8
 too-many-sources-requires : tie.Need-too-many-sources-requires
 too-many-sources-requires c κs = search needs
 
--- src/lib.rt:364:9
 returns : tie.Need-returns
 returns c = rw (sym (c .before .too-many-sources .ensures) ∙ c .if1 .taken)
 
--- src/lib.rt:366:5
 too-many-keys-requires : tie.Need-too-many-keys-requires
 too-many-keys-requires c κs = search needs
 
--- src/lib.rt:359:1
 returns-2 : tie.Need-returns-2
 returns-2 c = rw (sym (c .before .before .too-many-sources .ensures) ∙ c .before .if1 .left) (c .too-many-keys .ensures)
 

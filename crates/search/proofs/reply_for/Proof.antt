@@ -1,39 +1,28 @@
 -- `reply_for`: the lines in their order. Assumes nothing.
-use mathlib.Core.Path.{_≡_, sym, ap, _∙_}
+use mathlib.Core.Path.{sym, _∙_}
 use Rattle.search.proofs.Judging.{reply-refused, reply-unsupported, reply-charset, reply-large, reply-accepted}
 use borrow.Author.Needs.{needs}
 use Rattle.search.proofs.reply_for.Statement.{statement}
 use Rattle.search.proofs.reply_for.Tie as tie
-use Rattle.search.proofs.reply_for.Reads as reads
-use Rattle.search.proofs.reply_for.Lts as lts
-use Rattle.search.proofs.is_refused.Reads as is-refused-reads
-use Rattle.search.proofs.is_too_large.Reads as is-too-large-reads
 
--- src/lib.rt:374:8
 is-refused-requires : tie.Need-is-refused-requires
 is-refused-requires c κs = search needs
 
--- src/lib.rt:375:9
 returns : tie.Need-returns
 returns c = reply-refused (c .before .before .before .args .l) (c .before .before .before .args .selected) (c .before .before .before .args .a) (sym (c .before .is-refused .ensures) ∙ c .if1 .taken)
 
--- src/lib.rt:379:9
 returns-2 : tie.Need-returns-2
 returns-2 c = reply-unsupported (c .before .before .before .before .args .l) (c .before .before .before .before .args .selected) (c .before .before .before .before .args .a) (sym (c .before .before .is-refused .ensures) ∙ c .before .if1 .left) (c .if2 .taken)
 
--- src/lib.rt:383:9
 returns-3 : tie.Need-returns-3
 returns-3 c = reply-charset (c .before .before .before .before .before .args .l) (c .before .before .before .before .before .args .selected) (c .before .before .before .before .before .args .a) (sym (c .before .before .before .is-refused .ensures) ∙ c .before .before .if1 .left) (c .before .if2 .left) (c .if3 .taken)
 
--- src/lib.rt:385:8
 is-too-large-requires : tie.Need-is-too-large-requires
 is-too-large-requires c κs = search needs
 
--- src/lib.rt:386:9
 returns-4 : tie.Need-returns-4
 returns-4 c = reply-large (c .before .before .before .before .before .before .before .args .l) (c .before .before .before .before .before .before .before .args .selected) (c .before .before .before .before .before .before .before .args .a) (sym (c .before .before .before .before .before .is-refused .ensures) ∙ c .before .before .before .before .if1 .left) (c .before .before .before .if2 .left) (c .before .before .if3 .left) (sym (c .before .is-too-large .ensures) ∙ c .if4 .taken)
 
--- src/lib.rt:370:1
 returns-5 : tie.Need-returns-5
 returns-5 c = reply-accepted (c .before .before .before .before .before .before .before .args .l) (c .before .before .before .before .before .before .before .args .selected) (c .before .before .before .before .before .before .before .args .a) (sym (c .before .before .before .before .before .is-refused .ensures) ∙ c .before .before .before .before .if1 .left) (c .before .before .before .if2 .left) (c .before .before .if3 .left) (sym (c .before .is-too-large .ensures) ∙ c .if4 .left)
 

@@ -1,31 +1,22 @@
 -- `return_at`: the part, or none where its word does not stand. Assumes nothing.
-use mathlib.Core.Path.{_≡_, sym, ap, _∙_}
+use mathlib.Core.Path.{sym, _∙_}
 use Rattle.search.proofs.Optional.{return-given, return-left}
 use borrow.Author.Needs.{needs}
 use Rattle.search.proofs.return_at.Statement.{statement}
 use Rattle.search.proofs.return_at.Tie as tie
-use Rattle.search.proofs.return_at.Reads as reads
-use Rattle.search.proofs.return_at.Lts as lts
-use Rattle.octets.proofs.word_at.Reads as word-at-reads
-use Rattle.search.proofs.return_by.Reads as return-by-reads
 
--- src/lib.rt:193:34
 slice-aggregate-word-at : tie.Need-slice-aggregate-word-at
 slice-aggregate-word-at c = search needs
 
--- src/lib.rt:193:8
 word-at-requires : tie.Need-word-at-requires
 word-at-requires c κs = search needs
 
--- src/lib.rt:194:9
 return-by-requires : tie.Need-return-by-requires
 return-by-requires c κs = search needs
 
--- src/lib.rt:194:9
 returns : tie.Need-returns
 returns c = c .return-by .ensures ∙ return-given (c .before .before .before .before .before .args .text .now) (c .before .before .before .before .before .args .at) (sym (c .before .before .word-at .ensures) ∙ c .before .if1 .taken)
 
--- src/lib.rt:190:1
 returns-2 : tie.Need-returns-2
 returns-2 c = return-left (c .before .before .before .before .args .text .now) (c .before .before .before .before .args .at) (sym (c .before .word-at .ensures) ∙ c .if1 .left)
 

@@ -1,34 +1,24 @@
 -- `sources_at`: the row behind a parenthesis. Assumes nothing.
-use mathlib.Core.Path.{_≡_, sym, ap, _∙_}
+use mathlib.Core.Path.{sym, _∙_}
 use native.Mathlib.Omega.{arith}
-use Prim.Native.Nat.{_+_}
 use lib.ListN.{length}
 use Rattle.search.proofs.Rows.{in-text, sources-row, sources-none, within-from}
 use borrow.Author.Needs.{needs}
 use Rattle.search.proofs.sources_at.Statement.{statement}
 use Rattle.search.proofs.sources_at.Tie as tie
-use Rattle.search.proofs.sources_at.Reads as reads
-use Rattle.search.proofs.sources_at.Lts as lts
-use Rattle.octets.proofs.octet_at.Reads as octet-at-reads
-use Rattle.search.proofs.sources_row.Reads as sources-row-reads
 
--- src/lib.rt:121:8
 octet-at-requires : tie.Need-octet-at-requires
 octet-at-requires c κs = search needs
 
--- src/lib.rt:122:9
 returns : tie.Need-returns
 returns c = record { exact = sources-none (c .before .before .before .args .text .now) (c .before .before .before .args .at) (λ e. c .if1 .taken (c .before .octet-at .ensures ∙ e)); within = tt }
 
--- src/lib.rt:124:23
 add-sources-row : tie.Need-add-sources-row
 add-sources-row c = let i = in-text (c .before .before .before .args .text .now) (c .before .before .before .args .at) (sym (c .before .octet-at .ensures) ∙ c .if1 .left) (omega arith) in omega arith
 
--- src/lib.rt:124:5
 sources-row-requires : tie.Need-sources-row-requires
 sources-row-requires c κs = search needs
 
--- src/lib.rt:118:1
 returns-2 : tie.Need-returns-2
 returns-2 c = let i = in-text (c .before .before .before .before .args .text .now) (c .before .before .before .before .args .at) (sym (c .before .before .octet-at .ensures) ∙ c .before .if1 .left) (omega arith) in record { exact = c .sources-row .ensures .exact (length (c .before .before .before .before .args .text .now)) (omega arith) ∙ sources-row (c .before .before .before .before .args .text .now) (c .before .before .before .before .args .at) (sym (c .before .before .octet-at .ensures) ∙ c .before .if1 .left); within = within-from (c .before .before .before .before .args .text .now) (c .before .before .before .before .args .at) (c .sources-row .result) (c .sources-row .ensures .within) }
 

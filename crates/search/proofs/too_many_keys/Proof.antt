@@ -2,18 +2,13 @@
 use Rattle.search.proofs.Judging.{many-keys, many-deep, many-parts}
 use Rattle.search.proofs.too_many_keys.Statement.{statement}
 use Rattle.search.proofs.too_many_keys.Tie as tie
-use Rattle.search.proofs.too_many_keys.Reads as reads
-use Rattle.search.proofs.too_many_keys.Lts as lts
 
--- src/lib.rt:350:9
 returns : tie.Need-returns
 returns c = many-keys (c .before .before .before .args .l) (c .before .before .before .args .a) (c .if1 .taken)
 
--- src/lib.rt:353:9
 returns-2 : tie.Need-returns-2
 returns-2 c = many-deep (c .before .before .before .before .before .before .args .l) (c .before .before .before .before .before .before .args .a) (c .before .before .before .if1 .left) (c .if2 .taken)
 
--- src/lib.rt:346:1
 returns-3 : tie.Need-returns-3
 returns-3 c = many-parts (c .before .before .before .before .before .before .before .before .args .l) (c .before .before .before .before .before .before .before .before .args .a) (c .before .before .before .before .before .if1 .left) (c .before .before .if2 .left)
 

@@ -2,14 +2,10 @@
 use Rattle.search.proofs.Judging.{many-groups, many-names}
 use Rattle.search.proofs.too_many_sources.Statement.{statement}
 use Rattle.search.proofs.too_many_sources.Tie as tie
-use Rattle.search.proofs.too_many_sources.Reads as reads
-use Rattle.search.proofs.too_many_sources.Lts as lts
 
--- src/lib.rt:341:9
 returns : tie.Need-returns
 returns c = many-groups (c .before .before .before .args .l) (c .before .before .before .args .sources) (c .if1 .taken)
 
--- src/lib.rt:337:1
 returns-2 : tie.Need-returns-2
 returns-2 c = many-names (c .before .before .before .before .before .args .l) (c .before .before .before .before .before .args .sources) (c .before .before .if1 .left)
 

@@ -1,40 +1,29 @@
 -- `with_keys`: what was found of the keys, behind the parts. Assumes nothing.
-use mathlib.Core.Path.{_≡_, sym, ap, _∙_}
 use native.Mathlib.Omega.{arith}
 use Rattle.model.specs.SearchGrammar.{programAt}
 use Rattle.search.proofs.Searches.{keys-found, keys-missing}
 use borrow.Author.Needs.{needs}
 use Rattle.search.proofs.with_keys.Statement.{statement}
 use Rattle.search.proofs.with_keys.Tie as tie
-use Rattle.search.proofs.with_keys.Reads as reads
-use Rattle.search.proofs.with_keys.Lts as lts
-use Rattle.keys.proofs.program_at.Reads as program-at-reads
 
--- src/lib.rt:276:11
 program-at-requires : tie.Need-program-at-requires
 program-at-requires c κs = search needs
 
--- src/lib.rt:278:13
 enum-known-next : tie.Need-enum-known-next
 enum-known-next c = search needs
 
--- src/lib.rt:297:22
 enum-told : tie.Need-enum-told
 enum-told c = search needs
 
--- src/lib.rt:272:1
 same-length : tie.Need-same-length
 same-length c = search needs
 
--- src/lib.rt:272:1
 returns : tie.Need-returns
 returns c = let w = rw (c .before .next .given .1) at (c .before .before .before .before .before .program-at .ensures .within) in record { exact = keys-found (c .before .before .before .before .before .before .before .before .before .args .sources) (c .before .before .before .before .before .before .before .before .before .args .returns) (c .before .before .before .before .before .before .before .before .before .args .unknown) (c .before .before .before .before .before .before .before .before .before .args .cells .now) (c .before .before .before .before .before .program-at .last .1 .1 .0) (c .before .next .given .0 .0) (c .before .next .given .0 .1 .0) (c .before .next .given .0 .1 .1 .0) (c .before .next .given .0 .1 .1 .1 .0) (c .before .next .given .0 .1 .1 .1 .1 .0) (c .before .next .given .0 .1 .1 .1 .1 .1 .0) (programAt (c .before .before .before .before .before .before .before .before .before .args .text .now) (c .before .before .before .before .before .before .before .before .before .args .at)) (c .before .next .given .1) (c .before .before .before .before .before .program-at .ensures .exact); within = record { inside = w .inside; short = omega arith } }
 
--- src/lib.rt:272:1
 same-length-2 : tie.Need-same-length-2
 same-length-2 c = search needs
 
--- src/lib.rt:272:1
 returns-2 : tie.Need-returns-2
 returns-2 c = record { exact = keys-missing (c .before .before .before .before .before .before .before .before .args .sources) (c .before .before .before .before .before .before .before .before .args .returns) (c .before .before .before .before .before .before .before .before .args .unknown) (c .before .before .before .before .before .before .before .before .args .cells .now) (c .before .before .before .before .program-at .last .1 .1 .0) (programAt (c .before .before .before .before .before .before .before .before .args .text .now) (c .before .before .before .before .before .before .before .before .args .at)) (c .enum-told .given .1) (c .before .before .before .before .program-at .ensures .exact); within = tt }
 

@@ -3,28 +3,19 @@ use Rattle.search.proofs.Rows.{made}
 use borrow.Author.Needs.{needs}
 use Rattle.search.proofs.with_source.Statement.{statement}
 use Rattle.search.proofs.with_source.Tie as tie
-use Rattle.search.proofs.with_source.Reads as reads
-use Rattle.search.proofs.with_source.Lts as lts
-use Rattle.search.proofs.is_delayed.Reads as is-delayed-reads
-use Rattle.search.proofs.is_selected.Reads as is-selected-reads
 
--- src/lib.rt:70:16
 add-t4 : tie.Need-add-t4
 add-t4 c = search needs
 
--- src/lib.rt:71:16
 add-t5 : tie.Need-add-t5
 add-t5 c = search needs
 
--- src/lib.rt:72:18
 is-delayed-requires : tie.Need-is-delayed-requires
 is-delayed-requires c κs = search needs
 
--- src/lib.rt:73:19
 is-selected-requires : tie.Need-is-selected-requires
 is-selected-requires c κs = search needs
 
--- src/lib.rt:65:1
 returns : tie.Need-returns
 returns c = made (c .before .before .before .before .args .scope) (c .before .before .before .before .args .names) (c .before .before .before .before .args .more) (c .before .is-delayed .ensures) (c .is-selected .ensures)
 

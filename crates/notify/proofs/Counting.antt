@@ -1,23 +1,19 @@
 -- What groups come to, one group at a time, over plain values. Assumes nothing.
 use mathlib.Core.Path.{_≡_, refl, sym, ap, _∙_}
 use mathlib.Core.Bool.{Bool, true, false, cond, not, _||_, _&&_}
-use mathlib.Core.List.{List, [], _∷_, _++_, map}
-use Prim.Native.Nat.{ℕ, suc, _+_, _-_, _≤_, _<_}
+use mathlib.Core.List.{List, [], _∷_, _++_}
+use Prim.Native.Nat.{ℕ, _+_, _-_, _≤_}
 use native.Mathlib.Omega.{arith}
 use lib.ListN.{length}
 use Rattle.model.specs.Lists.{anyb, keep, filterb, concatMap}
 use Rattle.model.specs.Laws.{or-false}
 use Rattle.model.specs.Text.{one}
-use Rattle.model.specs.Requests.{Filter, selected, delayed, inboxes, personal, subscribed, subtree, subtreeOne, mailboxes, namesOf, ofSelected, Attribute, Asked}
+use Rattle.model.specs.Requests.{Filter, selected, delayed, inboxes, personal, subscribed, subtree, subtreeOne, mailboxes, namesOf, ofSelected, Asked}
 use Rattle.model.specs.Requests.{Event, messageNew, messageExpunge, flagChange, annotationChange, mailboxName, subscriptionChange, otherEvent, isNew, isExpunge, isFlagChange, isMailboxName, isSubscriptionChange, attributesOf}
-use Rattle.model.specs.Limits.{nameCount}
 use Rattle.model.specs.Replies.{selectedGroup, messageEvent, misplacedEvent, hasAttributes, misplacedAttributes, unpaired, unsupportedEvent, unsupportedAttribute, asksUnsupported}
-use Rattle.attributes.specs.Asked.{gather}
 use Rattle.filters.specs.Scopes.{scopeFor}
-use Rattle.filters.specs.declared.Scope.{Scope}
 use Rattle.events.specs.Gathered.{gatherEvents, isAnnotationChange, isOther}
-use Rattle.events.specs.declared.Events.{Events}
-use Rattle.notify.specs.Tallies.{filtersOf, tallyOf, aboutSelected, asksMessages, asksOthers, unpairedBy, misplacedBy, amissBy, tallyBy, add}
+use Rattle.notify.specs.Tallies.{tallyOf, aboutSelected, asksMessages, asksOthers, tallyBy, add}
 use Rattle.notify.specs.declared.Tally.{Tally}
 
 -- ---- tests

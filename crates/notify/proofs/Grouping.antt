@@ -1,6 +1,6 @@
 -- Groups and the command, case by case, over plain values: what the code answers is what the definitions say. Assumes nothing.
 use mathlib.Core.Path.{_≡_, refl, sym, ap, _∙_}
-use mathlib.Core.Bool.{Bool, true, false, cond}
+use mathlib.Core.Bool.{Bool, true, false}
 use mathlib.Core.List.{List, [], _∷_}
 use Prim.Native.Nat.{ℕ, _+_, _-_, _≤_, _<_}
 use native.Mathlib.Omega.{arith}
@@ -8,7 +8,7 @@ use lib.ListN.{length, getD}
 use borrow.Author.Tests.{eq-eqb, ne-eqb}
 use Rattle.model.specs.Octets.{atomOctet}
 use Rattle.model.specs.Text.{one}
-use Rattle.model.specs.Requests.{Filter, namesOf, Event, Asked, Command, notifyNone, notifySet}
+use Rattle.model.specs.Requests.{Filter, namesOf, Event, Asked, notifySet}
 use Rattle.model.specs.Reading.{Parsed, bad, ok, andThen, is, piece, endOf, wordAt, rowAt, lineEnd, nextAt}
 use Rattle.model.specs.NotifyGrammar.{filterAt, eventsAt, groupable, groupBy, groupAt, groupsAt, setBy, notifyAt}
 use Rattle.filters.specs.Scopes.{scopeFor, Grouped, readFilter}
@@ -17,14 +17,14 @@ use Rattle.filters.specs.declared.FilterRead.the-variants.{Is as Filtered, Bad 
 use Rattle.events.specs.Gathered.{gatherEvents, readEvents}
 use Rattle.events.specs.declared.Events.{Events}
 use Rattle.events.specs.declared.EventsRead.the-variants.{Is as Evented, Bad as Eventless}
-use Rattle.notify.specs.Tallies.{tallyOf, tallyBy, add, Room, readGroup, readTally}
-use Rattle.notify.specs.Readings.{join, JoinRoom, Bounded, Within, BoundedBehind, WithinBehind, note, readNotify, NotifyWithin}
+use Rattle.notify.specs.Tallies.{tallyOf, tallyBy, readGroup, readTally}
+use Rattle.notify.specs.Readings.{join, JoinRoom, Bounded, Within, WithinBehind, note, readNotify, NotifyWithin}
 use Rattle.notify.specs.declared.Tally.{Tally}
 use Rattle.notify.specs.declared.TallyRead.{TallyRead}
 use Rattle.notify.specs.declared.TallyRead.the-variants.{Is, Bad}
 use Rattle.notify.specs.declared.NotifyRead.{NotifyRead}
 use Rattle.notify.specs.declared.NotifyRead.the-variants.{Nothing, Groups, Bad as Unread}
-use Rattle.notify.proofs.Rows.{after-yes, after-no, row-none, row-another, row-over, row-neither, next-another, next-over, next-neither}
+use Rattle.notify.proofs.Rows.{row-none, row-another, row-over, row-neither, next-another, next-over, next-neither}
 use Rattle.notify.proofs.Counting.{tally-one, tally-more}
 
 -- ---- what was read, from the code's answer

@@ -1,12 +1,12 @@
 -- One group as a session holds it, case by case, over plain values. Assumes nothing.
-use mathlib.Core.Path.{_≡_, refl, sym, ap, _∙_}
+use mathlib.Core.Path.{_≡_, sym, ap, _∙_}
 use mathlib.Core.Bool.{Bool, true, false}
 use mathlib.Core.List.{List}
-use Prim.Native.Nat.{ℕ, _+_, _≤_, _<_}
+use Prim.Native.Nat.{ℕ, _+_, _<_}
 use native.Mathlib.Omega.{arith}
 use lib.ListN.{length, getD}
 use borrow.Author.Tests.{eq-eqb, ne-eqb}
-use Rattle.model.specs.Requests.{Filter, namesOf, Asked}
+use Rattle.model.specs.Requests.{Filter, namesOf}
 use Rattle.model.specs.NotifyGrammar.{filterAt, eventsAt, groupable, groupBy, groupAt}
 use Rattle.model.specs.Listing.{selectorNumber}
 use Rattle.model.specs.declared.LentGroup.{LentGroup}

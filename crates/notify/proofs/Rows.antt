@@ -1,6 +1,6 @@
 -- Rows of things and octets that must stand, one step of the definitions of `model` at a time, over plain values. Assumes nothing.
-use mathlib.Core.Path.{_≡_, refl, sym, ap, _∙_}
-use mathlib.Core.Bool.{Bool, true, false, cond}
+use mathlib.Core.Path.{_≡_, refl}
+use mathlib.Core.Bool.{Bool, true, false}
 use mathlib.Core.List.{List, [], _∷_}
 use Prim.Native.Nat.{ℕ, zero, suc, _+_, _-_, _≤_, _<_}
 use Prim.Native.Char.{Char, code}
@@ -8,9 +8,9 @@ use native.Mathlib.Nat.{not-suc-le-zero}
 use native.Mathlib.Numerals.{sub-one}
 use native.Mathlib.Omega.{arith}
 use lib.ListN.{length, getD, List·getD-eq-default}
-use lib.Dec.{eqb, ltb}
+use lib.Dec.{ltb}
 use borrow.Author.Tests.{eq-eqb, ne-eqb, ltb-true, ltb-false}
-use Rattle.model.specs.Reading.{Parsed, bad, ok, andThen, after, afterBy, Next as RowNext, another, over, neither, rowBy, rowAt, lineEnd, nextAt}
+use Rattle.model.specs.Reading.{Parsed, bad, ok, andThen, after, Next as RowNext, another, over, neither, rowBy, rowAt, lineEnd, nextAt}
 
 -- ---- bounds
 

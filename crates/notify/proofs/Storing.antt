@@ -7,10 +7,10 @@ use native.Mathlib.Omega.{arith}
 use native.Mathlib.Nat.{add-zero}
 use lib.Dec.{eqb}
 use lib.ListN.{length, getD}
-use borrow.Author.Tests.{eq-eqb, ne-eqb}
+use borrow.Author.Tests.{ne-eqb}
 use Rattle.model.specs.Requests.{Filter, namesOf, Event, Asked}
 use Rattle.model.specs.Limits.{nameCount}
-use Rattle.model.specs.Reading.{Parsed, bad, ok, andThen, stands, after, afterBy, Next as RowNext, another, over, neither, rowBy, rowAt, lineEnd, overAt, nextAt}
+use Rattle.model.specs.Reading.{Parsed, bad, ok, andThen, stands, after, afterBy, another, over, neither, rowBy, rowAt, lineEnd, nextAt}
 use Rattle.model.specs.NotifyGrammar.{filterAt, eventsAt, groupable, groupBy, groupAt, groupsAt}
 use Rattle.model.specs.Listing.{lendGroup, allNames, watching}
 use Rattle.model.specs.declared.LentGroup.{LentGroup}
@@ -21,7 +21,6 @@ use Rattle.filters.specs.declared.KeptRead.{KeptRead}
 use Rattle.notify.specs.Tallies.{filtersOf}
 use Rattle.notify.specs.Watched.{lentOf, readLent, nothingWatched, withGroup, withGroups, settle}
 use Rattle.notify.specs.declared.Watch.{Watch}
-use Rattle.notify.specs.declared.LentRead.{LentRead}
 use Rattle.notify.specs.declared.LentRead.the-variants.{Is, Bad}
 use Rattle.notify.proofs.Rows.{row-none, row-open, next-another}
 use Rattle.notify.proofs.Filling.{lent-so, groups-first, names-first, names-count, settled-so}

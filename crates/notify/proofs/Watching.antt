@@ -1,6 +1,6 @@
 -- The session that a NOTIFY sets, case by case, over plain values. Assumes nothing.
-use mathlib.Core.Path.{_≡_, refl, sym, ap, _∙_}
-use mathlib.Core.Bool.{Bool, true, false, cond, _&&_}
+use mathlib.Core.Path.{_≡_, refl, ap}
+use mathlib.Core.Bool.{Bool, true, false}
 use mathlib.Core.List.{List}
 use Prim.Native.Nat.{ℕ, _+_, _≤_, _<_}
 use native.Mathlib.Omega.{arith}
@@ -9,7 +9,7 @@ use lib.ListN.{length, getD}
 use borrow.Author.Tests.{eq-eqb, ne-eqb, le-leb, lt-leb}
 use Rattle.model.specs.Laws.{and-false}
 use Rattle.model.specs.Octets.{atomOctet}
-use Rattle.model.specs.Requests.{Asked, Command, notifySet}
+use Rattle.model.specs.Requests.{Asked, notifySet}
 use Rattle.model.specs.Limits.{nameCount}
 use Rattle.model.specs.Reading.{Parsed, bad, ok, andThen, is, piece, endOf, wordAt}
 use Rattle.model.specs.NotifyGrammar.{groupsAt, setBy, notifyAt}
@@ -17,7 +17,7 @@ use Rattle.model.specs.Memory.{silenced}
 use Rattle.model.specs.Listing.{watching}
 use Rattle.model.specs.declared.Session.{Session}
 use Rattle.notify.specs.Tallies.{filtersOf, tallyOf, readTally}
-use Rattle.notify.specs.Watched.{few, watchedGroups, watchedBy}
+use Rattle.notify.specs.Watched.{watchedGroups, watchedBy}
 use Rattle.notify.specs.declared.Tally.{Tally}
 use Rattle.notify.specs.declared.TallyRead.the-variants.{Is, Bad}
 

@@ -1,20 +1,20 @@
 // NOTIFY behind its verb: what its groups come to, how it is answered, and the session that it sets.
 ghost use mathlib.Core.Path.{_≡_};
 ghost use mathlib.Core.Bool.{_||_, _&&_};
+ghost use Prim.Native.Nat.{_+_, _*_, _≤_, _<_};
 ghost use Rattle.model.specs.Text.{one};
 ghost use Rattle.model.specs.Reading.{wordAt};
 ghost use Rattle.model.specs.NotifyGrammar.{groupAt, groupsAt, setBy, notifyAt};
+ghost use Rattle.model.specs.Memory.{silenced};
 ghost use Rattle.notify.specs.Tallies.{aboutSelected, asksMessages, asksOthers, unpairedBy, misplacedBy, amissBy, tallyBy, add, Room, readGroup, readTally, replyByTally};
 ghost use Rattle.notify.specs.Readings.{join, JoinRoom, ReadsBehind, ReadsTally, ReadsRow, note, readNotify, ReadsNotify};
+ghost use Rattle.notify.specs.Watched.{lowOf, bitsOf, fetchBits, firstOf, lentBy, readLent, LendsBehind, Lends, withGroup, nothingWatched, settle, KeepsGroups, watchedGroups, watchedBy};
+use attributes::Attributes;
 use events::Events;
 use events::EventsRead;
 use filters::FilterRead;
-use filters::Scope;
-ghost use Prim.Native.Nat.{_+_, _*_, _≤_, _<_};
-ghost use Rattle.notify.specs.Watched.{lowOf, bitsOf, fetchBits, firstOf, lentBy, readLent, LendsBehind, Lends, withGroup, nothingWatched, settle, KeepsGroups, watchedGroups, watchedBy};
-ghost use Rattle.model.specs.Memory.{silenced};
-use attributes::Attributes;
 use filters::Kept;
+use filters::Scope;
 use model::LentGroup;
 use model::Limits;
 use model::Reply;

@@ -4,3 +4,4 @@ pub mod Parts
 pub mod Searched
 pub mod Judged
 pub mod Listing
+pub mod Examples

@@ -1,7 +1,7 @@
 -- `groups_row` by its own calls: the measure is the octets that are left; each case is one of a row of groups.
 use borrow.Author.Needs.{needs}
 use native.Mathlib.Omega.{arith}
-use mathlib.Core.Path.{_≡_, refl, sym, ap, _∙_}
+use mathlib.Core.Path.{sym, ap, _∙_}
 use Prim.Native.Nat.{_+_, _-_}
 use lib.ListN.{length}
 use Rattle.notify.proofs.Grouping.{groups-none, groups-more, groups-last, groups-wrong, join-room, within-joined}
@@ -33,47 +33,36 @@ groups-row-below t =
 abbrev groups-row-calls : ℕ → groups-row-lts.Claims
 groups-row-calls t = (group-at-reads.Asked, group-at-reads.Learnt, octet-at-reads.Asked, octet-at-reads.Learnt, groups-row-below t, groups-row.Post, joined-reads.Asked, joined-reads.Learnt)
 
--- src/lib.rt:206:11
 groups-row-group-at-requires : (t : ℕ) → groups-row-lts.Need-group-at-requires (groups-row-calls t) (groups-row-at t) groups-row.Post
 groups-row-group-at-requires t c κs = search needs
 
--- src/lib.rt:207:23
 groups-row-enum-known-t : (t : ℕ) → groups-row-lts.Need-enum-known-t (groups-row-calls t) (groups-row-at t) groups-row.Post
 groups-row-enum-known-t t c = search needs
 
--- src/lib.rt:208:16
 groups-row-octet-at-requires : (t : ℕ) → groups-row-lts.Need-octet-at-requires (groups-row-calls t) (groups-row-at t) groups-row.Post
 groups-row-octet-at-requires t c κs = search needs
 
--- src/lib.rt:209:44
 groups-row-add-groups-row : (t : ℕ) → groups-row-lts.Need-add-groups-row (groups-row-calls t) (groups-row-at t) groups-row.Post
 groups-row-add-groups-row t c = let w = rw (c .before .before .before .t .given .1) at (c .before .before .before .before .before .group-at .ensures .within) in let i = in-text (c .before .before .before .before .before .before .before .args .text .now) ((c .before .before .before .t .given .0 .1 .0)) (sym (c .before .octet-at .ensures) ∙ c .if1 .taken) (omega arith) in omega arith
 
--- src/lib.rt:209:27
 groups-row-groups-row-requires : (t : ℕ) → groups-row-lts.Need-groups-row-requires (groups-row-calls t) (groups-row-at t) groups-row.Post
 groups-row-groups-row-requires t c κs = let w = rw (c .before .before .before .t .given .1) at (c .before .before .before .before .before .group-at .ensures .within) in let i = in-text (c .before .before .before .before .before .before .before .args .text .now) ((c .before .before .before .t .given .0 .1 .0)) (sym (c .before .octet-at .ensures) ∙ c .if1 .taken) (omega arith) in (omega arith, search needs)
 
--- src/lib.rt:209:17
 groups-row-joined-requires : (t : ℕ) → groups-row-lts.Need-joined-requires (groups-row-calls t) (groups-row-at t) groups-row.Post
 groups-row-joined-requires t c κs = let w = rw (c .before .before .before .before .t .given .1) at (c .before .before .before .before .before .before .group-at .ensures .within) in join-room (c .before .before .before .before .before .before .before .before .args .text .now) (c .before .before .before .before .before .before .before .before .args .at) (c .before .before .before .before .t .given .0 .1 .0) (c .before .before .before .before .t .given .0 .0) (c .groups-row .result) (omega arith) w (c .groups-row .ensures .within)
 
--- src/lib.rt:216:27
 groups-row-enum-told : (t : ℕ) → groups-row-lts.Need-enum-told (groups-row-calls t) (groups-row-at t) groups-row.Post
 groups-row-enum-told t c = search needs
 
--- src/lib.rt:202:1
 groups-row-returns : (t : ℕ) → groups-row-lts.Need-returns (groups-row-calls t) (groups-row-at t) groups-row.Post
 groups-row-returns t c = let w = rw (c .before .before .before .before .before .t .given .1) at (c .before .before .before .before .before .before .before .group-at .ensures .within) in let i = in-text (c .before .before .before .before .before .before .before .before .before .args .text .now) ((c .before .before .before .before .before .t .given .0 .1 .0)) (sym (c .before .before .before .octet-at .ensures) ∙ c .before .before .if1 .taken) (omega arith) in record { exact = λ n h. c .joined .ensures ∙ ap (join (c .before .before .before .before .before .t .given .0 .0)) (c .before .groups-row .ensures .exact (n - 1) (omega arith)) ∙ groups-more (c .before .before .before .before .before .before .before .before .before .args .text .now) (c .before .before .before .before .before .before .before .before .before .args .at) n (omega arith) (sym (c .before .before .before .before .before .t .given .1) ∙ c .before .before .before .before .before .before .before .group-at .ensures .exact) (sym (c .before .before .before .octet-at .ensures) ∙ c .before .before .if1 .taken); within = rw (c .joined .ensures) (within-joined (c .before .before .before .before .before .before .before .before .before .args .text .now) (c .before .before .before .before .before .before .before .before .before .args .at) (c .before .before .before .before .before .t .given .0 .1 .0) (c .before .before .before .before .before .t .given .0 .0) (c .before .groups-row .result) w (c .before .groups-row .ensures .within)) }
 
--- src/lib.rt:202:1
 groups-row-returns-2 : (t : ℕ) → groups-row-lts.Need-returns-2 (groups-row-calls t) (groups-row-at t) groups-row.Post
 groups-row-returns-2 t c = let w = rw (c .before .before .before .before .t .given .1) at (c .before .before .before .before .before .before .group-at .ensures .within) in record { exact = λ n h. groups-last (c .before .before .before .before .before .before .before .before .args .text .now) (c .before .before .before .before .before .before .before .before .args .at) n (omega arith) (sym (c .before .before .before .before .t .given .1) ∙ c .before .before .before .before .before .before .group-at .ensures .exact) (λ e. c .before .if1 .left (c .before .before .octet-at .ensures ∙ e)) (c .if2 .taken); within = w }
 
--- src/lib.rt:202:1
 groups-row-returns-3 : (t : ℕ) → groups-row-lts.Need-returns-3 (groups-row-calls t) (groups-row-at t) groups-row.Post
 groups-row-returns-3 t c = let w = rw (c .before .before .before .before .t .given .1) at (c .before .before .before .before .before .before .group-at .ensures .within) in record { exact = λ n h. groups-wrong (c .before .before .before .before .before .before .before .before .args .text .now) (c .before .before .before .before .before .before .before .before .args .at) n (omega arith) (sym (c .before .before .before .before .t .given .1) ∙ c .before .before .before .before .before .before .group-at .ensures .exact) (λ e. c .before .if1 .left (c .before .before .octet-at .ensures ∙ e)) (c .if2 .left); within = tt }
 
--- src/lib.rt:202:1
 groups-row-returns-4 : (t : ℕ) → groups-row-lts.Need-returns-4 (groups-row-calls t) (groups-row-at t) groups-row.Post
 groups-row-returns-4 t c = record { exact = λ n h. groups-none (c .before .before .before .before .args .text .now) (c .before .before .before .before .args .at) n (sym (c .enum-told .given .1) ∙ c .before .before .group-at .ensures .exact); within = tt }
 

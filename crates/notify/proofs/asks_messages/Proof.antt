@@ -2,23 +2,16 @@
 use borrow.Author.Needs.{needs}
 use Rattle.notify.proofs.asks_messages.Statement.{statement}
 use Rattle.notify.proofs.asks_messages.Tie as tie
-use Rattle.notify.proofs.asks_messages.Reads as reads
-use Rattle.notify.proofs.asks_messages.Lts as lts
-use Rattle.notify.proofs.either.Reads as either-reads
 
--- src/lib.rt:83:12
 either-requires : tie.Need-either-requires
 either-requires c κs = search needs
 
--- src/lib.rt:83:38
 either-requires-2 : tie.Need-either-requires-2
 either-requires-2 c κs = search needs
 
--- src/lib.rt:83:5
 either-requires-3 : tie.Need-either-requires-3
 either-requires-3 c κs = search needs
 
--- src/lib.rt:80:1
 returns : tie.Need-returns
 returns c = rw (c .either3 .ensures, c .before .before .either .ensures, c .before .either2 .ensures)
 

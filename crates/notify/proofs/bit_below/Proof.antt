@@ -3,26 +3,19 @@ use native.Mathlib.Omega.{arith}
 use borrow.Author.Needs.{needs}
 use Rattle.notify.proofs.bit_below.Statement.{statement}
 use Rattle.notify.proofs.bit_below.Tie as tie
-use Rattle.notify.proofs.bit_below.Reads as reads
-use Rattle.notify.proofs.bit_below.Lts as lts
 
--- src/lib.rt:298:12
 mul-result : tie.Need-mul-result
 mul-result c = search needs
 
--- src/lib.rt:298:12
 add-result : tie.Need-add-result
 add-result c = search needs
 
--- src/lib.rt:298:34
 mul-result-2 : tie.Need-mul-result-2
 mul-result-2 c = search needs
 
--- src/lib.rt:294:1
 returns : tie.Need-returns
 returns c = rw (c .if1 .taken) (omega arith, omega arith)
 
--- src/lib.rt:294:1
 returns-2 : tie.Need-returns-2
 returns-2 c = rw (c .if1 .left) (omega arith, omega arith)
 

@@ -1,7 +1,7 @@
 -- `events_behind`: case by case.
 use native.Mathlib.Omega.{arith}
-use mathlib.Core.Path.{_≡_, refl, sym, ap, _∙_}
-use Prim.Native.Nat.{ℕ, _+_, _-_, _≤_, _<_}
+use mathlib.Core.Path.{refl, sym, ap, _∙_}
+use Prim.Native.Nat.{_+_, _-_}
 use Rattle.notify.proofs.Grouping.{behind-blank, behind-none, behind-open, behind-group}
 use Rattle.notify.proofs.Rows.{in-text}
 use Rattle.notify.proofs.Counting.{one-most}
@@ -11,57 +11,40 @@ use Rattle.notify.specs.declared.TallyRead.the-variants.{Is}
 use borrow.Author.Needs.{needs}
 use Rattle.notify.proofs.events_behind.Statement.{statement}
 use Rattle.notify.proofs.events_behind.Tie as tie
-use Rattle.notify.proofs.events_behind.Reads as reads
-use Rattle.notify.proofs.events_behind.Lts as lts
-use Rattle.events.proofs.events_at.Reads as events-at-reads
-use Rattle.notify.proofs.tally_by.Reads as tally-by-reads
-use Rattle.octets.proofs.octet_at.Reads as octet-at-reads
 
--- src/lib.rt:141:8
 octet-at-requires : tie.Need-octet-at-requires
 octet-at-requires c κs = search needs
 
--- src/lib.rt:142:9
 returns : tie.Need-returns
 returns c = record { exact = λ f a b. behind-blank (c .before .before .before .args .text .now) (c .before .before .before .args .at) f (λ e. c .if1 .taken (c .before .octet-at .ensures ∙ e)); within = tt }
 
--- src/lib.rt:144:35
 add-events-at : tie.Need-add-events-at
 add-events-at c = let i = in-text (c .before .before .before .args .text .now) (c .before .before .before .args .at) (sym (c .before .octet-at .ensures) ∙ c .if1 .left) (omega arith) in omega arith
 
--- src/lib.rt:144:11
 events-at-requires : tie.Need-events-at-requires
 events-at-requires c κs = search needs
 
--- src/lib.rt:145:24
 enum-known-e : tie.Need-enum-known-e
 enum-known-e c = search needs
 
--- src/lib.rt:146:16
 octet-at-requires-2 : tie.Need-octet-at-requires-2
 octet-at-requires-2 c κs = search needs
 
--- src/lib.rt:147:17
 returns-2 : tie.Need-returns-2
 returns-2 c = record { exact = λ f a b. behind-open (c .before .before .before .before .before .before .before .before .before .args .text .now) (c .before .before .before .before .before .before .before .before .before .args .at) f (sym (c .before .before .before .before .before .before .before .octet-at .ensures) ∙ c .before .before .before .before .before .before .if1 .left) (sym (c .before .before .before .e .given .1) ∙ c .before .before .before .before .before .events-at .ensures .exact) (λ e. c .if2 .taken (c .before .octet-at2 .ensures ∙ e)); within = tt }
 
--- src/lib.rt:149:27
 tally-by-requires : tie.Need-tally-by-requires
 tally-by-requires c κs = search needs
 
--- src/lib.rt:149:54
 add-t15 : tie.Need-add-t15
 add-t15 c = let i = in-text (c .before .before .before .before .before .before .before .before .before .before .args .text .now) ((c .before .before .before .before .e .given .0 .1 .0)) (sym (c .before .before .octet-at2 .ensures) ∙ c .before .if2 .left) (omega arith) in omega arith
 
--- src/lib.rt:151:28
 enum-told : tie.Need-enum-told
 enum-told c = search needs
 
--- src/lib.rt:137:1
 returns-3 : tie.Need-returns-3
 returns-3 c = let w = rw (c .before .before .before .before .e .given .1) at (c .before .before .before .before .before .before .events-at .ensures .within) in let i = in-text (c .before .before .before .before .before .before .before .before .before .before .args .text .now) ((c .before .before .before .before .e .given .0 .1 .0)) (sym (c .before .before .octet-at2 .ensures) ∙ c .before .if2 .left) (omega arith) in record { exact = λ f a b. ap (λ (t : Tally). Is t ((c .before .before .before .before .e .given .0 .1 .0) + 1)) (c .tally-by .ensures) ∙ behind-group (c .before .before .before .before .before .before .before .before .before .before .args .text .now) (c .before .before .before .before .before .before .before .before .before .before .args .at) f (sym (c .before .before .before .before .before .before .before .before .octet-at .ensures) ∙ c .before .before .before .before .before .before .before .if1 .left) (sym (c .before .before .before .before .e .given .1) ∙ c .before .before .before .before .before .before .events-at .ensures .exact) (sym (c .before .before .octet-at2 .ensures) ∙ c .before .if2 .left) a b; within = rw (c .tally-by .ensures) (record { groups = omega arith; names = refl; selected = one-most (aboutSelected (c .before .before .before .before .before .before .before .before .before .before .args .scope)); behind = omega arith; inside = omega arith }) }
 
--- src/lib.rt:137:1
 returns-4 : tie.Need-returns-4
 returns-4 c = record { exact = λ f a b. behind-none (c .before .before .before .before .before .before .args .text .now) (c .before .before .before .before .before .before .args .at) f (sym (c .before .before .before .before .octet-at .ensures) ∙ c .before .before .before .if1 .left) (sym (c .enum-told .given .1) ∙ c .before .before .events-at .ensures .exact); within = tt }
 

@@ -2,27 +2,19 @@
 use borrow.Author.Needs.{needs}
 use Rattle.notify.proofs.joined.Statement.{statement}
 use Rattle.notify.proofs.joined.Tie as tie
-use Rattle.notify.proofs.joined.Reads as reads
-use Rattle.notify.proofs.joined.Lts as lts
-use Rattle.notify.proofs.added.Reads as added-reads
 
--- src/lib.rt:196:23
 enum-known-r : tie.Need-enum-known-r
 enum-known-r c = search needs
 
--- src/lib.rt:196:52
 added-requires : tie.Need-added-requires
 added-requires c κs = rw (c .before .r .given .1) at (c .before .before .before .pre)
 
--- src/lib.rt:197:27
 enum-told : tie.Need-enum-told
 enum-told c = search needs
 
--- src/lib.rt:191:1
 returns : tie.Need-returns
 returns c = rw (c .added .ensures, c .before .before .r .given .1)
 
--- src/lib.rt:191:1
 returns-2 : tie.Need-returns-2
 returns-2 c = search needs
 

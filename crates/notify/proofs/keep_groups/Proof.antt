@@ -1,22 +1,13 @@
 -- `keep_groups`: what is kept grows by a group at each turn; what is left of the row says the same behind it.
 use borrow.Author.Needs.{needs}
 use native.Mathlib.Omega.{arith}
-use mathlib.Core.Path.{_≡_, refl, sym, ap, _∙_}
-use Prim.Native.Nat.{ℕ, _+_, _-_, _≤_, _<_}
+use mathlib.Core.Path.{sym, _∙_}
+use Prim.Native.Nat.{_-_}
 use lib.ListN.{length}
 use Rattle.notify.proofs.Rows.{in-text}
 use Rattle.notify.proofs.Storing.{Goes, goes-start, goes-none, goes-last, goes-on}
 use Rattle.notify.proofs.keep_groups.Statement.{statement}
 use Rattle.notify.proofs.keep_groups.Tie as tie
-use Rattle.notify.proofs.keep_groups.Reads as reads
-use Rattle.notify.proofs.keep_groups.Lts as lts
-use Rattle.filters.proofs.keep_filter.Reads as keep-filter-reads
-use Rattle.filters.proofs.keep_nothing.Reads as keep-nothing-reads
-use Rattle.notify.proofs.keep_group.Reads as keep-group-reads
-use Rattle.notify.proofs.lent_at.Reads as lent-at-reads
-use Rattle.notify.proofs.no_watch.Reads as no-watch-reads
-use Rattle.notify.proofs.settled.Reads as settled-reads
-use Rattle.octets.proofs.octet_at.Reads as octet-at-reads
 
 abbrev Inv-loop : tie.InvT-loop
 Inv-loop text at session watch₀ kept₀ p₀ watch kept p = Goes text at watch kept p
@@ -24,67 +15,51 @@ Inv-loop text at session watch₀ kept₀ p₀ watch kept p = Goes text at watch
 abbrev μ-loop : tie.MeasureT-loop
 μ-loop text at session watch₀ kept₀ p₀ watch kept p = length text - p
 
--- src/lib.rt:448:9
 no-watch-requires : tie.Need-no-watch-requires Inv-loop μ-loop
 no-watch-requires c κs = search needs
 
--- src/lib.rt:449:9
 keep-nothing-requires : tie.Need-keep-nothing-requires Inv-loop μ-loop
 keep-nothing-requires c κs = search needs
 
--- src/lib.rt:451:5
 loop-holds : tie.Need-loop-holds Inv-loop μ-loop
 loop-holds c = goes-start (c .before .before .before .args .text .now) (c .before .before .before .args .at) (c .before .no-watch .result) (c .keep-nothing .result) (c .before .no-watch .ensures) (c .keep-nothing .ensures)
 
--- src/lib.rt:452:44
 lent-at-requires : tie.Need-lent-at-requires Inv-loop μ-loop
 lent-at-requires c κs = search needs
 
--- src/lib.rt:452:26
 enum-known-group : tie.Need-enum-known-group Inv-loop μ-loop
 enum-known-group c = search needs
 
--- src/lib.rt:453:13
 enum-told : tie.Need-enum-told Inv-loop μ-loop
 enum-told c = search needs
 
--- src/lib.rt:453:13
 returns : tie.Need-returns Inv-loop μ-loop
 returns c = record { exact = λ q gs h few short. absurd (goes-none (c .before .before .before .before .before .before .before .args .text .now) (c .before .before .before .before .before .before .before .args .at) (c .before .before .before .loop .watch) (c .before .before .before .loop .kept) (c .before .before .before .loop .p) (c .before .before .before .loop .inv) (sym (c .enum-told .given .1) ∙ c .before .before .lent-at .ensures .exact) q gs h short) }
 
--- src/lib.rt:455:47
 add-keep-filter : tie.Need-add-keep-filter Inv-loop μ-loop
 add-keep-filter c = let w = rw (c .before .group .given .1) at (c .before .before .before .lent-at .ensures .within) in omega arith
 
--- src/lib.rt:455:13
 keep-filter-requires : tie.Need-keep-filter-requires Inv-loop μ-loop
 keep-filter-requires c κs = omega (arith, c .before .before .before .before .loop .inv .names)
 
--- src/lib.rt:458:9
 keep-group-requires : tie.Need-keep-group-requires Inv-loop μ-loop
 keep-group-requires c κs = let w = rw (c .before .before .before .group .given .1) at (c .before .before .before .before .before .lent-at .ensures .within) in omega (arith, c .before .before .before .before .before .before .loop .inv .groups)
 
--- src/lib.rt:459:12
 octet-at-requires : tie.Need-octet-at-requires Inv-loop μ-loop
 octet-at-requires c κs = search needs
 
--- src/lib.rt:460:13
 settled-requires : tie.Need-settled-requires Inv-loop μ-loop
 settled-requires c κs = search needs
 
--- src/lib.rt:460:13
 returns-2 : tie.Need-returns-2 Inv-loop μ-loop
 returns-2 c = record { exact = λ q gs h few short. c .settled .ensures ∙ goes-last (c .before .before .before .before .before .before .before .before .before .before .before .before .before .before .args .text .now) (c .before .before .before .before .before .before .before .before .before .before .before .before .before .before .args .at) (c .before .before .before .before .before .before .before .before .before .before .loop .watch) (c .before .before .before .before .before .before .before .before .before .before .loop .kept) (c .before .before .before .before .before .before .before .before .before .before .loop .p) (c .before .before .before .before .before .before .before .before .before .before .loop .inv) (sym (c .before .before .before .before .before .before .before .group .given .1) ∙ c .before .before .before .before .before .before .before .before .before .lent-at .ensures .exact) (c .before .before .before .before .before .keep-filter .result) (c .before .before .before .before .before .keep-filter .ensures .exact) (c .before .before .before .keep-group .result) (c .before .before .before .keep-group .ensures) (λ e. c .before .if1 .taken (c .before .before .octet-at .ensures ∙ e)) (c .before .before .before .before .before .before .before .before .before .before .before .before .before .before .args .session) q gs h few short }
 
--- src/lib.rt:462:13
 add-p : tie.Need-add-p Inv-loop μ-loop
 add-p c = let i = in-text (c .before .before .before .before .before .before .before .before .before .before .before .before .before .args .text .now) (c .before .before .before .before .before .before .group .given .0 .1 .1 .0) (sym (c .before .octet-at .ensures) ∙ c .if1 .left) (omega arith) in omega (arith, c .before .before .before .before .before .before .before .before .before .before .before .before .before .good .0)
 
--- src/lib.rt:451:5
 loop-less : tie.Need-loop-less Inv-loop μ-loop
 loop-less c = let w = rw (c .before .before .before .before .before .before .group .given .1) at (c .before .before .before .before .before .before .before .before .lent-at .ensures .within) in let i = in-text (c .before .before .before .before .before .before .before .before .before .before .before .before .before .args .text .now) (c .before .before .before .before .before .before .group .given .0 .1 .1 .0) (sym (c .before .octet-at .ensures) ∙ c .if1 .left) (omega arith) in omega arith
 
--- src/lib.rt:451:5
 loop-again : tie.Need-loop-again Inv-loop μ-loop
 loop-again c = let w = rw (c .before .before .before .before .before .before .group .given .1) at (c .before .before .before .before .before .before .before .before .lent-at .ensures .within) in goes-on (c .before .before .before .before .before .before .before .before .before .before .before .before .before .args .text .now) (c .before .before .before .before .before .before .before .before .before .before .before .before .before .args .at) (c .before .before .before .before .before .before .before .before .before .loop .watch) (c .before .before .before .before .before .before .before .before .before .loop .kept) (c .before .before .before .before .before .before .before .before .before .loop .p) (c .before .before .before .before .before .before .before .before .before .loop .inv) (sym (c .before .before .before .before .before .before .group .given .1) ∙ c .before .before .before .before .before .before .before .before .lent-at .ensures .exact) (c .before .before .before .before .keep-filter .result) (c .before .before .before .before .keep-filter .ensures .exact) (c .before .before .keep-group .result) (c .before .before .keep-group .ensures) (w .0) (sym (c .before .octet-at .ensures) ∙ c .if1 .left)
 

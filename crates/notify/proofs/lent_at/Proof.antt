@@ -1,60 +1,43 @@
 -- `lent_at`: case by case.
 use native.Mathlib.Omega.{arith}
-use mathlib.Core.Path.{_≡_, refl, sym, ap, _∙_}
-use Prim.Native.Nat.{ℕ, _+_, _-_, _≤_, _<_}
+use mathlib.Core.Path.{sym, _∙_}
+use Prim.Native.Nat.{_-_}
 use Rattle.notify.proofs.Lending.{lent-blank, lent-none, lent-odd, lent-by, within-lent}
 use Rattle.notify.proofs.Rows.{in-text}
 use borrow.Author.Needs.{needs}
 use Rattle.notify.proofs.lent_at.Statement.{statement}
 use Rattle.notify.proofs.lent_at.Tie as tie
-use Rattle.notify.proofs.lent_at.Reads as reads
-use Rattle.notify.proofs.lent_at.Lts as lts
-use Rattle.filters.proofs.filter_at.Reads as filter-at-reads
-use Rattle.filters.proofs.is_groupable.Reads as is-groupable-reads
-use Rattle.notify.proofs.lent_behind.Reads as lent-behind-reads
-use Rattle.octets.proofs.octet_at.Reads as octet-at-reads
 
--- src/lib.rt:371:8
 octet-at-requires : tie.Need-octet-at-requires
 octet-at-requires c κs = search needs
 
--- src/lib.rt:372:9
 returns : tie.Need-returns
 returns c = record { exact = lent-blank (c .before .before .before .args .text .now) (c .before .before .before .args .at) (c .before .before .before .args .first) (λ e. c .if1 .taken (c .before .octet-at .ensures ∙ e)); within = tt }
 
--- src/lib.rt:374:36
 add-filter-at : tie.Need-add-filter-at
 add-filter-at c = let i = in-text (c .before .before .before .args .text .now) (c .before .before .before .args .at) (sym (c .before .octet-at .ensures) ∙ c .if1 .left) (omega arith) in omega arith
 
--- src/lib.rt:374:11
 filter-at-requires : tie.Need-filter-at-requires
 filter-at-requires c κs = search needs
 
--- src/lib.rt:375:24
 enum-known-scope : tie.Need-enum-known-scope
 enum-known-scope c = search needs
 
--- src/lib.rt:376:16
 is-groupable-requires : tie.Need-is-groupable-requires
 is-groupable-requires c κs = search needs
 
--- src/lib.rt:377:17
 lent-behind-requires : tie.Need-lent-behind-requires
 lent-behind-requires c κs = search needs
 
--- src/lib.rt:382:28
 enum-told : tie.Need-enum-told
 enum-told c = search needs
 
--- src/lib.rt:368:1
 returns-2 : tie.Need-returns-2
 returns-2 c = let w = rw (c .before .before .before .before .scope .given .1) at (c .before .before .before .before .before .before .filter-at .ensures .within) in record { exact = lent-by (c .before .before .before .before .before .before .before .before .before .before .args .text .now) (c .before .before .before .before .before .before .before .before .before .before .args .at) (c .before .before .before .before .before .before .before .before .before .before .args .first) (sym (c .before .before .before .before .before .before .before .before .octet-at .ensures) ∙ c .before .before .before .before .before .before .before .if1 .left) (sym (c .before .before .before .before .scope .given .1) ∙ c .before .before .before .before .before .before .filter-at .ensures .exact) (c .before .before .is-groupable .ensures) (c .before .if2 .taken) (c .lent-behind .ensures .exact); within = within-lent (c .before .before .before .before .before .before .before .before .before .before .args .text .now) (c .before .before .before .before .before .before .before .before .before .before .args .at) (c .before .before .before .before .scope .given .0 .1 .0) (c .before .before .before .before .scope .given .0 .1 .1 .0) (c .lent-behind .result) (omega arith) (c .lent-behind .ensures .within) }
 
--- src/lib.rt:368:1
 returns-3 : tie.Need-returns-3
 returns-3 c = record { exact = lent-odd (c .before .before .before .before .before .before .before .before .before .args .text .now) (c .before .before .before .before .before .before .before .before .before .args .at) (c .before .before .before .before .before .before .before .before .before .args .first) (sym (c .before .before .before .before .before .before .before .octet-at .ensures) ∙ c .before .before .before .before .before .before .if1 .left) (sym (c .before .before .before .scope .given .1) ∙ c .before .before .before .before .before .filter-at .ensures .exact) (c .before .is-groupable .ensures) (c .if2 .left); within = tt }
 
--- src/lib.rt:368:1
 returns-4 : tie.Need-returns-4
 returns-4 c = record { exact = lent-none (c .before .before .before .before .before .before .args .text .now) (c .before .before .before .before .before .before .args .at) (c .before .before .before .before .before .before .args .first) (sym (c .before .before .before .before .octet-at .ensures) ∙ c .before .before .before .if1 .left) (sym (c .enum-told .given .1) ∙ c .before .before .filter-at .ensures .exact); within = tt }
 

@@ -1,68 +1,49 @@
 -- `lent_behind`: case by case.
 use native.Mathlib.Omega.{arith}
-use mathlib.Core.Path.{_≡_, refl, sym, ap, _∙_}
-use Prim.Native.Nat.{ℕ, _+_, _-_, _≤_, _<_}
+use mathlib.Core.Path.{refl, sym, _∙_}
+use Prim.Native.Nat.{_-_}
 use Rattle.notify.proofs.Lending.{behind-blank, behind-none, behind-open, behind-lent}
 use Rattle.notify.proofs.Rows.{in-text}
 use borrow.Author.Needs.{needs}
 use Rattle.notify.proofs.lent_behind.Statement.{statement}
 use Rattle.notify.proofs.lent_behind.Tie as tie
-use Rattle.notify.proofs.lent_behind.Reads as reads
-use Rattle.notify.proofs.lent_behind.Lts as lts
-use Rattle.events.proofs.events_at.Reads as events-at-reads
-use Rattle.filters.proofs.selector_of.Reads as selector-of-reads
-use Rattle.notify.proofs.lent.Reads as lent-reads
-use Rattle.octets.proofs.octet_at.Reads as octet-at-reads
 
--- src/lib.rt:352:8
 octet-at-requires : tie.Need-octet-at-requires
 octet-at-requires c κs = search needs
 
--- src/lib.rt:353:9
 returns : tie.Need-returns
 returns c = record { exact = λ f a b. behind-blank (c .before .before .before .args .text .now) (c .before .before .before .args .at) (c .before .before .before .args .first) f (λ e. c .if1 .taken (c .before .octet-at .ensures ∙ e)); within = tt }
 
--- src/lib.rt:355:35
 add-events-at : tie.Need-add-events-at
 add-events-at c = let i = in-text (c .before .before .before .args .text .now) (c .before .before .before .args .at) (sym (c .before .octet-at .ensures) ∙ c .if1 .left) (omega arith) in omega arith
 
--- src/lib.rt:355:11
 events-at-requires : tie.Need-events-at-requires
 events-at-requires c κs = search needs
 
--- src/lib.rt:356:24
 enum-known-e : tie.Need-enum-known-e
 enum-known-e c = search needs
 
--- src/lib.rt:357:16
 octet-at-requires-2 : tie.Need-octet-at-requires-2
 octet-at-requires-2 c κs = search needs
 
--- src/lib.rt:358:17
 returns-2 : tie.Need-returns-2
 returns-2 c = record { exact = λ f a b. behind-open (c .before .before .before .before .before .before .before .before .before .args .text .now) (c .before .before .before .before .before .before .before .before .before .args .at) (c .before .before .before .before .before .before .before .before .before .args .first) f (sym (c .before .before .before .before .before .before .before .octet-at .ensures) ∙ c .before .before .before .before .before .before .if1 .left) (sym (c .before .before .before .e .given .1) ∙ c .before .before .before .before .before .events-at .ensures .exact) (λ e. c .if2 .taken (c .before .octet-at2 .ensures ∙ e)); within = tt }
 
--- src/lib.rt:360:17
 selector-of-requires : tie.Need-selector-of-requires
 selector-of-requires c κs = search needs
 
--- src/lib.rt:361:26
 lent-requires : tie.Need-lent-requires
 lent-requires c κs = search needs
 
--- src/lib.rt:361:66
 add-t17 : tie.Need-add-t17
 add-t17 c = let i = in-text (c .before .before .before .before .before .before .before .before .before .before .before .args .text .now) ((c .before .before .before .before .before .e .given .0 .1 .0)) (sym (c .before .before .before .octet-at2 .ensures) ∙ c .before .before .if2 .left) (omega arith) in omega arith
 
--- src/lib.rt:363:28
 enum-told : tie.Need-enum-told
 enum-told c = search needs
 
--- src/lib.rt:349:1
 returns-3 : tie.Need-returns-3
 returns-3 c = let w = rw (c .before .before .before .before .before .e .given .1) at (c .before .before .before .before .before .before .before .events-at .ensures .within) in let i = in-text (c .before .before .before .before .before .before .before .before .before .before .before .args .text .now) ((c .before .before .before .before .before .e .given .0 .1 .0)) (sym (c .before .before .before .octet-at2 .ensures) ∙ c .before .before .if2 .left) (omega arith) in record { exact = λ f a b. behind-lent (c .before .before .before .before .before .before .before .before .before .before .before .args .text .now) (c .before .before .before .before .before .before .before .before .before .before .before .args .at) (c .before .before .before .before .before .before .before .before .before .before .before .args .first) f (sym (c .before .before .before .before .before .before .before .before .before .octet-at .ensures) ∙ c .before .before .before .before .before .before .before .before .if1 .left) (sym (c .before .before .before .before .before .e .given .1) ∙ c .before .before .before .before .before .before .before .events-at .ensures .exact) (sym (c .before .before .before .octet-at2 .ensures) ∙ c .before .before .if2 .left) (c .before .selector-of .ensures f a) b (c .lent .ensures); within = (refl, omega arith, omega arith) }
 
--- src/lib.rt:349:1
 returns-4 : tie.Need-returns-4
 returns-4 c = record { exact = λ f a b. behind-none (c .before .before .before .before .before .before .args .text .now) (c .before .before .before .before .before .before .args .at) (c .before .before .before .before .before .before .args .first) f (sym (c .before .before .before .before .octet-at .ensures) ∙ c .before .before .before .if1 .left) (sym (c .enum-told .given .1) ∙ c .before .before .events-at .ensures .exact); within = tt }
 

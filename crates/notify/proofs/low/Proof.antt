@@ -3,18 +3,13 @@ use borrow.Author.Tests.{lt-ltb, le-ltb}
 use borrow.Author.Needs.{needs}
 use Rattle.notify.proofs.low.Statement.{statement}
 use Rattle.notify.proofs.low.Tie as tie
-use Rattle.notify.proofs.low.Reads as reads
-use Rattle.notify.proofs.low.Lts as lts
 
--- src/lib.rt:290:18
 cast-result : tie.Need-cast-result
 cast-result c = search needs
 
--- src/lib.rt:287:1
 returns : tie.Need-returns
 returns c = simp (lt-ltb _ _ (c .if1 .taken))
 
--- src/lib.rt:287:1
 returns-2 : tie.Need-returns-2
 returns-2 c = simp (le-ltb _ _ (c .if1 .left))
 

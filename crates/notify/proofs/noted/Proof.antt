@@ -2,22 +2,16 @@
 use borrow.Author.Needs.{needs}
 use Rattle.notify.proofs.noted.Statement.{statement}
 use Rattle.notify.proofs.noted.Tie as tie
-use Rattle.notify.proofs.noted.Reads as reads
-use Rattle.notify.proofs.noted.Lts as lts
 
--- src/lib.rt:265:23
 enum-known-r : tie.Need-enum-known-r
 enum-known-r c = search needs
 
--- src/lib.rt:266:27
 enum-told : tie.Need-enum-told
 enum-told c = search needs
 
--- src/lib.rt:261:1
 returns : tie.Need-returns
 returns c = rw (c .before .r .given .1)
 
--- src/lib.rt:261:1
 returns-2 : tie.Need-returns-2
 returns-2 c = search needs
 

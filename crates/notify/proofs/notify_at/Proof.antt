@@ -1,65 +1,47 @@
 -- `notify_at`: by the word.
 use native.Mathlib.Omega.{arith}
 use borrow.Author.Tests.{not-true, not-false}
-use mathlib.Core.Path.{_≡_, refl, sym, ap, _∙_}
-use Prim.Native.Nat.{ℕ, _+_, _-_, _≤_, _<_}
+use mathlib.Core.Path.{sym, _∙_}
+use Prim.Native.Nat.{_+_, _-_}
 use Rattle.notify.proofs.Grouping.{notify-none, notify-unknown, notify-blank, notify-set, notify-later}
 use Rattle.notify.proofs.Rows.{in-text}
 use borrow.Author.Needs.{needs}
 use Rattle.notify.proofs.notify_at.Statement.{statement}
 use Rattle.notify.proofs.notify_at.Tie as tie
-use Rattle.notify.proofs.notify_at.Reads as reads
-use Rattle.notify.proofs.notify_at.Lts as lts
-use Rattle.notify.proofs.set_at.Reads as set-at-reads
-use Rattle.octets.proofs.is_word.Reads as is-word-reads
-use Rattle.octets.proofs.octet_at.Reads as octet-at-reads
-use Rattle.octets.proofs.run_end.Reads as run-end-reads
 
--- src/lib.rt:290:9
 run-end-requires : tie.Need-run-end-requires
 run-end-requires c κs = search needs
 
--- src/lib.rt:291:39
 slice-aggregate-is-word : tie.Need-slice-aggregate-is-word
 slice-aggregate-is-word c = search needs
 
--- src/lib.rt:291:8
 is-word-requires : tie.Need-is-word-requires
 is-word-requires c κs = search needs
 
--- src/lib.rt:292:9
 returns : tie.Need-returns
 returns c = record { exact = notify-none (c .before .before .before .before .before .args .text .now) (c .before .before .before .before .before .args .at) (c .before .before .before .run-end .ensures .exact) (sym (c .before .is-word .ensures) ∙ c .if1 .taken); within = (c .before .before .before .run-end .ensures .from, c .before .before .before .run-end .ensures .within) }
 
--- src/lib.rt:294:40
 slice-aggregate-is-word-2 : tie.Need-slice-aggregate-is-word-2
 slice-aggregate-is-word-2 c = search needs
 
--- src/lib.rt:294:9
 is-word-requires-2 : tie.Need-is-word-requires-2
 is-word-requires-2 c κs = search needs
 
--- src/lib.rt:295:9
 returns-2 : tie.Need-returns-2
 returns-2 c = record { exact = notify-unknown (c .before .before .before .before .before .before .before .before .args .text .now) (c .before .before .before .before .before .before .before .before .args .at) (c .before .before .before .before .before .before .run-end .ensures .exact) (sym (c .before .before .before .before .is-word .ensures) ∙ c .before .before .before .if1 .left) (sym (c .before .is-word2 .ensures) ∙ not-true (c .before .is-word2 .result) (c .if2 .taken)); within = tt }
 
--- src/lib.rt:297:8
 octet-at-requires : tie.Need-octet-at-requires
 octet-at-requires c κs = search needs
 
--- src/lib.rt:298:9
 returns-3 : tie.Need-returns-3
 returns-3 c = record { exact = notify-blank (c .before .before .before .before .before .before .before .before .before .before .args .text .now) (c .before .before .before .before .before .before .before .before .before .before .args .at) (c .before .before .before .before .before .before .before .before .run-end .ensures .exact) (sym (c .before .before .before .before .before .before .is-word .ensures) ∙ c .before .before .before .before .before .if1 .left) (sym (c .before .before .before .is-word2 .ensures) ∙ not-false (c .before .before .before .is-word2 .result) (c .before .before .if2 .left)) (λ e. c .if3 .taken (c .before .octet-at .ensures ∙ e)); within = tt }
 
--- src/lib.rt:300:18
 add-set-at : tie.Need-add-set-at
 add-set-at c = let i = in-text (c .before .before .before .before .before .before .before .before .before .before .args .text .now) (c .before .before .before .before .before .before .before .before .run-end .result) (sym (c .before .octet-at .ensures) ∙ c .if3 .left) (omega arith) in let f = c .before .before .before .before .before .before .before .before .run-end .ensures .from in omega arith
 
--- src/lib.rt:300:5
 set-at-requires : tie.Need-set-at-requires
 set-at-requires c κs = search needs
 
--- src/lib.rt:286:1
 returns-4 : tie.Need-returns-4
 returns-4 c = let i = in-text (c .before .before .before .before .before .before .before .before .before .before .before .args .text .now) (c .before .before .before .before .before .before .before .before .before .run-end .result) (sym (c .before .before .octet-at .ensures) ∙ c .before .if3 .left) (omega arith) in let f = c .before .before .before .before .before .before .before .before .before .run-end .ensures .from in record { exact = notify-set (c .before .before .before .before .before .before .before .before .before .before .before .args .text .now) (c .before .before .before .before .before .before .before .before .before .before .before .args .at) (c .before .before .before .before .before .before .before .before .before .run-end .ensures .exact) (sym (c .before .before .before .before .before .before .before .is-word .ensures) ∙ c .before .before .before .before .before .before .if1 .left) (sym (c .before .before .before .before .is-word2 .ensures) ∙ not-false (c .before .before .before .before .is-word2 .result) (c .before .before .before .if2 .left)) (sym (c .before .before .octet-at .ensures) ∙ c .before .if3 .left) (c .set-at .ensures .exact); within = notify-later (c .before .before .before .before .before .before .before .before .before .before .before .args .text .now) (c .before .before .before .before .before .before .before .before .before .before .before .args .at) ((c .before .before .before .before .before .before .before .before .before .run-end .result) + 1) (c .set-at .result) (omega arith) (omega arith) (c .set-at .ensures .within) }
 

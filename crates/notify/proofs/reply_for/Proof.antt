@@ -2,34 +2,25 @@
 use borrow.Author.Tests.{lt-ltb, le-ltb}
 use Rattle.notify.proofs.reply_for.Statement.{statement}
 use Rattle.notify.proofs.reply_for.Tie as tie
-use Rattle.notify.proofs.reply_for.Reads as reads
-use Rattle.notify.proofs.reply_for.Lts as lts
 
--- src/lib.rt:233:9
 returns : tie.Need-returns
-returns c = simp (lt-ltb _ _ (c .if1 .taken))
+returns c = rw (lt-ltb 1 (c .before .before .args .t .selected) (c .if1 .taken))
 
--- src/lib.rt:236:9
 returns-2 : tie.Need-returns-2
 returns-2 c = simp (le-ltb _ _ (c .before .if1 .left), c .if2 .taken)
 
--- src/lib.rt:239:9
 returns-3 : tie.Need-returns-3
 returns-3 c = simp (le-ltb _ _ (c .before .before .if1 .left), c .before .if2 .left, c .if3 .taken)
 
--- src/lib.rt:242:9
 returns-4 : tie.Need-returns-4
 returns-4 c = simp (le-ltb _ _ (c .before .before .before .if1 .left), c .before .before .if2 .left, c .before .if3 .left, c .if4 .taken)
 
--- src/lib.rt:245:9
 returns-5 : tie.Need-returns-5
 returns-5 c = simp (le-ltb _ _ (c .before .before .before .before .before .before .if1 .left), c .before .before .before .before .before .if2 .left, c .before .before .before .before .if3 .left, c .before .before .before .if4 .left, lt-ltb _ _ (c .if5 .taken))
 
--- src/lib.rt:248:9
 returns-6 : tie.Need-returns-6
 returns-6 c = simp (le-ltb _ _ (c .before .before .before .before .before .before .before .before .before .if1 .left), c .before .before .before .before .before .before .before .before .if2 .left, c .before .before .before .before .before .before .before .if3 .left, c .before .before .before .before .before .before .if4 .left, le-ltb _ _ (c .before .before .before .if5 .left), lt-ltb _ _ (c .if6 .taken))
 
--- src/lib.rt:229:1
 returns-7 : tie.Need-returns-7
 returns-7 c = simp (le-ltb _ _ (c .before .before .before .before .before .before .before .before .before .if1 .left), c .before .before .before .before .before .before .before .before .if2 .left, c .before .before .before .before .before .before .before .if3 .left, c .before .before .before .before .before .before .if4 .left, le-ltb _ _ (c .before .before .before .if5 .left), le-ltb _ _ (c .if6 .left))
 

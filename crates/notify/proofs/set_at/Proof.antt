@@ -1,67 +1,47 @@
 -- `set_at`: with STATUS, or without.
 use native.Mathlib.Omega.{arith}
-use mathlib.Core.Path.{_≡_, refl, sym, ap, _∙_}
-use Prim.Native.Nat.{ℕ, _+_, _-_, _≤_, _<_}
+use mathlib.Core.Path.{sym, _∙_}
+use Prim.Native.Nat.{_+_, _-_}
 use mathlib.Core.Bool.{true, false}
 use Rattle.notify.proofs.Grouping.{set-plain, set-blank, set-status, within-note}
 use Rattle.notify.proofs.Rows.{in-text}
-use Rattle.notify.specs.Readings.{note}
 use borrow.Author.Needs.{needs}
 use Rattle.notify.proofs.set_at.Statement.{statement}
 use Rattle.notify.proofs.set_at.Tie as tie
-use Rattle.notify.proofs.set_at.Reads as reads
-use Rattle.notify.proofs.set_at.Lts as lts
-use Rattle.notify.proofs.groups_at.Reads as groups-at-reads
-use Rattle.notify.proofs.noted.Reads as noted-reads
-use Rattle.octets.proofs.is_word.Reads as is-word-reads
-use Rattle.octets.proofs.octet_at.Reads as octet-at-reads
-use Rattle.octets.proofs.run_end.Reads as run-end-reads
 
--- src/lib.rt:275:9
 run-end-requires : tie.Need-run-end-requires
 run-end-requires c κs = search needs
 
--- src/lib.rt:276:39
 slice-aggregate-is-word : tie.Need-slice-aggregate-is-word
 slice-aggregate-is-word c = search needs
 
--- src/lib.rt:276:8
 is-word-requires : tie.Need-is-word-requires
 is-word-requires c κs = search needs
 
--- src/lib.rt:277:12
 octet-at-requires : tie.Need-octet-at-requires
 octet-at-requires c κs = search needs
 
--- src/lib.rt:278:13
 returns : tie.Need-returns
 returns c = record { exact = set-blank (c .before .before .before .before .before .before .before .args .text .now) (c .before .before .before .before .before .before .before .args .at) (c .before .before .before .before .before .run-end .ensures .exact) (sym (c .before .before .before .is-word .ensures) ∙ c .before .before .if1 .taken) (λ e. c .if2 .taken (c .before .octet-at .ensures ∙ e)); within = tt }
 
--- src/lib.rt:280:44
 add-groups-at : tie.Need-add-groups-at
 add-groups-at c = let i = in-text (c .before .before .before .before .before .before .before .args .text .now) (c .before .before .before .before .before .run-end .result) (sym (c .before .octet-at .ensures) ∙ c .if2 .left) (omega arith) in let f = c .before .before .before .before .before .run-end .ensures .from in omega arith
 
--- src/lib.rt:280:28
 groups-at-requires : tie.Need-groups-at-requires
 groups-at-requires c κs = search needs
 
--- src/lib.rt:280:9
 noted-requires : tie.Need-noted-requires
 noted-requires c κs = search needs
 
--- src/lib.rt:280:9
 returns-2 : tie.Need-returns-2
 returns-2 c = let i = in-text (c .before .before .before .before .before .before .before .before .before .args .text .now) (c .before .before .before .before .before .before .before .run-end .result) (sym (c .before .before .before .octet-at .ensures) ∙ c .before .before .if2 .left) (omega arith) in let f = c .before .before .before .before .before .before .before .run-end .ensures .from in record { exact = c .noted .ensures ∙ set-status (c .before .before .before .before .before .before .before .before .before .args .text .now) (c .before .before .before .before .before .before .before .before .before .args .at) (c .before .before .before .before .before .before .before .run-end .ensures .exact) (sym (c .before .before .before .before .before .is-word .ensures) ∙ c .before .before .before .before .if1 .taken) (sym (c .before .before .before .octet-at .ensures) ∙ c .before .before .if2 .left) (c .before .groups-at .ensures .exact); within = rw (c .noted .ensures) (within-note (c .before .before .before .before .before .before .before .before .before .args .text .now) (c .before .before .before .before .before .before .before .before .before .args .at) ((c .before .before .before .before .before .before .before .run-end .result) + 1) true (c .before .groups-at .result) (omega arith) (c .before .groups-at .ensures .within)) }
 
--- src/lib.rt:282:18
 groups-at-requires-2 : tie.Need-groups-at-requires-2
 groups-at-requires-2 c κs = search needs
 
--- src/lib.rt:282:5
 noted-requires-2 : tie.Need-noted-requires-2
 noted-requires-2 c κs = search needs
 
--- src/lib.rt:271:1
 returns-3 : tie.Need-returns-3
 returns-3 c = record { exact = c .noted2 .ensures ∙ set-plain (c .before .before .before .before .before .before .before .args .text .now) (c .before .before .before .before .before .before .before .args .at) (c .before .before .before .before .before .run-end .ensures .exact) (sym (c .before .before .before .is-word .ensures) ∙ c .before .before .if1 .left) (c .before .groups-at2 .ensures .exact); within = rw (c .noted2 .ensures) (within-note (c .before .before .before .before .before .before .before .args .text .now) (c .before .before .before .before .before .before .before .args .at) (c .before .before .before .before .before .before .before .args .at) false (c .before .groups-at2 .result) (omega arith) (c .before .groups-at2 .ensures .within)) }
 

@@ -1,70 +1,50 @@
 -- `watch_at`: by the word.
 use borrow.Author.Needs.{needs}
 use native.Mathlib.Omega.{arith}
-use mathlib.Core.Path.{_≡_, refl, sym, ap, _∙_}
-use Prim.Native.Nat.{ℕ, _+_, _-_, _≤_, _<_}
+use mathlib.Core.Path.{sym, _∙_}
+use Prim.Native.Nat.{_-_}
 use borrow.Author.Tests.{not-true, not-false}
 use Rattle.notify.proofs.Watching.{watch-none, watch-unknown, watch-blank, watch-set}
 use Rattle.notify.proofs.Rows.{in-text}
 use Rattle.notify.proofs.watch_at.Statement.{statement}
 use Rattle.notify.proofs.watch_at.Tie as tie
-use Rattle.notify.proofs.watch_at.Reads as reads
-use Rattle.notify.proofs.watch_at.Lts as lts
-use Rattle.notify.proofs.silence.Reads as silence-reads
-use Rattle.notify.proofs.watch_set.Reads as watch-set-reads
-use Rattle.octets.proofs.is_word.Reads as is-word-reads
-use Rattle.octets.proofs.octet_at.Reads as octet-at-reads
-use Rattle.octets.proofs.run_end.Reads as run-end-reads
 
--- src/lib.rt:511:9
 run-end-requires : tie.Need-run-end-requires
 run-end-requires c κs = search needs
 
--- src/lib.rt:512:39
 slice-aggregate-is-word : tie.Need-slice-aggregate-is-word
 slice-aggregate-is-word c = search needs
 
--- src/lib.rt:512:8
 is-word-requires : tie.Need-is-word-requires
 is-word-requires c κs = search needs
 
--- src/lib.rt:513:9
 silence-requires : tie.Need-silence-requires
 silence-requires c κs = search needs
 
--- src/lib.rt:513:9
 returns : tie.Need-returns
 returns c = c .silence .ensures ∙ watch-none (c .before .before .before .before .before .before .args .text .now) (c .before .before .before .before .before .before .args .at) (c .before .before .before .before .before .before .args .session) (c .before .before .before .before .run-end .ensures .exact) (sym (c .before .before .is-word .ensures) ∙ c .before .if1 .taken)
 
--- src/lib.rt:515:40
 slice-aggregate-is-word-2 : tie.Need-slice-aggregate-is-word-2
 slice-aggregate-is-word-2 c = search needs
 
--- src/lib.rt:515:9
 is-word-requires-2 : tie.Need-is-word-requires-2
 is-word-requires-2 c κs = search needs
 
--- src/lib.rt:516:9
 returns-2 : tie.Need-returns-2
 returns-2 c = watch-unknown (c .before .before .before .before .before .before .before .before .args .text .now) (c .before .before .before .before .before .before .before .before .args .at) (c .before .before .before .before .before .before .before .before .args .session) (c .before .before .before .before .before .before .run-end .ensures .exact) (sym (c .before .before .before .before .is-word .ensures) ∙ c .before .before .before .if1 .left) (sym (c .before .is-word2 .ensures) ∙ not-true (c .before .is-word2 .result) (c .if2 .taken))
 
--- src/lib.rt:518:8
 octet-at-requires : tie.Need-octet-at-requires
 octet-at-requires c κs = search needs
 
--- src/lib.rt:519:9
 returns-3 : tie.Need-returns-3
 returns-3 c = watch-blank (c .before .before .before .before .before .before .before .before .before .before .args .text .now) (c .before .before .before .before .before .before .before .before .before .before .args .at) (c .before .before .before .before .before .before .before .before .before .before .args .session) (c .before .before .before .before .before .before .before .before .run-end .ensures .exact) (sym (c .before .before .before .before .before .before .is-word .ensures) ∙ c .before .before .before .before .before .if1 .left) (sym (c .before .before .before .is-word2 .ensures) ∙ not-false (c .before .before .before .is-word2 .result) (c .before .before .if2 .left)) (λ e. c .if3 .taken (c .before .octet-at .ensures ∙ e))
 
--- src/lib.rt:521:21
 add-watch-set : tie.Need-add-watch-set
 add-watch-set c = let i = in-text (c .before .before .before .before .before .before .before .before .before .before .args .text .now) (c .before .before .before .before .before .before .before .before .run-end .result) (sym (c .before .octet-at .ensures) ∙ c .if3 .left) (omega arith) in omega arith
 
--- src/lib.rt:521:5
 watch-set-requires : tie.Need-watch-set-requires
 watch-set-requires c κs = search needs
 
--- src/lib.rt:508:1
 returns-4 : tie.Need-returns-4
 returns-4 c = watch-set (c .before .before .before .before .before .before .before .before .before .before .before .args .text .now) (c .before .before .before .before .before .before .before .before .before .before .before .args .at) (c .before .before .before .before .before .before .before .before .before .before .before .args .session) (c .before .before .before .before .before .before .before .before .before .run-end .ensures .exact) (sym (c .before .before .before .before .before .before .before .is-word .ensures) ∙ c .before .before .before .before .before .before .if1 .left) (sym (c .before .before .before .before .is-word2 .ensures) ∙ not-false (c .before .before .before .before .is-word2 .result) (c .before .before .before .if2 .left)) (sym (c .before .before .octet-at .ensures) ∙ c .before .if3 .left) (c .watch-set .ensures)
 

@@ -13,6 +13,7 @@ use Rattle.model.specs.NotifyGrammar.{notifyAt}
 use Rattle.model.specs.SearchGrammar.{searchAt}
 use Rattle.model.specs.Commands.{tagEnd, tagged, verbAt, commandBy, commandAt, commandOf}
 use Rattle.model.specs.declared.Limits.{Limits}
+use Rattle.model.specs.declared.Session.{Session}
 use Rattle.options.specs.Heads.{verbOf, readVerb}
 use Rattle.options.specs.declared.Verb.{Verb}
 use Rattle.options.specs.declared.Verb.the-variants.{Notify, Esearch, Other}
@@ -20,7 +21,10 @@ use Rattle.options.specs.declared.VerbRead.the-variants.{Is as Verbed, Bad as V
 use Rattle.notify.specs.Tallies.{tallyOf}
 use Rattle.notify.specs.Readings.{readNotify}
 use Rattle.notify.specs.Ladder.{reply-by-tally}
-use Rattle.notify.specs.declared.NotifyRead.the-variants.{Bad as NoNotify}
+use Rattle.notify.specs.Watched.{watchedBy}
+use Rattle.notify.specs.declared.Tally.{Tally}
+use Rattle.notify.specs.declared.NotifyRead.{NotifyRead}
+use Rattle.notify.specs.declared.NotifyRead.the-variants.{Nothing, Groups, Bad as NoNotify}
 use Rattle.search.specs.Searched.{readSearch, Cells}
 use Rattle.search.specs.declared.SearchRead.{SearchRead}
 use Rattle.search.specs.declared.SearchRead.the-variants.{Bad as NoSearch}
@@ -215,3 +219,49 @@ module _ {b b′ : List ℕ} where
 
     pub judges-none : {y : Parsed Command} → bad ≡ y → Judges l sel y b b′ unread
     judges-none e = judges-same e (record { exact = refl; cells = tt })
+
+-- ---- the session
+watched-by : (z : Session) (p : ℕ) (c : Command) (t : Bool) → (readNotify (cond t (ok p c) bad) ≡ NoNotify → ⊥) → watchedBy (ok p c) z ≡ watchedBy (cond t (ok p c) bad) z
+watched-by z p c true h = refl
+watched-by z p c false h = absurd (h refl)
+
+watched-whole : (z : Session) (s : List ℕ) (x : Parsed Command) → (readNotify (whole s x) ≡ NoNotify → ⊥) → watchedBy x z ≡ watchedBy (whole s x) z
+watched-whole z s bad h = refl
+watched-whole z s (ok p c) h = watched-by z p c (eqb p (length s)) h
+
+module _ (z : Session) (s : List ℕ) (at : ℕ) where
+  pub notify-watched : getD s at 0 ≡ 32 → (readNotify (wholeBy notify s at) ≡ NoNotify → ⊥) → watchedBy (notifyAt s (at + 1)) z ≡ watchedBy (wholeBy notify s at) z
+  notify-watched e h =
+      watched-whole z s (notifyAt s (at + 1)) (λ f. h (ap readNotify (sym (notify-behind s at e)) ∙ f))
+      ∙ ap (λ (x : Parsed Command). watchedBy x z) (notify-behind s at e)
+
+nothing-watched : (z : Session) (x : Parsed Command) → NoNotify ≡ readNotify x → z ≡ watchedBy x z
+nothing-watched z bad e = refl
+nothing-watched z (ok p notifyNone) e = absurd (let n : _≡_ {A = ℕ} 0 1 = cc in omega arith)
+nothing-watched z (ok p (notifySet status gs)) e = absurd (let n : _≡_ {A = ℕ} 0 1 = cc in omega arith)
+nothing-watched z (ok p (search q)) e = refl
+
+search-watched : (z : Session) (x : Parsed Command) → OnlySearch x → z ≡ watchedBy x z
+search-watched z bad h = refl
+search-watched z (ok p notifyNone) h = absurd h
+search-watched z (ok p (notifySet status gs)) h = absurd h
+search-watched z (ok p (search q)) h = refl
+
+module _ (z : Session) where
+  pub unread-watched : {x : Parsed Command} → bad ≡ x → z ≡ watchedBy x z
+  unread-watched e = ap (λ (x : Parsed Command). watchedBy x z) e
+
+  pub same-watched : {x y : Parsed Command} {r : Session} → r ≡ watchedBy x z → x ≡ y → r ≡ watchedBy y z
+  same-watched e f = e ∙ ap (λ (x : Parsed Command). watchedBy x z) f
+
+  pub missing-watched : (s : List ℕ) (at : ℕ) {r : NotifyRead} → r ≡ readNotify (wholeBy notify s at) → r ≡ NoNotify → z ≡ watchedBy (wholeBy notify s at) z
+  missing-watched s at e f = nothing-watched z (wholeBy notify s at) (sym f ∙ e)
+
+  pub esearch-watched : (s : List ℕ) (at : ℕ) → z ≡ watchedBy (wholeBy esearch s at) z
+  esearch-watched s at = search-watched z (wholeBy esearch s at) (only-spaced s at (stands s at " "))
+
+pub not-nothing : {r q : NotifyRead} {p : ℕ} → r ≡ q → r ≡ Nothing p → q ≡ NoNotify → ⊥
+not-nothing e f g = let n : _≡_ {A = ℕ} 0 1 = cc in omega arith
+
+pub not-groups : {r q : NotifyRead} {status : Bool} {t : Tally} {p : ℕ} → r ≡ q → r ≡ Groups status t p → q ≡ NoNotify → ⊥
+not-groups e f g = let n : _≡_ {A = ℕ} 0 1 = cc in omega arith

@@ -1,2 +1,3 @@
 -- A command line as the code answers it.
 pub mod Judging
+pub mod Accepting

@@ -7,9 +7,11 @@ ghost use Rattle.model.specs.Requests.{notify as notifyWord, esearch};
 ghost use Rattle.model.specs.Commands.{tagEnd, tagged, commandOf};
 ghost use Rattle.model.specs.Limits.{limits as most};
 ghost use Rattle.notify.specs.Readings.{readNotify};
+ghost use Rattle.notify.specs.Watched.{watchedBy};
 ghost use Rattle.commands.specs.Judging.{answerOf, unread as nothing, judgedOf, wholeBy, judgedBy, notifyUpto, searchUpto, notified, searched, ReadsSearch, Judges};
 use model::Limits;
 use model::Reply;
+use model::Session;
 use notify::NotifyRead;
 use options::Verb;
 use options::VerbRead;
@@ -188,5 +190,46 @@ pub fn judge(text: &[u8], selected: bool, l: Limits, cells: &mut [u64]) -> Judge
     match options::verb_at(text, end + 1) {
         VerbRead::Is(verb, at) => judge_by(verb, text, at, selected, l, cells),
         VerbRead::Bad => unread(),
+    }
+}
+
+// ---- the session
+
+// The session that a NOTIFY sets, from the position behind its word up to the end of the line.
+pub fn watch_notify(text: &[u8], at: usize, session: Session) -> Session
+    ensures { λ r. ⌜ r ≡ watchedBy (wholeBy notifyWord (now (text .entry)) at) session ⌝ }
+{
+    if octets::octet_at(text, at) != b' ' {
+        return session;
+    }
+    match notify_at(text, at) {
+        NotifyRead::Nothing(_) => notify::watch_at(text, at + 1, session),
+        NotifyRead::Groups(_, _, _) => notify::watch_at(text, at + 1, session),
+        NotifyRead::Bad => session,
+    }
+}
+
+// The session that the command of a verb sets.
+fn watch_by(verb: Verb, text: &[u8], at: usize, session: Session) -> Session
+    ensures { λ r. ⌜ r ≡ watchedBy (judgedBy verb (now (text .entry)) at) session ⌝ }
+{
+    match verb {
+        Verb::Notify => watch_notify(text, at, session),
+        Verb::Esearch => session,
+        Verb::Other => session,
+    }
+}
+
+// The session that a command line sets: another one for a NOTIFY whose groups fit into it, however else it is answered.
+pub fn watched(text: &[u8], session: Session) -> Session
+    ensures { λ r. ⌜ r ≡ watchedBy (commandOf (now (text .entry))) session ⌝ }
+{
+    if !options::is_tagged(text) {
+        return session;
+    }
+    let end = options::tag_end(text);
+    match options::verb_at(text, end + 1) {
+        VerbRead::Is(verb, at) => watch_by(verb, text, at, session),
+        VerbRead::Bad => session,
     }
 }

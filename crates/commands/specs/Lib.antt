@@ -1,3 +1,2 @@
 -- A command line as the code answers it.
 pub mod Judging
-pub mod Accepting

@@ -1,6 +1,5 @@
 -- Behind NOTIFY stands no search, and behind ESEARCH nothing else. Assumes nothing.
-use mathlib.Core.Path.{_≡_, refl}
-use mathlib.Core.Bool.{Bool, true, false, cond}
+use mathlib.Core.Bool.{Bool, true, false}
 use mathlib.Core.List.{List, []}
 use Prim.Native.Nat.{ℕ, _+_}
 use Rattle.model.specs.Octets.{atomOctet}

@@ -16,9 +16,8 @@ use Rattle.model.specs.declared.Limits.{Limits}
 use Rattle.model.specs.declared.Session.{Session}
 use Rattle.options.specs.Heads.{verbOf, readVerb}
 use Rattle.options.specs.declared.Verb.{Verb}
-use Rattle.options.specs.declared.Verb.the-variants.{Notify, Esearch, Other}
+use Rattle.options.specs.declared.Verb.the-variants.{Notify, Esearch}
 use Rattle.options.specs.declared.VerbRead.the-variants.{Is as Verbed, Bad as Verbless}
-use Rattle.notify.specs.Tallies.{tallyOf}
 use Rattle.notify.specs.Readings.{readNotify}
 use Rattle.notify.specs.Ladder.{reply-by-tally}
 use Rattle.notify.specs.Watched.{watchedBy}

@@ -5,7 +5,7 @@ use mathlib.Core.List.{List}
 use Prim.Native.Nat.{ℕ}
 use lib.Dec.{eqb}
 use Rattle.model.specs.Requests.{Verb as Word, notify, esearch, otherVerb, Command}
-use Rattle.model.specs.Reading.{Parsed, bad, ok, andThen}
+use Rattle.model.specs.Reading.{Parsed, andThen}
 use Rattle.model.specs.Commands.{commandBy, wholeLine}
 use Rattle.model.specs.Replies.{replyOf}
 use Rattle.model.specs.Answering.{verb}

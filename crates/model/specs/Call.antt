@@ -1,6 +1,6 @@
 -- One call: an octet string and the memory in, the answer and the memory out (01, Records from the host, 21 to 31; Duties of the public functions, 8 to 13).
-use mathlib.Core.List.{List, [], _∷_, map}
-use mathlib.Core.Bool.{Bool, true, false, not, cond}
+use mathlib.Core.List.{List, [], _∷_}
+use mathlib.Core.Bool.{Bool, false, not, cond}
 use Prim.Native.Nat.{ℕ}
 use Rattle.model.specs.Records.{Record, create, delete, rename, subscribe, grant, arrive, expunge, reflag, select, ended, command, drained, noRecord, isRecord, recordOf}
 use Rattle.model.specs.Memory.{Memory}
@@ -10,8 +10,7 @@ use Rattle.model.specs.Answering.{noRoom}
 use Rattle.model.specs.Rules.{Outcome, accepted}
 use Rattle.model.specs.declared.Refusal.{Refusal}
 use Rattle.model.specs.declared.Refusal.the-variants.{UnlawfulMemory, BadRecord, WrongId, NameHeld, WrongUid, WrongState, TableFull, NoRoom}
-use Rattle.model.specs.declared.Answer.{Answer}
-use Rattle.model.specs.declared.Answer.the-variants.{Done, Counted, Refused}
+use Rattle.model.specs.declared.Answer.the-variants.{Refused}
 
 -- 8: a command's answer finds no room
 abbrev pub roomless : Memory → Record → Bool

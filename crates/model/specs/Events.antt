@@ -1,20 +1,18 @@
 -- What a record about a mailbox or a message changes, and the lines that it owes at once (01, What is written, 1 to 19 and 22).
-use mathlib.Core.List.{List, [], _∷_, _++_}
-use mathlib.Core.Bool.{Bool, true, false, not, cond, _&&_, _||_}
+use mathlib.Core.List.{List, [], _∷_}
+use mathlib.Core.Bool.{Bool, cond, _&&_, _||_}
 use Prim.Native.Nat.{ℕ, _+_, _*_, _/_, _%_}
 use lib.Dec.{eqb, ltb}
 use lib.ListN.{length}
 use Rattle.model.specs.Lists.{when}
 use Rattle.model.specs.Names.{Name}
-use Rattle.model.specs.Memory.{Memory, boxes, mails, nameOf, selectable, subscribed as isSubscribed, mayList, bothRights, withAttributes, withNext, withName, stored, theMailbox, isSelected, selectedBox, inMailbox, isMessage, existing, withFlags, withStates, putBox, addBox, dropBox, addMail, dropMails, changeMails, withSession, silenced}
+use Rattle.model.specs.Memory.{Memory, boxes, mails, nameOf, selectable, subscribed as isSubscribed, mayList, bothRights, withAttributes, withNext, withName, stored, theMailbox, isSelected, inMailbox, isMessage, existing, withFlags, withStates, putBox, addBox, dropBox, addMail, dropMails, changeMails, withSession, silenced}
 use Rattle.model.specs.Groups.{asked, askedOf, asksNew, asksExpunge, asksName, asksSubscription}
 use Rattle.model.specs.Lines.{Line, status, list, renamed, expunge, overflow, ListMark, plain, noselect, nonExistent, subscribed}
-use Rattle.model.specs.Queue.{fits, say}
+use Rattle.model.specs.Queue.{fits}
 use Rattle.model.specs.View.{view, placeOf, newAtOnce, expungeAtOnce, flagsAtOnce, flagsWait, announcing, flagsLine}
 use Rattle.model.specs.declared.Mailbox.{Mailbox}
 use Rattle.model.specs.declared.Message.{Message}
-use Rattle.model.specs.declared.MessageNumber.{MessageNumber}
-use Rattle.model.specs.declared.Uid.{Uid}
 use Rattle.model.specs.declared.Session.{Session}
 
 -- an event: the memory with its change made, and the lines owed at once

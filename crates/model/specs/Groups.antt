@@ -1,9 +1,9 @@
 -- The groups of a session: how they are kept, whom each meets, what it asks (01, Who matches, 1 to 4).
-use mathlib.Core.List.{List, [], _∷_, map}
-use mathlib.Core.Bool.{Bool, true, false, not, cond, _&&_, _||_}
+use mathlib.Core.List.{List, map}
+use mathlib.Core.Bool.{Bool, true, false, cond, _&&_, _||_}
 use Prim.Native.Nat.{ℕ}
 use lib.Dec.{eqb}
-use lib.ListN.{take, drop, length}
+use lib.ListN.{take, drop}
 use Rattle.model.specs.Lists.{anyb, same}
 use Rattle.model.specs.Names.{Name, subtree}
 use Rattle.model.specs.Text.{bit}

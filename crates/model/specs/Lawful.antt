@@ -1,14 +1,13 @@
 -- Refusal 1: which memory is lawful (01, Records from the host, 22). What lies behind a count is never judged.
 -- The upper end of a field that is as wide in memory as in a record needs no test.
-use mathlib.Core.List.{List, [], _∷_, map}
-use mathlib.Core.Bool.{Bool, true, false, not, cond, _&&_, _||_}
+use mathlib.Core.List.{List, [], _∷_}
+use mathlib.Core.Bool.{Bool, true, not, cond, _&&_, _||_}
 use Prim.Native.Nat.{ℕ, _+_, _-_}
 use lib.Dec.{eqb, leb, ltb}
 use lib.ListN.{length, take, drop}
-use Rattle.model.specs.Lists.{anyb, allb, apart, every, same}
-use Rattle.model.specs.Names.{Name, valid, fold}
-use Rattle.model.specs.Text.{bit}
-use Rattle.model.specs.Memory.{Memory, boxes, mails, filled, nameOf, known, theMailbox, uidOf, expunged, marked, inMailbox}
+use Rattle.model.specs.Lists.{allb, apart, every, same}
+use Rattle.model.specs.Names.{valid, fold}
+use Rattle.model.specs.Memory.{Memory, boxes, mails, filled, nameOf, known, theMailbox, uidOf, inMailbox}
 use Rattle.model.specs.Groups.{groupOf, groupsOf, lentName, isSelecting, asksNew, asksExpunge, asksFlags, asksName, asksSubscription}
 use Rattle.model.specs.declared.Mailbox.{Mailbox}
 use Rattle.model.specs.declared.Message.{Message}
@@ -16,7 +15,6 @@ use Rattle.model.specs.declared.Group.{Group}
 use Rattle.model.specs.declared.LentGroup.{LentGroup}
 use Rattle.model.specs.declared.LentName.{LentName}
 use Rattle.model.specs.declared.Session.{Session}
-use Rattle.model.specs.declared.Counts.{Counts}
 
 -- ---- the queue: Q is 1,024 to 65,536; F is at most Q, and at most Q - 64 while a group stands
 abbrev pub queueOk : ℕ → Bool

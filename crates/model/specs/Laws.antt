@@ -1,12 +1,11 @@
 -- Laws of the tests and list functions of Lists. Assumes nothing.
-use mathlib.Core.Path.{_≡_, refl, sym, _∙_, ap, ap₂}
+use mathlib.Core.Path.{_≡_, refl, ap, ap₂}
 use mathlib.Core.List.{List, [], _∷_, _++_, map}
 use mathlib.Core.Bool.{Bool, true, false, not, cond, _&&_, _||_}
-use Prim.Native.Nat.{ℕ, zero, suc, _+_, _≤_, _<_}
+use Prim.Native.Nat.{ℕ, suc, _≤_}
 use native.Mathlib.Omega.{arith}
-use lib.Dec.{eqb, leb, ltb}
-use lib.ListN.{length, getD, set}
-use Rattle.model.specs.Lists.{keep, filterb, anyb, allb, every, sorted, insert, apart, concatMap}
+use lib.ListN.{length}
+use Rattle.model.specs.Lists.{keep, filterb, anyb, allb, every, sorted, insert, concatMap}
 
 -- ---- tests
 pub tf : {A : Type 0} (b : Bool) → b ≡ true → b ≡ false → A

@@ -1,6 +1,6 @@
 -- Every line that is written, as data and as octets (01, What is written, 1 to 10; Commands, 12 to 18; Who matches, 6 and 10 to 11).
 use mathlib.Core.List.{List, [], _∷_, _++_}
-use mathlib.Core.Bool.{Bool, true, false, not, cond, _&&_}
+use mathlib.Core.Bool.{cond}
 use Prim.Native.Nat.{ℕ, _+_}
 use lib.Dec.{eqb}
 use Rattle.model.specs.Lists.{concatMap}

@@ -5,10 +5,10 @@ use Prim.Native.Nat.{ℕ, _+_, _-_}
 use lib.Dec.{eqb}
 use lib.ListN.{length, replicate}
 use Rattle.model.specs.Lists.{anyb, filterb, sorted, concatMap, when}
-use Rattle.model.specs.Names.{Name, argument, before}
+use Rattle.model.specs.Names.{argument, before}
 use Rattle.model.specs.Text.{pack}
 use Rattle.model.specs.Requests.{Filter, selected, delayed, inboxes, personal, subscribed, subtree, subtreeOne, mailboxes, namesOf, Attribute, uid, flags, size, otherAttribute, Event, isNew, isExpunge, isFlagChange, isMailboxName, isSubscriptionChange, attributesOf, Asked}
-use Rattle.model.specs.Memory.{Memory, boxes, mails, nameOf, mayList, mayRead, bothRights, isSelected, existing, noGroup, noName, stored}
+use Rattle.model.specs.Memory.{Memory, boxes, mails, nameOf, mayList, mayRead, isSelected, existing, noGroup, noName, stored}
 use Rattle.model.specs.Groups.{askedOf, selectedAsks, asksMessages, asksMailbox}
 use Rattle.model.specs.Lines.{Line, list, statusAtSet, noAccess}
 use Rattle.model.specs.declared.Mailbox.{Mailbox}

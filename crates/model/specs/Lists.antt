@@ -1,7 +1,7 @@
 -- Tests on lists and lists of tests: the few list functions that the rules are written with.
 use mathlib.Core.List.{List, [], _∷_, _++_}
 use mathlib.Core.Bool.{Bool, true, false, not, cond, _&&_, _||_}
-use Prim.Native.Nat.{ℕ, zero, suc, _+_}
+use Prim.Native.Nat.{ℕ}
 use lib.Dec.{eqb}
 
 module _ {A : Type 0} where

@@ -1,13 +1,12 @@
 -- What the host lends, and how it is read and altered (01, One session beside one store).
 use mathlib.Core.List.{List, [], _∷_, _++_, map}
-use mathlib.Core.Bool.{Bool, true, false, not, cond, _&&_}
-use Prim.Native.Nat.{ℕ, zero, suc, _+_, _-_, max}
+use mathlib.Core.Bool.{Bool, not, cond, _&&_}
+use Prim.Native.Nat.{ℕ, suc, _-_, max}
 use lib.Dec.{eqb, leb, ltb}
 use lib.ListN.{length, getD, set, drop, take, replicate}
-use Rattle.model.specs.Lists.{anyb, filterb, sorted, same}
+use Rattle.model.specs.Lists.{filterb, sorted}
 use Rattle.model.specs.Names.{Name}
 use Rattle.model.specs.Text.{bit}
-use Rattle.model.specs.declared.Uid.{Uid}
 use Rattle.model.specs.declared.Mailbox.{Mailbox}
 use Rattle.model.specs.declared.Message.{Message}
 use Rattle.model.specs.declared.Counts.{Counts}

@@ -1,6 +1,6 @@
 -- The program of 01, Examples on each side, 10: what it prints for a stream of records.
 use mathlib.Core.List.{List, [], _∷_, _++_}
-use mathlib.Core.Bool.{Bool, cond, _&&_}
+use mathlib.Core.Bool.{cond, _&&_}
 use Prim.Native.Nat.{ℕ, zero, suc, _+_}
 use lib.Dec.{eqb, leb}
 use lib.ListN.{length, take, drop, replicate}
@@ -11,7 +11,6 @@ use Rattle.model.specs.Queue.{dequeue}
 use Rattle.model.specs.Answers.{numberOf}
 use Rattle.model.specs.Call.{call}
 use Rattle.model.specs.Hidden.{noCounts, noSession}
-use Rattle.model.specs.declared.Answer.{Answer}
 
 -- nothing there yet: a queue of q octets, tables of these lengths
 abbrev pub start : ℕ → ℕ → ℕ → Memory

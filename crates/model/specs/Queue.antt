@@ -1,15 +1,13 @@
 -- The queue, and what the writing of a line ends (01, One session beside one store, 1, 3 and 4; What is written, 11 to 22).
 use mathlib.Core.List.{List, [], _∷_, _++_}
-use mathlib.Core.Bool.{Bool, true, false, not, cond, _&&_, _||_}
+use mathlib.Core.Bool.{Bool, true, false, cond}
 use Prim.Native.Nat.{ℕ, _+_, _-_}
-use lib.Dec.{eqb, leb, ltb}
+use lib.Dec.{leb}
 use lib.ListN.{length, take, drop}
 use Rattle.model.specs.Lists.{anyb}
-use Rattle.model.specs.Memory.{Memory, boxes, mails, filled, selectedBox, withSession, withView, dropMails, changeMails, isMessage, withStates}
+use Rattle.model.specs.Memory.{Memory, filled, selectedBox, withSession, withView, dropMails, changeMails, isMessage, withStates}
 use Rattle.model.specs.Lines.{Line, status, statusAtSet, list, renamed, exists, expunge, fetch, found, overflow, answer, Item, uid, flags, size, render, renderAll}
 use Rattle.model.specs.declared.Message.{Message}
-use Rattle.model.specs.declared.MessageNumber.{MessageNumber}
-use Rattle.model.specs.declared.Uid.{Uid}
 
 -- what is left for lines: 64 octets are kept for the overflow line
 abbrev pub room : Memory → ℕ

@@ -1,8 +1,6 @@
 -- What an accepted record does, and what it answers: one rule for each kind (01, Records from the host, 5 to 18; What is written, 12 and 20 to 22).
-use mathlib.Core.List.{List, [], _∷_, map}
-use mathlib.Core.Bool.{Bool, true, false, not, cond, _&&_}
+use mathlib.Core.List.{List, []}
 use Prim.Native.Nat.{ℕ, _-_}
-use lib.Dec.{eqb}
 use lib.ListN.{length}
 use Rattle.model.specs.Records.{Record, create, delete, rename, subscribe, grant, arrive, expunge, reflag, select, ended, command, drained, noRecord}
 use Rattle.model.specs.Memory.{Memory, boxes, theMailbox, expunged, withStates, withSession, withView, dropMails, changeMails}
@@ -13,7 +11,7 @@ use Rattle.model.specs.Events.{Event, created, deleted, renamedTo, subsc
 use Rattle.model.specs.Answering.{answerLines, answered}
 use Rattle.model.specs.declared.Message.{Message}
 use Rattle.model.specs.declared.Answer.{Answer}
-use Rattle.model.specs.declared.Answer.the-variants.{Done, Counted, Refused}
+use Rattle.model.specs.declared.Answer.the-variants.{Done, Counted}
 
 -- what a call gives: its answer, the lines that it wrote, and the memory after it
 pub record Outcome : Type 0 where

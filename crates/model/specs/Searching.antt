@@ -2,7 +2,7 @@
 use mathlib.Core.List.{List, [], _∷_, _++_, map}
 use mathlib.Core.Bool.{Bool, true, false, not, cond, _&&_, _||_}
 use Prim.Native.Nat.{ℕ, _+_, min as smaller, max as greater}
-use lib.Dec.{eqb, leb, ltb}
+use lib.Dec.{leb, ltb}
 use lib.ListN.{length}
 use Rattle.model.specs.Lists.{anyb, filterb, sorted, concatMap, lastOr, same}
 use Rattle.model.specs.Names.{Name, argument, subtree as beneathOrSame, subtreeOne as oneLevelOrSame}

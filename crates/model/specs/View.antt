@@ -1,17 +1,16 @@
 -- The selected mailbox: the client's view, and the lines that a command's end owes (01, What is written, 10 to 21).
 use mathlib.Core.List.{List, [], _∷_, _++_}
-use mathlib.Core.Bool.{Bool, true, false, not, cond, _&&_, _||_}
-use Prim.Native.Nat.{ℕ, _+_, _-_}
-use lib.Dec.{eqb, leb, ltb}
+use mathlib.Core.Bool.{Bool, not, cond, _&&_}
+use Prim.Native.Nat.{ℕ, _+_}
+use lib.Dec.{eqb, ltb}
 use lib.ListN.{length}
-use Rattle.model.specs.Lists.{filterb, anyb}
+use Rattle.model.specs.Lists.{filterb}
 use Rattle.model.specs.Text.{bit}
 use Rattle.model.specs.Memory.{Memory, mails, selectedBox, bothRights, uidOf, expunged, marked, messagesOf}
 use Rattle.model.specs.Groups.{asksNew, asksExpunge, asksFlags, selectedAsks, immediateAsks}
 use Rattle.model.specs.Lines.{Line, exists, expunge, fetch, Item, uid, flags, size}
 use Rattle.model.specs.declared.Message.{Message}
 use Rattle.model.specs.declared.MessageNumber.{MessageNumber}
-use Rattle.model.specs.declared.Uid.{Uid}
 use Rattle.model.specs.declared.Group.{Group}
 use Rattle.model.specs.declared.Session.{Session}
 

@@ -1,21 +1,21 @@
 -- One memory is another without the mailboxes of some ids and their messages: what it reads, and how each write keeps it so. Assumes nothing.
 use mathlib.Core.Path.{_≡_, refl, sym, _∙_, ap, ap₂}
 use mathlib.Core.List.{List, [], _∷_, _++_, map, append-nil}
-use mathlib.Core.Bool.{Bool, true, false, not, cond, _&&_, _||_}
-use Prim.Native.Nat.{ℕ, zero, suc, _+_, _-_, _≤_, _<_, max, min}
+use mathlib.Core.Bool.{Bool, true, false, not}
+use Prim.Native.Nat.{ℕ, _+_, _-_, _≤_, _<_, max, min}
 use native.Mathlib.Omega.{arith}
-use borrow.Author.Tests.{leb-true, leb-false, le-leb}
-use lib.Dec.{eqb, leb, ltb}
-use lib.ListN.{length, getD, set, take, drop, replicate, length-append, length-take, length-drop, length-replicate, length-set, length-map, drop-of-length-le}
+use borrow.Author.Tests.{leb-true, leb-false}
+use lib.Dec.{eqb, leb}
+use lib.ListN.{length, set, take, drop, replicate, length-append, length-take, length-drop, length-replicate, length-set, length-map, drop-of-length-le}
 use lib.Seq.{take-append-seam, take-append-add, take-all, take-at}
-use Rattle.model.specs.Lists.{filterb, keep, anyb, sorted}
-use Rattle.model.specs.Laws.{tf, filter-append, filter-length, filter-swap, filter-map}
+use Rattle.model.specs.Lists.{filterb}
+use Rattle.model.specs.Laws.{filter-append, filter-length, filter-swap, filter-map}
 use Rattle.model.specs.Memory.{Memory, boxes, mails, filled, held, noMailbox, noMessage, place, known, theMailbox, selectedBox, messagesOf, withBoxes, withMails, withSession, putBox, addBox, dropBox, addMail, dropMails, changeMails, refill}
 use Rattle.model.specs.Queue.{written, enqueue, shifted, dequeue}
 use Rattle.model.specs.declared.Mailbox.{Mailbox}
 use Rattle.model.specs.declared.Message.{Message}
 use Rattle.model.specs.declared.Session.{Session}
-use Rattle.model.specs.Isolation.Erase.{boxesOff, mailsOff, staysBox, staysMail, known-off, box-off, set-off, messages-off, set-gone}
+use Rattle.model.specs.Isolation.Erase.{boxesOff, mailsOff, staysBox, staysMail, known-off, box-off, set-off, messages-off}
 
 -- ---- a table whose used part is altered
 module _ {A : Type 0} (z : A) (table : List A) where

@@ -1,34 +1,34 @@
 -- A command is answered alike in alike memories, if no id that is left out holds a right. Assumes nothing.
-use mathlib.Core.Path.{_≡_, refl, sym, _∙_, ap, ap₂, subst}
-use mathlib.Core.List.{List, [], _∷_, _++_, map}
+use mathlib.Core.Path.{_≡_, refl, _∙_, ap}
+use mathlib.Core.List.{List, [], _∷_, _++_}
 use mathlib.Core.Bool.{Bool, true, false, not, cond, _&&_, _||_}
-use Prim.Native.Nat.{ℕ, zero, suc, _+_, _-_}
+use Prim.Native.Nat.{ℕ, _-_}
 use borrow.Author.Tests.{eq-eqb, not-true}
-use lib.Dec.{eqb, leb, ltb}
+use lib.Dec.{eqb, leb}
 use lib.ListN.{length}
 use Rattle.model.specs.Lists.{filterb, anyb, allb, sorted, concatMap, when}
-use Rattle.model.specs.Laws.{tf, or-l, or-r, or-true, and-l, and-r, filter-within, all-filtered, all-passed, all-sorted, concat-same}
+use Rattle.model.specs.Laws.{tf, or-l, or-r, or-true, and-l, filter-within, all-filtered, all-passed, all-sorted, concat-same}
 use Rattle.model.specs.Requests.{Filter, selected, delayed, inboxes, personal, subscribed, subtree, subtreeOne, mailboxes, Search, Command, notifyNone, notifySet, search}
 use Rattle.model.specs.Reading.{Parsed, bad, ok}
 use Rattle.model.specs.Commands.{tagOf, commandOf}
 use Rattle.model.specs.Limits.{limits}
 use Rattle.model.specs.Replies.{replyOf}
-use Rattle.model.specs.Memory.{Memory, boxes, mails, nameOf, mayList, mayRead, isSelected, expunged, existing, messagesOf, silenced, withSession}
+use Rattle.model.specs.Memory.{Memory, boxes, nameOf, mayList, mayRead, expunged}
 use Rattle.model.specs.Groups.{askedOf, selectedAsks, asksMessages, asksMailbox}
 use Rattle.model.specs.Lines.{Line, list, statusAtSet, noAccess, answer, renderAll}
-use Rattle.model.specs.Queue.{fits, say}
-use Rattle.model.specs.View.{view, owed}
+use Rattle.model.specs.Queue.{say}
+use Rattle.model.specs.View.{owed}
 use Rattle.model.specs.Listing.{listing, listingLine, applies, byName, asksAny, watching}
 use Rattle.model.specs.Searching.{admits, orSelected, searched, candidates, matches, foundLine, foundLines}
-use Rattle.model.specs.Answering.{someSelected, verb, verbOf, workLines, acceptedLines, isAccepted, firstReply, withinQueue, reply, answerLines, sessionBy, withAsked, answered}
+use Rattle.model.specs.Answering.{verb, verbOf, workLines, acceptedLines, isAccepted, firstReply, withinQueue, reply, answerLines, sessionBy, withAsked, answered}
 use Rattle.model.specs.Hidden.{visible, holdsRight}
 use Rattle.model.specs.declared.Mailbox.{Mailbox}
 use Rattle.model.specs.declared.Message.{Message}
 use Rattle.model.specs.declared.Session.{Session}
 use Rattle.model.specs.declared.Reply.{Reply}
-use Rattle.model.specs.Isolation.Erase.{staysBox, boxesOff}
+use Rattle.model.specs.Isolation.Erase.{staysBox}
 use Rattle.model.specs.Isolation.Alike.{Alike, same-messages, alike-session}
-use Rattle.model.specs.Isolation.Spoken.{same-id, same-view, same-owed, same-fits, alike-say}
+use Rattle.model.specs.Isolation.Spoken.{same-id, same-view, same-owed, alike-say}
 
 -- no id of H holds a right
 abbrev pub Dark : (ℕ → Bool) → Memory → Type 0

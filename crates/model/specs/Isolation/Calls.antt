@@ -1,25 +1,23 @@
 -- One call on alike memories: about an id that stays, and about one that is left out. Assumes nothing.
-use mathlib.Core.Path.{_≡_, refl, sym, _∙_, ap, ap₂, subst}
-use mathlib.Core.List.{List, [], _∷_, _++_, map}
-use mathlib.Core.Bool.{Bool, true, false, not, cond, _&&_, _||_}
-use Prim.Native.Nat.{ℕ, zero, suc, _+_, _-_, _≤_, _<_}
+use mathlib.Core.Path.{_≡_, refl, sym, _∙_, ap}
+use mathlib.Core.List.{List}
+use mathlib.Core.Bool.{Bool, true, false, not, cond, _&&_}
+use Prim.Native.Nat.{ℕ, _≤_}
 use native.Mathlib.Omega.{arith}
-use borrow.Author.Tests.{leb-true, leb-false, le-leb, eqb-true, not-true, not-false}
-use lib.Dec.{eqb, leb, ltb}
+use borrow.Author.Tests.{leb-true, leb-false, le-leb, eqb-true, not-false}
+use lib.Dec.{eqb, leb}
 use lib.ListN.{length, drop}
-use Rattle.model.specs.Laws.{tf, or-l, or-r, and-l, and-r}
+use Rattle.model.specs.Laws.{tf, or-r, and-l, and-r}
 use Rattle.model.specs.Text.{little}
-use Rattle.model.specs.Records.{Kind, MB, DL, RN, SB, RT, ME, XP, FL, SE, CE, CM, DR, unknown, layout, values, widths, allInRange, tailOk, bodyOk, isKnown, kindOf, bodyOf, framed, isRecord, recordBy, recordOf, startsWithId, about, Record, create, delete, rename, subscribe, grant, arrive, expunge, reflag, select, ended, command, drained, noRecord}
-use Rattle.model.specs.Memory.{Memory, boxes, mails, filled, theMailbox, known, selectable, mayList, mayRead}
+use Rattle.model.specs.Records.{Kind, MB, DL, RN, SB, RT, ME, XP, FL, SE, CE, CM, DR, unknown, layout, values, widths, bodyOk, isKnown, kindOf, bodyOf, framed, isRecord, recordBy, recordOf, startsWithId, about, Record, create, delete, rename, subscribe, grant, arrive, expunge, reflag, select, ended, command, drained, noRecord}
+use Rattle.model.specs.Memory.{Memory, boxes, filled, theMailbox, known, selectable, mayList, mayRead}
 use Rattle.model.specs.Lawful.{lawful}
-use Rattle.model.specs.Answers.{numberOf}
 use Rattle.model.specs.Refusals.{wrongId, nameHeld, wrongUid, unfit, wrongState, tableFull}
-use Rattle.model.specs.Rules.{Outcome, told, accepted}
+use Rattle.model.specs.Rules.{Outcome, accepted}
 use Rattle.model.specs.Call.{call, refuse, roomless}
-use Rattle.model.specs.Hidden.{visible, excepted}
+use Rattle.model.specs.Hidden.{excepted}
 use Rattle.model.specs.declared.Refusal.{Refusal}
 use Rattle.model.specs.declared.Refusal.the-variants.{UnlawfulMemory, BadRecord, WrongId, NameHeld, WrongUid, WrongState, TableFull, NoRoom}
-use Rattle.model.specs.declared.Answer.{Answer}
 use Rattle.model.specs.Isolation.Alike.{Alike}
 use Rattle.model.specs.Isolation.Left.{AlikeOutcome}
 use Rattle.model.specs.Isolation.Asked.{Dark}

@@ -1,15 +1,15 @@
 -- Leaving out the mailboxes of some ids and their messages: what it does to each reading and each write. Assumes nothing.
-use mathlib.Core.Path.{_≡_, refl, sym, _∙_, ap, ap₂}
-use mathlib.Core.List.{List, [], _∷_, _++_, map}
-use mathlib.Core.Bool.{Bool, true, false, not, cond, _&&_, _||_}
-use Prim.Native.Nat.{ℕ, zero, suc, _+_, _≤_, _<_}
+use mathlib.Core.Path.{_≡_, refl, sym, _∙_, ap}
+use mathlib.Core.List.{List, [], _∷_}
+use mathlib.Core.Bool.{Bool, true, false, not, _&&_}
+use Prim.Native.Nat.{ℕ, suc}
 use native.Mathlib.Omega.{arith}
-use borrow.Author.Tests.{eqb-true, eqb-false, eq-eqb, ne-eqb, lt-ltb, le-ltb, ltb-true, ltb-false}
-use lib.Dec.{eqb, ltb, leb}
-use lib.ListN.{length, getD, set}
-use Rattle.model.specs.Lists.{filterb, keep, anyb, allb, sorted}
-use Rattle.model.specs.Laws.{tf, or-l, or-r, and-l, and-r, filter-filter, filter-swap, any-filter}
-use Rattle.model.specs.Memory.{place, known, theMailbox, noMailbox, messagesOf, inMailbox, byUid, isMessage}
+use borrow.Author.Tests.{eqb-true, lt-ltb, le-ltb, ltb-true, ltb-false}
+use lib.Dec.{eqb, ltb}
+use lib.ListN.{length, set}
+use Rattle.model.specs.Lists.{filterb, keep, anyb, sorted}
+use Rattle.model.specs.Laws.{tf, and-l, filter-filter, any-filter}
+use Rattle.model.specs.Memory.{place, known, theMailbox, messagesOf, inMailbox, byUid, isMessage}
 use Rattle.model.specs.declared.Mailbox.{Mailbox}
 use Rattle.model.specs.declared.Message.{Message}
 

@@ -1,28 +1,25 @@
 -- A record about an id that stays, on alike memories: its refusals, and what it does once accepted. Assumes nothing.
-use mathlib.Core.Path.{_≡_, refl, sym, _∙_, ap, ap₂, subst}
-use mathlib.Core.List.{List, [], _∷_, _++_, map}
-use mathlib.Core.Bool.{Bool, true, false, not, cond, _&&_, _||_}
-use Prim.Native.Nat.{ℕ, zero, suc, _+_, _-_, _≤_, _<_}
+use mathlib.Core.Path.{_≡_, refl, _∙_, ap}
+use mathlib.Core.Bool.{Bool, false, not, _&&_}
+use Prim.Native.Nat.{ℕ, _-_, _≤_}
 use native.Mathlib.Omega.{arith}
-use borrow.Author.Tests.{leb-true, leb-false, lt-leb, ltb-true, ltb-false}
+use borrow.Author.Tests.{leb-false, lt-leb, ltb-false}
 use lib.Dec.{eqb, leb, ltb}
 use lib.ListN.{length}
-use Rattle.model.specs.Lists.{filterb, anyb, same}
-use Rattle.model.specs.Laws.{tf, any-fewer, filter-length}
+use Rattle.model.specs.Lists.{anyb, same}
+use Rattle.model.specs.Laws.{any-fewer, filter-length}
 use Rattle.model.specs.Names.{Name}
 use Rattle.model.specs.Records.{Record, create, delete, rename, subscribe, grant, arrive, expunge, reflag, select, ended, command, drained, noRecord}
-use Rattle.model.specs.Memory.{Memory, boxes, mails, filled, nameOf, known, theMailbox, isSelected, expunged, withView, dropMails, changeMails}
-use Rattle.model.specs.Queue.{fits, fitting, dequeue}
-use Rattle.model.specs.Events.{created, deleted, renamedTo, subscribedTo, granted, arrived, removed, reflagged, silence}
+use Rattle.model.specs.Memory.{Memory, boxes, mails, filled, nameOf, expunged, withView, dropMails, changeMails}
+use Rattle.model.specs.Queue.{fits, fitting}
+use Rattle.model.specs.Events.{silence}
 use Rattle.model.specs.Refusals.{wrongId, heldByAnother, nameHeld, absent, wrongUid, unfit, wrongState, tableFull}
-use Rattle.model.specs.Answering.{answerLines, noRoom}
-use Rattle.model.specs.Rules.{Outcome, told, rested, endLines, endedAt, accepted}
+use Rattle.model.specs.Answering.{answerLines}
+use Rattle.model.specs.Rules.{rested, endLines, accepted}
 use Rattle.model.specs.Call.{roomless}
 use Rattle.model.specs.declared.Mailbox.{Mailbox}
 use Rattle.model.specs.declared.Message.{Message}
-use Rattle.model.specs.declared.Session.{Session}
-use Rattle.model.specs.declared.Answer.{Answer}
-use Rattle.model.specs.declared.Answer.the-variants.{Done, Counted, Refused}
+use Rattle.model.specs.declared.Answer.the-variants.{Counted}
 use Rattle.model.specs.Isolation.Erase.{any-off, staysBox, staysMail}
 use Rattle.model.specs.Isolation.Alike.{Alike, same-known, same-box, alike-session, alike-drop-mails, alike-change, alike-dequeue}
 use Rattle.model.specs.Isolation.Spoken.{same-id, same-room, same-owed, same-fits, alike-say}

@@ -1,27 +1,23 @@
 -- A record about an id that stays does the same to alike memories: each event. Assumes nothing.
-use mathlib.Core.Path.{_≡_, refl, sym, _∙_, ap, ap₂, subst}
-use mathlib.Core.List.{List, [], _∷_, _++_, map}
-use mathlib.Core.Bool.{Bool, true, false, not, cond, _&&_, _||_}
-use Prim.Native.Nat.{ℕ, zero, suc, _+_, _-_, _≤_, _<_}
-use lib.Dec.{eqb, leb, ltb}
+use mathlib.Core.Path.{_≡_, refl, _∙_, ap}
+use mathlib.Core.List.{[], _∷_}
+use mathlib.Core.Bool.{Bool, true, false, not, cond, _&&_}
+use Prim.Native.Nat.{ℕ, _+_, _<_}
+use lib.Dec.{eqb, ltb}
 use lib.ListN.{length}
 use Rattle.model.specs.Lists.{when, filterb}
 use Rattle.model.specs.Laws.{tf}
 use Rattle.model.specs.Names.{Name}
-use Rattle.model.specs.Memory.{Memory, boxes, mails, nameOf, withAttributes, withNext, withName, theMailbox, isSelected, bothRights, inMailbox, isMessage, existing, expunged, withFlags, withStates, withSession, silenced, putBox, dropBox, dropMails, changeMails}
+use Rattle.model.specs.Memory.{Memory, boxes, mails, nameOf, withAttributes, withNext, withName, theMailbox, isSelected, bothRights, inMailbox, isMessage, expunged, withFlags, withStates, silenced, putBox, dropBox, dropMails, changeMails}
 use Rattle.model.specs.Groups.{askedOf, asksNew, asksExpunge}
-use Rattle.model.specs.Lines.{Line, status, expunge, overflow}
-use Rattle.model.specs.Queue.{fits, say}
-use Rattle.model.specs.View.{view, placeOf, newAtOnce, expungeAtOnce, flagsAtOnce, flagsWait, announcing, flagsLine}
+use Rattle.model.specs.Lines.{status, expunge, overflow}
+use Rattle.model.specs.Queue.{fits}
+use Rattle.model.specs.View.{placeOf, expungeAtOnce, flagsAtOnce, flagsWait, flagsLine}
 use Rattle.model.specs.Events.{Event, loud, createLines, deleteLines, renameLines, subscriptionLines, rightsLines, newBox, created, deleted, renamedTo, withSubscribed, subscribedTo, withRights, granted, statusLines, message, withArrived, arrived, inView, expire, removed, reflag, mark, reflagged, silence, tellings, settled}
 use Rattle.model.specs.Rules.{Outcome, told}
 use Rattle.model.specs.declared.Mailbox.{Mailbox}
 use Rattle.model.specs.declared.Message.{Message}
-use Rattle.model.specs.declared.MessageNumber.{MessageNumber}
-use Rattle.model.specs.declared.Uid.{Uid}
-use Rattle.model.specs.declared.Session.{Session}
 use Rattle.model.specs.declared.Group.{Group}
-use Rattle.model.specs.declared.Answer.{Answer}
 use Rattle.model.specs.Isolation.Erase.{box-stays}
 use Rattle.model.specs.Isolation.Alike.{Alike, same-box, same-messages, alike-session, alike-put, alike-add, alike-drop, alike-add-mail, alike-drop-mails, alike-change}
 use Rattle.model.specs.Isolation.Spoken.{same-id, same-view, same-announcing, same-fits, same-new, same-expunge, same-flags, same-wait, alike-say}

@@ -1,29 +1,26 @@
 -- A record about an id that is left out, and holds no right before or after, changes nothing that stays. Assumes nothing.
-use mathlib.Core.Path.{_≡_, refl, sym, _∙_, ap, ap₂, subst}
+use mathlib.Core.Path.{_≡_, refl, sym, _∙_, ap}
 use mathlib.Core.List.{List, [], _∷_, _++_, map, append-nil}
-use mathlib.Core.Bool.{Bool, true, false, not, cond, _&&_, _||_}
-use Prim.Native.Nat.{ℕ, zero, suc, _+_, _-_, _≤_, _<_, min}
+use mathlib.Core.Bool.{Bool, true, false, not, cond, _&&_}
+use Prim.Native.Nat.{ℕ, suc, _+_, _≤_, _<_}
 use native.Mathlib.Omega.{arith}
-use borrow.Author.Tests.{leb-true, leb-false, eq-eqb, eqb-true, le-leb, lt-ltb, ltb-true}
-use lib.Dec.{eqb, leb, ltb, leb·zero}
+use borrow.Author.Tests.{eq-eqb, eqb-true, lt-ltb, ltb-true}
+use lib.Dec.{eqb, leb·zero}
 use lib.ListN.{length, set, length-append, length-set, length-map}
-use Rattle.model.specs.Lists.{filterb, keep, anyb, when}
-use Rattle.model.specs.Laws.{tf, or-l, or-r, and-l, and-r, or-true, and-false, cond-same, filter-append, filter-filter, filter-length, filter-map-same, any-snoc}
+use Rattle.model.specs.Lists.{filterb, anyb, when}
+use Rattle.model.specs.Laws.{tf, or-l, or-r, and-false, cond-same, filter-append, filter-filter, filter-length, filter-map-same, any-snoc}
 use Rattle.model.specs.Names.{Name}
-use Rattle.model.specs.Records.{Record, create, delete, rename, subscribe, grant, arrive, expunge, reflag, select, ended, command, drained, noRecord}
-use Rattle.model.specs.Memory.{Memory, boxes, mails, filled, held, place, known, theMailbox, selectable, mayList, mayRead, bothRights, isSelected, inMailbox, isMessage, uidOf, withNext, withName, withAttributes, withFlags, withStates, withBoxes, withMails, putBox, addBox, dropBox, addMail, dropMails, changeMails}
+use Rattle.model.specs.Memory.{Memory, boxes, mails, filled, held, place, known, theMailbox, mayList, mayRead, bothRights, isSelected, inMailbox, isMessage, withNext, withName, withAttributes, withFlags, withBoxes, withMails, putBox, dropBox, dropMails, changeMails}
 use Rattle.model.specs.Lines.{Line, status, statusAtSet, list, renamed, exists, expunge as expungeLine, fetch, found, overflow, answer, renderAll}
-use Rattle.model.specs.Queue.{fits, enqueue, effect, effects, showsFlags, unmark, say, written}
-use Rattle.model.specs.Events.{Event, loud, newBox, withSubscribed, withRights, message, withArrived, inView, reflag as reflagOf, created, deleted, renamedTo, subscribedTo, granted, arrived, removed, reflagged, silence, tellings, settled}
-use Rattle.model.specs.Refusals.{wrongState, tableFull, unfit}
-use Rattle.model.specs.Rules.{Outcome, told, accepted}
-use Rattle.model.specs.Hidden.{visible, holdsRight}
+use Rattle.model.specs.Queue.{fits, enqueue, effect, effects, showsFlags, unmark, say}
+use Rattle.model.specs.Events.{Event, loud, newBox, withSubscribed, withRights, message, inView, reflag as reflagOf, created, deleted, renamedTo, subscribedTo, granted, arrived, removed, reflagged, silence, tellings, settled}
+use Rattle.model.specs.Rules.{told}
+use Rattle.model.specs.Hidden.{visible}
 use Rattle.model.specs.declared.Mailbox.{Mailbox}
 use Rattle.model.specs.declared.Message.{Message}
 use Rattle.model.specs.Isolation.Erase.{boxesOff, mailsOff, staysBox, staysMail, unlike, set-gone, box-id}
 use Rattle.model.specs.Isolation.Alike.{Alike, boxes-with, mails-with, boxes-fit, mails-fit, rows-with, entries-with, held-written, length-written}
 use Rattle.model.specs.Isolation.Asked.{Dark}
-use Rattle.model.specs.Isolation.Kinds.{subject}
 
 -- ---- writing lines leaves the mailboxes
 boxes-effect : (m : Memory) (l : Line) → boxes (effect m l) ≡ boxes m

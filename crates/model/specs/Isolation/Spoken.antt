@@ -1,20 +1,15 @@
 -- Alike memories owe the same lines, and stay alike when lines are written. Assumes nothing.
-use mathlib.Core.Path.{_≡_, refl, sym, _∙_, ap, ap₂, subst}
-use mathlib.Core.List.{List, [], _∷_, _++_, map, append-nil}
-use mathlib.Core.Bool.{Bool, true, false, not, cond, _&&_, _||_}
-use Prim.Native.Nat.{ℕ, zero, suc, _+_, _-_, _≤_, _<_, max, min}
-use native.Mathlib.Omega.{arith}
-use borrow.Author.Tests.{leb-true, leb-false, le-leb}
-use lib.Dec.{eqb, leb, ltb}
-use lib.ListN.{length}
-use Rattle.model.specs.Memory.{Memory, boxes, mails, filled, selectedBox, theMailbox, messagesOf, withSession, withView, isMessage, withStates, dropMails, changeMails}
-use Rattle.model.specs.Lines.{Line, status, statusAtSet, list, renamed, exists, expunge, fetch, found, overflow, answer, Item, renderAll}
-use Rattle.model.specs.Queue.{room, fits, fitting, enqueue, announce, unmark, showsFlags, effect, effects, say}
-use Rattle.model.specs.View.{ofSelected, view, unannounced, owed, announcing, newAtOnce, expungeAtOnce, flagsAtOnce, flagsWait}
-use Rattle.model.specs.declared.Mailbox.{Mailbox}
+use mathlib.Core.Path.{_≡_, refl, sym, ap, subst}
+use mathlib.Core.List.{List, [], _∷_}
+use mathlib.Core.Bool.{Bool, true, false, cond}
+use Prim.Native.Nat.{ℕ}
+use Rattle.model.specs.Memory.{Memory, boxes, mails, theMailbox, messagesOf, isMessage, withStates, dropMails, changeMails}
+use Rattle.model.specs.Lines.{Line, status, statusAtSet, list, renamed, exists, expunge, fetch, found, overflow, answer, renderAll}
+use Rattle.model.specs.Queue.{room, fits, enqueue, unmark, showsFlags, effect, effects, say}
+use Rattle.model.specs.View.{view, owed, announcing, newAtOnce, expungeAtOnce, flagsAtOnce, flagsWait}
 use Rattle.model.specs.declared.Message.{Message}
 use Rattle.model.specs.declared.Session.{Session}
-use Rattle.model.specs.Isolation.Alike.{Alike, same-box, same-messages, same-selected, alike-session, alike-drop-mails, alike-change, alike-enqueue}
+use Rattle.model.specs.Isolation.Alike.{Alike, same-box, same-messages, alike-session, alike-drop-mails, alike-change, alike-enqueue}
 
 module _ (H : ℕ → Bool) (s t : Memory) (a : Alike H s t) where
   pub same-id : t .session .selected ≡ s .session .selected

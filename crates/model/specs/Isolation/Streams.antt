@@ -1,27 +1,21 @@
 -- Demand 3 from one call to whole streams: each stream shows what it shows without the records about hidden ids. Assumes nothing.
-use mathlib.Core.Path.{_≡_, refl, sym, _∙_, ap, ap₂, subst}
+use mathlib.Core.Path.{_≡_, refl, sym, _∙_, ap}
 use mathlib.Core.List.{List, [], _∷_, map}
-use mathlib.Core.Bool.{Bool, true, false, not, cond, _&&_, _||_}
-use Prim.Native.Nat.{ℕ, _+_, _-_, _≤_, _<_}
-use native.Mathlib.Omega.{arith}
+use mathlib.Core.Bool.{Bool, true, false, not}
+use Prim.Native.Nat.{ℕ, _≤_}
 use borrow.Author.Tests.{leb-true, not-true}
 use lib.Dec.{eqb, leb}
-use lib.ListN.{length, take, getElem?}
-use Rattle.model.specs.Lists.{filterb, anyb, every}
-use Rattle.model.specs.Laws.{tf, or-l, or-r, and-l, and-r, each}
+use lib.ListN.{length, getElem?}
+use Rattle.model.specs.Lists.{anyb, every}
+use Rattle.model.specs.Laws.{or-l, or-r, and-l, and-r, each}
 use Rattle.model.specs.Records.{about}
-use Rattle.model.specs.Memory.{Memory, boxes, mails, filled, held}
+use Rattle.model.specs.Memory.{Memory, boxes, mails, filled}
 use Rattle.model.specs.Answers.{numberOf, countsOf}
 use Rattle.model.specs.Lawful.{lawful, sizesOk, contentsOk}
 use Rattle.model.specs.Call.{call}
-use Rattle.model.specs.Hidden.{Octets, Called, calls, holdsRight, everHeld, hidden, without, remaining, excepted, unexcepted, shown, noCounts, noSession, Starts, Demand3}
-use Rattle.model.specs.declared.Counts.{Counts}
-use Rattle.model.specs.declared.Session.{Session}
-use Rattle.model.specs.declared.Answer.{Answer}
+use Rattle.model.specs.Hidden.{Octets, Called, calls, holdsRight, everHeld, hidden, without, remaining, excepted, unexcepted, shown, Starts, Demand3}
 use Rattle.model.specs.declared.Answer.the-variants.{Refused}
 use Rattle.model.specs.declared.Refusal.the-variants.{UnlawfulMemory}
-use Rattle.model.specs.declared.Mailbox.{Mailbox}
-use Rattle.model.specs.declared.Message.{Message}
 use Rattle.model.specs.Isolation.Alike.{Alike}
 use Rattle.model.specs.Isolation.Asked.{Dark}
 use Rattle.model.specs.Isolation.Calls.{call-left, call-off}

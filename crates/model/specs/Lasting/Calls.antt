@@ -1,42 +1,38 @@
 -- A call leaves lawful memory lawful, and unlawful memory as it was. Assumes nothing.
-use mathlib.Core.Path.{_≡_, refl, sym, _∙_, ap, ap₂, subst}
+use mathlib.Core.Path.{_≡_, refl, sym, _∙_, ap}
 use mathlib.Core.List.{List, [], _∷_, _++_, map}
-use mathlib.Core.Bool.{Bool, true, false, not, cond, _&&_, _||_}
-use Prim.Native.Nat.{ℕ, zero, suc, _+_, _-_, _≤_, _<_}
+use mathlib.Core.Bool.{Bool, true, false, not, cond, _&&_}
+use Prim.Native.Nat.{ℕ, _+_, _-_, _≤_}
 use native.Mathlib.Omega.{arith}
-use borrow.Author.Tests.{leb-true, leb-false, le-leb, ltb-false, eqb-true, not-true, not-false}
-use lib.Dec.{eqb, leb, ltb}
+use borrow.Author.Tests.{leb-true, leb-false, le-leb, ltb-false, eqb-true, not-false}
+use lib.Dec.{eqb, leb}
 use lib.ListN.{length, length-append}
-use Rattle.model.specs.Lists.{allb}
-use Rattle.model.specs.Laws.{tf, and-l, and-r, or-true}
+use Rattle.model.specs.Laws.{tf, or-true}
 use Rattle.model.specs.Requests.{Command, notifyNone, notifySet, search}
 use Rattle.model.specs.Reading.{Parsed, bad, ok}
 use Rattle.model.specs.Commands.{tagOf, commandOf}
 use Rattle.model.specs.Limits.{limits}
 use Rattle.model.specs.Replies.{replyOf}
 use Rattle.model.specs.Records.{Record, create, delete, rename, subscribe, grant, arrive, expunge, reflag, select, ended, command, drained, noRecord, isRecord, recordOf}
-use Rattle.model.specs.Memory.{Memory, boxes, mails, filled, known, theMailbox, isSelected, expunged, withStates, withView, withSession, silenced, dropMails, changeMails}
+use Rattle.model.specs.Memory.{Memory, boxes, mails, filled, known, theMailbox, expunged, withView, withSession, dropMails, changeMails}
 use Rattle.model.specs.Lines.{Line, status, statusAtSet, list, renamed, exists, expunge as expungeLine, fetch, found, overflow, answer, render, renderAll, text, crlf}
 use Rattle.model.specs.Queue.{room, fits, enqueue, unmark, showsFlags, effect, effects, say}
 use Rattle.model.specs.View.{owed}
 use Rattle.model.specs.Listing.{watching}
 use Rattle.model.specs.Events.{silence}
-use Rattle.model.specs.Lawful.{filledOk, viewOk, stateOk, sessionOk, lawful}
+use Rattle.model.specs.Lawful.{stateOk, lawful}
 use Rattle.model.specs.Refusals.{wrongId, nameHeld, wrongUid, wrongState, tableFull}
-use Rattle.model.specs.Answering.{someSelected, workLines, acceptedLines, isAccepted, firstReply, withinQueue, reply, answerLines, sessionBy, withAsked, answered, noRoom}
-use Rattle.model.specs.Rules.{Outcome, told, rested, endLines, accepted}
+use Rattle.model.specs.Answering.{someSelected, workLines, acceptedLines, isAccepted, firstReply, withinQueue, reply, answerLines, withAsked, answered, noRoom}
+use Rattle.model.specs.Rules.{Outcome, rested, endLines, accepted}
 use Rattle.model.specs.Call.{call, refuse, roomless}
-use Rattle.model.specs.declared.Message.{Message}
-use Rattle.model.specs.declared.Mailbox.{Mailbox}
-use Rattle.model.specs.declared.Session.{Session}
 use Rattle.model.specs.declared.Refusal.{Refusal}
 use Rattle.model.specs.declared.Reply.{Reply}
 use Rattle.model.specs.declared.Reply.the-variants.{Bad, BadEvent, Unsupported, BadCharset, TooLarge, Accepted}
-use Rattle.model.specs.Lasting.Law.{Law, law-in, law-out, law-session, law-dequeue, big}
-use Rattle.model.specs.Lasting.Rows.{all-map, all-imp, none-zero}
+use Rattle.model.specs.Lasting.Law.{Law, law-in, law-out, law-session, law-dequeue}
+use Rattle.model.specs.Lasting.Rows.{all-map, none-zero}
 use Rattle.model.specs.Lasting.Ranges.{InRange, in-range}
-use Rattle.model.specs.Lasting.Watching.{watching-ok, silenced-ok}
-use Rattle.model.specs.Lasting.Spoken.{law-drop-mails, law-change, rest-mild, law-say, fitting-fits, law-silence, law-told, Kept}
+use Rattle.model.specs.Lasting.Watching.{watching-ok}
+use Rattle.model.specs.Lasting.Spoken.{law-drop-mails, law-change, rest-mild, law-say, fitting-fits, law-silence, law-told}
 use Rattle.model.specs.Lasting.Kinds.{created-law, deleted-law, renamed-law, subscribed-law, granted-law, arrived-law, removed-law, reflagged-law}
 use Rattle.model.specs.Lasting.Unasked.{created-none, deleted-none, renamed-none, subscribed-none, granted-none, arrived-none, removed-none, reflagged-none}
 use Rattle.model.specs.Isolation.Alike.{mails-with, length-written}

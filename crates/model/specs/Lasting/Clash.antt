@@ -1,15 +1,15 @@
 -- No two mailboxes share an id or a name, after a create, a rename, and a change that keeps both. Assumes nothing.
 use mathlib.Core.Path.{_≡_, refl, sym, _∙_, ap, ap₂}
-use mathlib.Core.List.{List, [], _∷_, _++_}
+use mathlib.Core.List.{List, [], _∷_}
 use mathlib.Core.Bool.{Bool, true, false, not, cond, _&&_, _||_}
-use Prim.Native.Nat.{ℕ, zero, suc, _+_, _≤_, _<_}
+use Prim.Native.Nat.{ℕ, zero, suc}
 use native.Mathlib.Omega.{arith}
-use borrow.Author.Tests.{ltb-true, ltb-false, lt-ltb, le-ltb, eqb-true, eqb-false, eq-eqb, ne-eqb, not-true}
+use borrow.Author.Tests.{ltb-false, lt-ltb, le-ltb, eqb-true, eqb-false, eq-eqb, ne-eqb, not-true}
 use lib.Dec.{eqb, ltb}
 use lib.ListN.{length, getD, set}
 use Rattle.model.specs.Lists.{anyb, apart, same}
-use Rattle.model.specs.Laws.{tf, or-l, or-r, and-l, and-r, and-true, and-false}
-use Rattle.model.specs.Memory.{nameOf, place, known, theMailbox, noMailbox}
+use Rattle.model.specs.Laws.{tf, or-l, or-r, and-l, and-r, and-true}
+use Rattle.model.specs.Memory.{nameOf, place, known, noMailbox}
 use Rattle.model.specs.Lawful.{clash}
 use Rattle.model.specs.declared.Mailbox.{Mailbox}
 use Rattle.model.specs.Lasting.Rows.{any-set}

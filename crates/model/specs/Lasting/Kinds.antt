@@ -1,31 +1,27 @@
 -- Every kind of record, once accepted, leaves lawful memory lawful. Assumes nothing.
-use mathlib.Core.Path.{_≡_, refl, sym, _∙_, ap, ap₂, subst}
-use mathlib.Core.List.{List, [], _∷_, _++_, map}
-use mathlib.Core.Bool.{Bool, true, false, not, cond, _&&_, _||_}
-use Prim.Native.Nat.{ℕ, zero, suc, _+_, _-_, _*_, _/_, _%_, _≤_, _<_}
+use mathlib.Core.Path.{_≡_, refl, _∙_}
+use mathlib.Core.List.{List, [], _∷_, _++_}
+use mathlib.Core.Bool.{Bool, true, false, not, cond, _&&_}
+use Prim.Native.Nat.{ℕ, suc, _+_, _%_, _≤_, _<_}
 use native.Mathlib.Omega.{arith}
-use borrow.Author.Tests.{leb-true, leb-false, le-leb, lt-ltb, ltb-true, ltb-false, le-ltb, eqb-true, eqb-false, eq-eqb, ne-eqb, not-true, not-false}
+use borrow.Author.Tests.{leb-true, le-leb, lt-ltb, ltb-true, ltb-false, eqb-true, eq-eqb, ne-eqb, not-true}
 use lib.Dec.{eqb, leb, ltb}
-use lib.ListN.{length, take, drop, set, length-append, length-set, length-map, getD}
-use Rattle.model.specs.Lists.{filterb, anyb, allb, apart, same, when, every}
-use Rattle.model.specs.Laws.{tf, or-l, or-r, and-l, and-r, and-false, or-true, cond-same, all-filtered, all-passed, filter-length, each, all-hold}
+use lib.ListN.{length, drop, set, length-append, length-set}
+use Rattle.model.specs.Lists.{filterb, allb, apart, same}
+use Rattle.model.specs.Laws.{tf, and-l, and-r, or-true, all-filtered, all-passed, filter-length, each, all-hold}
 use Rattle.model.specs.Names.{Name, valid, fold}
-use Rattle.model.specs.Memory.{Memory, boxes, mails, filled, nameOf, known, theMailbox, place, noMailbox, isSelected, bothRights, inMailbox, isMessage, uidOf, expunged, withAttributes, withNext, withName, withFlags, withStates, withView, withSession, stored, putBox, addBox, dropBox, addMail, dropMails, changeMails}
-use Rattle.model.specs.Groups.{askedOf, asksNew, asksName, selectedAsks, immediateAsks, groupsOf}
-use Rattle.model.specs.Lines.{Line}
-use Rattle.model.specs.View.{newAtOnce, expungeAtOnce, flagsAtOnce, flagsWait}
-use Rattle.model.specs.Events.{Event, loud, newBox, created, deleted, renamedTo, withSubscribed, subscribedTo, withRights, granted, message, withArrived, arrived, inView, expire, removed, reflag, mark, reflagged, silence}
+use Rattle.model.specs.Memory.{Memory, boxes, mails, nameOf, known, theMailbox, place, isSelected, inMailbox, isMessage, uidOf, withAttributes, withNext, withName, withFlags, withStates, putBox, dropBox, dropMails, changeMails}
+use Rattle.model.specs.View.{expungeAtOnce, flagsAtOnce, flagsWait}
+use Rattle.model.specs.Events.{Event, newBox, created, deleted, renamedTo, withSubscribed, subscribedTo, withRights, granted, message, arrived, inView, expire, removed, reflag, mark, reflagged}
 use Rattle.model.specs.Refusals.{heldByAnother}
-use Rattle.model.specs.Lawful.{zeros, mailboxOk, clash, messageOk, twin, owned, viewOk, stateOk}
+use Rattle.model.specs.Lawful.{zeros, mailboxOk, clash, messageOk, twin, owned, stateOk}
 use Rattle.model.specs.declared.Mailbox.{Mailbox}
 use Rattle.model.specs.declared.Message.{Message}
-use Rattle.model.specs.declared.Group.{Group}
-use Rattle.model.specs.declared.Session.{Session}
 use Rattle.model.specs.Isolation.Erase.{box-id}
 use Rattle.model.specs.Isolation.Alike.{boxes-fit, boxes-with, mails-with}
 use Rattle.model.specs.Lasting.NameLaws.{valid-short, name-stored, rest-stored}
 use Rattle.model.specs.Lasting.Ranges.{NameOk}
-use Rattle.model.specs.Lasting.Law.{Law, law-boxes, law-mails, law-session}
+use Rattle.model.specs.Lasting.Law.{Law, law-boxes, law-mails}
 use Rattle.model.specs.Lasting.Rows.{all-set, all-snoc, all-imp, all-both, any-none, apart-snoc, apart-filter, owned-set, row-set, known-own, view-set, owned-snoc, view-snoc, owned-others, view-others}
 use Rattle.model.specs.Lasting.Clash.{eqb-sym, none-clash, apart-put, apart-same}
 use Rattle.model.specs.Lasting.Spoken.{law-drop-mails, law-change, one-of, state-range, Kept}

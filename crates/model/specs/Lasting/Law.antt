@@ -1,21 +1,21 @@
 -- Lawful memory as facts, and how each write of memory keeps it lawful. Assumes nothing.
-use mathlib.Core.Path.{_≡_, refl, sym, _∙_, ap, ap₂}
-use mathlib.Core.List.{List, [], _∷_, _++_, map, append-nil}
-use mathlib.Core.Bool.{Bool, true, false, not, cond, _&&_, _||_}
-use Prim.Native.Nat.{ℕ, zero, suc, _+_, _-_, _≤_, _<_, min, max}
+use mathlib.Core.Path.{_≡_, refl}
+use mathlib.Core.List.{List}
+use mathlib.Core.Bool.{Bool, true, false, _||_}
+use Prim.Native.Nat.{ℕ, _+_, _-_, _≤_}
 use native.Mathlib.Omega.{arith}
-use borrow.Author.Tests.{leb-true, leb-false, le-leb, lt-leb}
-use lib.Dec.{eqb, leb, ltb}
-use lib.ListN.{length, take, drop}
-use Rattle.model.specs.Lists.{anyb, allb, every, apart}
-use Rattle.model.specs.Laws.{tf, and-l, and-r, or-true, each, all-hold}
+use borrow.Author.Tests.{leb-true, le-leb}
+use lib.Dec.{eqb, leb}
+use lib.ListN.{length}
+use Rattle.model.specs.Lists.{allb, every, apart}
+use Rattle.model.specs.Laws.{and-l, and-r, or-true, each, all-hold}
 use Rattle.model.specs.Memory.{Memory, boxes, mails, filled, withBoxes, withMails, withSession}
-use Rattle.model.specs.Queue.{enqueue, dequeue, written, shifted}
+use Rattle.model.specs.Queue.{enqueue, dequeue, written}
 use Rattle.model.specs.Lawful.{queueOk, filledOk, mailboxOk, clash, messageOk, twin, owned, viewOk, stateOk, sessionOk, sizesOk, contentsOk, lawful}
 use Rattle.model.specs.declared.Mailbox.{Mailbox}
 use Rattle.model.specs.declared.Message.{Message}
 use Rattle.model.specs.declared.Session.{Session}
-use Rattle.model.specs.Isolation.Alike.{boxes-with, mails-with, rows-with, entries-with, boxes-fit, mails-fit, length-written, length-shifted}
+use Rattle.model.specs.Isolation.Alike.{boxes-with, mails-with, rows-with, entries-with, length-written, length-shifted}
 
 -- what lawful memory is, a fact for each condition
 pub record Law (m : Memory) : Type 0 where

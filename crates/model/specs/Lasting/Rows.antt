@@ -1,17 +1,17 @@
 -- Tests over a table that is altered: all pass, none are alike, a mailbox is found. Assumes nothing.
-use mathlib.Core.Path.{_≡_, refl, sym, _∙_, ap, ap₂}
+use mathlib.Core.Path.{_≡_, refl, _∙_, ap₂}
 use mathlib.Core.List.{List, [], _∷_, _++_, map}
 use mathlib.Core.Bool.{Bool, true, false, not, cond, _&&_, _||_}
-use Prim.Native.Nat.{ℕ, zero, suc, _+_, _-_, _≤_, _<_}
+use Prim.Native.Nat.{ℕ, zero, suc, _≤_, _<_}
 use native.Mathlib.Omega.{arith}
-use borrow.Author.Tests.{leb-true, leb-false, le-leb, lt-leb, ltb-true, ltb-false, lt-ltb, le-ltb, eqb-true, eqb-false, eq-eqb, ne-eqb, not-true, not-false}
-use lib.Dec.{eqb, leb, ltb}
+use borrow.Author.Tests.{leb-true, le-leb, ltb-true, lt-ltb, eqb-true, eqb-false, not-true}
+use lib.Dec.{eqb, leb}
 use lib.ListN.{length, getD, set, length-append, length-set, List·getD-append}
 use lib.Seq.{getD-set-same, getD-set-other}
-use Rattle.model.specs.Lists.{keep, filterb, anyb, allb, apart, same}
+use Rattle.model.specs.Lists.{keep, filterb, anyb, allb, apart}
 use Rattle.model.specs.Laws.{tf, or-l, or-r, and-l, and-r, any-fewer}
-use Rattle.model.specs.Memory.{nameOf, place, known, theMailbox, noMailbox, uidOf}
-use Rattle.model.specs.Lawful.{mailboxOk, clash, twin, owned, viewOk}
+use Rattle.model.specs.Memory.{place, known, theMailbox, noMailbox, uidOf}
+use Rattle.model.specs.Lawful.{mailboxOk, owned, viewOk}
 use Rattle.model.specs.declared.Mailbox.{Mailbox}
 use Rattle.model.specs.declared.Message.{Message}
 use Rattle.model.specs.declared.Session.{Session}

@@ -1,22 +1,20 @@
 -- Writing lines keeps memory lawful: what a line ends, lines that fit, an event that is told or overflows. Assumes nothing.
-use mathlib.Core.Path.{_≡_, refl, sym, _∙_, ap, ap₂, subst}
-use mathlib.Core.List.{List, [], _∷_, _++_, map}
+use mathlib.Core.Path.{_≡_, refl, _∙_}
+use mathlib.Core.List.{List, [], _∷_, map}
 use mathlib.Core.Bool.{Bool, true, false, not, cond, _&&_, _||_}
-use Prim.Native.Nat.{ℕ, zero, suc, _+_, _-_, _≤_, _<_}
+use Prim.Native.Nat.{ℕ, zero, suc, _+_, _-_, _≤_}
 use native.Mathlib.Omega.{arith}
-use native.Mathlib.Nat.{add-zero}
-use borrow.Author.Tests.{leb-true, leb-false, le-leb, ltb-true, lt-ltb, eqb-true, eqb-false, eq-eqb}
+use borrow.Author.Tests.{leb-true, le-leb, ltb-true, lt-ltb, eqb-true, eqb-false}
 use lib.Dec.{eqb, leb, ltb, leb·zero}
 use lib.ListN.{length, length-map, length-append}
-use Rattle.model.specs.Lists.{filterb, allb, apart}
-use Rattle.model.specs.Laws.{tf, and-l, and-r, or-true, all-filtered, filter-length, each, all-hold}
-use Rattle.model.specs.Memory.{Memory, boxes, mails, filled, theMailbox, selectedBox, known, isMessage, inMailbox, uidOf, withStates, withView, withSession, dropMails, changeMails, silenced}
-use Rattle.model.specs.Lines.{Line, status, statusAtSet, list, renamed, exists, expunge, fetch, found, overflow, answer, render, renderAll, text}
+use Rattle.model.specs.Lists.{filterb}
+use Rattle.model.specs.Laws.{tf, and-l, and-r, all-filtered, filter-length, each, all-hold}
+use Rattle.model.specs.Memory.{Memory, boxes, mails, filled, theMailbox, selectedBox, known, isMessage, inMailbox, uidOf, withStates, withView, dropMails, changeMails, silenced}
+use Rattle.model.specs.Lines.{Line, status, statusAtSet, list, renamed, exists, expunge, fetch, found, overflow, answer, render, renderAll}
 use Rattle.model.specs.Queue.{room, fits, fitting, written, enqueue, announce, unmark, showsFlags, effect, effects, say}
 use Rattle.model.specs.Events.{Event, silence, tellings, settled}
-use Rattle.model.specs.Rules.{Outcome, told}
-use Rattle.model.specs.Lawful.{filledOk, mailboxOk, messageOk, twin, owned, viewOk, stateOk, sessionOk}
-use Rattle.model.specs.declared.Mailbox.{Mailbox}
+use Rattle.model.specs.Rules.{told}
+use Rattle.model.specs.Lawful.{messageOk, twin, owned, viewOk, stateOk}
 use Rattle.model.specs.declared.Message.{Message}
 use Rattle.model.specs.declared.Session.{Session}
 use Rattle.model.specs.Isolation.Alike.{mails-fit, length-written}

@@ -1,20 +1,19 @@
 -- Where no group stands, no event owes a line. Assumes nothing.
-use mathlib.Core.Path.{_≡_, refl, sym, _∙_, ap, ap₂}
-use mathlib.Core.List.{List, [], _∷_}
-use mathlib.Core.Bool.{Bool, true, false, not, cond, _&&_, _||_}
+use mathlib.Core.Path.{_≡_, refl, _∙_, ap}
+use mathlib.Core.List.{List, []}
+use mathlib.Core.Bool.{Bool, true, false, cond, _&&_}
 use Prim.Native.Nat.{ℕ}
 use lib.Dec.{eqb}
 use Rattle.model.specs.Lists.{when}
 use Rattle.model.specs.Laws.{and-false, cond-same}
 use Rattle.model.specs.Names.{Name}
-use Rattle.model.specs.Memory.{Memory, boxes, nameOf, theMailbox, mayList, bothRights, isSelected, selectedBox, dropMails, isMessage, withName}
-use Rattle.model.specs.Groups.{asked, askedOf, selectedAsks, immediateAsks, asksNew, asksExpunge, asksFlags}
+use Rattle.model.specs.Memory.{Memory, boxes, nameOf, theMailbox, mayList, bothRights, isSelected, selectedBox, dropMails, isMessage}
+use Rattle.model.specs.Groups.{asked, askedOf, selectedAsks, asksNew, asksExpunge, asksFlags}
 use Rattle.model.specs.Lines.{Line}
 use Rattle.model.specs.View.{newAtOnce, expungeAtOnce, flagsAtOnce, flagsWait, announcing}
-use Rattle.model.specs.Events.{Event, loud, createLines, deleteLines, renameLines, subscriptionLines, rightsLines, newBox, created, deleted, renamedTo, withSubscribed, subscribedTo, withRights, granted, statusLines, withArrived, arrived, inView, removed, reflagged}
+use Rattle.model.specs.Events.{Event, loud, createLines, deleteLines, subscriptionLines, newBox, created, deleted, renamedTo, subscribedTo, withRights, granted, statusLines, withArrived, arrived, inView, removed, reflagged}
 use Rattle.model.specs.declared.Mailbox.{Mailbox}
 use Rattle.model.specs.declared.Group.{Group}
-use Rattle.model.specs.declared.Session.{Session}
 
 -- a line that a test forbids
 no-line : (b c : Bool) (l : Line) → c ≡ false → when (b && c) l ≡ []

@@ -47,7 +47,7 @@ refusals = UnlawfulMemory ∷ BadRecord ∷ WrongId ∷ NameHeld ∷ WrongUid �
 abbrev pub refuse : Memory → Refusal → Outcome
 refuse m r = record { answer = Refused r; lines = []; after = m }
 
--- the lowest number that applies is given (30)
+-- of the refusals that apply, the one with the least number is the answer (30)
 abbrev pub judge : Memory → List ℕ → List Refusal → Outcome
 judge m o [] = accepted m (recordOf o)
 judge m o (r ∷ rs) = let rest = judge m o rs in cond (applies m o r) (refuse m r) rest
@@ -55,7 +55,7 @@ judge m o (r ∷ rs) = let rest = judge m o rs in cond (applies m o r) (refuse m
 unfoldable pub call : Memory → List ℕ → Outcome
 call m o = judge m o refusals
 
--- a stream: each call gets the memory as the last left it
+-- a stream: every call starts from the memory that the one before it left
 abbrev pub run : Memory → List (List ℕ) → List Outcome
 run m [] = []
 run m (o ∷ os) = call m o ∷ run (call m o .after) os

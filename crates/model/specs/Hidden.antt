@@ -25,7 +25,7 @@ pub record Called : Type 0 where
   pub answer : Answer
   pub after : Memory
 
--- the calls of a stream: each gets the memory as the last left it (10)
+-- the calls of a stream, each on the memory that the one before it left (10)
 abbrev pub calls : Memory → List Octets → List Called
 calls m [] = []
 calls m (o ∷ os) = record { octets = o; answer = call m o .answer; after = call m o .after } ∷ calls (call m o .after) os

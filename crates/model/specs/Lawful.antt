@@ -16,7 +16,7 @@ use Rattle.model.specs.declared.LentGroup.{LentGroup}
 use Rattle.model.specs.declared.LentName.{LentName}
 use Rattle.model.specs.declared.Session.{Session}
 
--- ---- the queue: Q is 1,024 to 65,536; F is at most Q, and at most Q - 64 while a group stands
+-- ---- the queue has 1,024 to 65,536 octets; no more of them are filled than there are, and with a group standing 64 are left
 abbrev pub queueOk : ℕ → Bool
 queueOk q = leb 1024 q && leb q 65536
 

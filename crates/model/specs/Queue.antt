@@ -16,7 +16,7 @@ room m = length (m .queue) - 64 - filled m
 abbrev pub fits : Memory → List Line → Bool
 fits m ls = leb (length (renderAll ls)) (room m)
 
--- as many whole lines from the front as fit (20)
+-- the first lines, whole ones only, that the room holds (20)
 unfoldable pub fitting : ℕ → List Line → List Line
 fitting free [] = []
 fitting free (l ∷ ls) =

@@ -1,4 +1,4 @@
-//! P1 to P10, the runs beside them, and the RFCs' examples in house form.
+//! P1 to P10, the runs beside them, and examples of the RFCs as this program answers them.
 
 mod support;
 

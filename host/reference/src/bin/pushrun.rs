@@ -1,5 +1,5 @@
-//! `pushrun`: a stream on standard input, cut by its length fields. After each record `! n` for a
-//! refusal, then what the queue holds, which is drained. Counts are not printed.
+//! `pushrun`: a stream on standard input, in which the length fields say where each record ends.
+//! It prints `! n` where one was refused, then what the queue holds, which is drained; no counts.
 
 use reference::memory::{MAILBOXES, MESSAGES};
 use reference::{call_trusting, records, Memory};

@@ -136,9 +136,6 @@ module _ {A : Type 0} where
   abbrev pub refill : A → List A → ℕ → List A → List A
   refill zeros table used l = l ++ (replicate (used - length l) zeros ++ drop (max used (length l)) table)
 
-abbrev pub withCounts : Memory → Counts → Memory
-withCounts m c = record { rows = m .rows; entries = m .entries; counts = c; session = m .session; queue = m .queue }
-
 abbrev pub withBoxes : Memory → List Mailbox → Memory
 withBoxes m l = record {
   rows = refill noMailbox (m .rows) (length (boxes m)) l;

@@ -10,7 +10,7 @@ use lib.ListN.{length, set, take, drop, replicate, length-append, length-take, l
 use lib.Seq.{take-append-seam, take-append-add, take-all, take-at}
 use Rattle.model.specs.Lists.{filterb}
 use Rattle.model.specs.Laws.{filter-append, filter-length, filter-swap, filter-map}
-use Rattle.model.specs.Memory.{Memory, boxes, mails, filled, held, noMailbox, noMessage, place, known, theMailbox, selectedBox, messagesOf, withBoxes, withMails, withSession, putBox, addBox, dropBox, addMail, dropMails, changeMails, refill}
+use Rattle.model.specs.Memory.{Memory, boxes, mails, filled, held, noMailbox, noMessage, place, known, theMailbox, messagesOf, withBoxes, withMails, withSession, putBox, addBox, dropBox, addMail, dropMails, changeMails, refill}
 use Rattle.model.specs.Queue.{written, enqueue, shifted, dequeue}
 use Rattle.model.specs.declared.Mailbox.{Mailbox}
 use Rattle.model.specs.declared.Message.{Message}
@@ -118,15 +118,6 @@ module _ (H : ℕ → Bool) (s t : Memory) (a : Alike H s t) where
 
     pub same-messages : messagesOf i (mails t) ≡ messagesOf i (mails s)
     same-messages = rw (a .mail) (messages-off H i hi (mails s))
-
-  pub same-selected : selectedBox t ≡ selectedBox s
-  same-selected = rw (a .session) (same-box (s .session .selected) (a .awake))
-
-  fewer-boxes : length (boxes t) ≤ length (boxes s)
-  fewer-boxes = rw (a .box) (filter-length (staysBox H) (boxes s))
-
-  fewer-mails : length (mails t) ≤ length (mails s)
-  fewer-mails = rw (a .mail) (filter-length (staysMail H) (mails s))
 
   -- ---- a table becomes another
   pub alike-boxes : (l k : List Mailbox) → k ≡ boxesOff H l → length l ≤ length (s .rows) → Alike H (withBoxes s l) (withBoxes t k)

@@ -60,9 +60,6 @@ unseen i (x ∷ l) d = go (eqb (x .id) i) refl (unseen i l (or-r (eqb (x .id) i 
 no-list : (x : Mailbox) → visible x ≡ false → mayList x ≡ false
 no-list x e = or-l (mayList x) (mayRead x) e
 
-no-read : (x : Mailbox) → visible x ≡ false → mayRead x ≡ false
-no-read x e = or-r (mayList x) (mayRead x) e
-
 no-loud : (q : ℕ) (ls : List Line) → ls ≡ [] → loud q ls ≡ []
 no-loud q ls e = ap (loud q) e ∙ cond-same (eqb q 0) []
 

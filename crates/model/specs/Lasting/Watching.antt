@@ -19,7 +19,7 @@ use Rattle.model.specs.declared.Limits.{Limits}
 use Rattle.model.specs.Limits.{limits, tooLarge, nameCount as asked}
 use Rattle.model.specs.Answers.{replyNumber}
 use Rattle.model.specs.Replies.{replyOf, refused, badEvent, notSupported, badCharset, selectedGroup, selectedTwice, messageEvent, misplacedEvent, hasAttributes, misplacedAttributes, unpaired}
-use Rattle.model.specs.Memory.{noGroup, noName, silenced}
+use Rattle.model.specs.Memory.{noGroup, noName}
 use Rattle.model.specs.Groups.{groupOf, selectorOf, isSelecting}
 use Rattle.model.specs.Listing.{selectorNumber, isUid, isFlags, isSize, attributeBits, lendGroup, lendGroups, lendName, allNames, watching}
 use Rattle.model.specs.Lawful.{sessionOk, eventsOk, attributesOk, rangeOk, groupOk, groupsOk, nameCount, lentNameOk, blankGroup, blankName, bothSelecting}
@@ -339,6 +339,3 @@ watching-ok s w sel p gs e = session-ok s gs few short
 
     short : asked filters ≤ 16
     short = ltb-false 16 (asked filters) (or-r (ltb 8 (length filters)) _ (facts .4))
-
-pub silenced-ok : (s : Session) → sessionOk (silenced s) ≡ true
-silenced-ok s = refl

@@ -1,4 +1,4 @@
--- How a command is answered: all that it writes, and the session after it (01, Commands, 12 to 20; Who matches, 5).
+-- How a command is answered: all that it writes, and the session after it (01, Commands, 12, 17, 18 and 20; Matches, 5; Records, 29).
 use mathlib.Core.List.{List, [], _∷_, _++_}
 use mathlib.Core.Bool.{Bool, true, false, not, cond, _&&_}
 use Prim.Native.Nat.{ℕ, _-_}
@@ -33,7 +33,7 @@ abbrev pub verb : Parsed Command → Verb
 verb bad = otherVerb
 verb (ok p c) = verbOf c
 
--- what an accepted command writes before its tagged line. NOTIFY SET first writes all that a class 1 end owes, then its listing
+-- what an accepted command writes before its tagged line. NOTIFY SET first writes all that a class 1 end owes, then its listing (Matches, 5 and 6)
 abbrev pub workLines : Memory → List ℕ → Command → List Line
 workLines m tag notifyNone = []
 workLines m tag (notifySet wanted gs) = owed m 1 ++ listing m (watching (m .session) gs) wanted
@@ -43,7 +43,7 @@ abbrev pub acceptedLines : Memory → List ℕ → Parsed Command → List Line
 acceptedLines m tag bad = []
 acceptedLines m tag (ok p c) = workLines m tag c ++ (answer tag (verbOf c) Accepted ∷ [])
 
--- the first line that applies: an answer of more than Q - 64 octets is too large (17)
+-- the first line that applies: an answer of more than Q - 64 octets is too large (Commands, 17)
 abbrev pub isAccepted : Reply → Bool
 isAccepted Bad = false
 isAccepted BadEvent = false
@@ -65,7 +65,7 @@ reply m t = cond (isAccepted (firstReply m t) && not (withinQueue m (acceptedLin
 unfoldable pub answerLines : Memory → List ℕ → List Line
 answerLines m t = cond (isAccepted (reply m t)) (acceptedLines m (tagOf t) (commandOf t)) (answer (tagOf t) (verb (commandOf t)) (reply m t) ∷ [])
 
--- an accepted NOTIFY alone changes the session's groups (20)
+-- an accepted NOTIFY alone changes the session's groups (Commands, 20)
 abbrev pub sessionBy : Parsed Command → Session → Session
 sessionBy bad s = s
 sessionBy (ok p notifyNone) s = silenced s
@@ -78,6 +78,6 @@ withAsked m c = withSession m (sessionBy c (m .session))
 unfoldable pub answered : Memory → List ℕ → Memory
 answered m t = cond (isAccepted (reply m t)) (withAsked (say m (answerLines m t)) (commandOf t)) (say m (answerLines m t))
 
--- 8: the answer does not fit in what is left (Records from the host, 29)
+-- 8: the answer does not fit in what is left (Records, 29)
 abbrev pub noRoom : Memory → List ℕ → Bool
 noRoom m t = not (fits m (answerLines m t))

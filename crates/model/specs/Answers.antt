@@ -1,4 +1,4 @@
--- What a call answers, in the numbers of 01 (Records from the host, 22 to 30; What is written, 21; Commands, 13 to 18).
+-- What a call answers, in the numbers of 01 (Records, 21 to 29; Commands, 12 to 18; Written, 21; Duties, 13; Forms, 14).
 use mathlib.Core.List.{List, [], _∷_}
 use Prim.Native.Nat.{ℕ}
 use Rattle.model.specs.declared.Refusal.{Refusal}
@@ -8,7 +8,7 @@ use Rattle.model.specs.declared.Answer.the-variants.{Done, Counted, Refu
 use Rattle.model.specs.declared.Reply.{Reply}
 use Rattle.model.specs.declared.Reply.the-variants.{Bad, BadEvent, Unsupported, BadCharset, TooLarge, Accepted}
 
--- the number of a refusal
+-- the number of a refusal (Records, 22 to 29)
 abbrev pub refusalNumber : Refusal → ℕ
 refusalNumber UnlawfulMemory = 1
 refusalNumber BadRecord = 2
@@ -25,13 +25,13 @@ numberOf Done = 0
 numberOf (Counted n) = 0
 numberOf (Refused r) = refusalNumber r
 
--- the counts that it gives: one, or none
+-- the counts that it gives: one, or none (Written, 21)
 abbrev pub countsOf : Answer → List ℕ
 countsOf Done = []
 countsOf (Counted n) = n ∷ []
 countsOf (Refused r) = []
 
--- the place of a reply among the six lines
+-- the place of a reply among the six lines (Commands, 13 to 18)
 abbrev pub replyNumber : Reply → ℕ
 replyNumber Bad = 1
 replyNumber BadEvent = 2

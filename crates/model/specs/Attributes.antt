@@ -1,4 +1,4 @@
--- Fetch attributes after MessageNew: all of RFC 3501's, of which three are supported (01, Commands, 5 and line 3).
+-- Fetch attributes after MessageNew: all of RFC 3501's, of which three are supported (01, Commands, 5 and 15).
 use mathlib.Core.Bool.{Bool, true, false, cond, _&&_, _||_}
 use mathlib.Core.List.{List, [], _∷_}
 use Prim.Native.Nat.{ℕ, _+_}

@@ -1,4 +1,4 @@
--- One call: an octet string and the memory in, the answer and the memory out (01, Records from the host, 21 to 31; Duties of the public functions, 8 to 13).
+-- One call: an octet string and the memory in, the answer and the memory out (01, Records, 21 to 31; Duties, 8).
 use mathlib.Core.List.{List, [], _∷_}
 use mathlib.Core.Bool.{Bool, false, not, cond}
 use Prim.Native.Nat.{ℕ}
@@ -12,7 +12,7 @@ use Rattle.model.specs.declared.Refusal.{Refusal}
 use Rattle.model.specs.declared.Refusal.the-variants.{UnlawfulMemory, BadRecord, WrongId, NameHeld, WrongUid, WrongState, TableFull, NoRoom}
 use Rattle.model.specs.declared.Answer.the-variants.{Refused}
 
--- 8: a command's answer finds no room
+-- 8: a command's answer finds no room (Records, 29)
 abbrev pub roomless : Memory → Record → Bool
 roomless m (create i a q v n) = false
 roomless m (delete i q) = false
@@ -28,7 +28,7 @@ roomless m (command t) = noRoom m t
 roomless m (drained n) = false
 roomless m noRecord = false
 
--- when each refusal is given
+-- when each refusal is given (Records, 22 to 29)
 abbrev pub applies : Memory → List ℕ → Refusal → Bool
 applies m o UnlawfulMemory = not (lawful m)
 applies m o BadRecord = not (isRecord o)
@@ -43,19 +43,14 @@ applies m o NoRoom = roomless m (recordOf o)
 abbrev pub refusals : List Refusal
 refusals = UnlawfulMemory ∷ BadRecord ∷ WrongId ∷ NameHeld ∷ WrongUid ∷ WrongState ∷ TableFull ∷ NoRoom ∷ []
 
--- a refused call leaves all memory as it was (31)
+-- a refused call leaves all memory as it was (Records, 31)
 abbrev pub refuse : Memory → Refusal → Outcome
 refuse m r = record { answer = Refused r; lines = []; after = m }
 
--- of the refusals that apply, the one with the least number is the answer (30)
+-- of the refusals that apply, the one with the least number is the answer (Records, 30)
 abbrev pub judge : Memory → List ℕ → List Refusal → Outcome
 judge m o [] = accepted m (recordOf o)
 judge m o (r ∷ rs) = let rest = judge m o rs in cond (applies m o r) (refuse m r) rest
 
 unfoldable pub call : Memory → List ℕ → Outcome
 call m o = judge m o refusals
-
--- a stream: every call starts from the memory that the one before it left
-abbrev pub run : Memory → List (List ℕ) → List Outcome
-run m [] = []
-run m (o ∷ os) = call m o ∷ run (call m o .after) os

@@ -1,4 +1,4 @@
--- A command line: its tag, and the command that it gives (01, Commands, 1, 12 and 13).
+-- A command line: its tag, and the command that it gives (01, Commands, 1, 12, 13 and 19).
 use mathlib.Core.Bool.{Bool, cond, _&&_}
 use mathlib.Core.List.{List}
 use Prim.Native.Nat.{ℕ, _+_}

@@ -1,4 +1,4 @@
--- What a record about a mailbox or a message changes, and the lines that it owes at once (01, What is written, 1 to 19 and 22).
+-- What a record about a mailbox or a message changes, and the lines that it owes at once (01, Written, 1 to 10, 14 to 19 and 22; Records, 4; Store, 3).
 use mathlib.Core.List.{List, [], _∷_}
 use mathlib.Core.Bool.{Bool, cond, _&&_, _||_}
 use Prim.Native.Nat.{ℕ, _+_, _*_, _/_, _%_}
@@ -20,8 +20,8 @@ pub record Event : Type 0 where
   pub stored : Memory
   pub lines : List Line
 
--- ---- mailbox events (5 to 9). A line is owed with both rights, if a group asks
--- a quiet record owes no notice (Records from the host, 4)
+-- ---- mailbox events (Written, 5 to 9). A line is owed with both rights, if a group asks
+-- a quiet record owes no notice (Records, 4)
 abbrev pub loud : ℕ → List Line → List Line
 loud q ls = cond (eqb q 0) ls []
 
@@ -34,7 +34,7 @@ createLines s x = when (bothRights x && askedOf s x asksName) (list (listMark x)
 abbrev pub deleteLines : Session → Mailbox → List Line
 deleteLines s x = when (bothRights x && askedOf s x asksName) (list nonExistent (nameOf x))
 
--- a new mailbox; its UIDNEXT is 1 (3)
+-- a new mailbox; its UIDNEXT is 1 (Written, 3)
 abbrev pub newBox : ℕ → ℕ → ℕ → Name → Mailbox
 newBox i a v n = record { id = i; attributes = a; namelen = length n; uidvalidity = v; uidnext = 1; name = stored n }
 
@@ -51,7 +51,7 @@ deleted m i q = record {
   lines = loud q (deleteLines (m .session) (theMailbox i (boxes m)));
 }
 
--- a rename is matched by the old name or the new one (8)
+-- a rename is matched by the old name or the new one (Written, 8)
 abbrev pub renameLines : Session → Mailbox → Mailbox → List Line
 renameLines s x y = when (bothRights x && (askedOf s x asksName || askedOf s y asksName)) (renamed (listMark x) (nameOf y) (nameOf x))
 
@@ -67,7 +67,7 @@ renamedTo m i q n =
 abbrev pub withSubscribed : ℕ → ℕ → ℕ
 withSubscribed a b = a % 8 + (8 * b + 16 * (a / 16))
 
--- a change of subscription is matched as if the mailbox were subscribed (9)
+-- a change of subscription is matched as if the mailbox were subscribed (Written, 9)
 abbrev pub subscriptionLines : Session → Mailbox → ℕ → List Line
 subscriptionLines s x b =
     let differs = cond (isSubscribed x) (eqb b 0) (eqb b 1) in
@@ -82,7 +82,7 @@ subscribedTo m i b q =
       lines = loud q (subscriptionLines (m .session) x b);
     }
 
--- rights: the mailbox before and after. To gain l is a create, by the rights after; to lose it a delete, by those before (1, 6)
+-- rights: the mailbox before and after. To gain l is a create, by the rights after; to lose it a delete, by those before (Written, 1 and 6)
 abbrev pub rightsLines : Session → Mailbox → Mailbox → List Line
 rightsLines s x y =
     cond (mayList x) (cond (mayList y) [] (deleteLines s x))
@@ -101,11 +101,11 @@ granted m i r =
     }
 
 -- ---- message events
--- a STATUS of a mailbox that is not selected (3)
+-- a STATUS of a mailbox that is not selected (Written, 3)
 abbrev pub statusLines : Memory → Mailbox → Bool → List Line
 statusLines m x wanted = when (bothRights x && wanted) (status (nameOf x) (x .uidnext) (length (existing (x .id) (mails m))))
 
--- the message is stored, and UIDNEXT is one above its UID (3)
+-- the message is stored, and UIDNEXT is one above its UID (Written, 3)
 abbrev pub message : ℕ → ℕ → ℕ → ℕ → Message
 message i u f z = record { mailbox = i; uid = record { 0 = u }; flags = f; size = z; states = 0 }
 
@@ -123,7 +123,7 @@ arrived m i u f z =
           (statusLines after x (askedOf (m .session) x asksNew));
     }
 
--- an expunged message of the view waits, or is told at once; another is gone at once (One session beside one store, 3; 14 to 16)
+-- an expunged message of the view waits, or is told at once; another is gone at once (Store, 3; Written, 14 to 19)
 abbrev pub inView : Memory → ℕ → ℕ → Bool
 inView m i u = isSelected m i && ltb u (m .session .told)
 
@@ -140,7 +140,7 @@ removed m i u =
     (record { stored = changeMails m (expire i u); lines = [] }))
     (record { stored = without; lines = cond (isSelected m i) [] (statusLines without x (askedOf (m .session) x asksExpunge)) })
 
--- a flag change of a message in the view is told at once, waits as a mark, or is dropped; elsewhere it is told to nobody (4, 10, 17 to 19)
+-- a flag change of a message in the view is told at once, waits as a mark, or is dropped; elsewhere it is told to nobody (Written, 4, 10, 15 and 17 to 19)
 abbrev pub reflag : ℕ → ℕ → ℕ → Message → Message
 reflag i u f e = cond (isMessage i u e) (withFlags e f) e
 
@@ -158,7 +158,7 @@ reflagged m i u f =
     (record { stored = after; lines = [] })))
     (record { stored = after; lines = [] })
 
--- ---- an event is told: its lines are written together, or else it is treated as after NOTIFY NONE, and the overflow line is written (22)
+-- ---- an event is told: its lines are written together, or else it is treated as after NOTIFY NONE, and the overflow line is written (Written, 22)
 abbrev pub silence : Memory → Memory
 silence m = withSession m (silenced (m .session))
 

@@ -1,13 +1,14 @@
--- The groups of a session: how they are kept, whom each meets, what it asks (01, Who matches, 1 to 4).
+-- The groups of a session: how they are kept, whom each meets, what it asks (01, Matches, 1 to 4; Forms, 10).
 use mathlib.Core.List.{List, map}
 use mathlib.Core.Bool.{Bool, true, false, cond, _&&_, _||_}
 use Prim.Native.Nat.{ℕ}
 use lib.Dec.{eqb}
 use lib.ListN.{take, drop}
-use Rattle.model.specs.Lists.{anyb, same}
-use Rattle.model.specs.Names.{Name, subtree}
+use Rattle.model.specs.Lists.{anyb}
+use Rattle.model.specs.Names.{Name}
 use Rattle.model.specs.Text.{bit}
 use Rattle.model.specs.Memory.{nameOf}
+use Rattle.model.specs.Selectors.{takenByInboxes, takenByPersonal, takenBySubscribed, takenBySubtree, takenByMailboxes}
 use Rattle.model.specs.declared.Mailbox.{Mailbox}
 use Rattle.model.specs.declared.NameRange.{NameRange}
 use Rattle.model.specs.declared.Selector.{Selector}
@@ -37,8 +38,8 @@ groupsOf s = map groupOf (take (s .groupcount) (s .groups))
 abbrev pub lentName : LentName → Name
 lentName n = take (n .len) (n .octets)
 
-abbrev pub namesAt : Session → NameRange → List Name
-namesAt s r = map lentName (take (r .count) (drop (r .first) (s .names)))
+abbrev pub namesIn : Session → NameRange → List Name
+namesIn s r = map lentName (take (r .count) (drop (r .first) (s .names)))
 
 -- ---- the events that are asked, a bit each
 abbrev pub asksNew : Group → Bool
@@ -63,18 +64,18 @@ asksMessages g = asksNew g || asksExpunge g || asksFlags g
 abbrev pub asksMailbox : Group → Bool
 asksMailbox g = asksName g || asksSubscription g
 
--- ---- whom a group meets, by name and attributes (1 and 2): the selected groups meet no mailbox by themselves
+-- ---- whom a group meets, by name and attributes (Matches, 1 and 2): the selected groups meet no mailbox by themselves
 module _ (s : Session) (n : Name) (a : ℕ) where
   abbrev pub meets : Selector → Bool
   meets Selected = false
   meets Delayed = false
-  meets Inboxes = bit 0 a && (bit 1 a && bit 2 a)
-  meets Personal = bit 0 a && bit 1 a
-  meets Subscribed = bit 3 a
-  meets (Subtree r) = bit 0 a && anyb (λ (top : Name). subtree top n) (namesAt s r)
-  meets (Mailboxes r) = anyb (λ (t : Name). same t n) (namesAt s r)
+  meets Inboxes = takenByInboxes a
+  meets Personal = takenByPersonal a
+  meets Subscribed = takenBySubscribed a
+  meets (Subtree r) = takenBySubtree (λ (t : Name). t) (namesIn s r) n a
+  meets (Mailboxes r) = takenByMailboxes (λ (t : Name). t) (namesIn s r) n
 
-  -- a group that meets it asks for the event: their events add up (3)
+  -- a group that meets it asks for the event: their events add up (Matches, 3)
   abbrev pub asked : (Group → Bool) → Bool
   asked asks = anyb (λ (g : Group). meets (g .selector) && asks g) (groupsOf s)
 
@@ -82,7 +83,7 @@ module _ (s : Session) (n : Name) (a : ℕ) where
 abbrev pub askedOf : Session → Mailbox → (Group → Bool) → Bool
 askedOf s x asks = asked s (nameOf x) (x .attributes) asks
 
--- ---- the selected group (4): it stands for the selected mailbox's message events
+-- ---- the selected group (Matches, 4): it stands for the selected mailbox's message events
 abbrev pub isSelecting : Selector → Bool
 isSelecting Selected = true
 isSelecting Delayed = true

@@ -1,4 +1,4 @@
--- Demand 3 as a statement: two streams that differ only in records about hidden ids show the same (01, Duties of the public functions, 7 to 13).
+-- Demand 3 as a statement: two streams that differ only in records about hidden ids show the same (01, Duties, 4 and 7 to 13).
 use mathlib.Core.Path.{_≡_}
 use mathlib.Core.List.{List, [], _∷_, map}
 use mathlib.Core.Bool.{Bool, false, not, _&&_, _||_}
@@ -15,7 +15,7 @@ use Rattle.model.specs.declared.Counts.{Counts}
 use Rattle.model.specs.declared.Session.{Session}
 use Rattle.model.specs.declared.Answer.{Answer}
 
--- an octet string; a stream is a list of them (8)
+-- an octet string; a stream is a list of them (Duties, 8)
 abbrev pub Octets : Type 0
 Octets = List ℕ
 
@@ -25,7 +25,7 @@ pub record Called : Type 0 where
   pub answer : Answer
   pub after : Memory
 
--- the calls of a stream, each on the memory that the one before it left (10)
+-- the calls of a stream, each on the memory that the one before it left (Duties, 10)
 abbrev pub calls : Memory → List Octets → List Called
 calls m [] = []
 calls m (o ∷ os) = record { octets = o; answer = call m o .answer; after = call m o .after } ∷ calls (call m o .after) os
@@ -37,7 +37,7 @@ visible x = mayList x || mayRead x
 abbrev pub holdsRight : ℕ → Memory → Bool
 holdsRight i m = anyb (λ (x : Mailbox). eqb (x .id) i && visible x) (boxes m)
 
--- it does so at some moment: at the start, or after a call (12)
+-- it does so at some moment: at the start, or after a call (Duties, 12)
 abbrev pub everHeld : Memory → List Octets → ℕ → Bool
 everHeld m os i = holdsRight i m || anyb (λ (c : Called). holdsRight i (c .after)) (calls m os)
 
@@ -45,7 +45,7 @@ everHeld m os i = holdsRight i m || anyb (λ (c : Called). holdsRight i (c .afte
 abbrev pub hidden : Memory → Memory → List Octets → List Octets → ℕ → Bool
 hidden m n a b i = not (eqb i 0) && (not (everHeld m a i) && not (everHeld n b i))
 
--- a stream without the records about ids of H, and the calls of those that remain (11)
+-- a stream without the records about ids of H, and the calls of those that remain (Duties, 11)
 abbrev pub without : (ℕ → Bool) → List Octets → List Octets
 without H os = filterb (λ (o : Octets). not (H (about o))) os
 
@@ -59,18 +59,18 @@ excepted a = eqb (numberOf a) 4 || eqb (numberOf a) 7
 abbrev pub unexcepted : List Called → Type 0
 unexcepted cs = anyb (λ (c : Called). excepted (c .answer)) cs ≡ false
 
--- what a call shows: the number of its answer, its counts, and what the queue holds after it (13)
-abbrev pub shown : Called → ℕ × List ℕ × List ℕ
-shown c = (numberOf (c .answer), countsOf (c .answer), held (c .after))
+-- what a call shows: the number of its answer, its counts, and what the queue holds after it (Duties, 13)
+abbrev pub observed : Called → ℕ × List ℕ × List ℕ
+observed c = (numberOf (c .answer), countsOf (c .answer), held (c .after))
 
--- a start: no mailbox, no message, nothing in the queue, none selected, no NOTIFY yet (9)
+-- a start: no mailbox, no message, nothing in the queue, none selected, no NOTIFY yet (Duties, 9)
 abbrev pub noCounts : Counts
 noCounts = record { mailboxes = 0; messages = 0; filled = 0 }
 
 abbrev pub noSession : Session
 noSession = record { selected = 0; notified = 0; groupcount = 0; told = 0; groups = replicate 8 noGroup; names = replicate 16 noName }
 
--- two starts: the same Q, tables of the same lengths; what lies behind the counts and behind F may differ
+-- two starts: the same Q, tables of the same lengths; what lies behind the counts and behind F may differ (Duties, 9)
 pub record Starts (m n : Memory) : Type 0 where
   pub counts : m .counts ≡ noCounts
   pub counts′ : n .counts ≡ noCounts
@@ -80,10 +80,10 @@ pub record Starts (m n : Memory) : Type 0 where
   pub rows : length (n .rows) ≡ length (m .rows)
   pub entries : length (n .entries) ≡ length (m .entries)
 
--- DEMAND 3: the n-th record that remains shows the same in both streams
+-- DEMAND 3: the n-th record that remains shows the same in both streams (Duties, 7)
 abbrev pub Demand3 : Type 0
 Demand3 = (m n : Memory) → Starts m n → (a b : List Octets)
     → without (hidden m n a b) a ≡ without (hidden m n a b) b
     → unexcepted (remaining (hidden m n a b) (calls m a))
     → unexcepted (remaining (hidden m n a b) (calls n b))
-    → (k : ℕ) → getElem? (map shown (remaining (hidden m n a b) (calls m a))) k ≡ getElem? (map shown (remaining (hidden m n a b) (calls n b))) k
+    → (k : ℕ) → getElem? (map observed (remaining (hidden m n a b) (calls m a))) k ≡ getElem? (map observed (remaining (hidden m n a b) (calls n b))) k

@@ -1,4 +1,4 @@
--- Every call leaves lawful memory lawful.
+-- Every call leaves lawful memory lawful, and the end of a command leaves owed what it did not write.
 pub mod Law
 pub mod Rows
 pub mod Clash
@@ -9,3 +9,6 @@ pub mod Spoken
 pub mod Kinds
 pub mod Unasked
 pub mod Calls
+pub mod Rising
+pub mod Dues
+pub mod Owing

@@ -1,4 +1,4 @@
--- Refusal 1: which memory is lawful (01, Records from the host, 22). What lies behind a count is never judged.
+-- Refusal 1: which memory is lawful (01, Records, 22). What lies behind a count is never judged.
 -- The upper end of a field that is as wide in memory as in a record needs no test.
 use mathlib.Core.List.{List, [], _∷_}
 use mathlib.Core.Bool.{Bool, true, not, cond, _&&_, _||_}
@@ -99,9 +99,9 @@ groupsOk first [] = true
 groupsOk first (g ∷ gs) = groupOk first g && groupsOk (first + g .count) gs
 
 -- how many names the groups have
-abbrev pub nameCount : List LentGroup → ℕ
-nameCount [] = 0
-nameCount (g ∷ gs) = g .count + nameCount gs
+abbrev pub lentNameCount : List LentGroup → ℕ
+lentNameCount [] = 0
+lentNameCount (g ∷ gs) = g .count + lentNameCount gs
 
 -- a name that a command gave: valid and folded, or empty; the octets behind it are zero
 abbrev pub lentNameOk : LentName → Bool
@@ -128,10 +128,10 @@ sessionOk s = every (
     ∷ (eqb (s .groupcount) 0 || eqb (s .notified) 1)
     ∷ groupsOk 0 (usedGroups s)
     ∷ apart bothSelecting (groupsOf s)
-    ∷ leb (nameCount (usedGroups s)) 16
-    ∷ allb lentNameOk (take (nameCount (usedGroups s)) (s .names))
+    ∷ leb (lentNameCount (usedGroups s)) 16
+    ∷ allb lentNameOk (take (lentNameCount (usedGroups s)) (s .names))
     ∷ allb blankGroup (drop (s .groupcount) (s .groups))
-    ∷ allb blankName (drop (nameCount (usedGroups s)) (s .names))
+    ∷ allb blankName (drop (lentNameCount (usedGroups s)) (s .names))
     ∷ []
     )
 

@@ -1,5 +1,5 @@
 -- Laws of the tests and list functions of Lists. Assumes nothing.
-use mathlib.Core.Path.{_≡_, refl, ap, ap₂}
+use mathlib.Core.Path.{_≡_, refl, _∙_, ap, ap₂}
 use mathlib.Core.List.{List, [], _∷_, _++_, map}
 use mathlib.Core.Bool.{Bool, true, false, not, cond, _&&_, _||_}
 use Prim.Native.Nat.{ℕ, suc, _≤_}
@@ -117,6 +117,10 @@ module _ {A : Type 0} where
       go true f k ih = tf false (rw f at k) refl
       go false f k ih = rw f ih
 
+  pub filter-every : (p : A → Bool) (l : List A) → allb p l ≡ true → filterb p l ≡ l
+  filter-every p [] h = refl
+  filter-every p (x ∷ l) h = rw (and-l (p x) _ h) (ap (λ t. x ∷ t) (filter-every p l (and-r (p x) _ h)))
+
   pub any-filter : (p q : A → Bool) (l : List A) → ((x : A) → p x ≡ true → q x ≡ true) → anyb p (filterb q l) ≡ anyb p l
   any-filter p q [] h = refl
   any-filter p q (x ∷ l) h = go (q x) refl (p x) refl (any-filter p q l h)
@@ -162,6 +166,26 @@ module _ {A : Type 0} (f : A → A) (p : A → Bool) (h : (x : A) → p (f x) �
       go : (b : Bool) → p x ≡ b → filterb p (map f l) ≡ filterb p l → keep b (f x) (filterb p (map f l)) ≡ keep b x (filterb p l)
       go true e ih = rw (k x e, ih)
       go false e ih = ih
+
+-- a map that changes none of a list
+module _ {A : Type 0} (f : A → A) (p : A → Bool) (k : (x : A) → p x ≡ true → f x ≡ x) where
+  pub map-none : (l : List A) → allb p l ≡ true → map f l ≡ l
+  map-none [] h = refl
+  map-none (x ∷ l) h = ap₂ _∷_ (k x (and-l (p x) _ h)) (map-none l (and-r (p x) _ h))
+
+-- a map that keeps the order
+module _ {A : Type 0} (before : A → A → Bool) (f : A → A) (h : (x y : A) → before (f x) (f y) ≡ before x y) where
+  insert-map : (x : A) (l : List A) → insert before (f x) (map f l) ≡ map f (insert before x l)
+  insert-map x [] = refl
+  insert-map x (y ∷ l) = rw (h x y) (go (before x y) (insert-map x l))
+    where
+      go : (b : Bool) → insert before (f x) (map f l) ≡ map f (insert before x l) → cond b (f x ∷ f y ∷ map f l) (f y ∷ insert before (f x) (map f l)) ≡ map f (cond b (x ∷ y ∷ l) (y ∷ insert before x l))
+      go true ih = refl
+      go false ih = ap (λ t. f y ∷ t) ih
+
+  pub sorted-map : (l : List A) → sorted before (map f l) ≡ map f (sorted before l)
+  sorted-map [] = refl
+  sorted-map (x ∷ l) = ap (insert before (f x)) (sorted-map l) ∙ insert-map x (sorted before l)
 
 -- ---- all of a list
 module _ {A : Type 0} where

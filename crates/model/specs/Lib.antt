@@ -3,6 +3,7 @@ pub mod Text
 pub mod Names
 pub mod Requests
 pub mod Memory
+pub mod Selectors
 pub mod Records
 pub mod Octets
 pub mod Reading
@@ -26,9 +27,15 @@ pub mod Answering
 pub mod Rules
 pub mod Call
 pub mod Hidden
+pub mod Fates
+pub mod Seen
+pub mod Due
+pub mod Account
+pub mod Tally
 pub mod Pushrun
 pub mod Examples
 pub mod Laws
 pub mod Isolation
 pub mod Lasting
 pub mod Theorems
+pub mod Ledger

@@ -1,4 +1,4 @@
--- How large a command may be: what is counted in it, and the most that is taken (01, Commands, line 5).
+-- How large a command may be: what is counted in it, and the most that is taken (01, Commands, 17).
 use mathlib.Core.Bool.{Bool, false, _||_}
 use mathlib.Core.List.{List, [], _∷_, map}
 use Prim.Native.Nat.{ℕ, _+_, max}

@@ -1,4 +1,4 @@
--- Every line that is written, as data and as octets (01, What is written, 1 to 10; Commands, 12 to 18; Who matches, 6 and 10 to 11).
+-- Every line that is written, as data and as octets (01, Written, 2 to 10 and 22; Commands, 13 to 18; Matches, 6, 10 and 11; Records, 14).
 use mathlib.Core.List.{List, [], _∷_, _++_}
 use mathlib.Core.Bool.{cond}
 use Prim.Native.Nat.{ℕ, _+_}
@@ -41,14 +41,14 @@ pub data Line : Type 0 where
   overflow : Line
   answer : (tag : List ℕ) → Verb → Reply → Line
 
--- ---- as octets; each line has its one CR LF at its end
+-- ---- as octets; each line has its one CR LF at its end (Examples, 11)
 abbrev pub crlf : List ℕ
 crlf = 13 ∷ 10 ∷ []
 
 abbrev pub space : List ℕ
 space = 32 ∷ []
 
--- a mailbox name is quoted (2)
+-- a mailbox name is quoted (Written, 2)
 abbrev pub nameText : Name → List ℕ
 nameText n = quoted n
 
@@ -64,7 +64,7 @@ abbrev pub spaced : List (List ℕ) → List ℕ
 spaced [] = []
 spaced (t ∷ ts) = t ++ concatMap (λ (u : List ℕ). space ++ u) ts
 
--- the names of the flags that are set, in the order of their bits (Records from the host, 14)
+-- the names of the flags that are set, in the order of their bits (Records, 14)
 abbrev pub flagNames : ℕ → List (List ℕ)
 flagNames f =
     cond (bit 0 f) (octets "\\Answered" ∷ []) []
@@ -82,7 +82,7 @@ abbrev pub itemTexts : List Item → List (List ℕ)
 itemTexts [] = []
 itemTexts (i ∷ is) = itemText i ∷ itemTexts is
 
--- UIDs that follow each other by number are written as first and last, with `:` (Who matches, 11);
+-- UIDs that follow each other by number are written as first and last, with `:` (Matches, 11);
 -- the run from `from` to `upto` is open
 abbrev pub runText : ℕ → ℕ → List ℕ
 runText from upto = cond (eqb from upto) (decimal from) (decimal from ++ (octets ":" ++ decimal upto))
@@ -123,7 +123,7 @@ replyText v BadCharset = octets "NO [BADCHARSET (US-ASCII UTF-8)] charset"
 replyText v TooLarge = tooLargeText v
 replyText v Accepted = doneText v
 
--- a line without its end (3, 5, 8 to 10, 22; Who matches, 6 and 10)
+-- a line without its end (Written, 3, 5, 8 to 10 and 22; Matches, 6 and 10)
 abbrev pub text : Line → List ℕ
 text (status n u m) = octets "* STATUS " ++ (nameText n ++ (octets " (UIDNEXT " ++ (decimal u ++ (octets " MESSAGES " ++ (decimal m ++ octets ")")))))
 text (statusAtSet n m u v) = octets "* STATUS " ++ (nameText n ++ (octets " (MESSAGES " ++ (decimal m ++ (octets " UIDNEXT " ++ (decimal u ++ (octets " UIDVALIDITY " ++ (decimal v ++ octets ")")))))))

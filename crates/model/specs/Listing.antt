@@ -1,4 +1,4 @@
--- What an accepted NOTIFY does: the session that it sets, and the lines that NOTIFY SET writes (01, Who matches, 5 to 7; Commands, 20).
+-- What an accepted NOTIFY does: the session that it sets, and the lines that NOTIFY SET writes (01, Matches, 6 and 7; Commands, 4 and 20).
 use mathlib.Core.List.{List, [], _∷_, _++_, map}
 use mathlib.Core.Bool.{Bool, true, false, not, cond, _&&_, _||_}
 use Prim.Native.Nat.{ℕ, _+_, _-_}
@@ -32,26 +32,26 @@ abbrev pub eventBits : List Event → ℕ
 eventBits es = pack (anyb isNew es ∷ anyb isExpunge es ∷ anyb isFlagChange es ∷ anyb isMailboxName es ∷ anyb isSubscriptionChange es ∷ [])
 
 -- the attributes asked with MessageNew, a bit each
-abbrev pub isUid : Attribute → Bool
-isUid uid = true
-isUid flags = false
-isUid size = false
-isUid otherAttribute = false
+abbrev pub isUidAttribute : Attribute → Bool
+isUidAttribute uid = true
+isUidAttribute flags = false
+isUidAttribute size = false
+isUidAttribute otherAttribute = false
 
-abbrev pub isFlags : Attribute → Bool
-isFlags uid = false
-isFlags flags = true
-isFlags size = false
-isFlags otherAttribute = false
+abbrev pub isFlagsAttribute : Attribute → Bool
+isFlagsAttribute uid = false
+isFlagsAttribute flags = true
+isFlagsAttribute size = false
+isFlagsAttribute otherAttribute = false
 
-abbrev pub isSize : Attribute → Bool
-isSize uid = false
-isSize flags = false
-isSize size = true
-isSize otherAttribute = false
+abbrev pub isSizeAttribute : Attribute → Bool
+isSizeAttribute uid = false
+isSizeAttribute flags = false
+isSizeAttribute size = true
+isSizeAttribute otherAttribute = false
 
 abbrev pub attributeBits : List Attribute → ℕ
-attributeBits l = pack (anyb isUid l ∷ anyb isFlags l ∷ anyb isSize l ∷ [])
+attributeBits l = pack (anyb isUidAttribute l ∷ anyb isFlagsAttribute l ∷ anyb isSizeAttribute l ∷ [])
 
 -- a group; its names begin at `first`, and stand at 0 where it has none
 abbrev pub lendGroup : ℕ → Asked → LentGroup
@@ -67,7 +67,7 @@ abbrev pub lendGroups : ℕ → List Asked → List LentGroup
 lendGroups first [] = []
 lendGroups first (g ∷ gs) = lendGroup first g ∷ lendGroups (first + length (namesOf (g .filter))) gs
 
--- a name: as a mailbox would have it, or empty where no mailbox could
+-- a name: as a mailbox would have it, or empty where no mailbox could (Commands, 4)
 abbrev pub lendName : List ℕ → LentName
 lendName a = record { len = length (argument a); octets = stored (argument a) }
 
@@ -79,7 +79,7 @@ module _ {A : Type 0} where
   abbrev pub filledUp : ℕ → A → List A → List A
   filledUp n zeros l = l ++ replicate (n - length l) zeros
 
--- the session with these groups: a NOTIFY was given
+-- the session with these groups: a NOTIFY was given (Commands, 20)
 abbrev pub watching : Session → List Asked → Session
 watching s gs = record {
   selected = s .selected;
@@ -90,13 +90,13 @@ watching s gs = record {
   names = filledUp 16 noName (map lendName (allNames gs));
 }
 
--- ---- the mailboxes that NOTIFY SET tells of (6 and 7)
+-- ---- the mailboxes that NOTIFY SET tells of (Matches, 6 and 7)
 abbrev pub asksAny : Group → Bool
 asksAny g = asksMessages g || asksMailbox g
 
 -- an asked event applies to the mailbox; to the selected one the selected group's, and mailbox events of others
-abbrev pub applies : Memory → Session → Mailbox → Bool
-applies m s x = cond (isSelected m (x .id)) (selectedAsks s asksAny || askedOf s x asksMailbox) (askedOf s x asksAny)
+abbrev pub concerns : Memory → Session → Mailbox → Bool
+concerns m s x = cond (isSelected m (x .id)) (selectedAsks s asksAny || askedOf s x asksMailbox) (askedOf s x asksAny)
 
 abbrev pub byName : Mailbox → Mailbox → Bool
 byName x y = before (nameOf x) (nameOf y)
@@ -110,4 +110,4 @@ listingLine m s wanted x =
 
 -- by name, those with l to which an asked event applies
 abbrev pub listing : Memory → Session → Bool → List Line
-listing m s wanted = concatMap (listingLine m s wanted) (sorted byName (filterb (λ (x : Mailbox). mayList x && applies m s x) (boxes m)))
+listing m s wanted = concatMap (listingLine m s wanted) (sorted byName (filterb (λ (x : Mailbox). mayList x && concerns m s x) (boxes m)))

@@ -1,4 +1,4 @@
--- What the host lends, and how it is read and altered (01, One session beside one store).
+-- What the host lends, and how it is read and altered (01, Store, 1 to 4).
 use mathlib.Core.List.{List, [], _∷_, _++_, map}
 use mathlib.Core.Bool.{Bool, not, cond, _&&_}
 use Prim.Native.Nat.{ℕ, suc, _-_, max}
@@ -14,7 +14,7 @@ use Rattle.model.specs.declared.LentGroup.{LentGroup}
 use Rattle.model.specs.declared.LentName.{LentName}
 use Rattle.model.specs.declared.Session.{Session}
 
--- all that is lent (1 and 2): the two tables in their whole length, how much of each is used, the session, all Q octets of the queue
+-- all that is lent (Store, 1 and 2): the two tables in their whole length, how much of each is used, the session, all Q octets of the queue
 pub record Memory : Type 0 where
   pub rows : List Mailbox
   pub entries : List Message
@@ -47,12 +47,24 @@ noMessage = record { mailbox = 0; uid = record { 0 = 0 }; flags = 0; size = 0; s
 abbrev pub nameOf : Mailbox → Name
 nameOf x = take (x .namelen) (x .name)
 
--- the bits of its attributes (Records from the host, the bits of `MB`)
+-- the bits of its attributes (Records, 6), of the octet and of the mailbox
+abbrev pub selectableBit : ℕ → Bool
+selectableBit a = bit 0 a
+
+abbrev pub personalBit : ℕ → Bool
+personalBit a = bit 1 a
+
+abbrev pub deliveryBit : ℕ → Bool
+deliveryBit a = bit 2 a
+
+abbrev pub subscribedBit : ℕ → Bool
+subscribedBit a = bit 3 a
+
 abbrev pub selectable : Mailbox → Bool
-selectable x = bit 0 (x .attributes)
+selectable x = selectableBit (x .attributes)
 
 abbrev pub subscribed : Mailbox → Bool
-subscribed x = bit 3 (x .attributes)
+subscribed x = subscribedBit (x .attributes)
 
 abbrev pub mayList : Mailbox → Bool
 mayList x = bit 4 (x .attributes)
@@ -60,7 +72,7 @@ mayList x = bit 4 (x .attributes)
 abbrev pub mayRead : Mailbox → Bool
 mayRead x = bit 5 (x .attributes)
 
--- both rights, which every notice needs (What is written, 1)
+-- both rights, which every notice needs (Written, 1)
 abbrev pub bothRights : Mailbox → Bool
 bothRights x = mayList x && mayRead x
 
@@ -99,11 +111,11 @@ isSelected m i = not (eqb i 0) && eqb i (m .session .selected)
 abbrev pub uidOf : Message → ℕ
 uidOf e = e .uid .0
 
--- expunged, and kept because the client's view holds it (3)
+-- expunged, and kept because the client's view holds it (Store, 3)
 abbrev pub expunged : Message → Bool
 expunged e = bit 0 (e .states)
 
--- marked: its flags changed and wait (What is written, 18)
+-- marked: its flags changed and wait (Written, 18)
 abbrev pub marked : Message → Bool
 marked e = bit 1 (e .states)
 
@@ -131,7 +143,7 @@ messagesOf i l = sorted byUid (filterb (inMailbox i) l)
 abbrev pub existing : ℕ → List Message → List Message
 existing i l = filterb (λ (e : Message). not (expunged e)) (messagesOf i l)
 
--- ---- altering. A table's used part becomes l: what was freed is zero, and what lies behind stays (4)
+-- ---- altering. A table's used part becomes l: what was freed is zero, and what lies behind stays (Store, 4)
 module _ {A : Type 0} where
   abbrev pub refill : A → List A → ℕ → List A → List A
   refill zeros table used l = l ++ (replicate (used - length l) zeros ++ drop (max used (length l)) table)
@@ -183,7 +195,7 @@ noGroup = record { selector = 0; first = 0; count = 0; events = 0; attributes = 
 abbrev pub noName : LentName
 noName = record { len = 0; octets = replicate 64 0 }
 
--- as after NOTIFY NONE: a NOTIFY was given, and no group stands (Commands, the six answers; What is written, 22)
+-- as after NOTIFY NONE: a NOTIFY was given, and no group stands (Commands, 20; Written, 22)
 abbrev pub silenced : Session → Session
 silenced s = record { selected = s .selected; notified = 1; groupcount = 0; told = s .told; groups = replicate 8 noGroup; names = replicate 16 noName }
 

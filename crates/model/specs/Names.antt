@@ -1,4 +1,4 @@
--- Mailbox names (01, Records from the host, 19 and 20; Who matches, 1).
+-- Mailbox names (01, Records, 19 and 20; Commands, 4; Matches, 1 and 6).
 use mathlib.Core.Bool.{Bool, true, false, not, cond, _&&_, _||_}
 use mathlib.Core.List.{List, [], _∷_}
 use Prim.Native.Nat.{ℕ, _+_}
@@ -23,11 +23,11 @@ noPartEmpty begun (b ∷ n) =
     let longer = noPartEmpty true n in
     cond (eqb b 47) closed longer
 
--- a valid name: 1 to 64 octets that may stand in a name, in parts of one or more
+-- a valid name: 1 to 64 octets that may stand in a name, in parts of one or more (Records, 19)
 abbrev pub valid : Name → Bool
 valid n = (leb 1 (length n) && leb (length n) 64) && (allb printable n && noPartEmpty false n)
 
--- INBOX in any case is INBOX; a part of a name keeps its octets
+-- INBOX in any case is INBOX; a part of a name keeps its octets (Records, 20)
 abbrev pub inbox : Name
 inbox = octets "INBOX"
 
@@ -38,22 +38,27 @@ fold n = cond (sameWord n inbox) inbox n
 abbrev pub argument : List ℕ → Name
 argument a = cond (valid a) (fold a) []
 
--- n lies beneath top: it begins with top and `/`
-unfoldable pub beneath : Name → Name → Bool
-beneath [] [] = false
-beneath [] (b ∷ n) = eqb b 47
-beneath (a ∷ top) [] = false
-beneath (a ∷ top) (b ∷ n) = let rest = beneath top n in cond (eqb a b) rest false
+-- n begins with top and `/`
+unfoldable pub leads : Name → Name → Bool
+leads [] [] = false
+leads [] (b ∷ n) = eqb b 47
+leads (a ∷ top) [] = false
+leads (a ∷ top) (b ∷ n) = let rest = leads top n in cond (eqb a b) rest false
 
--- a subtree is the mailbox named and every mailbox below it
+-- n lies beneath top; beneath an argument that is no valid name lies nothing (Commands, 4)
+abbrev pub beneath : Name → Name → Bool
+beneath [] n = false
+beneath (a ∷ top) n = leads (a ∷ top) n
+
+-- a subtree is the mailbox named and every mailbox below it (Matches, 1)
 abbrev pub subtree : Name → Name → Bool
 subtree top n = same top n || beneath top n
 
--- one level of it is the mailbox named and those directly below it
+-- one level of it is the mailbox named and those directly below it (Matches, 1)
 abbrev pub subtreeOne : Name → Name → Bool
 subtreeOne top n = same top n || (beneath top n && not (anyb (eqb 47) (drop (length top + 1) n)))
 
--- names in octet order: a comes before b, or is b
+-- names in octet order: a comes before b, or is b (Matches, 6)
 unfoldable pub before : Name → Name → Bool
 before [] b = true
 before (x ∷ a) [] = false

@@ -1,4 +1,4 @@
--- NOTIFY: whom a group is about, its events, and the command (01, Commands, 5 and 6; RFC 5465, section 8).
+-- NOTIFY: whom a group is about, its events, and the command (01, Commands, 5 and 6; Matches, 1; RFC 5465, section 8).
 use mathlib.Core.Bool.{Bool, true, false, cond, _&&_}
 use mathlib.Core.List.{List, [], _∷_}
 use Prim.Native.Nat.{ℕ, _+_}
@@ -84,7 +84,7 @@ eventsAt s p =
     (cond (wordAt s p "NONE") (ok (endOf atomOctet s p) []) bad)
 
 -- ---- groups
--- one level of a subtree is for ESEARCH alone (Who matches, 1)
+-- one level of a subtree is for ESEARCH alone (Matches, 1)
 abbrev pub groupable : Filter → Bool
 groupable selected = true
 groupable delayed = true

@@ -1,4 +1,4 @@
--- The program of 01, Examples on each side, 10: what it prints for a stream of records.
+-- The program `pushrun`: what it prints for a stream of records (01, Examples, 10).
 use mathlib.Core.List.{List, [], _∷_, _++_}
 use mathlib.Core.Bool.{cond, _&&_}
 use Prim.Native.Nat.{ℕ, zero, suc, _+_}

@@ -1,4 +1,4 @@
--- The queue, and what the writing of a line ends (01, One session beside one store, 1, 3 and 4; What is written, 11 to 22).
+-- The queue, and what the writing of a line ends (01, Store, 1, 3 and 4; Records, 18; Written, 13, 18, 20 and 22).
 use mathlib.Core.List.{List, [], _∷_, _++_}
 use mathlib.Core.Bool.{Bool, true, false, cond}
 use Prim.Native.Nat.{ℕ, _+_, _-_}
@@ -16,7 +16,7 @@ room m = length (m .queue) - 64 - filled m
 abbrev pub fits : Memory → List Line → Bool
 fits m ls = leb (length (renderAll ls)) (room m)
 
--- the first lines, whole ones only, that the room holds (20)
+-- the first lines, whole ones only, that the room holds (Written, 20)
 unfoldable pub fitting : ℕ → List Line → List Line
 fitting free [] = []
 fitting free (l ∷ ls) =
@@ -36,7 +36,7 @@ enqueue m t = record {
   queue = written (m .queue) (filled m) t;
 }
 
--- octets leave the queue's front; the others move up, and what lies behind them stays (Records from the host, 18)
+-- octets leave the queue's front; the others move up, and what lies behind them stays (Records, 18)
 unfoldable pub shifted : List ℕ → ℕ → ℕ → List ℕ
 shifted q f n = drop n (take f q) ++ drop (f - n) q
 
@@ -50,24 +50,25 @@ dequeue m n = record {
 }
 
 -- ---- what a line ends
--- all of the selected mailbox's messages are announced: the view is all below its UIDNEXT (13)
+-- all of the selected mailbox's messages are announced: the view is all below its UIDNEXT (Written, 13)
 abbrev pub announce : Memory → Memory
 announce m = withSession m (withView (m .session) (m .session .selected) (selectedBox m .uidnext))
 
 -- the flags are shown
-abbrev pub isFlags : Item → Bool
-isFlags (uid u) = false
-isFlags (flags f) = true
-isFlags (size z) = false
+abbrev pub isFlagsItem : Item → Bool
+isFlagsItem (uid u) = false
+isFlagsItem (flags f) = true
+isFlagsItem (size z) = false
 
 abbrev pub showsFlags : List Item → Bool
-showsFlags is = anyb isFlags is
+showsFlags is = anyb isFlagsItem is
 
--- message u of mailbox i waits for nothing
+-- message u of mailbox i is unmarked. This clears every state of the entry, and would forget an expunge too: it is right because no FETCH of flags
+-- is written for an expunged message, which the account proves of all lines (Ledger.Effects, `Calm`). Request 7 of 02 gives each state a bit of its own
 abbrev pub unmark : ℕ → ℕ → Message → Message
 unmark i u e = cond (isMessage i u e) (withStates e 0) e
 
--- EXISTS announces; EXPUNGE gives the entry free; a FETCH of the flags ends the mark (3, 13, 18). Other lines end nothing
+-- EXISTS announces; EXPUNGE gives the entry free; a FETCH of the flags ends the mark (Store, 3; Written, 13 and 18). Other lines end nothing
 abbrev pub effect : Memory → Line → Memory
 effect m (exists n) = announce m
 effect m (expunge n u) = dropMails m (isMessage (m .session .selected) (u .0))

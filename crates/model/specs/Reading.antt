@@ -39,13 +39,13 @@ abbrev pub after : {A : Type 0} → List ℕ → ℕ → Char → (ℕ → Parse
 after s p c f = afterBy (stands s p c) (p + 1) f
 
 -- how many octets of a class a text begins with
-unfoldable pub run : (ℕ → Bool) → List ℕ → ℕ
-run class [] = 0
-run class (b ∷ l) = let longer = suc (run class l) in cond (class b) longer 0
+unfoldable pub runLength : (ℕ → Bool) → List ℕ → ℕ
+runLength class [] = 0
+runLength class (b ∷ l) = let longer = suc (runLength class l) in cond (class b) longer 0
 
 -- where the longest run of a class that begins at p ends
 abbrev pub endOf : (ℕ → Bool) → List ℕ → ℕ → ℕ
-endOf class s p = p + run class (drop p s)
+endOf class s p = p + runLength class (drop p s)
 
 -- the octets from p up to q
 abbrev pub piece : List ℕ → ℕ → ℕ → List ℕ
@@ -171,7 +171,7 @@ setAt s p = rowAt (length s) (partAt s) (λ q. cond (stands s q ",") (another (q
 -- ---- dates: nothing of them is kept, and days are not counted (RFC 3501, date)
 abbrev pub digitsAt : ℕ → ℕ → List ℕ → ℕ → Parsed (Unit {0})
 digitsAt least most s p =
-    let n = run digit (drop p s) in
+    let n = runLength digit (drop p s) in
     cond (leb least n && leb n most) (ok (p + n) tt) bad
 
 abbrev pub months : List String

@@ -1,4 +1,4 @@
--- Records: their layouts, their ranges, what each is about, and which octet strings are none (01, Records from the host).
+-- Records: their layouts, their ranges, what each is about, and which octet strings are none (01, Records, 1 to 20 and 23; Duties, 11).
 use mathlib.Core.List.{List, [], _∷_}
 use mathlib.Core.Bool.{Bool, true, false, cond, _&&_}
 use Prim.Native.Nat.{ℕ, _+_, _%_}
@@ -8,7 +8,7 @@ use Rattle.model.specs.Lists.{same}
 use Rattle.model.specs.Names.{Name, valid, fold}
 use Rattle.model.specs.Text.{octets, little}
 
--- the kinds of records, by their marks (5 to 18)
+-- the kinds of records, by their marks (Records, 5 to 18)
 pub data Kind : Type 0 where
   MB DL RN SB RT ME XP FL SE CE CM DR unknown : Kind
 
@@ -24,7 +24,7 @@ pub record Layout : Type 0 where
   pub fields : List Field
   pub tail : Tail
 
--- the twelve layouts (5, 7 to 13, 15 to 18)
+-- the twelve layouts (Records, 5, 7 to 13 and 15 to 18)
 abbrev pub layout : Kind → Layout
 layout MB = record { fields = id ∷ attributes ∷ quiet ∷ uidvalidity ∷ []; tail = name }
 layout DL = record { fields = id ∷ quiet ∷ []; tail = nothing }
@@ -40,7 +40,7 @@ layout CM = record { fields = []; tail = command }
 layout DR = record { fields = count ∷ []; tail = nothing }
 layout unknown = record { fields = []; tail = nothing }
 
--- how many octets a field has
+-- how many octets a field has (Records, 5 to 18)
 abbrev pub width : Field → ℕ
 width id = 2
 width idOrNone = 2
@@ -55,7 +55,7 @@ width size = 4
 width class = 1
 width count = 4
 
--- which values it may have (3 to 6, 9 to 16)
+-- which values it may have (Records, 3 to 6, 9 to 11 and 14 to 16)
 abbrev pub inRange : Field → ℕ → Bool
 inRange id v = leb 1 v && leb v 65535
 inRange idOrNone v = leb v 65535
@@ -70,7 +70,7 @@ inRange size v = leb v 4294967295
 inRange class v = leb v 1
 inRange count v = leb v 4294967295
 
--- ---- an octet string: two octets of mark, two of length, the body (1 and 2)
+-- ---- an octet string: two octets of mark, two of length, the body (Records, 1 and 2)
 abbrev pub kindOf : List ℕ → Kind
 kindOf r =
     cond (same (take 2 r) (octets "MB")) MB
@@ -102,7 +102,7 @@ abbrev pub allInRange : List Field → List ℕ → Bool
 allInRange [] b = true
 allInRange (f ∷ fs) b = inRange f (little (width f) b) && allInRange fs (drop (width f) b)
 
--- is what follows the fields in order (17, 19)
+-- is what follows the fields in order (Records, 17 and 19)
 abbrev pub tailOk : Tail → List ℕ → Bool
 tailOk nothing t = eqb (length t) 0
 tailOk name t = valid t
@@ -131,7 +131,7 @@ isKnown unknown = false
 abbrev pub framed : List ℕ → Bool
 framed r = leb 4 (length r) && eqb (length r) (4 + little 2 (drop 2 r))
 
--- the octet string is a record: its mark is known, its length right, each field in its range, its name valid (23)
+-- the octet string is a record: its mark is known, its length right, each field in its range, its name valid (Records, 23)
 abbrev pub isRecord : List ℕ → Bool
 isRecord r = isKnown (kindOf r) && (framed r && bodyOk (layout (kindOf r)) (bodyOf r))
 
@@ -151,7 +151,7 @@ pub data Record : Type 0 where
   drained : (n : ℕ) → Record
   noRecord : Record
 
--- by its kind, from the values of its fields and what follows them; a name is INBOX where it is so in any case (20)
+-- by its kind, from the values of its fields and what follows them; a name is INBOX where it is so in any case (Records, 20)
 abbrev pub recordBy : Kind → List ℕ → List ℕ → Record
 recordBy MB v t = create (getD v 0 0) (getD v 1 0) (getD v 2 0) (getD v 3 0) (fold t)
 recordBy DL v t = delete (getD v 0 0) (getD v 1 0)
@@ -174,7 +174,7 @@ unfoldable pub recordOf : List ℕ → Record
 recordOf r = recordBy (kindOf r) (values (fieldsOf r) (bodyOf r)) (drop (widths (fieldsOf r)) (bodyOf r))
 
 -- ---- what an octet string is about: the id in the body's first two octets, where the layout begins with an id and the body has them;
--- 0 stands for none (Duties of the public functions, 11)
+-- 0 stands for none (Duties, 11)
 abbrev pub isId : Field → Bool
 isId id = true
 isId idOrNone = true

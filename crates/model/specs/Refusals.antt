@@ -1,4 +1,4 @@
--- Refusals 3 to 7: each condition as the table words it (01, Records from the host, 24 to 28).
+-- Refusals 3 to 7: each condition as the table words it (01, Records, 24 to 28).
 use mathlib.Core.Bool.{Bool, false, not, _&&_, _||_}
 use Prim.Native.Nat.{ℕ}
 use lib.Dec.{eqb, leb, ltb}
@@ -10,7 +10,7 @@ use Rattle.model.specs.Memory.{Memory, boxes, mails, filled, nameOf, sel
 use Rattle.model.specs.declared.Mailbox.{Mailbox}
 use Rattle.model.specs.declared.Message.{Message}
 
--- 3: the id is in use, for a create; unknown, for the others. To select none is to select what is known
+-- 3: the id is in use, for a create; unknown, for the others. To select none is to select what is known (Records, 24)
 abbrev pub wrongId : Memory → Record → Bool
 wrongId m (create i a q v n) = known i (boxes m)
 wrongId m (delete i q) = not (known i (boxes m))
@@ -26,7 +26,7 @@ wrongId m (command t) = false
 wrongId m (drained n) = false
 wrongId m noRecord = false
 
--- 4: another mailbox has the name
+-- 4: another mailbox has the name (Records, 25)
 abbrev pub heldByAnother : Memory → ℕ → Name → Bool
 heldByAnother m i n = anyb (λ (x : Mailbox). same (nameOf x) n && not (eqb (x .id) i)) (boxes m)
 
@@ -45,7 +45,7 @@ nameHeld m (command t) = false
 nameHeld m (drained n) = false
 nameHeld m noRecord = false
 
--- 5: a new message's UID is not above all that were ever used there; another's message is not there, or is expunged
+-- 5: a new message's UID is not above all that were ever used there; another's message is not there, or is expunged (Records, 26)
 abbrev pub absent : Memory → ℕ → ℕ → Bool
 absent m i u = not (anyb (λ (e : Message). isMessage i u e && not (expunged e)) (mails m))
 
@@ -64,7 +64,7 @@ wrongUid m (command t) = false
 wrongUid m (drained n) = false
 wrongUid m noRecord = false
 
--- 6: a mailbox is selected that is unselectable or may not be read; the selected one is deleted; more is drained than the queue holds
+-- 6: a mailbox is selected that is unselectable or may not be read; the selected one is deleted; more is drained than the queue holds (Records, 27)
 abbrev pub unfit : Mailbox → Bool
 unfit x = not (selectable x) || not (mayRead x)
 
@@ -83,7 +83,7 @@ wrongState m (command t) = false
 wrongState m (drained n) = ltb (filled m) n
 wrongState m noRecord = false
 
--- 7: a table is full
+-- 7: a table is full (Records, 28)
 abbrev pub tableFull : Memory → Record → Bool
 tableFull m (create i a q v n) = leb (length (m .rows)) (length (boxes m))
 tableFull m (delete i q) = false

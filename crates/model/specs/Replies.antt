@@ -1,4 +1,4 @@
--- How a command is answered: the faults of 01's lines 1 to 4, each by itself, and the ladder of lines 1 to 5 (01, Commands, 12).
+-- How a command is answered: the faults of 01's lines 1 to 4, each by itself, and the ladder of lines 1 to 5 (01, Commands, 12 to 17).
 -- What an answer would write is not looked at here: that needs the tables.
 use mathlib.Core.Bool.{Bool, true, false, cond, not, _&&_, _||_}
 use mathlib.Core.List.{List, [], _∷_}
@@ -49,7 +49,7 @@ misplacedAttributes g = not (selectedGroup g) && anyb hasAttributes (g .events)
 abbrev pub unpaired : Asked → Bool
 unpaired g = anyb messageEvent (g .events) && not (anyb isNew (g .events) && anyb isExpunge (g .events))
 
--- ---- line 1: sources of ESEARCH
+-- ---- line 1: sources of ESEARCH (Commands, 13)
 -- a filter that NOTIFY alone may have
 abbrev pub isDelayed : Filter → Bool
 isDelayed selected = false
@@ -66,15 +66,15 @@ abbrev pub needsSelected : List Filter → Bool
 needsSelected [] = true
 needsSelected (f ∷ fs) = anyb ofSelected (f ∷ fs)
 
--- ---- line 1
--- BAD though the grammar fits; `isSelected` says whether a mailbox is selected
+-- ---- line 1 (Commands, 13)
+-- BAD though the grammar fits; `hasSelected` says whether a mailbox is selected
 abbrev pub refused : Bool → Command → Bool
-refused isSelected notifyNone = false
-refused isSelected (notifySet status gs) =
+refused hasSelected notifyNone = false
+refused hasSelected (notifySet status gs) =
     ((selectedTwice gs || anyb misplacedEvent gs) || anyb misplacedAttributes gs) || anyb unpaired gs
-refused isSelected (search q) = anyb isDelayed (q .sources) || (not isSelected && needsSelected (q .sources))
+refused hasSelected (search q) = anyb isDelayed (q .sources) || (not hasSelected && needsSelected (q .sources))
 
--- ---- line 2: an event that is not among the five that are supported
+-- ---- line 2: an event that is not among the five that are supported (Commands, 14)
 abbrev pub unsupportedEvent : Event → Bool
 unsupportedEvent (messageNew l) = false
 unsupportedEvent messageExpunge = false
@@ -89,7 +89,7 @@ badEvent notifyNone = false
 badEvent (notifySet status gs) = anyb (λ (g : Asked). anyb unsupportedEvent (g .events)) gs
 badEvent (search q) = false
 
--- ---- line 3: an attribute or a key that is read and not supported
+-- ---- line 3: an attribute or a key that is read and not supported (Commands, 15)
 abbrev pub unsupportedAttribute : Attribute → Bool
 unsupportedAttribute uid = false
 unsupportedAttribute flags = false
@@ -113,7 +113,7 @@ notSupported notifyNone = false
 notSupported (notifySet status gs) = anyb (λ (g : Asked). anyb asksUnsupported (g .events)) gs
 notSupported (search q) = someTests unsupportedTest (q .keys)
 
--- ---- line 4: a charset that is given and not known
+-- ---- line 4: a charset that is given and not known (Commands, 16)
 abbrev pub unknownCharset : Charset → Bool
 unknownCharset none = false
 unknownCharset known = false
@@ -126,9 +126,9 @@ badCharset (search q) = unknownCharset (q .charset)
 
 -- ---- the reply: the lines are tried in their order (Commands, 12)
 abbrev pub replyOf : Limits → Bool → Parsed Command → Reply
-replyOf l isSelected bad = Bad
-replyOf l isSelected (ok p c) =
-    cond (refused isSelected c) Bad
+replyOf l hasSelected bad = Bad
+replyOf l hasSelected (ok p c) =
+    cond (refused hasSelected c) Bad
     (cond (badEvent c) BadEvent
     (cond (notSupported c) Unsupported
     (cond (badCharset c) BadCharset

@@ -1,4 +1,4 @@
--- What an accepted record does, and what it answers: one rule for each kind (01, Records from the host, 5 to 18; What is written, 12 and 20 to 22).
+-- What an accepted record does, and what it answers: one rule for each kind (01, Records, 5 to 18; Written, 12 and 20 to 22).
 use mathlib.Core.List.{List, []}
 use Prim.Native.Nat.{ℕ, _-_}
 use lib.ListN.{length}
@@ -19,18 +19,18 @@ pub record Outcome : Type 0 where
   pub lines : List Line
   pub after : Memory
 
--- an event is told
+-- an event is told (Written, 22)
 abbrev pub told : Memory → (Memory → Event) → Outcome
 told m event = record { answer = Done; lines = tellings m event; after = say (settled m event) (tellings m event) }
 
--- `SE`: the view is all that exists, and nothing waits any more
+-- `SE`: the view is all that exists, and nothing waits any more (Records, 15; Written, 12)
 abbrev pub rested : Message → Message
 rested e = withStates e 0
 
 abbrev pub selecting : Memory → ℕ → Memory
 selecting m i = withSession (changeMails (dropMails m expunged) rested) (withView (m .session) i (theMailbox i (boxes m) .uidnext))
 
--- `CE`: as many of the lines owed as fit; the answer counts the others
+-- `CE`: as many of the lines owed as fit; the answer counts the others (Records, 16; Written, 20 and 21)
 abbrev pub endLines : Memory → ℕ → List Line
 endLines m c = fitting (room m) (owed m c)
 

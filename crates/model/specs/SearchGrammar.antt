@@ -20,7 +20,7 @@ pub data Keyword : Type 0 where
   bare : Test → Keyword
   above below uidSet string keyword date header negated alternatives strange : Keyword
 
--- each flag has two keys, for set and for not set (Commands, 9); its bit is the one that `ME` gives it (Records from the host, 14)
+-- each flag has two keys, for set and for not set (Commands, 9); its bit is the one that `ME` gives it (Records, 14)
 abbrev pub flagWord : List ℕ → Keyword → Keyword
 flagWord w others =
     cond (is w "ANSWERED") (bare (flagged 0 true))
@@ -126,14 +126,14 @@ programAt s p = keysAt (2 * length s + 1) lineEnd s p
 pub data Return : Type 0 where
   minimum maximum allOf count : Return
 
-abbrev pub place : Return → ℕ
-place minimum = 0
-place maximum = 1
-place allOf = 2
-place count = 3
+abbrev pub returnPlace : Return → ℕ
+returnPlace minimum = 0
+returnPlace maximum = 1
+returnPlace allOf = 2
+returnPlace count = 3
 
 abbrev pub like : Return → Return → Bool
-like a b = eqb (place a) (place b)
+like a b = eqb (returnPlace a) (returnPlace b)
 
 -- the options that are known; another does not fit (Commands, 7)
 abbrev pub returnBy : List ℕ → ℕ → Parsed Return
@@ -165,7 +165,7 @@ allReturned [] = true
 allReturned (r ∷ rs) = returned allOf (r ∷ rs)
 
 -- ---- the charset
--- an atom or a quoted string; two charsets are known, in any case of their letters (Commands, 7 and line 4; RFC 4466, charset)
+-- an atom or a quoted string; two charsets are known, in any case of their letters (Commands, 7 and 16; RFC 4466, charset)
 abbrev pub charsetOf : List ℕ → Charset
 charsetOf w = cond (isOf w ("US-ASCII" ∷ "UTF-8" ∷ [])) known unknown
 

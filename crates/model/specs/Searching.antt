@@ -1,14 +1,15 @@
--- What an accepted ESEARCH finds (01, Who matches, 8 to 13; Commands, 7 and 9).
+-- What an accepted ESEARCH finds (01, Matches, 8 to 13; Commands, 7 and 9).
 use mathlib.Core.List.{List, [], _∷_, _++_, map}
 use mathlib.Core.Bool.{Bool, true, false, not, cond, _&&_, _||_}
 use Prim.Native.Nat.{ℕ, _+_, min as smaller, max as greater}
 use lib.Dec.{leb, ltb}
 use lib.ListN.{length}
-use Rattle.model.specs.Lists.{anyb, filterb, sorted, concatMap, lastOr, same}
-use Rattle.model.specs.Names.{Name, argument, subtree as beneathOrSame, subtreeOne as oneLevelOrSame}
+use Rattle.model.specs.Lists.{anyb, filterb, sorted, concatMap, lastOr}
+use Rattle.model.specs.Names.{argument}
 use Rattle.model.specs.Text.{bit}
 use Rattle.model.specs.Requests.{Filter, selected, delayed, inboxes, personal, subscribed, subtree, subtreeOne, mailboxes, Bound, number, star, Part, Test, all, unsupported, flagged, larger, smaller as smallerThan, uids, numbers, Key, test, non, either, group, Keys, end, more, Search}
 use Rattle.model.specs.Memory.{Memory, boxes, mails, nameOf, mayList, mayRead, isSelected, uidOf, expunged, messagesOf}
+use Rattle.model.specs.Selectors.{takenByInboxes, takenByPersonal, takenBySubscribed, takenBySubtree, takenBySubtreeOne, takenByMailboxes}
 use Rattle.model.specs.View.{view}
 use Rattle.model.specs.Listing.{byName}
 use Rattle.model.specs.Lines.{Line, found, Result, min, max, all as allOf, count}
@@ -17,16 +18,16 @@ use Rattle.model.specs.declared.Message.{Message}
 use Rattle.model.specs.declared.MessageNumber.{MessageNumber}
 use Rattle.model.specs.declared.Uid.{Uid}
 
--- ---- which mailboxes are searched (8, 9): r is needed; and l, where `mailboxes` or `selected` does not name it
+-- ---- which mailboxes are searched (Matches, 8 and 9): r is needed; and l, where `mailboxes` or `selected` does not name it
 abbrev pub admits : Memory → Mailbox → Filter → Bool
 admits m x selected = isSelected m (x .id)
 admits m x delayed = false
-admits m x inboxes = mayList x && (bit 0 (x .attributes) && (bit 1 (x .attributes) && bit 2 (x .attributes)))
-admits m x personal = mayList x && (bit 0 (x .attributes) && bit 1 (x .attributes))
-admits m x subscribed = mayList x && bit 3 (x .attributes)
-admits m x (subtree n ns) = mayList x && (bit 0 (x .attributes) && anyb (λ (t : Name). beneathOrSame (argument t) (nameOf x)) (n ∷ ns))
-admits m x (subtreeOne n ns) = mayList x && (bit 0 (x .attributes) && anyb (λ (t : Name). oneLevelOrSame (argument t) (nameOf x)) (n ∷ ns))
-admits m x (mailboxes n ns) = anyb (λ (t : Name). same (argument t) (nameOf x)) (n ∷ ns)
+admits m x inboxes = mayList x && takenByInboxes (x .attributes)
+admits m x personal = mayList x && takenByPersonal (x .attributes)
+admits m x subscribed = mayList x && takenBySubscribed (x .attributes)
+admits m x (subtree n ns) = mayList x && takenBySubtree argument (n ∷ ns) (nameOf x) (x .attributes)
+admits m x (subtreeOne n ns) = mayList x && takenBySubtreeOne argument (n ∷ ns) (nameOf x) (x .attributes)
+admits m x (mailboxes n ns) = takenByMailboxes argument (n ∷ ns) (nameOf x)
 
 -- with no source the selected mailbox is searched
 abbrev pub orSelected : List Filter → List Filter
@@ -37,7 +38,7 @@ orSelected (f ∷ fs) = f ∷ fs
 abbrev pub searched : Memory → List Filter → List Mailbox
 searched m fs = sorted byName (filterb (λ (x : Mailbox). mayRead x && anyb (admits m x) fs) (boxes m))
 
--- ---- the messages of one (12): in the selected mailbox those of the view, by their places; elsewhere all, by their ranks
+-- ---- the messages of one (Matches, 12): in the selected mailbox those of the view, by their places; elsewhere all, by their ranks
 abbrev pub candidates : Memory → Mailbox → List Message
 candidates m x = cond (isSelected m (x .id)) (view m) (messagesOf (x .id) (mails m))
 
@@ -101,7 +102,7 @@ lastUidOf l = lastOr (record { 0 = 0 }) (map (λ (e : Message). e .uid) l)
 abbrev pub matches : Keys → List Message → List Uid
 matches ks l = matching ks (record { 0 = length l }) (lastUidOf l) 1 l
 
--- ---- the line of one, where something matches: what was asked, in the order MIN, MAX, ALL, COUNT (10; Commands, 7)
+-- ---- the line of one, where something matches: what was asked, in the order MIN, MAX, ALL, COUNT (Matches, 10; Commands, 7)
 abbrev pub results : Search → Uid → List Uid → List Result
 results q u us =
     cond (q .min) (min u ∷ []) []

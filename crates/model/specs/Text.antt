@@ -48,13 +48,13 @@ abbrev pub pack : List Bool → ℕ
 pack [] = 0
 pack (b ∷ bs) = one b + 2 * pack bs
 
--- the first w octets as a number, the lowest first (Records from the host, 2)
+-- the first w octets as a number, the lowest first (Records, 2)
 abbrev pub little : ℕ → List ℕ → ℕ
 little zero b = 0
 little (suc w) [] = 0
 little (suc w) (x ∷ b) = x + 256 * little w b
 
--- ---- quoted strings: a quote and a backslash have a backslash before them (What is written, 2)
+-- ---- quoted strings: a quote and a backslash have a backslash before them (Written, 2)
 abbrev pub escapeOctet : ℕ → List ℕ
 escapeOctet b = cond (eqb b 34) (92 ∷ b ∷ []) (cond (eqb b 92) (92 ∷ b ∷ []) (b ∷ []))
 

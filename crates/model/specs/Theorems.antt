@@ -1,25 +1,28 @@
 -- Demands 1 and 3, proved of the definitions. Assumes nothing.
--- Demand 1: the answer is the lowest refusal that applies, a refused call changes nothing, and memory stays lawful.
+-- Demand 1: a call is refused exactly where a refusal applies, by the lowest that does; a refused call changes nothing; memory stays lawful.
 -- Demand 3: Hidden.Demand3 holds, for any two starts.
 use mathlib.Core.Path.{_≡_, refl, sym, _∙_, ap, subst}
 use mathlib.Core.List.{List, [], _∷_}
 use mathlib.Core.Bool.{Bool, true, false, not, cond}
 use Prim.Native.Nat.{ℕ, suc, _+_, _≤_, _<_}
 use native.Mathlib.Omega.{arith}
-use borrow.Author.Tests.{eqb-true, eqb-false, leb-true, leb-false}
+use borrow.Author.Tests.{eqb-true, eqb-false, leb-true, leb-false, not-false}
 use lib.Dec.{eqb, leb, leb·zero}
-use lib.ListN.{length}
+use lib.ListN.{length, drop}
 use Rattle.model.specs.Lists.{allb}
 use Rattle.model.specs.Laws.{tf}
 use Rattle.model.specs.Records.{Record, create, delete, rename, subscribe, grant, arrive, expunge, reflag, select, ended, command, drained, noRecord, recordOf}
 use Rattle.model.specs.Memory.{Memory}
+use Rattle.model.specs.View.{owed}
 use Rattle.model.specs.Answers.{refusalNumber, numberOf}
 use Rattle.model.specs.Lawful.{queueOk, lawful}
-use Rattle.model.specs.Rules.{Outcome, accepted}
+use Rattle.model.specs.Rules.{Outcome, endedAt, accepted}
 use Rattle.model.specs.Call.{applies, refuse, call}
 use Rattle.model.specs.Hidden.{Octets, Called, calls, Starts, Demand3}
 use Rattle.model.specs.Isolation.Streams.{demand}
+use Rattle.model.specs.Lasting.Law.{law-out}
 use Rattle.model.specs.Lasting.Calls.{keeps}
+use Rattle.model.specs.Lasting.Owing.{left-owed, left-counted}
 use Rattle.model.specs.declared.Refusal.{Refusal}
 use Rattle.model.specs.declared.Refusal.the-variants.{UnlawfulMemory, BadRecord, WrongId, NameHeld, WrongUid, WrongState, TableFull, NoRoom}
 use Rattle.model.specs.declared.Answer.{Answer}
@@ -79,6 +82,16 @@ number-positive WrongState = omega arith
 number-positive TableFull = omega arith
 number-positive NoRoom = omega arith
 
+number-bounded : (r : Refusal) → refusalNumber r < 9
+number-bounded UnlawfulMemory = omega arith
+number-bounded BadRecord = omega arith
+number-bounded WrongId = omega arith
+number-bounded NameHeld = omega arith
+number-bounded WrongUid = omega arith
+number-bounded WrongState = omega arith
+number-bounded TableFull = omega arith
+number-bounded NoRoom = omega arith
+
 module _ (m : Memory) (o : Octets) where
   -- none with a number below n applies
   abbrev Below : ℕ → Type 0
@@ -101,34 +114,27 @@ module _ (m : Memory) (o : Octets) where
               decide true e = leb-true (suc a) c e
               decide false e = absurd (n (let z = leb-false (suc a) c e in omega arith))
 
-  -- one rung: the refusal is given, or the answer is that of the rest
-  rung : {P : Type 0} (q : Refusal) (rest : Outcome) (r : Refusal) → cond (applies m o q) (refuse m q) rest .answer ≡ Refused r → Below (refusalNumber q) → (Lowest m o r → P) → (Below (refusalNumber q + 1) → rest .answer ≡ Refused r → P) → P
-  rung {P} q rest r e b given other = go (applies m o q) refl
+  -- one rung: this refusal is the lowest that applies, or none up to it does
+  rung : {P : Type 0} (q : Refusal) → Below (refusalNumber q) → ((r : Refusal) → Lowest m o r → P) → (Below (refusalNumber q + 1) → P) → P
+  rung {P} q b given other = go (applies m o q) refl
     where
       go : (c : Bool) → applies m o q ≡ c → P
-      go true a =
-          let z : q ≡ r = same-number q r (ap numberOf (rw a at e)) in
-          given (subst (Lowest m o) z (a, b))
-      go false a = other (further q b a) (rw a at e)
+      go true a = given q (a, b)
+      go false a = other (further q b a)
 
-  -- the answer is n exactly if n is the least refusal whose condition holds
-  pub refused-lowest : (r : Refusal) → call m o .answer ≡ Refused r → Lowest m o r
-  unfolding call
-  refused-lowest r e =
-      rung UnlawfulMemory _ r e nothing (λ l. l) λ b₁ e₁.
-      rung BadRecord _ r e₁ b₁ (λ l. l) λ b₂ e₂.
-      rung WrongId _ r e₂ b₂ (λ l. l) λ b₃ e₃.
-      rung NameHeld _ r e₃ b₃ (λ l. l) λ b₄ e₄.
-      rung WrongUid _ r e₄ b₄ (λ l. l) λ b₅ e₅.
-      rung WrongState _ r e₅ b₅ (λ l. l) λ b₆ e₆.
-      rung TableFull _ r e₆ b₆ (λ l. l) λ b₇ e₇.
-      rung NoRoom _ r e₇ b₇ (λ l. l) λ b₈ e₈.
-      let z = unrefused m (recordOf o) in
-      let n : numberOf (accepted m (recordOf o) .answer) ≡ refusalNumber r = ap numberOf e₈ in
-      let p = number-positive r in
-      absurd (let w : ⊥ = omega arith in w)
+  -- one of them is the lowest that applies, or none applies
+  ladder : {P : Type 0} → ((r : Refusal) → Lowest m o r → P) → (Below 9 → P) → P
+  ladder given other =
+      rung UnlawfulMemory nothing given λ b₁.
+      rung BadRecord b₁ given λ b₂.
+      rung WrongId b₂ given λ b₃.
+      rung NameHeld b₃ given λ b₄.
+      rung WrongUid b₄ given λ b₅.
+      rung WrongState b₅ given λ b₆.
+      rung TableFull b₆ given λ b₇.
+      rung NoRoom b₇ given other
 
-  -- and then the call gives that refusal, no line, and the memory as it was
+  -- the lowest refusal that applies is what the call gives, with no line, and the memory as it was
   pub lowest-refused : (r : Refusal) → Lowest m o r → call m o ≡ refuse m r
   unfolding call
   lowest-refused UnlawfulMemory l = rw (l .0)
@@ -137,12 +143,82 @@ module _ (m : Memory) (o : Octets) where
   lowest-refused NameHeld l = rw (l .1 UnlawfulMemory (omega arith), l .1 BadRecord (omega arith), l .1 WrongId (omega arith), l .0)
   lowest-refused WrongUid l = rw (l .1 UnlawfulMemory (omega arith), l .1 BadRecord (omega arith), l .1 WrongId (omega arith), l .1 NameHeld (omega arith), l .0)
   lowest-refused WrongState l = rw (l .1 UnlawfulMemory (omega arith), l .1 BadRecord (omega arith), l .1 WrongId (omega arith), l .1 NameHeld (omega arith), l .1 WrongUid (omega arith), l .0)
-  lowest-refused TableFull l = rw (l .1 UnlawfulMemory (omega arith), l .1 BadRecord (omega arith), l .1 WrongId (omega arith), l .1 NameHeld (omega arith), l .1 WrongUid (omega arith), l .1 WrongState (omega arith), l .0)
-  lowest-refused NoRoom l = rw (l .1 UnlawfulMemory (omega arith), l .1 BadRecord (omega arith), l .1 WrongId (omega arith), l .1 NameHeld (omega arith), l .1 WrongUid (omega arith), l .1 WrongState (omega arith), l .1 TableFull (omega arith), l .0)
+  lowest-refused TableFull l = rw (
+    l .1 UnlawfulMemory (omega arith),
+    l .1 BadRecord (omega arith),
+    l .1 WrongId (omega arith),
+    l .1 NameHeld (omega arith),
+    l .1 WrongUid (omega arith),
+    l .1 WrongState (omega arith),
+    l .0,
+  )
+  lowest-refused NoRoom l = rw (
+    l .1 UnlawfulMemory (omega arith),
+    l .1 BadRecord (omega arith),
+    l .1 WrongId (omega arith),
+    l .1 NameHeld (omega arith),
+    l .1 WrongUid (omega arith),
+    l .1 WrongState (omega arith),
+    l .1 TableFull (omega arith),
+    l .0,
+  )
+
+  -- where none applies, the record is accepted
+  none-accepted : Below 9 → call m o ≡ accepted m (recordOf o)
+  unfolding call
+  none-accepted b = rw (
+    b UnlawfulMemory (omega arith),
+    b BadRecord (omega arith),
+    b WrongId (omega arith),
+    b NameHeld (omega arith),
+    b WrongUid (omega arith),
+    b WrongState (omega arith),
+    b TableFull (omega arith),
+    b NoRoom (omega arith),
+  )
+
+  -- a refusal is answered only where it is the lowest that applies
+  pub refused-lowest : (r : Refusal) → call m o .answer ≡ Refused r → Lowest m o r
+  refused-lowest r e = ladder
+      (λ q l. let z : q ≡ r = same-number q r (ap numberOf (sym (ap (λ (x : Outcome). x .answer) (lowest-refused q l)) ∙ e)) in subst (Lowest m o) z l)
+      (λ b.
+      let n : refusalNumber r ≡ 0 = ap numberOf (sym e ∙ ap (λ (x : Outcome). x .answer) (none-accepted b)) ∙ unrefused m (recordOf o) in
+      let p = number-positive r in
+      absurd (let w : ⊥ = omega arith in w))
+
+  -- where any applies the call is refused, by it or by one with a lower number
+  pub applies-refused : (r : Refusal) → applies m o r ≡ true → (q : Refusal) × (call m o ≡ refuse m q) × (refusalNumber q ≤ refusalNumber r)
+  applies-refused r e = ladder
+      (λ q l. (q, lowest-refused q l, least q l (leb (refusalNumber q) (refusalNumber r)) refl))
+      (λ b. tf (applies m o r) e (b r (number-bounded r)))
+    where
+      least : (q : Refusal) → Lowest m o q → (c : Bool) → leb (refusalNumber q) (refusalNumber r) ≡ c → refusalNumber q ≤ refusalNumber r
+      least q l true h = leb-true (refusalNumber q) (refusalNumber r) h
+      least q l false h = tf (applies m o r) e (l .1 r (leb-false (refusalNumber q) (refusalNumber r) h))
 
   -- a refused call leaves every octet
   pub refused-same : (r : Refusal) → call m o .answer ≡ Refused r → call m o .after ≡ m
   refused-same r e = ap (λ (x : Outcome). x .after) (lowest-refused r (refused-lowest r e))
+
+  -- a count is answered where the end of a command was accepted, in lawful memory
+  counted-ended : (n : ℕ) → call m o .answer ≡ Counted n → (c : ℕ) → recordOf o ≡ ended c → (lawful m ≡ true) × (call m o ≡ endedAt m c)
+  unfolding accepted
+  counted-ended n e c r = ladder
+      (λ q l. let z : _≡_ {A = ℕ} 0 1 = clash q (sym e ∙ ap (λ (x : Outcome). x .answer) (lowest-refused q l)) in absurd (let w : ⊥ = omega arith in w))
+      (λ b. (not-false (lawful m) (b UnlawfulMemory (omega arith)), none-accepted b ∙ ap (accepted m) r))
+    where
+      clash : (q : Refusal) → Counted n ≡ Refused q → _≡_ {A = ℕ} 0 1
+      clash q h = cc
+
+  -- its class is then owed the lines that were not written, and the count is how many they are
+  pub lines-left : (n : ℕ) → call m o .answer ≡ Counted n → (c : ℕ) → recordOf o ≡ ended c → owed (call m o .after) c ≡ drop (length (call m o .lines)) (owed m c)
+  lines-left n e c r = let a = counted-ended n e c r in rw (a .1) (left-owed m (law-out m (a .0)) c)
+
+  pub count-left : (n : ℕ) → call m o .answer ≡ Counted n → (c : ℕ) → recordOf o ≡ ended c → n ≡ length (owed (call m o .after) c)
+  count-left n e c r =
+      let a = counted-ended n e c r in
+      let q : Counted n ≡ Counted (length (owed (call m o .after) c)) = sym e ∙ rw (a .1) (left-counted m (law-out m (a .0)) c) in
+      cc
 
 -- from lawful memory every call leaves lawful memory
 pub stays-lawful : (m : Memory) (o : Octets) → lawful m ≡ true → lawful (call m o .after) ≡ true

@@ -1,4 +1,4 @@
--- The selected mailbox: the client's view, and the lines that a command's end owes (01, What is written, 10 to 21).
+-- The selected mailbox: the client's view, and the lines that a command's end owes (01, Written, 10, 11, 13 and 15 to 21; Astray, 1).
 use mathlib.Core.List.{List, [], _∷_, _++_}
 use mathlib.Core.Bool.{Bool, not, cond, _&&_}
 use Prim.Native.Nat.{ℕ, _+_}
@@ -14,26 +14,26 @@ use Rattle.model.specs.declared.MessageNumber.{MessageNumber}
 use Rattle.model.specs.declared.Group.{Group}
 use Rattle.model.specs.declared.Session.{Session}
 
--- the selected mailbox's entries by UID; the client was told of those with a UID below `told` (11)
+-- the selected mailbox's entries by UID; the client was told of those with a UID below `told` (Written, 11)
 abbrev pub announced : Memory → Message → Bool
 announced m e = ltb (uidOf e) (m .session .told)
 
-abbrev pub ofSelected : Memory → List Message
-ofSelected m = messagesOf (m .session .selected) (mails m)
+abbrev pub selectedMessages : Memory → List Message
+selectedMessages m = messagesOf (m .session .selected) (mails m)
 
 -- the client's view, expunged messages that wait among it
 abbrev pub view : Memory → List Message
-view m = filterb (announced m) (ofSelected m)
+view m = filterb (announced m) (selectedMessages m)
 
 abbrev pub unannounced : Memory → List Message
-unannounced m = filterb (λ (e : Message). not (announced m e)) (ofSelected m)
+unannounced m = filterb (λ (e : Message). not (announced m e)) (selectedMessages m)
 
 -- the place of message u in a view, from 1
 abbrev pub placeOf : ℕ → List Message → MessageNumber
 placeOf u v = record { 0 = 1 + length (filterb (λ (e : Message). ltb (uidOf e) u) v) }
 
 -- ---- lines
--- EXPUNGE for each expunged message; n is the place of the next one when those before it are gone
+-- EXPUNGE for each expunged message; n is the place of the next one when those before it are gone (Astray, 1)
 unfoldable pub expungeLines : ℕ → List Message → List Line
 expungeLines n [] = []
 expungeLines n (e ∷ v) =
@@ -57,7 +57,7 @@ abbrev pub existsLine : ℕ → List Message → List Line
 existsLine k [] = []
 existsLine k (e ∷ l) = exists (record { 0 = k + length (e ∷ l) }) ∷ []
 
--- what the end of a command owes (20): with both rights, EXPUNGE for class 1 alone, EXISTS, and FETCH for each mark
+-- what the end of a command owes (Written, 20 and 21): with both rights, EXPUNGE for class 1 alone, EXISTS, and FETCH for each mark
 abbrev pub remainder : Memory → ℕ → List Message
 remainder m c = cond (eqb c 1) (filterb (λ (e : Message). not (expunged e)) (view m)) (view m)
 
@@ -70,7 +70,7 @@ owedLines m c =
 abbrev pub owed : Memory → ℕ → List Line
 owed m c = cond (bothRights (selectedBox m)) (owedLines m c) []
 
--- ---- what is written at once: the selected group asks for it, and both rights are held (15, 16, 19)
+-- ---- what is written at once: the selected group asks for it, and both rights are held (Written, 15, 16 and 19)
 abbrev pub newAtOnce : Memory → Bool
 newAtOnce m = bothRights (selectedBox m) && selectedAsks (m .session) asksNew
 
@@ -81,13 +81,13 @@ expungeAtOnce m = bothRights (selectedBox m) && immediateAsks (m .session) asksE
 abbrev pub flagsAtOnce : Memory → Bool
 flagsAtOnce m = bothRights (selectedBox m) && selectedAsks (m .session) asksFlags
 
--- before the first NOTIFY a flag change waits as a mark (18)
+-- before the first NOTIFY a flag change waits as a mark (Written, 18)
 abbrev pub flagsWait : Memory → Bool
 flagsWait m = bothRights (selectedBox m) && eqb (m .session .notified) 0
 
--- ---- new messages announced at once: EXISTS, and a FETCH of what was asked for each of them (10, 13)
-abbrev pub shown : Session → Message → List Item
-shown s e =
+-- ---- new messages announced at once: EXISTS, and a FETCH of what was asked for each of them (Written, 10 and 13)
+abbrev pub shownItems : Session → Message → List Item
+shownItems s e =
     cond (selectedAsks s (λ (g : Group). bit 0 (g .attributes))) (uid (e .uid) ∷ []) []
     ++ (cond (selectedAsks s (λ (g : Group). bit 1 (g .attributes))) (flags (e .flags) ∷ []) []
     ++ cond (selectedAsks s (λ (g : Group). bit 2 (g .attributes))) (size (e .size) ∷ []) [])
@@ -97,7 +97,7 @@ showsAny s = selectedAsks s (λ (g : Group). not (eqb (g .attributes) 0))
 
 unfoldable pub newLines : Session → ℕ → List Message → List Line
 newLines s n [] = []
-newLines s n (e ∷ l) = fetch (record { 0 = n }) (e .uid) (shown s e) ∷ newLines s (n + 1) l
+newLines s n (e ∷ l) = fetch (record { 0 = n }) (e .uid) (shownItems s e) ∷ newLines s (n + 1) l
 
 abbrev pub announcing : Memory → List Line
 announcing m =

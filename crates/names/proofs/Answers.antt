@@ -1,18 +1,27 @@
 -- What the tests that a function made say of its answer. Assumes nothing.
 use mathlib.Core.Path.{_≡_, refl, ap, sym, _∙_}
 use mathlib.Core.Bool.{Bool, true, false, not, cond, _&&_, _||_}
-use mathlib.Core.List.{List, []}
+use mathlib.Core.List.{List, [], _∷_}
 use Prim.Native.Nat.{ℕ, _+_, _<_, _≤_}
 use native.Mathlib.Omega.{arith}
 use lib.Dec.{eqb, leb}
 use lib.ListN.{length, drop}
-use borrow.Author.Tests.{lt-leb, le-leb, leb-true}
+use borrow.Author.Tests.{leb-true}
 use Rattle.model.specs.Lists.{same, anyb, allb}
 use Rattle.model.specs.Text.{sameWord}
-use Rattle.model.specs.Names.{printable, noPartEmpty, valid, inbox, fold, beneath, subtree, subtreeOne}
+use Rattle.model.specs.Names.{printable, noPartEmpty, valid, inbox, fold, leads, beneath, subtree, subtreeOne}
 use Rattle.model.specs.Listing.{lendName}
 use Rattle.model.specs.declared.LentName.{LentName}
 use Rattle.names.specs.Kept.{keptName}
+
+-- ---- beneath
+pub beneath-empty : (top n : List ℕ) → length top ≡ 0 → beneath top n ≡ false
+beneath-empty [] n e = refl
+beneath-empty (a ∷ top) n e = absurd (omega arith)
+
+pub beneath-other : (top n : List ℕ) → (length top ≡ 0 → ⊥) → beneath top n ≡ leads top n
+beneath-other [] n h = absurd (h refl)
+beneath-other (a ∷ top) n h = refl
 
 -- ---- a subtree, and one level of it
 module _ (top n : List ℕ) where
@@ -32,19 +41,6 @@ module _ (top n : List ℕ) where
   level-other e d = rw (e, d)
 
 -- ---- a valid name
-module _ (n : List ℕ) where
-  pub valid-none : length n < 1 → valid n ≡ false
-  valid-none h = rw (lt-leb 1 (length n) h)
-
-  pub valid-long : 64 < length n → valid n ≡ false
-  valid-long h = rw (le-leb 1 (length n) (omega arith), lt-leb (length n) 64 h)
-
-  pub valid-odd : 1 ≤ length n → length n ≤ 64 → allb printable n ≡ false → valid n ≡ false
-  valid-odd l u e = rw (le-leb 1 (length n) l, le-leb (length n) 64 u, e)
-
-  pub valid-parts : 1 ≤ length n → length n ≤ 64 → allb printable n ≡ true → valid n ≡ noPartEmpty false n
-  valid-parts l u e = rw (le-leb 1 (length n) l, le-leb (length n) 64 u, e)
-
 both-left : (p q : Bool) → p && q ≡ true → p ≡ true
 both-left true q e = refl
 both-left false q e = e

@@ -11,7 +11,7 @@ use lib.Seq.{drop-cons, take-suc, take-all, set-at, append-snoc, length-take-le}
 use borrow.Author.Tests.{eq-eqb, ne-eqb, lt-leb, le-leb, le-ltb}
 use Rattle.model.specs.Lists.{same, anyb, allb}
 use Rattle.model.specs.Text.{upper, sameWord}
-use Rattle.model.specs.Names.{printable, noPartEmpty, beneath, before}
+use Rattle.model.specs.Names.{printable, noPartEmpty, leads, before}
 use Rattle.model.specs.declared.LentName.{LentName}
 use Rattle.names.specs.Kept.{keptName}
 
@@ -45,26 +45,26 @@ module _ (a b : List ℕ) (i : ℕ) where
   unfolding same
   same-past h k = rw (drop-of-length-le a h, drop-of-length-le b k)
 
--- ---- beneath
-pub beneath-short : (a b : List ℕ) → length b ≤ length a → beneath a b ≡ false
-unfolding beneath
-beneath-short [] [] h = refl
-beneath-short [] (y ∷ b) h = absurd (omega arith)
-beneath-short (x ∷ a) [] h = refl
-beneath-short (x ∷ a) (y ∷ b) h = neither (eqb x y) (beneath a b) (beneath-short a b (omega arith))
+-- ---- leads
+pub leads-short : (a b : List ℕ) → length b ≤ length a → leads a b ≡ false
+unfolding leads
+leads-short [] [] h = refl
+leads-short [] (y ∷ b) h = absurd (omega arith)
+leads-short (x ∷ a) [] h = refl
+leads-short (x ∷ a) (y ∷ b) h = neither (eqb x y) (leads a b) (leads-short a b (omega arith))
 
 module _ (a b : List ℕ) (i : ℕ) where
-  pub beneath-next : i < length a → i < length b → getD a i 0 ≡ getD b i 0 → beneath (drop i a) (drop i b) ≡ beneath (drop (i + 1) a) (drop (i + 1) b)
-  unfolding beneath
-  beneath-next h k e = rw (add-one, drop-cons a i 0 h, drop-cons b i 0 k, eq-eqb _ _ e)
+  pub leads-next : i < length a → i < length b → getD a i 0 ≡ getD b i 0 → leads (drop i a) (drop i b) ≡ leads (drop (i + 1) a) (drop (i + 1) b)
+  unfolding leads
+  leads-next h k e = rw (add-one, drop-cons a i 0 h, drop-cons b i 0 k, eq-eqb _ _ e)
 
-  pub beneath-differs : i < length a → i < length b → (getD a i 0 ≡ getD b i 0 → ⊥) → beneath (drop i a) (drop i b) ≡ false
-  unfolding beneath
-  beneath-differs h k e = rw (drop-cons a i 0 h, drop-cons b i 0 k, ne-eqb _ _ e)
+  pub leads-differs : i < length a → i < length b → (getD a i 0 ≡ getD b i 0 → ⊥) → leads (drop i a) (drop i b) ≡ false
+  unfolding leads
+  leads-differs h k e = rw (drop-cons a i 0 h, drop-cons b i 0 k, ne-eqb _ _ e)
 
-  pub beneath-past : length a ≤ i → i < length b → beneath (drop i a) (drop i b) ≡ eqb (getD b i 0) 47
-  unfolding beneath
-  beneath-past h k = rw (drop-of-length-le a h, drop-cons b i 0 k)
+  pub leads-past : length a ≤ i → i < length b → leads (drop i a) (drop i b) ≡ eqb (getD b i 0) 47
+  unfolding leads
+  leads-past h k = rw (drop-of-length-le a h, drop-cons b i 0 k)
 
 -- ---- octet order
 module _ (a b : List ℕ) (i : ℕ) where
@@ -111,39 +111,6 @@ module _ (a b : List ℕ) (i : ℕ) where
   pub words-past : length a ≤ i → length b ≤ i → sameWord (drop i a) (drop i b) ≡ true
   unfolding same
   words-past h k = rw (drop-of-length-le a h, drop-of-length-le b k)
-
--- ---- octets that may stand in a name
-module _ (n : List ℕ) (i : ℕ) where
-  pub prints-next : i < length n → 0x20 ≤ getD n i 0 → getD n i 0 ≤ 0x7E → allb printable (drop i n) ≡ allb printable (drop (i + 1) n)
-  prints-next h l u = rw (add-one, drop-cons n i 0 h, le-leb 0x20 (getD n i 0) l, le-leb (getD n i 0) 0x7E u)
-
-  pub prints-low : i < length n → getD n i 0 < 0x20 → allb printable (drop i n) ≡ false
-  prints-low h l = rw (drop-cons n i 0 h, lt-leb 0x20 (getD n i 0) l)
-
-  pub prints-high : i < length n → 0x20 ≤ getD n i 0 → 0x7E < getD n i 0 → allb printable (drop i n) ≡ false
-  prints-high h l u = rw (drop-cons n i 0 h, le-leb 0x20 (getD n i 0) l, lt-leb (getD n i 0) 0x7E u)
-
-  pub prints-past : length n ≤ i → allb printable (drop i n) ≡ true
-  prints-past h = rw (drop-of-length-le n h)
-
--- ---- parts: `was` says whether the part has an octet, `next` whether it has one at the next place
-module _ (n : List ℕ) (i : ℕ) (was next : Bool) where
-  pub part-closed : i < length n → getD n i 0 ≡ 47 → was ≡ true → next ≡ false → noPartEmpty was (drop i n) ≡ noPartEmpty next (drop (i + 1) n)
-  unfolding noPartEmpty
-  part-closed h e w x = rw (w, x, add-one, drop-cons n i 0 h, eq-eqb (getD n i 0) 47 e)
-
-  pub part-longer : i < length n → (getD n i 0 ≡ 47 → ⊥) → next ≡ true → noPartEmpty was (drop i n) ≡ noPartEmpty next (drop (i + 1) n)
-  unfolding noPartEmpty
-  part-longer h e x = rw (x, add-one, drop-cons n i 0 h, ne-eqb (getD n i 0) 47 e)
-
-module _ (n : List ℕ) (i : ℕ) (was : Bool) where
-  pub part-empty : i < length n → getD n i 0 ≡ 47 → was ≡ false → noPartEmpty was (drop i n) ≡ false
-  unfolding noPartEmpty
-  part-empty h e w = rw (w, drop-cons n i 0 h, eq-eqb (getD n i 0) 47 e)
-
-  pub part-past : length n ≤ i → noPartEmpty was (drop i n) ≡ was
-  unfolding noPartEmpty
-  part-past h = rw (drop-of-length-le n h)
 
 -- ---- a name that is copied to the front of 64 zeros
 module _ (n o : List ℕ) (i : ℕ) where

@@ -1,1 +1,3 @@
 pub mod Kept
+pub mod Once
+pub mod Folding

@@ -1,14 +1,16 @@
 // Mailbox names: what a name is, how an argument is kept, which names are the same, beneath one another, and in what order.
 ghost use mathlib.Core.Path.{_≡_};
-ghost use mathlib.Core.Bool.{false};
+ghost use mathlib.Core.Bool.{_&&_};
 ghost use lib.ListN.{length, drop};
-ghost use Prim.Native.Nat.{_≤_};
+ghost use Prim.Native.Nat.{_≤_, _<_};
 ghost use lib.Dec.{eqb};
-ghost use Rattle.model.specs.Lists.{same, anyb, allb};
+ghost use Rattle.model.specs.Lists.{same, anyb};
 ghost use Rattle.model.specs.Text.{upper, sameWord};
-ghost use Rattle.model.specs.Names.{printable, noPartEmpty, valid, inbox, beneath, subtree, subtreeOne, before};
+ghost use Rattle.model.specs.Names.{valid, fold, inbox, leads, beneath, subtree, subtreeOne, before};
 ghost use Rattle.model.specs.Listing.{lendName};
+ghost use Rattle.model.specs.Lawful.{zeros};
 ghost use Rattle.names.specs.Kept.{keptName};
+ghost use Rattle.names.specs.Once.{textOk};
 use model::LentName;
 
 // Two names are the same, octet for octet.
@@ -28,9 +30,9 @@ pub fn same(a: &[u8], b: &[u8]) -> bool
     true
 }
 
-// The name lies beneath top: it begins with top and `/`.
-pub fn beneath(top: &[u8], name: &[u8]) -> bool
-    ensures { λ r. ⌜ r ≡ beneath (now (top .entry)) (now (name .entry)) ⌝ }
+// The name begins with top and `/`.
+fn leads(top: &[u8], name: &[u8]) -> bool
+    ensures { λ r. ⌜ r ≡ leads (now (top .entry)) (now (name .entry)) ⌝ }
 {
     if name.len() <= top.len() {
         return false;
@@ -43,6 +45,16 @@ pub fn beneath(top: &[u8], name: &[u8]) -> bool
         i += 1;
     }
     name[i] == b'/'
+}
+
+// The name lies beneath top. Beneath the empty name, which an argument gives that is not valid, lies nothing.
+pub fn beneath(top: &[u8], name: &[u8]) -> bool
+    ensures { λ r. ⌜ r ≡ beneath (now (top .entry)) (now (name .entry)) ⌝ }
+{
+    if top.len() == 0 {
+        return false;
+    }
+    leads(top, name)
 }
 
 // The name is top, or lies beneath it.
@@ -136,41 +148,34 @@ pub fn is_inbox(name: &[u8]) -> bool
     same_word(name, b"INBOX")
 }
 
-// Every octet may stand in a name.
-fn all_printable(name: &[u8]) -> bool
-    ensures { λ r. ⌜ r ≡ allb printable (now (name .entry)) ⌝ }
+// Two slashes, one behind the other.
+fn both_slashes(b: u8, last: u8) -> bool
+    ensures { λ r. ⌜ r ≡ (eqb b 47 && eqb last 47) ⌝ }
 {
-    let mut i = 0;
-    while i < name.len() {
-        if name[i] < 0x20 {
-            return false;
-        }
-        if 0x7e < name[i] {
-            return false;
-        }
-        i += 1;
-    }
-    true
+    if b == b'/' { last == b'/' } else { false }
 }
 
-// No part between `/` is empty.
-fn no_part_empty(name: &[u8]) -> bool
-    ensures { λ r. ⌜ r ≡ noPartEmpty false (now (name .entry)) ⌝ }
+// Every octet may stand in a name, and no part is empty: one pass.
+fn text_ok(name: &[u8]) -> bool
+    ensures { λ r. ⌜ r ≡ textOk (now (name .entry)) ⌝ }
 {
-    let mut begun = false;
+    let mut last: u8 = b'/';
     let mut i = 0;
     while i < name.len() {
-        if name[i] == b'/' {
-            if !begun {
-                return false;
-            }
-            begun = false;
-        } else {
-            begun = true;
+        let b = name[i];
+        if b < 0x20 {
+            return false;
         }
+        if 0x7e < b {
+            return false;
+        }
+        if both_slashes(b, last) {
+            return false;
+        }
+        last = b;
         i += 1;
     }
-    begun
+    last != b'/'
 }
 
 // A valid name: 1 to 64 octets that may stand in a name, in parts of one or more.
@@ -183,10 +188,38 @@ pub fn is_valid(name: &[u8]) -> bool
     if 64 < name.len() {
         return false;
     }
-    if all_printable(name) {
-        return no_part_empty(name);
+    text_ok(name)
+}
+
+// INBOX is in capitals; any other name is as it is.
+pub fn is_folded(name: &[u8]) -> bool
+    ensures { λ r. ⌜ r ≡ same (fold (now (name .entry))) (now (name .entry)) ⌝ }
+{
+    if is_inbox(name) {
+        return same(b"INBOX", name);
     }
-    false
+    true
+}
+
+// An octet as it is, in a wider type.
+fn wide(x: u8) -> u64
+    ensures { λ r. ⌜ (r ≡ x) × (r < 256) ⌝ }
+{
+    x as u64
+}
+
+// Every octet is zero, as those behind a name are: their sum is.
+pub fn all_zero(s: &[u8]) -> bool
+    requires { ⌜ length (now s) ≤ 65536 ⌝ }
+    ensures { λ r. ⌜ r ≡ zeros (now (s .entry)) ⌝ }
+{
+    let mut sum: u64 = 0;
+    let mut i = 0;
+    while i < s.len() {
+        sum += wide(s[i]);
+        i += 1;
+    }
+    sum == 0
 }
 
 // A name at the front of 64 octets, zeros behind it.

@@ -11,7 +11,7 @@ use borrow.Author.Tests.{le-leb, lt-leb, leb-true, eq-eqb, ne-eqb}
 use Rattle.model.specs.Lists.{same, anyb, allb}
 use Rattle.model.specs.Text.{octets, upper, sameWord}
 use Rattle.model.specs.Octets.{digit}
-use Rattle.model.specs.Reading.{run, endOf, piece, is, isOf, months, digitsAt, monthAt, bareDateAt, dateAt}
+use Rattle.model.specs.Reading.{runLength, endOf, piece, is, isOf, months, digitsAt, monthAt, bareDateAt, dateAt}
 use Rattle.octets.specs.Found.{nextOf}
 use Rattle.octets.specs.Months.{early, late}
 use Rattle.octets.specs.declared.Next.{Next}
@@ -21,18 +21,18 @@ use Rattle.octets.proofs.Chains.{then-bad, then-ok, after-none, after-s
 -- so many digits
 module _ (least most : ℕ) (s : List ℕ) (at q : ℕ) (e : q ≡ endOf digit s at) where
   pub digits-few : q - at < least → Bad ≡ nextOf (digitsAt least most s at)
-  digits-few h = let m : run digit (drop at s) < least = omega arith in rw (lt-leb _ _ m)
+  digits-few h = let m : runLength digit (drop at s) < least = omega arith in rw (lt-leb _ _ m)
 
   pub digits-many : least ≤ q - at → most < q - at → Bad ≡ nextOf (digitsAt least most s at)
   digits-many h l =
-      let m : least ≤ run digit (drop at s) = omega arith in
-      let n : most < run digit (drop at s) = omega arith in
+      let m : least ≤ runLength digit (drop at s) = omega arith in
+      let n : most < runLength digit (drop at s) = omega arith in
       rw (le-leb _ _ m, lt-leb _ _ n)
 
   pub digits-are : least ≤ q - at → q - at ≤ most → At q ≡ nextOf (digitsAt least most s at)
   digits-are h l =
-      let m : least ≤ run digit (drop at s) = omega arith in
-      let n : run digit (drop at s) ≤ most = omega arith in
+      let m : least ≤ runLength digit (drop at s) = omega arith in
+      let n : runLength digit (drop at s) ≤ most = omega arith in
       rw (le-leb _ _ m, le-leb _ _ n) (ap At e)
 
 -- a text is no word that is longer

@@ -8,24 +8,24 @@ use native.Mathlib.Omega.{arith}
 use lib.ListN.{length, getD, drop, drop-of-length-le, length-drop}
 use lib.Seq.{drop-cons}
 use borrow.Author.Tests.{lt-ltb, le-ltb}
-use Rattle.model.specs.Reading.{run, endOf, runAt}
+use Rattle.model.specs.Reading.{runLength, endOf, runAt}
 use Rattle.octets.specs.Found.{nextOf}
 use Rattle.octets.specs.declared.Next.the-variants.{At, Bad}
 
 module _ (class : ℕ → Bool) (s : List ℕ) (p : ℕ) where
   -- behind the text
   pub run-past : length s ≤ p → endOf class s p ≡ p
-  unfolding run
+  unfolding runLength
   run-past h = rw (drop-of-length-le s h) (omega arith)
 
   -- an octet of another class
   pub run-stops : p < length s → class (getD s p 0) ≡ false → endOf class s p ≡ p
-  unfolding run
+  unfolding runLength
   run-stops h e = rw (drop-cons s p 0 h, e) (omega arith)
 
   -- an octet of the class
   pub run-goes : p < length s → class (getD s p 0) ≡ true → endOf class s p ≡ endOf class s (p + 1)
-  unfolding run
+  unfolding runLength
   run-goes h e = rw (drop-cons s p 0 h, e, add-one p) (omega arith)
 
 -- the answer of `runAt`, by the end of the run

@@ -5,3 +5,4 @@ pub mod Quotes
 pub mod Values
 pub mod Months
 pub mod Widths
+pub mod Rows

@@ -2,6 +2,7 @@
 //! papers alone, to find wrong definitions elsewhere and to measure against.
 
 pub mod abnf;
+pub mod account;
 pub mod answers;
 pub mod call;
 pub mod command;

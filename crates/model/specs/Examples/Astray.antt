@@ -1,4 +1,4 @@
--- The three easy mistakes, each as two streams for which pushrun prints the same lines (01, Easy ways to go astray, 1 to 3).
+-- The three easy mistakes, each as two streams for which pushrun prints the same lines (01, Astray, 1 to 3).
 use mathlib.Core.Path.{refl}
 use mathlib.Core.List.{List, [], _∷_}
 use Prim.Native.String.{String}

@@ -1,4 +1,4 @@
--- The cases P1 to P10 of 01, as one table under one statement (Examples on each side, 1 to 8; Duties of the public functions, 5).
+-- The cases P1 to P10, as one table under one statement (01, Examples, 1 to 8; Duties, 5).
 use mathlib.Core.Path.{_≡_, refl}
 use mathlib.Core.List.{List, [], _∷_, map}
 use Prim.Native.String.{String}

@@ -1,5 +1,5 @@
 -- Two streams that differ in hidden records alone: what is computed of them, and that it meets the premises of demand 3
--- (01, Duties of the public functions, 7 to 13). A test of every record would run both streams for each, so the ids are tested once.
+-- (01, Duties, 7 to 13). A test of every record would run both streams for each, so the ids are tested once.
 use mathlib.Core.Path.{_≡_, refl, sym, _∙_, ap}
 use mathlib.Core.List.{List, [], _∷_, _++_, map}
 use mathlib.Core.Bool.{Bool, true, false, not, _||_}
@@ -12,8 +12,9 @@ use Rattle.model.specs.Lists.{filterb, anyb, allb}
 use Rattle.model.specs.Laws.{tf, and-l, and-r}
 use Rattle.model.specs.Records.{about}
 use Rattle.model.specs.Memory.{Memory}
+use Rattle.model.specs.Answers.{numberOf}
 use Rattle.model.specs.Call.{call}
-use Rattle.model.specs.Hidden.{Octets, Called, calls, hidden, without, remaining, excepted, unexcepted, shown, Starts}
+use Rattle.model.specs.Hidden.{Octets, Called, calls, hidden, without, remaining, excepted, unexcepted, observed, Starts}
 use Rattle.model.specs.Pushrun.{start}
 use Rattle.model.specs.Examples.Stream.{lines}
 
@@ -81,6 +82,10 @@ module _ (p : Pair) where
   abbrev pub rightCalls : (ℕ → Bool) → List Called
   rightCalls H = remaining H (calls empty (p .right))
 
+  -- the numbers that the records of the left stream get that do not remain, 0 for those that are not refused
+  abbrev pub dropped : (ℕ → Bool) → List ℕ
+  dropped H = map (λ (c : Called). numberOf (c .answer)) (filterb (λ (c : Called). H (about (c .octets))) (calls empty (p .left)))
+
   -- the lists of ids are right, and no record is about another
   pub record Ids : Type 0 where
     pub gone : allb isHidden (p .gone) ≡ true
@@ -95,8 +100,8 @@ module _ (p : Pair) where
     pub rest : without H (p .left) ≡ without H (p .right)
     pub excepts : anyb (λ (c : Called). excepted (c .answer)) (leftCalls H) ≡ e
     pub unexcepts : unexcepted (rightCalls H)
-    pub left : map shown (leftCalls H) ≡ after [] v
-    pub right : map shown (rightCalls H) ≡ after [] w
+    pub left : map observed (leftCalls H) ≡ after [] v
+    pub right : map observed (rightCalls H) ≡ after [] w
 
   -- the premises of demand 3 hold, and both streams show this
   abbrev pub Alike : List Said → Type 0
@@ -140,6 +145,10 @@ module _ (p : Pair) (d : Ids p) where
 
   remaining-same : (os : List Octets) → allb (λ (o : Octets). isListed p (about o)) os ≡ true → remaining (isHidden p) (calls (empty p) os) ≡ remaining (isGone p) (calls (empty p) os)
   remaining-same os e = filter-agree (λ (c : Called). isListed p (about (c .octets))) _ _ (λ c k. ap not (agree (about (c .octets)) k)) (calls (empty p) os) (calls-all _ (empty p) os e)
+
+  pub dropped-same : dropped p (isHidden p) ≡ dropped p (isGone p)
+  dropped-same = ap (map (λ (c : Called). numberOf (c .answer)))
+      (filter-agree (λ (c : Called). isListed p (about (c .octets))) _ _ (λ c k. agree (about (c .octets)) k) (calls (empty p) (p .left)) (calls-all _ (empty p) (p .left) (d .left)))
 
   -- what is computed with the list holds of the ids that demand 3 calls hidden
   pub by-ids : {e : Bool} {v w : List Said} → Compared p (isGone p) e v w → Compared p (isHidden p) e v w

@@ -1,4 +1,4 @@
--- Demand 3 is not empty: pairs of streams that differ in hidden records alone, each with what both show (01, Duties of the public functions, 7 to 13).
+-- Demand 3 is not empty: pairs of streams that differ in hidden records alone, each with what both show (01, Duties, 7 to 13).
 -- Mailbox 1 is the visible `Ops`; `Vault` is hidden: it is personal and selectable, and nobody may list or read it.
 use mathlib.Core.Path.{refl}
 use mathlib.Core.List.{List, [], _∷_, _++_}

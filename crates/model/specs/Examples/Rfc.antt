@@ -1,4 +1,4 @@
--- Examples of RFC 5465 and RFC 6237 in house form: the records that lead to them, and what pushrun prints (01, Planned build, 1 and 3; Duties, 6).
+-- Examples of RFC 5465 and RFC 6237 in house form: the records that lead to them, and what pushrun prints (01, Build, 1 and 3; Duties, 6).
 -- Counts are small, names quoted, lines end as 01 has them. Where an example breaks the grammar, its inner parentheses are put in.
 use mathlib.Core.Path.{refl}
 use mathlib.Core.List.{[], _∷_}

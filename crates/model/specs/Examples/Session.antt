@@ -1,4 +1,4 @@
--- The session printed in 01, by computation (Examples on each side, 10 to 12).
+-- The session printed in 01, by computation (01, Examples, 10 to 12).
 use mathlib.Core.Path.{refl}
 use mathlib.Core.List.{List, [], _∷_, _++_}
 use Prim.Native.String.{String}

@@ -1,5 +1,5 @@
 -- Records and streams for the examples: a builder for each kind of record, the texts that are written, and all that is computed with
--- (01, Records from the host, 1 to 18; Examples on each side, 10).
+-- (01, Records, 1 to 18; Examples, 10).
 use mathlib.Core.Path.{_≡_}
 use mathlib.Core.List.{List, [], _∷_, _++_}
 use Prim.Native.Nat.{ℕ, _/_, _%_}
@@ -7,10 +7,10 @@ use Prim.Native.String.{String}
 use lib.ListN.{length}
 use Rattle.model.specs.Lists.{same, concatMap}
 use Rattle.model.specs.Text.{octets, decimal, digits, quoted, escape}
-use Rattle.model.specs.Names.{noPartEmpty, beneath, before}
+use Rattle.model.specs.Names.{noPartEmpty, leads, before}
 use Rattle.model.specs.Memory.{place}
 use Rattle.model.specs.Records.{recordOf}
-use Rattle.model.specs.Reading.{run, valueFrom, unquote, rowAt, numberAt, setAt, dateAt}
+use Rattle.model.specs.Reading.{runLength, valueFrom, unquote, rowAt, numberAt, setAt, dateAt}
 use Rattle.model.specs.Attributes.{sectionWord, sectionAt, labelOf, attributeAt}
 use Rattle.model.specs.NotifyGrammar.{scopeOf, filterAt, eventOf, eventsAt, groupAt, notifyAt}
 use Rattle.model.specs.SearchGrammar.{keywordOf, startAt, keyAt, returnsAt, charsetAt, searchAt}
@@ -90,5 +90,5 @@ Prints os ts = pushrun (concatMap (λ (o : Octets). o) os) ≡ lines ts
 
 -- all that an example computes with: it says `unfolding computed`
 unfoldable pub computed : Unit {0}
-unfolding cut printed call accepted lawful answerLines answered tellings settled effects written shifted fitting renderAll render runsText decimal digits quoted escape same noPartEmpty beneath before place recordOf run valueFrom unquote rowAt numberAt setAt dateAt sectionWord sectionAt labelOf attributeAt scopeOf filterAt eventOf eventsAt groupAt notifyAt keywordOf startAt keyAt returnsAt charsetAt searchAt commandOf tagOf someTest keyCount keyDepth expungeLines markedLines newLines holds matching
+unfolding cut printed call accepted lawful answerLines answered tellings settled effects written shifted fitting renderAll render runsText decimal digits quoted escape same noPartEmpty leads before place recordOf runLength valueFrom unquote rowAt numberAt setAt dateAt sectionWord sectionAt labelOf attributeAt scopeOf filterAt eventOf eventsAt groupAt notifyAt keywordOf startAt keyAt returnsAt charsetAt searchAt commandOf tagOf someTest keyCount keyDepth expungeLines markedLines newLines holds matching
 computed = tt

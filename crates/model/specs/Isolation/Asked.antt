@@ -18,7 +18,7 @@ use Rattle.model.specs.Groups.{askedOf, selectedAsks, asksMessages, asks
 use Rattle.model.specs.Lines.{Line, list, statusAtSet, noAccess, answer, renderAll}
 use Rattle.model.specs.Queue.{say}
 use Rattle.model.specs.View.{owed}
-use Rattle.model.specs.Listing.{listing, listingLine, applies, byName, asksAny, watching}
+use Rattle.model.specs.Listing.{listing, listingLine, concerns, byName, asksAny, watching}
 use Rattle.model.specs.Searching.{admits, orSelected, searched, candidates, matches, foundLine, foundLines}
 use Rattle.model.specs.Answering.{verb, verbOf, workLines, acceptedLines, isAccepted, firstReply, withinQueue, reply, answerLines, sessionBy, withAsked, answered}
 use Rattle.model.specs.Hidden.{visible, holdsRight}
@@ -67,15 +67,15 @@ module _ (H : ℕ → Bool) (s t : Memory) (a : Alike H s t) (d : Dark H s) wher
       (statusAtSet (nameOf x) (length (filterb (λ (e : Message). not (expunged e)) (same-messages H s t a (x .id) (not-true (H (x .id)) h) j))) (x .uidnext) (x .uidvalidity)))
       (list noAccess (nameOf x) ∷ [])
 
-  same-applies : (n : Session) (x : Mailbox) → applies t n x ≡ applies s n x
+  same-applies : (n : Session) (x : Mailbox) → concerns t n x ≡ concerns s n x
   same-applies n x = λ j. cond (not (eqb (x .id) 0) && eqb (x .id) (same-id H s t a j)) (selectedAsks n asksAny || askedOf n x asksMailbox) (askedOf n x asksAny)
 
   pub same-listing : (n : Session) (w : Bool) → listing t n w ≡ listing s n w
   same-listing n w =
-      concat-same (listingLine t n w) (listingLine s n w) (staysBox H) (same-line n w) (sorted byName (filterb (λ (x : Mailbox). mayList x && applies t n x) (boxes t))) (found-stay (λ (x : Mailbox). mayList x && applies t n x))
+      concat-same (listingLine t n w) (listingLine s n w) (staysBox H) (same-line n w) (sorted byName (filterb (λ (x : Mailbox). mayList x && concerns t n x) (boxes t))) (found-stay (λ (x : Mailbox). mayList x && concerns t n x))
       ∙ ap (λ (l : List Mailbox). concatMap (listingLine s n w) (sorted byName l))
       ((λ j. filterb (λ (x : Mailbox). mayList x && same-applies n x j) (boxes t))
-      ∙ same-found-boxes (λ (x : Mailbox). mayList x && applies s n x) (λ x e. listed x (and-l (mayList x) _ e)))
+      ∙ same-found-boxes (λ (x : Mailbox). mayList x && concerns s n x) (λ x e. listed x (and-l (mayList x) _ e)))
 
   -- ---- the search
   same-admits : (x : Mailbox) (f : Filter) → admits t x f ≡ admits s x f

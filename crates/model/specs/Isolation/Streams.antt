@@ -13,7 +13,7 @@ use Rattle.model.specs.Memory.{Memory, boxes, mails, filled}
 use Rattle.model.specs.Answers.{numberOf, countsOf}
 use Rattle.model.specs.Lawful.{lawful, sizesOk, contentsOk}
 use Rattle.model.specs.Call.{call}
-use Rattle.model.specs.Hidden.{Octets, Called, calls, holdsRight, everHeld, hidden, without, remaining, excepted, unexcepted, shown, Starts, Demand3}
+use Rattle.model.specs.Hidden.{Octets, Called, calls, holdsRight, everHeld, hidden, without, remaining, excepted, unexcepted, observed, Starts, Demand3}
 use Rattle.model.specs.declared.Answer.the-variants.{Refused}
 use Rattle.model.specs.declared.Refusal.the-variants.{UnlawfulMemory}
 use Rattle.model.specs.Isolation.Alike.{Alike}
@@ -68,7 +68,7 @@ module _ (keeps : (m : Memory) (o : Octets) → lawful (call m o .after) ≡ law
         go false e = (unlawful-answer s o (j .left ∙ e) ∙ sym (unlawful-answer t o (j .right ∙ e)), judged (unlawful-alike H s t o (j .alike) (j .left ∙ e) (j .right ∙ e)))
 
     abbrev Same : Memory → Memory → List Octets → Type 0
-    Same s t os = map shown (remaining H (calls s os)) ≡ map shown (calls t (without H os))
+    Same s t os = map observed (remaining H (calls s os)) ≡ map observed (calls t (without H os))
 
     -- no id of H holds a right after a call
     abbrev Silent : Memory → List Octets → Type 0
@@ -122,4 +122,4 @@ module _ (keeps : (m : Memory) (o : Octets) → lawful (call m o .after) ≡ law
       let jb : Judged H (lawful n) n n = record { alike = start-alike H refl n n z′; left = refl; right = refl } in
       let pa = erased H refl (lawful m) a m n ja (λ i h. or-l _ _ (qa i h)) (λ i h. or-r (holdsRight i m) _ (qa i h)) ha in
       let pb = erased H refl (lawful n) b n n jb (λ i h. or-l _ _ (qb i h)) (λ i h. or-r (holdsRight i n) _ (qb i h)) hb in
-      ap (λ l. getElem? l k) (pa ∙ (ap (λ (l : List Octets). map shown (calls n l)) e ∙ sym pb))
+      ap (λ l. getElem? l k) (pa ∙ (ap (λ (l : List Octets). map observed (calls n l)) e ∙ sym pb))

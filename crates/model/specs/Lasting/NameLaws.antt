@@ -1,15 +1,17 @@
--- Laws of names: a text is itself, a folded name is valid and folded, a stored name is read back with zeros behind it. Assumes nothing.
+-- Laws of names: a text is itself, a folded name is valid and folded, a stored name is read back with zeros behind it, and an argument that is
+-- no valid name takes nothing. Assumes nothing.
 use mathlib.Core.Path.{_≡_, refl, ap₂}
 use mathlib.Core.List.{List, [], _∷_}
 use mathlib.Core.Bool.{Bool, true, false, cond, _&&_}
-use Prim.Native.Nat.{ℕ, zero, suc, _-_}
+use Prim.Native.Nat.{ℕ, zero, suc, _-_, _≤_}
+use native.Mathlib.Omega.{arith}
 use borrow.Author.Tests.{eqb-true, eq-eqb}
 use lib.Dec.{eqb, leb}
 use lib.ListN.{length, take, drop, replicate}
 use lib.Seq.{take-append-seam, drop-append-seam}
 use Rattle.model.specs.Lists.{same}
 use Rattle.model.specs.Text.{sameWord}
-use Rattle.model.specs.Names.{Name, noPartEmpty, valid, inbox, fold}
+use Rattle.model.specs.Names.{Name, noPartEmpty, valid, inbox, fold, argument, subtree, subtreeOne}
 use Rattle.model.specs.Memory.{stored}
 use Rattle.model.specs.Lawful.{zeros}
 use Rattle.model.specs.Laws.{tf, and-l, and-r}
@@ -62,3 +64,11 @@ zeros-replicate (suc k) = zeros-replicate k
 
 pub rest-stored : (n : Name) → zeros (drop (length n) (stored n)) ≡ true
 rest-stored n = rw (drop-append-seam n (replicate (64 - length n) 0)) (zeros-replicate (64 - length n))
+
+-- ---- an argument that is no valid name takes no mailbox, whose name has an octet at least: not by name, not as a subtree, not as one level of it
+-- (Commands, 4)
+pub invalid-takes-none : (a : List ℕ) → valid a ≡ false → (n : Name) → 1 ≤ length n
+    → (same (argument a) n ≡ false) × (subtree (argument a) n ≡ false) × (subtreeOne (argument a) n ≡ false)
+unfolding same
+invalid-takes-none a e [] h = absurd (let z : ⊥ = omega arith in z)
+invalid-takes-none a e (b ∷ n) h = rw e (refl, refl, refl)

@@ -28,6 +28,10 @@ module _ {A : Type 0} where
   all-snoc p [] x e h = rw h
   all-snoc p (y ∷ l) x e h = rw (and-l (p y) _ e) (all-snoc p l x (and-r (p y) _ e) h)
 
+  pub all-append : (p : A → Bool) (l k : List A) → allb p l ≡ true → allb p k ≡ true → allb p (l ++ k) ≡ true
+  all-append p [] k e h = h
+  all-append p (x ∷ l) k e h = rw (and-l (p x) _ e) (all-append p l k (and-r (p x) _ e) h)
+
   pub all-imp : (p q : A → Bool) → ((x : A) → p x ≡ true → q x ≡ true) → (l : List A) → allb p l ≡ true → allb q l ≡ true
   all-imp p q f [] e = refl
   all-imp p q f (x ∷ l) e = rw (f x (and-l (p x) _ e)) (all-imp p q f l (and-r (p x) _ e))

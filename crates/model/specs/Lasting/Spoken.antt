@@ -114,7 +114,7 @@ announced-ok m k = law-session m k (withView (m .session) (m .session .selected)
             lt-ltb (uidOf e) (selectedBox m .uidnext) (omega arith)
         go false false o = o
 
-law-effect : (m : Memory) → Law m → (l : Line) → Law (effect m l)
+pub law-effect : (m : Memory) → Law m → (l : Line) → Law (effect m l)
 law-effect m k (exists n) = announced-ok m k
 law-effect m k (expunge n u) = law-drop-mails m k (isMessage (m .session .selected) (u .0))
 law-effect m k (fetch n u is) = go (showsFlags is)
@@ -136,7 +136,7 @@ law-effects m k [] = k
 law-effects m k (l ∷ ls) = law-effects (effect m l) (law-effect m k l) ls
 
 -- ---- a text that fits: with no octet it may stand where no other does
-law-fits : (m : Memory) → Law m → (x : List ℕ) → leb (length x) (room m) ≡ true → Law (enqueue m x)
+pub law-fits : (m : Memory) → Law m → (x : List ℕ) → leb (length x) (room m) ≡ true → Law (enqueue m x)
 law-fits m k x h = go (eqb (length x) 0) refl
   where
     go : (b : Bool) → eqb (length x) 0 ≡ b → Law (enqueue m x)

@@ -1,4 +1,4 @@
--- An accepted NOTIFY leaves groups and names that refusal 1 takes as lawful. Assumes nothing.
+-- An accepted NOTIFY leaves groups and names that refusal 1 takes as lawful (01, Records, 22; Commands, 20). Assumes nothing.
 use mathlib.Core.Path.{_≡_, refl, _∙_, ap}
 use mathlib.Core.List.{List, [], _∷_, map}
 use mathlib.Core.Bool.{Bool, true, false, not, cond, _&&_, _||_}
@@ -21,8 +21,8 @@ use Rattle.model.specs.Answers.{replyNumber}
 use Rattle.model.specs.Replies.{replyOf, refused, badEvent, notSupported, badCharset, selectedGroup, selectedTwice, messageEvent, misplacedEvent, hasAttributes, misplacedAttributes, unpaired}
 use Rattle.model.specs.Memory.{noGroup, noName}
 use Rattle.model.specs.Groups.{groupOf, selectorOf, isSelecting}
-use Rattle.model.specs.Listing.{selectorNumber, isUid, isFlags, isSize, attributeBits, lendGroup, lendGroups, lendName, allNames, watching}
-use Rattle.model.specs.Lawful.{sessionOk, eventsOk, attributesOk, rangeOk, groupOk, groupsOk, nameCount, lentNameOk, blankGroup, blankName, bothSelecting}
+use Rattle.model.specs.Listing.{selectorNumber, isUidAttribute, isFlagsAttribute, isSizeAttribute, attributeBits, lendGroup, lendGroups, lendName, allNames, watching}
+use Rattle.model.specs.Lawful.{sessionOk, eventsOk, attributesOk, rangeOk, groupOk, groupsOk, lentNameCount, lentNameOk, blankGroup, blankName, bothSelecting}
 use Rattle.model.specs.declared.NameRange.{NameRange}
 use Rattle.model.specs.declared.Group.{Group}
 use Rattle.model.specs.declared.LentGroup.{LentGroup}
@@ -195,7 +195,7 @@ module _ (k : ℕ) (g : Asked) where
 
   -- attributes stand with MessageNew in a selected group
   attributes-ok : misplacedAttributes g ≡ false → attributesOk (groupOf (lendGroup k g)) ≡ true
-  attributes-ok ma = rw (most-3 (anyb isUid l) (anyb isFlags l) (anyb isSize l), chosen, bit-pack 0 (kinds (g .events))) (go (selectedGroup g) refl (anyb isNew (g .events)) refl)
+  attributes-ok ma = rw (most-3 (anyb isUidAttribute l) (anyb isFlagsAttribute l) (anyb isSizeAttribute l), chosen, bit-pack 0 (kinds (g .events))) (go (selectedGroup g) refl (anyb isNew (g .events)) refl)
     where
       l : List Attribute
       l = concatMap attributesOf (g .events)
@@ -263,14 +263,14 @@ names-ok [] = refl
 names-ok (a ∷ l) = rw (name-ok a) (names-ok l)
 
 -- they are as many as the groups say, and as the command gave
-length-names : (k : ℕ) (gs : List Asked) → length (map lendName (allNames gs)) ≡ nameCount (lendGroups k gs)
+length-names : (k : ℕ) (gs : List Asked) → length (map lendName (allNames gs)) ≡ lentNameCount (lendGroups k gs)
 length-names k gs = length-map (allNames gs) lendName ∙ go k gs
   where
-    go : (k : ℕ) (gs : List Asked) → length (allNames gs) ≡ nameCount (lendGroups k gs)
+    go : (k : ℕ) (gs : List Asked) → length (allNames gs) ≡ lentNameCount (lendGroups k gs)
     go k [] = refl
     go k (g ∷ gs) = length-append (namesOf (g .filter)) (allNames gs) ∙ ap (λ n. length (namesOf (g .filter)) + n) (go (k + length (namesOf (g .filter))) gs)
 
-count-asked : (k : ℕ) (gs : List Asked) → nameCount (lendGroups k gs) ≡ asked (map (λ (g : Asked). g .filter) gs)
+count-asked : (k : ℕ) (gs : List Asked) → lentNameCount (lendGroups k gs) ≡ asked (map (λ (g : Asked). g .filter) gs)
 count-asked k [] = refl
 count-asked k (g ∷ gs) = ap (λ n. length (namesOf (g .filter)) + n) (count-asked (k + length (namesOf (g .filter))) gs)
 
@@ -290,12 +290,12 @@ module _ (s : Session) (gs : List Asked) where
     take-at (lendGroups 0 gs) blanks (length gs) (length-groups 0 gs),
     groups-ok 0 gs me ma up,
     apart-ok 0 gs (ltb-false 1 (length (filterb selectedGroup gs)) st),
-    le-leb (nameCount (lendGroups 0 gs)) 16 (rw (count-asked 0 gs) short),
-    take-at (map lendName (allNames gs)) blankNames (nameCount (lendGroups 0 gs)) (length-names 0 gs),
+    le-leb (lentNameCount (lendGroups 0 gs)) 16 (rw (count-asked 0 gs) short),
+    take-at (map lendName (allNames gs)) blankNames (lentNameCount (lendGroups 0 gs)) (length-names 0 gs),
     names-ok (allNames gs),
     drop-at (lendGroups 0 gs) blanks (length gs) (length-groups 0 gs),
     all-replicate blankGroup (8 - length (lendGroups 0 gs)) noGroup refl,
-    drop-at (map lendName (allNames gs)) blankNames (nameCount (lendGroups 0 gs)) (length-names 0 gs),
+    drop-at (map lendName (allNames gs)) blankNames (lentNameCount (lendGroups 0 gs)) (length-names 0 gs),
     all-replicate blankName (16 - length (map lendName (allNames gs))) noName refl,
   )
 

@@ -1,63 +1,18 @@
--- `names::beneath` meets its contract. The invariant: from the place on the name is beneath top where it is from the start; it is the longer one. Assumes nothing.
+-- `names::beneath` meets its contract: beneath the empty name lies nothing, beneath any other what it leads. Assumes nothing.
 use Rattle.names.proofs.beneath.Statement.{statement}
 use Rattle.names.proofs.beneath.Tie as tie
-use mathlib.Core.Path.{_≡_, refl, sym, _∙_}
-use Prim.Native.Nat.{_≤_, _-_, _<_}
-use native.Mathlib.Omega.{arith}
-use lib.ListN.{length, drop}
-use Rattle.model.specs.Names.{beneath}
-use Rattle.names.proofs.Walks.{beneath-next, beneath-differs, beneath-past, beneath-short}
+use mathlib.Core.Path.{sym, _∙_}
+use Rattle.names.proofs.Answers.{beneath-empty, beneath-other}
 use borrow.Author.Needs.{needs}
 
-abbrev Inv-loop : tie.InvT-loop
-Inv-loop top name i₀ i = (i ≤ length top) × (length top < length name) × (beneath top name ≡ beneath (drop i top) (drop i name))
+returns : tie.Need-returns
+returns c = sym (beneath-empty (c .before .before .before .args .top .now) (c .before .before .before .args .name .now) (c .if1 .taken))
 
-abbrev μ-loop : tie.MeasureT-loop
-μ-loop top name i₀ i = length top - i
+leads-requires : tie.Need-leads-requires
+leads-requires c κs = search needs
 
-returns : tie.Need-returns Inv-loop μ-loop
-returns c = sym (beneath-short _ _ (c .if1 .taken))
-
-loop-holds : tie.Need-loop-holds Inv-loop μ-loop
-loop-holds c = (search needs, search needs, refl)
-
-shared-slice-read-if2 : tie.Need-shared-slice-read-if2 Inv-loop μ-loop
-shared-slice-read-if2 c = search needs
-
-shared-slice-read-if2-2 : tie.Need-shared-slice-read-if2-2 Inv-loop μ-loop
-shared-slice-read-if2-2 c = search needs
-
-returns-2 : tie.Need-returns-2 Inv-loop μ-loop
-returns-2 c = sym (c .before .before .before .before .loop .inv .2 ∙ beneath-differs (c .before .before .before .before .before .before .args .top .now) (c .before .before .before .before .before .before .args .name .now) (c .before .before .before .before .loop .i) (omega arith) (omega arith) (c .if2 .taken))
-
-add-i : tie.Need-add-i Inv-loop μ-loop
-add-i c = search needs
-
-loop-less : tie.Need-loop-less Inv-loop μ-loop
-loop-less c = search needs
-
-loop-again : tie.Need-loop-again Inv-loop μ-loop
-loop-again c = (search needs, search needs, c .before .before .before .before .loop .inv .2 ∙ beneath-next (c .before .before .before .before .before .before .args .top .now) (c .before .before .before .before .before .before .args .name .now) (c .before .before .before .before .loop .i) (omega arith) (omega arith) (c .if2 .left))
-
-shared-slice-read-result : tie.Need-shared-slice-read-result Inv-loop μ-loop
-shared-slice-read-result c = search needs
-
-returns-3 : tie.Need-returns-3 Inv-loop μ-loop
-returns-3 c = sym (c .before .before .loop .inv .2 ∙ beneath-past (c .before .before .before .before .args .top .now) (c .before .before .before .before .args .name .now) (c .before .before .loop .i) (omega arith) (omega arith))
+returns-2 : tie.Need-returns-2
+returns-2 c = c .leads .ensures ∙ sym (beneath-other (c .before .before .before .before .args .top .now) (c .before .before .before .before .args .name .now) (c .before .if1 .left))
 
 pub beneath-spec : {M : Type 1} → statement M
-beneath-spec =
-    tie.close
-    (tie.spec
-    Inv-loop
-    μ-loop
-    returns
-    loop-holds
-    shared-slice-read-if2
-    shared-slice-read-if2-2
-    returns-2
-    add-i
-    loop-less
-    loop-again
-    shared-slice-read-result
-    returns-3)
+beneath-spec = tie.close (tie.spec returns leads-requires returns-2)

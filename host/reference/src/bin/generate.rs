@@ -1,12 +1,12 @@
 //! Seeded input for other programs, each piece after its length in four octets, little-endian.
 //!
 //! `generate SEED COUNT [Q [MAILBOXES [MESSAGES]]]`: calls, as `callrun` reads them.
-//! `generate lines SEED COUNT`: command lines alone.
+//! `generate lines SEED COUNT`: command lines alone, one in twenty of 1,000 to 1,024 octets.
 //! `generate pair SEED COUNT 1|2`: one side of a pair; `generate pair SEED COUNT` prints its
 //! sizes, and for each side the places (from 0) of the records in common.
 
 use reference::generate::pairs::{pair, Step};
-use reference::generate::{commands, stream};
+use reference::generate::{commands, long, stream};
 use reference::memory::{MAILBOXES, MESSAGES};
 use reference::random::Random;
 use std::io::{self, BufWriter, Write};
@@ -30,8 +30,13 @@ fn main() -> io::Result<()> {
     match mode {
         Some("lines") => {
             let mut random = Random::new(seed);
-            for _ in 0..count {
-                piece(&mut out, &commands::line(&mut random))?;
+            for place in 1..=count {
+                let one = if place % 20 == 0 {
+                    long::line
+                } else {
+                    commands::line
+                };
+                piece(&mut out, &one(&mut random))?;
             }
         }
         Some("pair") => {

@@ -1,6 +1,7 @@
 //! `verdicts < LINES`: for each command line (a length in four octets, little-endian, and that many octets) one line that
 //! says what was read: the tag's length or 0, `N`, `S` or `-` for NOTIFY, ESEARCH or neither, the number of the answer
-//! with no mailbox selected and with one, and what an accepted command asks for, as numbers.
+//! with no mailbox selected and with one, and what an accepted command asks for, as numbers: groups or sources with their
+//! names, results, keys.
 
 use reference::command::keys::{Key, Keys};
 use reference::command::{read, split, Command, Verdict};
@@ -62,6 +63,7 @@ fn asked(command: &Command, text: &mut String) {
             filters(&notify.filters.groups, text);
         }
         Command::Search(search) => {
+            sources(&search.sources.groups, text);
             let wanted = |bit| u8::from(search.wanted & bit != 0);
             write!(
                 text,
@@ -93,6 +95,28 @@ fn filters(groups: &Groups, text: &mut String) {
         )
         .unwrap();
     }
+    names(groups, text);
+}
+
+/// Each source as its scope, the place of its first name and how many names it has, then each name. A source without names
+/// stands where the next name would.
+fn sources(sources: &Groups, text: &mut String) {
+    let mut next = 0;
+    for source in sources.used() {
+        let first = if source.name_count == 0 {
+            next
+        } else {
+            source.first_name
+        };
+        next = first + source.name_count;
+        let scope = scope(source.selector);
+        write!(text, " {scope},{first},{}", source.name_count).unwrap();
+    }
+    names(sources, text);
+}
+
+/// Each name in hexadecimal.
+fn names(groups: &Groups, text: &mut String) {
     for name in &groups.name[..usize::from(groups.name_count)] {
         text.push_str(" /");
         for octet in &name.octets[..usize::from(name.len)] {
@@ -101,20 +125,44 @@ fn filters(groups: &Groups, text: &mut String) {
     }
 }
 
+/// The number of a group's selector.
 fn selector(selector: u8) -> u8 {
-    [
-        IS_SELECTED,
-        IS_DELAYED,
-        IS_INBOXES,
-        IS_PERSONAL,
-        IS_SUBSCRIBED,
-        IS_SUBTREE,
-        IS_MAILBOXES,
-        IS_LEVEL,
-    ]
-    .iter()
-    .position(|&known| known == selector)
-    .expect("a selector") as u8
+    place(
+        selector,
+        &[
+            IS_SELECTED,
+            IS_DELAYED,
+            IS_INBOXES,
+            IS_PERSONAL,
+            IS_SUBSCRIBED,
+            IS_SUBTREE,
+            IS_MAILBOXES,
+        ],
+    )
+}
+
+/// The number of a source's scope.
+fn scope(selector: u8) -> u8 {
+    place(
+        selector,
+        &[
+            IS_SELECTED,
+            IS_DELAYED,
+            IS_INBOXES,
+            IS_PERSONAL,
+            IS_SUBSCRIBED,
+            IS_SUBTREE,
+            IS_LEVEL,
+            IS_MAILBOXES,
+        ],
+    )
+}
+
+fn place(selector: u8, order: &[u8]) -> u8 {
+    order
+        .iter()
+        .position(|&known| known == selector)
+        .expect("a selector") as u8
 }
 
 fn events(events: u8) -> u8 {

@@ -140,7 +140,7 @@ pub fn line(random: &mut Random) -> Vec<u8> {
     out
 }
 
-fn tag(line: &mut Line) {
+pub fn tag(line: &mut Line) {
     match line.random.below(40) {
         0 => line.put([b't'; 32]),
         1 => line.put([b't'; 33]),
@@ -155,6 +155,12 @@ fn tag(line: &mut Line) {
 }
 
 fn notify_set(line: &mut Line) {
+    set_head(line);
+    groups(line);
+}
+
+/// What stands before the groups.
+pub fn set_head(line: &mut Line) {
     line.word("NOTIFY");
     line.put(" ");
     line.word("SET");
@@ -162,6 +168,10 @@ fn notify_set(line: &mut Line) {
         line.put(" ");
         line.word("STATUS");
     }
+}
+
+/// The groups of a NOTIFY SET.
+pub fn groups(line: &mut Line) {
     // a free line may break the rules beside the grammar
     let free = line.random.chance(20);
     if line.random.chance(65) {

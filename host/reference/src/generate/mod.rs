@@ -2,6 +2,7 @@
 //! makes is to the point; a share of it is damaged.
 
 pub mod commands;
+pub mod long;
 pub mod pairs;
 pub mod pools;
 pub mod searches;

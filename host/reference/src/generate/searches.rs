@@ -8,6 +8,11 @@ pub fn search(line: &mut Line) {
     if line.random.chance(70) {
         sources(line, free);
     }
+    behind_sources(line, free);
+}
+
+/// What follows the sources: results, charset, keys.
+pub fn behind_sources(line: &mut Line, free: bool) {
     if line.random.chance(50) {
         returns(line, free);
     }
@@ -142,7 +147,7 @@ fn set(line: &mut Line, parts: usize, free: bool) {
 }
 
 /// One key; `depth` bounds what it may hold.
-fn key(line: &mut Line, depth: usize, free: bool) {
+pub fn key(line: &mut Line, depth: usize, free: bool) {
     if free && line.random.chance(25) {
         return foreign(line);
     }

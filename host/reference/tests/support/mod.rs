@@ -1,7 +1,10 @@
 //! Records from text, in the notation of the vectors, and small conveniences for tests.
 #![allow(dead_code)]
 
-use reference::{call, Memory};
+pub mod crowded;
+
+use reference::records::{read, Record};
+use reference::{call, call_trusting, Answer, Memory};
 use std::path::PathBuf;
 
 /// One record from one line of text.
@@ -92,6 +95,24 @@ pub fn transcript(queue: usize, text: &str) -> String {
 pub fn gives(text: &str, lines: &[&str]) {
     let wanted: String = lines.iter().map(|line| format!("{line}\r\n")).collect();
     assert_eq!(transcript(8192, text), wanted, "{text}");
+}
+
+/// One call, and what it put in the queue behind what was left there.
+pub fn observe(memory: &mut Memory, octets: &[u8]) -> (Answer, Vec<u8>) {
+    let before = memory.held().to_vec();
+    let answer = call_trusting(memory, octets);
+    (answer, written(&before, octets, answer, memory.held()))
+}
+
+/// The same from two states of the queue.
+pub fn written(before: &[u8], octets: &[u8], answer: Answer, after: &[u8]) -> Vec<u8> {
+    let drained = match read(octets) {
+        Some(Record::Drained { count }) if answer.refusal == 0 => count as usize,
+        _ => 0,
+    };
+    let kept = &before[drained..];
+    assert!(after.starts_with(kept), "the queue's front stays");
+    after[kept.len()..].to_vec()
 }
 
 pub fn contains(octets: &[u8], part: &str) -> bool {

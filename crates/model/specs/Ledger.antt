@@ -1,0 +1,23 @@
+-- Demand 2 over streams, proved of the definitions.
+pub mod Each
+pub mod Entries
+pub mod Books
+pub mod Posting
+pub mod Effects
+pub mod Steps
+pub mod Plain
+pub mod Reach
+pub mod Calm
+pub mod Ends
+pub mod Boxes
+pub mod Commanded
+pub mod Messages
+pub mod Flags
+pub mod Expunges
+pub mod Arrivals
+pub mod Streams
+pub mod Occasions
+pub mod Silence
+pub mod Settings
+pub mod Sent
+pub mod Demand2

@@ -1,0 +1,63 @@
+-- `names::leads` meets its contract. The invariant: from the place on top leads the name where it is from the start; it is the longer one. Assumes nothing.
+use Rattle.names.proofs.leads.Statement.{statement}
+use Rattle.names.proofs.leads.Tie as tie
+use mathlib.Core.Path.{_≡_, refl, sym, _∙_}
+use Prim.Native.Nat.{_≤_, _-_, _<_}
+use native.Mathlib.Omega.{arith}
+use lib.ListN.{length, drop}
+use Rattle.model.specs.Names.{leads}
+use Rattle.names.proofs.Walks.{leads-next, leads-differs, leads-past, leads-short}
+use borrow.Author.Needs.{needs}
+
+abbrev Inv-loop : tie.InvT-loop
+Inv-loop top name i₀ i = (i ≤ length top) × (length top < length name) × (leads top name ≡ leads (drop i top) (drop i name))
+
+abbrev μ-loop : tie.MeasureT-loop
+μ-loop top name i₀ i = length top - i
+
+returns : tie.Need-returns Inv-loop μ-loop
+returns c = sym (leads-short _ _ (c .if1 .taken))
+
+loop-holds : tie.Need-loop-holds Inv-loop μ-loop
+loop-holds c = (search needs, search needs, refl)
+
+shared-slice-read-if2 : tie.Need-shared-slice-read-if2 Inv-loop μ-loop
+shared-slice-read-if2 c = search needs
+
+shared-slice-read-if2-2 : tie.Need-shared-slice-read-if2-2 Inv-loop μ-loop
+shared-slice-read-if2-2 c = search needs
+
+returns-2 : tie.Need-returns-2 Inv-loop μ-loop
+returns-2 c = sym (c .before .before .before .before .loop .inv .2 ∙ leads-differs (c .before .before .before .before .before .before .args .top .now) (c .before .before .before .before .before .before .args .name .now) (c .before .before .before .before .loop .i) (omega arith) (omega arith) (c .if2 .taken))
+
+add-i : tie.Need-add-i Inv-loop μ-loop
+add-i c = search needs
+
+loop-less : tie.Need-loop-less Inv-loop μ-loop
+loop-less c = search needs
+
+loop-again : tie.Need-loop-again Inv-loop μ-loop
+loop-again c = (search needs, search needs, c .before .before .before .before .loop .inv .2 ∙ leads-next (c .before .before .before .before .before .before .args .top .now) (c .before .before .before .before .before .before .args .name .now) (c .before .before .before .before .loop .i) (omega arith) (omega arith) (c .if2 .left))
+
+shared-slice-read-result : tie.Need-shared-slice-read-result Inv-loop μ-loop
+shared-slice-read-result c = search needs
+
+returns-3 : tie.Need-returns-3 Inv-loop μ-loop
+returns-3 c = sym (c .before .before .loop .inv .2 ∙ leads-past (c .before .before .before .before .args .top .now) (c .before .before .before .before .args .name .now) (c .before .before .loop .i) (omega arith) (omega arith))
+
+pub leads-spec : {M : Type 1} → statement M
+leads-spec =
+    tie.close
+    (tie.spec
+    Inv-loop
+    μ-loop
+    returns
+    loop-holds
+    shared-slice-read-if2
+    shared-slice-read-if2-2
+    returns-2
+    add-i
+    loop-less
+    loop-again
+    shared-slice-read-result
+    returns-3)

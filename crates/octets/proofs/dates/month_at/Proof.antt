@@ -1,0 +1,48 @@
+-- `octets::dates::month_at` meets its contract: by the halves of the months. Assumes nothing.
+use borrow.Author.Needs.{needs}
+use Rattle.octets.proofs.dates.month_at.Statement.{statement}
+use Rattle.octets.proofs.dates.month_at.Tie as tie
+use mathlib.Core.Path.{sym, _∙_}
+use native.Mathlib.Omega.{arith}
+use Rattle.octets.proofs.Days.{month-short, month-early, month-late, month-none}
+
+returns : tie.Need-returns
+returns c = record { exact = month-short (c .before .before .args .text .now) (c .before .before .args .at) (omega arith); within = tt }
+
+sub-if2 : tie.Need-sub-if2
+sub-if2 c = search needs
+
+returns-2 : tie.Need-returns-2
+returns-2 c = record { exact = month-short (c .before .before .before .args .text .now) (c .before .before .before .args .at) (omega arith); within = tt }
+
+add-end : tie.Need-add-end
+add-end c = search needs
+
+early-month-requires : tie.Need-early-month-requires
+early-month-requires c κs = search needs
+
+returns-3 : tie.Need-returns-3
+returns-3 c = record { exact = month-early (c .before .before .before .before .before .args .text .now) (c .before .before .before .before .before .args .at) (sym (c .before .early-month .ensures) ∙ c .if3 .taken); within = (omega arith, omega arith) }
+
+late-month-requires : tie.Need-late-month-requires
+late-month-requires c κs = search needs
+
+returns-4 : tie.Need-returns-4
+returns-4 c = record { exact = month-late (c .before .before .before .before .before .before .before .args .text .now) (c .before .before .before .before .before .before .before .args .at) (sym (c .before .before .before .early-month .ensures) ∙ c .before .before .if3 .left) (sym (c .before .late-month .ensures) ∙ c .if4 .taken); within = (omega arith, omega arith) }
+
+returns-5 : tie.Need-returns-5
+returns-5 c = record { exact = month-none (c .before .before .before .before .before .before .before .args .text .now) (c .before .before .before .before .before .before .before .args .at) (sym (c .before .before .before .early-month .ensures) ∙ c .before .before .if3 .left) (sym (c .before .late-month .ensures) ∙ c .if4 .left); within = tt }
+
+pub month-at-spec : {M : Type 1} → statement M
+month-at-spec =
+    tie.close
+    (tie.spec
+    returns
+    sub-if2
+    returns-2
+    add-end
+    early-month-requires
+    returns-3
+    late-month-requires
+    returns-4
+    returns-5)

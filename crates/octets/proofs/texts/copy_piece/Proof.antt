@@ -1,0 +1,68 @@
+-- `octets::texts::copy_piece` meets its contract: what is written and what is left make the whole. Assumes nothing.
+use Rattle.octets.proofs.texts.copy_piece.Statement.{statement}
+use Rattle.octets.proofs.texts.copy_piece.Tie as tie
+use mathlib.Core.Path.{_≡_, refl}
+use native.Mathlib.Omega.{arith}
+use Prim.Native.Nat.{_≤_, _-_}
+use lib.ListN.{length}
+use Rattle.model.specs.Reading.{piece}
+use Rattle.octets.proofs.Pieces.{piece-over, piece-past, piece-cons}
+use Rattle.octets.proofs.Filling.{Copied, copied-start, copied-one, copied-long, copied-is}
+use borrow.Author.Needs.{needs}
+
+abbrev Inv-loop : tie.InvT-loop
+Inv-loop text from upto out₀ i₀ n₀ out i n = (n ≤ i) × (n ≤ length text) × (length out ≡ length out₀) × Copied (piece text from upto) out₀ (piece text i upto) out n
+
+abbrev μ-loop : tie.MeasureT-loop
+μ-loop text from upto out₀ i₀ n₀ out i n = upto - i
+
+loop-holds : tie.Need-loop-holds Inv-loop μ-loop
+loop-holds c = (omega arith, omega arith, refl, copied-start _ _ _ refl)
+
+same-length : tie.Need-same-length Inv-loop μ-loop
+same-length c = search needs
+
+returns : tie.Need-returns Inv-loop μ-loop
+returns c = let s = c .before .before .before .before .before .args .text .now in let l = c .before .before .loop in let e = piece-past s (l .i) (c .before .before .before .before .before .args .upto) (c .if1 .taken) in record { long = copied-long (l .inv .3) e; is = copied-is (l .inv .3) e; within = omega arith }
+
+shared-slice-read-store : tie.Need-shared-slice-read-store Inv-loop μ-loop
+shared-slice-read-store c = search needs
+
+store-requires : tie.Need-store-requires Inv-loop μ-loop
+store-requires c κs = search needs
+
+add-n : tie.Need-add-n Inv-loop μ-loop
+add-n c = search needs
+
+add-i : tie.Need-add-i Inv-loop μ-loop
+add-i c = search needs
+
+loop-less : tie.Need-loop-less Inv-loop μ-loop
+loop-less c = search needs
+
+loop-again : tie.Need-loop-again Inv-loop μ-loop
+loop-again c = let s = c .before .before .before .before .before .before .before .before .before .before .args .text .now in let l = c .before .before .before .before .before .before .before .loop in (omega arith, omega arith, search needs, rw (c .before .before .store .ensures) (copied-one _ _ (l .inv .3) (piece-cons s (l .i) (c .before .before .before .before .before .before .before .before .before .before .args .upto) (omega arith) (omega arith))))
+
+same-length-2 : tie.Need-same-length-2 Inv-loop μ-loop
+same-length-2 c = search needs
+
+returns-2 : tie.Need-returns-2 Inv-loop μ-loop
+returns-2 c = let s = c .before .before .before .before .args .text .now in let l = c .before .loop in let e = piece-over s (l .i) (c .before .before .before .before .args .upto) (c .loop-test .left) in record { long = copied-long (l .inv .3) e; is = copied-is (l .inv .3) e; within = omega arith }
+
+pub copy-piece-spec : {M : Type 1} → statement M
+copy-piece-spec =
+    tie.close
+    (tie.spec
+    Inv-loop
+    μ-loop
+    loop-holds
+    same-length
+    returns
+    shared-slice-read-store
+    store-requires
+    add-n
+    add-i
+    loop-less
+    loop-again
+    same-length-2
+    returns-2)

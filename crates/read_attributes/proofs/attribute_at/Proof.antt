@@ -1,0 +1,89 @@
+-- `attribute_at`: the run is what stands up to its end, and its word decides.
+use borrow.Author.Needs.{needs}
+use Rattle.read_attributes.proofs.attribute_at.Statement.{statement}
+use Rattle.read_attributes.proofs.attribute_at.Tie as tie
+use mathlib.Core.Path.{sym, ap, _∙_}
+use native.Mathlib.Omega.{arith}
+use Rattle.read_attributes.specs.Asked.{sectioned}
+use Rattle.read_attributes.proofs.Asking.{body-section, body-alone, peek-section, attribute-none, attribute-by, within-section}
+
+run-at-requires : tie.Need-run-at-requires
+run-at-requires c κs = search needs
+
+enum-known-end : tie.Need-enum-known-end
+enum-known-end c = search needs
+
+label-of-requires : tie.Need-label-of-requires
+label-of-requires c κs = search needs
+
+enum-known-k : tie.Need-enum-known-k
+enum-known-k c = search needs
+
+enum-told : tie.Need-enum-told
+enum-told c = search needs
+
+octet-at-requires : tie.Need-octet-at-requires
+octet-at-requires c κs = search needs
+
+section-at-requires : tie.Need-section-at-requires
+section-at-requires c κs = search needs
+
+with-section-requires : tie.Need-with-section-requires
+with-section-requires c κs = search needs
+
+enum-told-2 : tie.Need-enum-told-2
+enum-told-2 c = search needs
+
+section-at-requires-2 : tie.Need-section-at-requires-2
+section-at-requires-2 c κs = search needs
+
+with-section-requires-2 : tie.Need-with-section-requires-2
+with-section-requires-2 c κs = search needs
+
+enum-told-3 : tie.Need-enum-told-3
+enum-told-3 c = search needs
+
+enum-told-4 : tie.Need-enum-told-4
+enum-told-4 c = search needs
+
+returns : tie.Need-returns
+returns c = record { exact = attribute-by (c .before .before .before .before .before .before .before .before .before .args .text .now) (c .before .before .before .before .before .before .before .before .before .args .at) (sym (c .before .before .before .before .before .end .given .1) ∙ c .before .before .before .before .before .before .before .run-at .ensures .exact) (c .before .k .given .1) (c .before .before .before .label-of .ensures); within = rw (c .before .before .before .before .before .end .given .1) at (c .before .before .before .before .before .before .before .run-at .ensures .within) }
+
+returns-2 : tie.Need-returns-2
+returns-2 c = let w = rw (c .before .before .before .before .before .before .before .before .end .given .1) at (c .before .before .before .before .before .before .before .before .before .before .run-at .ensures .within) in record { exact = c .with-section .ensures ∙ ap sectioned (c .before .section-at .ensures .exact) ∙ body-section (c .before .before .before .before .before .before .before .before .before .before .before .before .args .text .now) (c .before .before .before .before .before .before .before .before .end .given .0 .0) (sym (c .before .before .before .octet-at .ensures) ∙ c .before .before .if1 .taken) ∙ attribute-by (c .before .before .before .before .before .before .before .before .before .before .before .before .args .text .now) (c .before .before .before .before .before .before .before .before .before .before .before .before .args .at) (sym (c .before .before .before .before .before .before .before .before .end .given .1) ∙ c .before .before .before .before .before .before .before .before .before .before .run-at .ensures .exact) (c .before .before .before .before .enum-told .given .1) (c .before .before .before .before .before .before .label-of .ensures); within = rw (c .with-section .ensures) (within-section (c .before .before .before .before .before .before .before .before .before .before .before .before .args .text .now) (c .before .before .before .before .before .before .before .before .before .before .before .before .args .at) (c .before .before .before .before .before .before .before .before .end .given .0 .0) (c .before .section-at .result) (omega arith) (c .before .section-at .ensures .within)) }
+
+returns-3 : tie.Need-returns-3
+returns-3 c = record { exact = body-alone (c .before .before .before .before .before .before .before .before .before .before .args .text .now) (c .before .before .before .before .before .before .end .given .0 .0) (λ e. c .if1 .left (c .before .octet-at .ensures ∙ e)) ∙ attribute-by (c .before .before .before .before .before .before .before .before .before .before .args .text .now) (c .before .before .before .before .before .before .before .before .before .before .args .at) (sym (c .before .before .before .before .before .before .end .given .1) ∙ c .before .before .before .before .before .before .before .before .run-at .ensures .exact) (c .before .before .enum-told .given .1) (c .before .before .before .before .label-of .ensures); within = rw (c .before .before .before .before .before .before .end .given .1) at (c .before .before .before .before .before .before .before .before .run-at .ensures .within) }
+
+returns-4 : tie.Need-returns-4
+returns-4 c = let w = rw (c .before .before .before .before .before .before .end .given .1) at (c .before .before .before .before .before .before .before .before .run-at .ensures .within) in record { exact = c .with-section2 .ensures ∙ ap sectioned (c .before .section-at2 .ensures .exact) ∙ peek-section (c .before .before .before .before .before .before .before .before .before .before .args .text .now) (c .before .before .before .before .before .before .end .given .0 .0) ∙ attribute-by (c .before .before .before .before .before .before .before .before .before .before .args .text .now) (c .before .before .before .before .before .before .before .before .before .before .args .at) (sym (c .before .before .before .before .before .before .end .given .1) ∙ c .before .before .before .before .before .before .before .before .run-at .ensures .exact) (c .before .before .enum-told2 .given .1) (c .before .before .before .before .label-of .ensures); within = rw (c .with-section2 .ensures) (within-section (c .before .before .before .before .before .before .before .before .before .before .args .text .now) (c .before .before .before .before .before .before .before .before .before .before .args .at) (c .before .before .before .before .before .before .end .given .0 .0) (c .before .section-at2 .result) (omega arith) (c .before .section-at2 .ensures .within)) }
+
+returns-5 : tie.Need-returns-5
+returns-5 c = record { exact = attribute-by (c .before .before .before .before .before .before .before .before .args .text .now) (c .before .before .before .before .before .before .before .before .args .at) (sym (c .before .before .before .before .end .given .1) ∙ c .before .before .before .before .before .before .run-at .ensures .exact) (c .enum-told3 .given .1) (c .before .before .label-of .ensures); within = tt }
+
+returns-6 : tie.Need-returns-6
+returns-6 c = record { exact = attribute-none (c .before .before .before .before .args .text .now) (c .before .before .before .before .args .at) (sym (c .enum-told4 .given .1) ∙ c .before .before .run-at .ensures .exact); within = tt }
+
+pub attribute-at-spec : {M : Type 1} → statement M
+attribute-at-spec =
+    tie.close
+    (tie.spec
+    run-at-requires
+    enum-known-end
+    label-of-requires
+    enum-known-k
+    enum-told
+    octet-at-requires
+    section-at-requires
+    with-section-requires
+    enum-told-2
+    section-at-requires-2
+    with-section-requires-2
+    enum-told-3
+    enum-told-4
+    returns
+    returns-2
+    returns-3
+    returns-4
+    returns-5
+    returns-6)

@@ -1,0 +1,108 @@
+-- `events_to_close` by its own calls: the measure is the octets that are left; each case is one of a row of events.
+use Prim.Native.Nat.{ℕ, _<_}
+use borrow.Fn.Kinds.{In}
+use borrow.Fn.PlainCycle.{Measures, is, falls, and}
+use Rattle.read_events.proofs.events_to_close.Reads as events-to-close
+use Rattle.read_events.proofs.events_to_close.Kinds as events-to-close-kinds
+use Rattle.read_events.proofs.+events_to_close.Lts-events_to_close as events-to-close-lts
+use Rattle.read_events.proofs.event_at.Reads as event-at-reads
+use Rattle.read_events.proofs.joined.Reads as joined-reads
+use Rattle.read_events.proofs.merged.Reads as merged-reads
+use Rattle.read_events.proofs.no_events.Reads as no-events-reads
+use Rattle.octets.proofs.classes.octet_at.Reads as octet-at-reads
+use Rattle.read_events.proofs.+events_to_close.{statement}
+use Rattle.read_events.proofs.+events_to_close.Tie.{close}
+use mathlib.Core.Path.{sym, ap, _∙_}
+use native.Mathlib.Omega.{arith}
+use Prim.Native.Nat.{_+_, _-_}
+use lib.ListN.{length}
+use Rattle.read_events.specs.Gathered.{merge, join}
+use Rattle.read_events.specs.declared.Events.{Events}
+use Rattle.read_events.specs.declared.EventsRead.the-variants.{Is}
+use Rattle.octets.specs.Rows.{in-text}
+use Rattle.read_events.proofs.Gathering.{list-none, list-more, list-last, list-wrong, within-joined}
+use borrow.Author.Needs.{needs}
+
+abbrev μ-events-to-close : Measures 1 events-to-close-kinds.ps ℕ
+μ-events-to-close κs a = length (a .0 .now) - a .1 .0
+
+abbrev events-to-close-at : ℕ → In 1 events-to-close-kinds.ps
+events-to-close-at t =
+    and
+    1
+    events-to-close-kinds.ps
+    (is 1 events-to-close-kinds.ps μ-events-to-close t)
+    events-to-close.Pre
+
+abbrev events-to-close-below : ℕ → In 1 events-to-close-kinds.ps
+events-to-close-below t =
+    and
+    1
+    events-to-close-kinds.ps
+    (falls 1 events-to-close-kinds.ps _<_ μ-events-to-close t)
+    events-to-close.Pre
+
+abbrev events-to-close-calls : ℕ → events-to-close-lts.Claims
+events-to-close-calls t = (event-at-reads.Asked, event-at-reads.Learnt, octet-at-reads.Asked, octet-at-reads.Learnt, events-to-close-below t, events-to-close.Post, joined-reads.Asked, joined-reads.Learnt, no-events-reads.Asked, no-events-reads.Learnt, merged-reads.Asked, merged-reads.Learnt)
+
+events-to-close-event-at-requires : (t : ℕ) → events-to-close-lts.Need-event-at-requires (events-to-close-calls t) (events-to-close-at t) events-to-close.Post
+events-to-close-event-at-requires t c κs = search needs
+
+events-to-close-enum-known-e : (t : ℕ) → events-to-close-lts.Need-enum-known-e (events-to-close-calls t) (events-to-close-at t) events-to-close.Post
+events-to-close-enum-known-e t c = search needs
+
+events-to-close-octet-at-requires : (t : ℕ) → events-to-close-lts.Need-octet-at-requires (events-to-close-calls t) (events-to-close-at t) events-to-close.Post
+events-to-close-octet-at-requires t c κs = search needs
+
+events-to-close-add-events-to-close : (t : ℕ) → events-to-close-lts.Need-add-events-to-close (events-to-close-calls t) (events-to-close-at t) events-to-close.Post
+events-to-close-add-events-to-close t c = let i = in-text (c .before .before .before .before .before .before .before .args .text .now) (c .before .before .before .e .given .0 .1 .0) (sym (c .before .octet-at .ensures) ∙ c .if1 .taken) (omega arith) in omega arith
+
+events-to-close-events-to-close-requires :
+    (t : ℕ) → events-to-close-lts.Need-events-to-close-requires (events-to-close-calls t) (events-to-close-at t) events-to-close.Post
+events-to-close-events-to-close-requires t c κs = let w = rw (c .before .before .before .e .given .1) at (c .before .before .before .before .before .event-at .ensures .within) in let i = in-text (c .before .before .before .before .before .before .before .args .text .now) (c .before .before .before .e .given .0 .1 .0) (sym (c .before .octet-at .ensures) ∙ c .if1 .taken) (omega arith) in omega arith
+
+events-to-close-joined-requires : (t : ℕ) → events-to-close-lts.Need-joined-requires (events-to-close-calls t) (events-to-close-at t) events-to-close.Post
+events-to-close-joined-requires t c κs = search needs
+
+events-to-close-no-events-requires : (t : ℕ) → events-to-close-lts.Need-no-events-requires (events-to-close-calls t) (events-to-close-at t) events-to-close.Post
+events-to-close-no-events-requires t c κs = search needs
+
+events-to-close-merged-requires : (t : ℕ) → events-to-close-lts.Need-merged-requires (events-to-close-calls t) (events-to-close-at t) events-to-close.Post
+events-to-close-merged-requires t c κs = search needs
+
+events-to-close-add-t16 : (t : ℕ) → events-to-close-lts.Need-add-t16 (events-to-close-calls t) (events-to-close-at t) events-to-close.Post
+events-to-close-add-t16 t c = let i = in-text (c .before .before .before .before .before .before .before .before .before .before .args .text .now) (c .before .before .before .before .before .before .e .given .0 .1 .0) (sym (c .before .before .before .before .octet-at .ensures) ∙ c .before .before .if2 .taken) (omega arith) in omega arith
+
+events-to-close-enum-told : (t : ℕ) → events-to-close-lts.Need-enum-told (events-to-close-calls t) (events-to-close-at t) events-to-close.Post
+events-to-close-enum-told t c = search needs
+
+events-to-close-returns : (t : ℕ) → events-to-close-lts.Need-returns (events-to-close-calls t) (events-to-close-at t) events-to-close.Post
+events-to-close-returns t c = let w = rw (c .before .before .before .before .before .e .given .1) at (c .before .before .before .before .before .before .before .event-at .ensures .within) in record { within = rw (c .joined .ensures) (within-joined (c .before .before .before .before .before .before .before .before .before .args .text .now) (c .before .before .before .before .before .before .before .before .before .args .at) (c .before .before .before .before .before .e .given .0 .1 .0 + 1) (c .before .before .before .before .before .e .given .0 .0) (c .before .events-to-close .result) (omega arith) (c .before .events-to-close .ensures .within)); exact = λ n h. c .joined .ensures ∙ ap (join (c .before .before .before .before .before .e .given .0 .0)) (c .before .events-to-close .ensures .exact (n - 1) (omega arith)) ∙ list-more (c .before .before .before .before .before .before .before .before .before .args .text .now) (c .before .before .before .before .before .before .before .before .before .args .at) n (omega arith) (sym (c .before .before .before .before .before .e .given .1) ∙ c .before .before .before .before .before .before .before .event-at .ensures .exact) (sym (c .before .before .before .octet-at .ensures) ∙ c .before .before .if1 .taken) }
+
+events-to-close-returns-2 : (t : ℕ) → events-to-close-lts.Need-returns-2 (events-to-close-calls t) (events-to-close-at t) events-to-close.Post
+events-to-close-returns-2 t c = let w = rw (c .before .before .before .before .before .before .e .given .1) at (c .before .before .before .before .before .before .before .before .event-at .ensures .within) in let i = in-text (c .before .before .before .before .before .before .before .before .before .before .args .text .now) (c .before .before .before .before .before .before .e .given .0 .1 .0) (sym (c .before .before .before .before .octet-at .ensures) ∙ c .before .before .if2 .taken) (omega arith) in record { within = (omega arith, omega arith); exact = λ n h. ap (λ (g : Events). Is g (c .before .before .before .before .before .before .e .given .0 .1 .0 + 1)) (c .merged .ensures ∙ ap (merge (c .before .before .before .before .before .before .e .given .0 .0)) (c .before .no-events .ensures)) ∙ list-last (c .before .before .before .before .before .before .before .before .before .before .args .text .now) (c .before .before .before .before .before .before .before .before .before .before .args .at) n (omega arith) (sym (c .before .before .before .before .before .before .e .given .1) ∙ c .before .before .before .before .before .before .before .before .event-at .ensures .exact) (sym (c .before .before .before .before .octet-at .ensures) ∙ c .before .before .if2 .taken) }
+
+events-to-close-returns-3 : (t : ℕ) → events-to-close-lts.Need-returns-3 (events-to-close-calls t) (events-to-close-at t) events-to-close.Post
+events-to-close-returns-3 t c = let w = rw (c .before .before .before .before .e .given .1) at (c .before .before .before .before .before .before .event-at .ensures .within) in record { within = tt; exact = λ n h. list-wrong (c .before .before .before .before .before .before .before .before .args .text .now) (c .before .before .before .before .before .before .before .before .args .at) n (omega arith) (sym (c .before .before .before .before .e .given .1) ∙ c .before .before .before .before .before .before .event-at .ensures .exact) (λ e. c .before .if1 .left (c .before .before .octet-at .ensures ∙ e)) (λ e. c .if2 .left (c .before .before .octet-at .ensures ∙ e)) }
+
+events-to-close-returns-4 : (t : ℕ) → events-to-close-lts.Need-returns-4 (events-to-close-calls t) (events-to-close-at t) events-to-close.Post
+events-to-close-returns-4 t c = record { within = tt; exact = λ n h. list-none (c .before .before .before .before .args .text .now) (c .before .before .before .before .args .at) n (sym (c .enum-told .given .1) ∙ c .before .before .event-at .ensures .exact) }
+
+pub +events-to-close-spec : {M : Type 1} → statement M
++events-to-close-spec = close μ-events-to-close λ t. events-to-close-lts.spec (events-to-close-calls t)
+    (events-to-close-at t)
+    events-to-close.Post
+    (events-to-close-event-at-requires t)
+    (events-to-close-enum-known-e t)
+    (events-to-close-octet-at-requires t)
+    (events-to-close-add-events-to-close t)
+    (events-to-close-events-to-close-requires t)
+    (events-to-close-joined-requires t)
+    (events-to-close-no-events-requires t)
+    (events-to-close-merged-requires t)
+    (events-to-close-add-t16 t)
+    (events-to-close-enum-told t)
+    (events-to-close-returns t)
+    (events-to-close-returns-2 t)
+    (events-to-close-returns-3 t)
+    (events-to-close-returns-4 t)

@@ -1,0 +1,40 @@
+-- A word that stands alone is the whole filter; behind another the names are read.
+use borrow.Author.Needs.{needs}
+use mathlib.Core.Path.{sym, _∙_}
+use native.Mathlib.Omega.{arith}
+use Rattle.read_filters.proofs.Scoping.{by-alone, by-named, by-unknown}
+use Rattle.read_filters.proofs.filter_by.Statement.{statement}
+use Rattle.read_filters.proofs.filter_by.Tie as tie
+
+enum-known-word : tie.Need-enum-known-word
+enum-known-word c = search needs
+
+enum-known-word-2 : tie.Need-enum-known-word-2
+enum-known-word-2 c = search needs
+
+named-at-requires : tie.Need-named-at-requires
+named-at-requires c κs = search needs
+
+enum-told : tie.Need-enum-told
+enum-told c = search needs
+
+returns : tie.Need-returns
+returns c = record { exact = λ x h e. by-alone (c .before .before .before .before .args .text .now) (c .before .before .before .before .args .at) x h (sym (c .before .word .given .1) ∙ e); within = omega arith }
+
+returns-2 : tie.Need-returns-2
+returns-2 c = record { exact = λ x h e. by-named (c .before .before .before .before .before .args .text .now) (c .before .before .before .before .before .args .at) (c .named-at .ensures .exact) x (sym (c .before .before .word2 .given .1) ∙ e); within = c .named-at .ensures .within }
+
+returns-3 : tie.Need-returns-3
+returns-3 c = record { exact = λ x h e. by-unknown (c .before .before .before .args .text .now) (c .before .before .before .args .at) x (sym (c .enum-told .given .1) ∙ e); within = tt }
+
+pub filter-by-spec : {M : Type 1} → statement M
+filter-by-spec =
+    tie.close
+    (tie.spec
+    enum-known-word
+    enum-known-word-2
+    named-at-requires
+    enum-told
+    returns
+    returns-2
+    returns-3)

@@ -1,0 +1,45 @@
+-- A word that stands alone has no names; behind another they are kept.
+use borrow.Author.Needs.{needs}
+use mathlib.Core.Path.{sym, _∙_}
+use native.Mathlib.Omega.{arith}
+use Prim.Native.Nat.{_-_}
+use Rattle.read_filters.proofs.Selecting.{keeps-alone, keeps-by, keeps-unknown}
+use Rattle.read_filters.proofs.keep_by.Statement.{statement}
+use Rattle.read_filters.proofs.keep_by.Tie as tie
+
+enum-told : tie.Need-enum-told
+enum-told c = search needs
+
+enum-told-2 : tie.Need-enum-told-2
+enum-told-2 c = search needs
+
+keep-named-requires : tie.Need-keep-named-requires
+keep-named-requires c κs = search needs
+
+enum-told-3 : tie.Need-enum-told-3
+enum-told-3 c = search needs
+
+unread-requires : tie.Need-unread-requires
+unread-requires c κs = search needs
+
+returns : tie.Need-returns
+returns c = record { exact = λ x h e. keeps-alone (c .before .before .before .args .text .now) (c .before .before .before .args .at) (c .before .before .before .args .kept) x h (sym (c .enum-told .given .1) ∙ e); within = (omega arith, omega arith, omega arith) }
+
+returns-2 : tie.Need-returns-2
+returns-2 c = record { exact = λ x h e. keeps-by (c .before .before .before .before .args .text .now) (c .before .before .before .before .args .at) (c .before .before .before .before .args .kept) (c .keep-named .ensures .exact) x (sym (c .before .enum-told2 .given .1) ∙ e); within = c .keep-named .ensures .within }
+
+returns-3 : tie.Need-returns-3
+returns-3 c = record { exact = λ x h e. c .unread .ensures ∙ keeps-unknown (c .before .before .before .before .args .text .now) (c .before .before .before .before .args .at) (c .before .before .before .before .args .kept) x (sym (c .before .enum-told3 .given .1) ∙ e); within = rw (c .unread .ensures) tt }
+
+pub keep-by-spec : {M : Type 1} → statement M
+keep-by-spec =
+    tie.close
+    (tie.spec
+    enum-told
+    enum-told-2
+    keep-named-requires
+    enum-told-3
+    unread-requires
+    returns
+    returns-2
+    returns-3)

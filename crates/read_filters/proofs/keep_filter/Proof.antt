@@ -1,0 +1,49 @@
+-- An atom is the filter's word, and what stands behind it is kept by the word.
+use borrow.Author.Needs.{needs}
+use mathlib.Core.Path.{sym, _∙_}
+use native.Mathlib.Omega.{arith}
+use Prim.Native.Nat.{_-_}
+use Rattle.model.specs.Reading.{piece}
+use Rattle.model.specs.NotifyGrammar.{scopeOf}
+use Rattle.read_filters.proofs.Scoping.{plain}
+use Rattle.read_filters.proofs.Storing.{fits-behind}
+use Rattle.read_filters.proofs.Selecting.{keeps-some, keeps-none}
+use Rattle.read_filters.proofs.keep_filter.Statement.{statement}
+use Rattle.read_filters.proofs.keep_filter.Tie as tie
+
+run-at-requires : tie.Need-run-at-requires
+run-at-requires c κs = search needs
+
+enum-known-p : tie.Need-enum-known-p
+enum-known-p c = search needs
+
+enum-told : tie.Need-enum-told
+enum-told c = search needs
+
+unread-requires : tie.Need-unread-requires
+unread-requires c κs = search needs
+
+returns : tie.Need-returns
+returns c = record { exact = c .unread .ensures ∙ keeps-none (c .before .before .before .before .before .args .text .now) (c .before .before .before .before .before .args .at) (c .before .before .before .before .before .args .kept) (sym (c .before .enum-told .given .1) ∙ c .before .before .before .run-at .ensures .exact); within = rw (c .unread .ensures) tt }
+
+word-of-requires : tie.Need-word-of-requires
+word-of-requires c κs = search needs
+
+keep-by-requires : tie.Need-keep-by-requires
+keep-by-requires c κs = let w = rw (c .before .before .p .given .1) at (c .before .before .before .before .run-at .ensures .within) in (omega arith, omega arith)
+
+returns-2 : tie.Need-returns-2
+returns-2 c = let w = rw (c .before .before .before .p .given .1) at (c .before .before .before .before .before .run-at .ensures .within) in record { exact = keeps-some (c .before .before .before .before .before .before .before .args .text .now) (c .before .before .before .before .before .before .before .args .at) (c .before .before .before .before .before .before .before .args .kept) (sym (c .before .before .before .p .given .1) ∙ c .before .before .before .before .before .run-at .ensures .exact) (c .keep-by .ensures .exact (scopeOf (piece (c .before .before .before .before .before .before .before .args .text .now) (c .before .before .before .before .before .before .before .args .at) (c .before .before .before .p .given .0 .0))) (plain (piece (c .before .before .before .before .before .before .before .args .text .now) (c .before .before .before .before .before .before .before .args .at) (c .before .before .before .p .given .0 .0))) (c .before .word-of .ensures)); within = fits-behind (c .keep-by .result .ok) (c .before .before .before .before .before .before .before .args .text .now) (c .before .before .before .before .before .before .before .args .at) (c .before .before .before .p .given .0 .0) (c .keep-by .result) (omega arith) (c .keep-by .ensures .within) }
+
+pub keep-filter-spec : {M : Type 1} → statement M
+keep-filter-spec =
+    tie.close
+    (tie.spec
+    run-at-requires
+    enum-known-p
+    enum-told
+    unread-requires
+    returns
+    word-of-requires
+    keep-by-requires
+    returns-2)

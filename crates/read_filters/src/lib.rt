@@ -1,0 +1,341 @@
+// Whom a group of NOTIFY or a source of ESEARCH is about: the filter's word, and the names behind it.
+ghost use mathlib.Core.Path.{_≡_};
+ghost use Prim.Native.Nat.{ℕ, _+_, _-_, _≤_, _<_};
+ghost use lib.ListN.{length};
+ghost use Rattle.model.specs.Reading.{piece, astringAt};
+ghost use Rattle.model.specs.NotifyGrammar.{namesAt, scopeOf, filterAt};
+ghost use Rattle.model.specs.Listing.{lendName};
+ghost use Rattle.octets.specs.Values.{valueOf};
+ghost use Rattle.read_filters.specs.Scopes.{Numbered, Grouped, wordFor, readFilter, ReadsNamed, ReadsBy, ReadsFilter};
+ghost use Rattle.read_filters.specs.Counted.{readNames, oneMore, Room, ReadsNames, ReadsRow};
+ghost use Rattle.read_filters.specs.Keeping.{nothingKept, withOne, unkept, keptNames, keptFilter, KeepsRow, Keeps, KeepsNamed, KeepsBy};
+use model::LentName;
+use octets::Class;
+use octets::Next;
+
+// Names that were read, how many, and the position behind them; or that none stand there.
+pub enum NamesRead {
+    Is(u64, usize),
+    Bad,
+}
+
+// One name in front of others.
+fn one_more(r: NamesRead) -> NamesRead
+    requires { ⌜ Room r ⌝ }
+    ensures { λ q. ⌜ q ≡ oneMore r ⌝ }
+{
+    match r {
+        NamesRead::Is(count, next) => NamesRead::Is(count + 1, next),
+        NamesRead::Bad => NamesRead::Bad,
+    }
+}
+
+// Names with a space between them, up to the parenthesis that closes them.
+fn names_row(text: &[u8], at: usize) -> NamesRead
+    ensures { λ r. ⌜ ReadsRow (now (text .entry)) at r ⌝ }
+{
+    match octets::text_at(text, at, Class::Astring) {
+        Next::At(p) => {
+            let b = octets::octet_at(text, p);
+            if b == b' ' {
+                one_more(names_row(text, p + 1))
+            } else if b == b')' {
+                NamesRead::Is(1, p + 1)
+            } else {
+                NamesRead::Bad
+            }
+        }
+        Next::Bad => NamesRead::Bad,
+    }
+}
+
+// One name, or several in parentheses.
+pub fn names_at(text: &[u8], at: usize) -> NamesRead
+    ensures { λ r. ⌜ ReadsNames (now (text .entry)) at (readNames (namesAt (now (text .entry)) at)) r ⌝ }
+{
+    if octets::octet_at(text, at) == b'(' {
+        return names_row(text, at + 1);
+    }
+    match octets::text_at(text, at, Class::Astring) {
+        Next::At(p) => NamesRead::Is(1, p),
+        Next::Bad => NamesRead::Bad,
+    }
+}
+
+// Whom a filter is about.
+pub enum Scope {
+    Selected,
+    Delayed,
+    Inboxes,
+    Personal,
+    Subscribed,
+    Subtree,
+    SubtreeOne,
+    Mailboxes,
+}
+
+// The number by which a session holds whom a group is about.
+pub fn selector_of(scope: Scope) -> u8
+    ensures { λ r. ⌜ Numbered scope r ⌝ }
+{
+    match scope {
+        Scope::Selected => 0,
+        Scope::Delayed => 1,
+        Scope::Inboxes => 2,
+        Scope::Personal => 3,
+        Scope::Subscribed => 4,
+        Scope::Subtree => 5,
+        Scope::SubtreeOne => 5,
+        Scope::Mailboxes => 6,
+    }
+}
+
+// Whether a group may be about it: one level of a subtree is for ESEARCH alone.
+pub fn is_groupable(scope: Scope) -> bool
+    ensures { λ r. ⌜ Grouped scope r ⌝ }
+{
+    match scope {
+        Scope::Selected => true,
+        Scope::Delayed => true,
+        Scope::Inboxes => true,
+        Scope::Personal => true,
+        Scope::Subscribed => true,
+        Scope::Subtree => true,
+        Scope::SubtreeOne => false,
+        Scope::Mailboxes => true,
+    }
+}
+
+// A filter's word: it stands alone, or has names behind it, or is none.
+pub enum Word {
+    Alone(Scope),
+    Named(Scope),
+    Unknown,
+}
+
+// The word that stands between two positions.
+fn word_of(text: &[u8], from: usize, upto: usize) -> Word
+    ensures { λ r. ⌜ r ≡ wordFor (scopeOf (piece (now (text .entry)) from upto)) ⌝ }
+{
+    if octets::is_word(text, from, upto, b"selected") {
+        return Word::Alone(Scope::Selected);
+    }
+    if octets::is_word(text, from, upto, b"selected-delayed") {
+        return Word::Alone(Scope::Delayed);
+    }
+    if octets::is_word(text, from, upto, b"inboxes") {
+        return Word::Alone(Scope::Inboxes);
+    }
+    if octets::is_word(text, from, upto, b"personal") {
+        return Word::Alone(Scope::Personal);
+    }
+    if octets::is_word(text, from, upto, b"subscribed") {
+        return Word::Alone(Scope::Subscribed);
+    }
+    if octets::is_word(text, from, upto, b"subtree") {
+        return Word::Named(Scope::Subtree);
+    }
+    if octets::is_word(text, from, upto, b"subtree-one") {
+        return Word::Named(Scope::SubtreeOne);
+    }
+    if octets::is_word(text, from, upto, b"mailboxes") {
+        return Word::Named(Scope::Mailboxes);
+    }
+    Word::Unknown
+}
+
+// A filter that was read: whom it is about, how many names it has, and the position behind it; or that none stands there.
+pub enum FilterRead {
+    Is(Scope, u64, usize),
+    Bad,
+}
+
+// A filter with names, from the position behind its word on.
+fn named_at(text: &[u8], at: usize, scope: Scope) -> FilterRead
+    ensures { λ r. ⌜ ReadsNamed (now (text .entry)) at scope r ⌝ }
+{
+    if octets::octet_at(text, at) != b' ' {
+        return FilterRead::Bad;
+    }
+    match names_at(text, at + 1) {
+        NamesRead::Is(count, next) => FilterRead::Is(scope, count, next),
+        NamesRead::Bad => FilterRead::Bad,
+    }
+}
+
+// A filter by its word, from the position behind the word on.
+fn filter_by(text: &[u8], at: usize, word: Word) -> FilterRead
+    requires { ⌜ at ≤ length (now text) ⌝ }
+    ensures { λ r. ⌜ ReadsBy (now (text .entry)) at word r ⌝ }
+{
+    match word {
+        Word::Alone(scope) => FilterRead::Is(scope, 0, at),
+        Word::Named(scope) => named_at(text, at, scope),
+        Word::Unknown => FilterRead::Bad,
+    }
+}
+
+// Whom a group of NOTIFY or a source of ESEARCH is about.
+pub fn filter_at(text: &[u8], at: usize) -> FilterRead
+    ensures { λ r. ⌜ ReadsFilter (now (text .entry)) at (readFilter (filterAt (now (text .entry)) at)) r ⌝ }
+{
+    match octets::run_at(text, at, Class::Atom) {
+        Next::At(p) => filter_by(text, p, word_of(text, at, p)),
+        Next::Bad => FilterRead::Bad,
+    }
+}
+
+// Names that were kept: how many there were, and the first 16 of them as a session holds them.
+pub struct Kept {
+    pub count: u64,
+    pub names: [LentName; 16],
+}
+
+// What keeping names answers: whether they fit, the position behind them, and what is kept now.
+pub struct KeptRead {
+    pub ok: bool,
+    pub next: usize,
+    pub kept: Kept,
+}
+
+// No name is kept.
+pub fn keep_nothing() -> Kept
+    ensures { λ r. ⌜ r ≡ nothingKept ⌝ }
+{
+    let none = LentName {
+        len: 0,
+        octets: [0u8; 64],
+    };
+    Kept {
+        count: 0,
+        names: [none; 16],
+    }
+}
+
+// Nothing that fits was read, and all is kept as it was.
+fn unread(kept: Kept) -> KeptRead
+    ensures { λ r. ⌜ r ≡ unkept kept ⌝ }
+{
+    KeptRead {
+        ok: false,
+        next: 0,
+        kept,
+    }
+}
+
+// One name more is kept, if there is a place for it.
+fn keep_one(kept: Kept, name: LentName) -> Kept
+    requires { ⌜ kept .count < 18446744073709551615 ⌝ }
+    ensures { λ r. ⌜ r ≡ withOne kept name ⌝ }
+{
+    let mut names = kept.names;
+    let count = kept.count;
+    if count < 16 {
+        let i = count as usize;
+        names[i] = name;
+        return Kept {
+            count: count + 1,
+            names,
+        };
+    }
+    Kept {
+        count: count + 1,
+        names,
+    }
+}
+
+// The name at a position, as a mailbox would have it.
+fn name_at(text: &[u8], at: usize) -> LentName
+    ensures { λ r. ⌜ r ≡ lendName (valueOf (astringAt (now (text .entry)) at)) ⌝ }
+{
+    let mut octets = [0u8; 64];
+    let len = octets::value_of(text, at, Class::Astring, &mut octets);
+    if 64 < len {
+        return names::stored(b"");
+    }
+    names::stored(&octets[..len])
+}
+
+// Keeps names with a space between them, up to the parenthesis that closes them.
+fn keep_row(text: &[u8], at: usize, kept: Kept) -> KeptRead
+    requires { ⌜ kept .count ≤ at ⌝ }
+    ensures { λ r. ⌜ KeepsRow (now (text .entry)) at kept r ⌝ }
+{
+    let mut more = kept;
+    let mut p = at;
+    loop {
+        let Next::At(q) = octets::text_at(text, p, Class::Astring) else {
+            return unread(kept);
+        };
+        more = keep_one(more, name_at(text, p));
+        let b = octets::octet_at(text, q);
+        if b == b')' {
+            return KeptRead {
+                ok: true,
+                next: q + 1,
+                kept: more,
+            };
+        }
+        if b != b' ' {
+            return unread(kept);
+        }
+        p = q + 1;
+    }
+}
+
+// Keeps one name, or several in parentheses, behind those that are kept.
+pub fn keep_names(text: &[u8], at: usize, kept: Kept) -> KeptRead
+    requires { ⌜ kept .count ≤ at ⌝ }
+    ensures { λ r. ⌜ Keeps (now (text .entry)) at (keptNames kept (namesAt (now (text .entry)) at)) r ⌝ }
+{
+    if octets::octet_at(text, at) == b'(' {
+        return keep_row(text, at + 1, kept);
+    }
+    let Next::At(p) = octets::text_at(text, at, Class::Astring) else {
+        return unread(kept);
+    };
+    let more = keep_one(kept, name_at(text, at));
+    KeptRead {
+        ok: true,
+        next: p,
+        kept: more,
+    }
+}
+
+// Keeps the names of a filter, from the position behind its word on.
+fn keep_named(text: &[u8], at: usize, kept: Kept) -> KeptRead
+    requires { ⌜ kept .count ≤ at ⌝ }
+    ensures { λ r. ⌜ KeepsNamed (now (text .entry)) at kept r ⌝ }
+{
+    if octets::octet_at(text, at) != b' ' {
+        return unread(kept);
+    }
+    keep_names(text, at + 1, kept)
+}
+
+// Keeps the names of a filter by its word, from the position behind the word on.
+fn keep_by(text: &[u8], at: usize, word: Word, kept: Kept) -> KeptRead
+    requires { ⌜ (at ≤ length (now text)) × (kept .count ≤ at) ⌝ }
+    ensures { λ r. ⌜ KeepsBy (now (text .entry)) at word kept r ⌝ }
+{
+    match word {
+        Word::Alone(_) => KeptRead {
+            ok: true,
+            next: at,
+            kept,
+        },
+        Word::Named(_) => keep_named(text, at, kept),
+        Word::Unknown => unread(kept),
+    }
+}
+
+// Keeps the names of a filter behind those that are kept.
+pub fn keep_filter(text: &[u8], at: usize, kept: Kept) -> KeptRead
+    requires { ⌜ kept .count ≤ at ⌝ }
+    ensures { λ r. ⌜ Keeps (now (text .entry)) at (keptFilter kept (filterAt (now (text .entry)) at)) r ⌝ }
+{
+    let Next::At(p) = octets::run_at(text, at, Class::Atom) else {
+        return unread(kept);
+    };
+    keep_by(text, p, word_of(text, at, p), kept)
+}

@@ -1,0 +1,51 @@
+-- `keys::closed` meets its contract. Assumes nothing.
+use native.Mathlib.Omega.{arith}
+use mathlib.Core.Path.{refl}
+use borrow.Author.Needs.{needs}
+use Rattle.read_keys.proofs.nesting.closed.Statement.{statement}
+use Rattle.read_keys.proofs.nesting.closed.Tie as tie
+
+enum-known-r : tie.Need-enum-known-r
+enum-known-r c = search needs
+
+add-store-two : tie.Need-add-store-two
+add-store-two c = let s = rw (c .before .before .r .given .1) at (c .before .before .before .before .before .pre) in omega arith
+
+sub-store-two : tie.Need-sub-store-two
+sub-store-two c = let s = rw (c .before .before .r .given .1) at (c .before .before .before .before .before .pre) in omega arith
+
+store-two-requires : tie.Need-store-two-requires
+store-two-requires c κs = let s = rw (c .before .before .r .given .1) at (c .before .before .before .before .before .pre) in omega arith
+
+add-t18 : tie.Need-add-t18
+add-t18 c = let s = rw (c .before .before .before .before .before .r .given .1) at (c .before .before .before .before .before .before .before .before .pre) in omega arith
+
+add-t19 : tie.Need-add-t19
+add-t19 c = let s = rw (c .before .before .before .before .before .r .given .1) at (c .before .before .before .before .before .before .before .before .pre) in omega arith
+
+enum-told : tie.Need-enum-told
+enum-told c = search needs
+
+same-length : tie.Need-same-length
+same-length c = search needs
+
+returns : tie.Need-returns
+returns c = rw (c .before .before .before .before .before .r .given .1) (refl, c .before .before .store-two .ensures)
+
+returns-2 : tie.Need-returns-2
+returns-2 c = rw (c .enum-told .given .1) refl
+
+pub closed-spec : {M : Type 1} → statement M
+closed-spec =
+    tie.close
+    (tie.spec
+    enum-known-r
+    add-store-two
+    sub-store-two
+    store-two-requires
+    add-t18
+    add-t19
+    enum-told
+    same-length
+    returns
+    returns-2)

@@ -1,0 +1,37 @@
+-- `keys::over_at` meets its contract. Assumes nothing.
+use Rattle.read_keys.proofs.KeyLaws.{over-closing, over-unclosed, over-line, over-rest}
+use native.Mathlib.Omega.{arith}
+use mathlib.Core.Path.{sym, _∙_}
+use borrow.Author.Needs.{needs}
+use Rattle.read_keys.proofs.nesting.over_at.Statement.{statement}
+use Rattle.read_keys.proofs.nesting.over_at.Tie as tie
+use Rattle.octets.specs.Rows.{in-text}
+
+enum-told : tie.Need-enum-told
+enum-told c = search needs
+
+octet-at-requires : tie.Need-octet-at-requires
+octet-at-requires c κs = search needs
+
+add-t8 : tie.Need-add-t8
+add-t8 c = search needs
+
+enum-told-2 : tie.Need-enum-told-2
+enum-told-2 c = search needs
+
+returns : tie.Need-returns
+returns c = let i = in-text (c .before .before .before .before .before .args .text .now) (c .before .before .before .before .before .args .at) (sym (c .before .octet-at .ensures) ∙ c .if1 .taken) (omega arith) in record { exact = over-closing (c .before .before .before .before .before .args .text .now) (c .before .before .before .before .before .args .at) (c .before .before .enum-told .given .1) (sym (c .before .octet-at .ensures) ∙ c .if1 .taken); within = (omega arith, omega arith) }
+
+returns-2 : tie.Need-returns-2
+returns-2 c = record { exact = over-unclosed (c .before .before .before .before .before .args .text .now) (c .before .before .before .before .before .args .at) (c .before .before .enum-told .given .1) (λ e. c .if1 .left (c .before .octet-at .ensures ∙ e)); within = tt }
+
+returns-3 : tie.Need-returns-3
+returns-3 c = record { exact = over-line (c .before .before .before .before .args .text .now) (c .before .before .before .before .args .at) (c .before .enum-told2 .given .1) (c .if2 .taken); within = (omega arith, omega arith) }
+
+returns-4 : tie.Need-returns-4
+returns-4 c = record { exact = over-rest (c .before .before .before .before .args .text .now) (c .before .before .before .before .args .at) (c .before .enum-told2 .given .1) (c .if2 .left); within = tt }
+
+pub over-at-spec : {M : Type 1} → statement M
+over-at-spec =
+    tie.close
+    (tie.spec enum-told octet-at-requires add-t8 enum-told-2 returns returns-2 returns-3 returns-4)

@@ -1,0 +1,86 @@
+-- `keys::argument_at` meets its contract. Assumes nothing.
+use Rattle.read_keys.proofs.Shapes.{behind-in, behind-from, header-two, header-none}
+use Rattle.read_keys.specs.declared.Argument.{Argument}
+use Rattle.read_keys.specs.Words.{argumentAt}
+use native.Mathlib.Omega.{arith}
+use mathlib.Core.Path.{sym, ap, _∙_}
+use borrow.Author.Needs.{needs}
+use Rattle.read_keys.proofs.terms.argument_at.Statement.{statement}
+use Rattle.read_keys.proofs.terms.argument_at.Tie as tie
+
+enum-told : tie.Need-enum-told
+enum-told c = search needs
+
+enum-told-2 : tie.Need-enum-told-2
+enum-told-2 c = search needs
+
+text-behind-requires : tie.Need-text-behind-requires
+text-behind-requires c κs = search needs
+
+enum-told-3 : tie.Need-enum-told-3
+enum-told-3 c = search needs
+
+atom-behind-requires : tie.Need-atom-behind-requires
+atom-behind-requires c κs = search needs
+
+enum-told-4 : tie.Need-enum-told-4
+enum-told-4 c = search needs
+
+date-behind-requires : tie.Need-date-behind-requires
+date-behind-requires c κs = search needs
+
+enum-told-5 : tie.Need-enum-told-5
+enum-told-5 c = search needs
+
+text-behind-requires-2 : tie.Need-text-behind-requires-2
+text-behind-requires-2 c κs = search needs
+
+enum-known-p : tie.Need-enum-known-p
+enum-known-p c = search needs
+
+text-behind-requires-3 : tie.Need-text-behind-requires-3
+text-behind-requires-3 c κs = search needs
+
+enum-told-6 : tie.Need-enum-told-6
+enum-told-6 c = search needs
+
+returns : tie.Need-returns
+returns c = record { exact = ap (λ (x : Argument). argumentAt x (c .before .before .before .args .text .now) (c .before .before .before .args .at)) (sym (c .enum-told .given .1)); within = (omega arith, omega arith) }
+
+returns-2 : tie.Need-returns-2
+returns-2 c = record { exact = c .text-behind .ensures .exact ∙ ap (λ (x : Argument). argumentAt x (c .before .before .before .before .args .text .now) (c .before .before .before .before .args .at)) (sym (c .before .enum-told2 .given .1)); within = behind-in (c .before .before .before .before .args .text .now) (c .before .before .before .before .args .at) (c .text-behind .result) (c .text-behind .ensures .within) }
+
+returns-3 : tie.Need-returns-3
+returns-3 c = record { exact = c .atom-behind .ensures .exact ∙ ap (λ (x : Argument). argumentAt x (c .before .before .before .before .args .text .now) (c .before .before .before .before .args .at)) (sym (c .before .enum-told3 .given .1)); within = behind-in (c .before .before .before .before .args .text .now) (c .before .before .before .before .args .at) (c .atom-behind .result) (c .atom-behind .ensures .within) }
+
+returns-4 : tie.Need-returns-4
+returns-4 c = record { exact = c .date-behind .ensures .exact ∙ ap (λ (x : Argument). argumentAt x (c .before .before .before .before .args .text .now) (c .before .before .before .before .args .at)) (sym (c .before .enum-told4 .given .1)); within = behind-in (c .before .before .before .before .args .text .now) (c .before .before .before .before .args .at) (c .date-behind .result) (c .date-behind .ensures .within) }
+
+returns-5 : tie.Need-returns-5
+returns-5 c = let w = rw (c .before .before .p .given .1) at (c .before .before .before .before .text-behind2 .ensures .within) in record { exact = c .text-behind3 .ensures .exact ∙ header-two (c .before .before .before .before .before .before .before .before .args .text .now) (c .before .before .before .before .before .before .before .before .args .at) (sym (c .before .before .p .given .1) ∙ c .before .before .before .before .text-behind2 .ensures .exact) ∙ ap (λ (x : Argument). argumentAt x (c .before .before .before .before .before .before .before .before .args .text .now) (c .before .before .before .before .before .before .before .before .args .at)) (sym (c .before .before .before .before .before .enum-told5 .given .1)); within = behind-from (c .before .before .before .before .before .before .before .before .args .text .now) (c .before .before .before .before .before .before .before .before .args .at) (c .before .before .p .given .0 .0) (c .text-behind3 .result) (omega arith) (c .text-behind3 .ensures .within) }
+
+returns-6 : tie.Need-returns-6
+returns-6 c = record { exact = header-none (c .before .before .before .before .before .before .args .text .now) (c .before .before .before .before .before .before .args .at) (sym (c .enum-told6 .given .1) ∙ c .before .before .text-behind2 .ensures .exact) ∙ ap (λ (x : Argument). argumentAt x (c .before .before .before .before .before .before .args .text .now) (c .before .before .before .before .before .before .args .at)) (sym (c .before .before .before .enum-told5 .given .1)); within = tt }
+
+pub argument-at-spec : {M : Type 1} → statement M
+argument-at-spec =
+    tie.close
+    (tie.spec
+    enum-told
+    enum-told-2
+    text-behind-requires
+    enum-told-3
+    atom-behind-requires
+    enum-told-4
+    date-behind-requires
+    enum-told-5
+    text-behind-requires-2
+    enum-known-p
+    text-behind-requires-3
+    enum-told-6
+    returns
+    returns-2
+    returns-3
+    returns-4
+    returns-5
+    returns-6)

@@ -1,0 +1,28 @@
+-- `keys::date_behind` meets its contract. Assumes nothing.
+use Rattle.read_keys.proofs.Shapes.{next-yes, next-no, within-from}
+use Rattle.model.specs.Reading.{dateAt}
+use native.Mathlib.Omega.{arith}
+use mathlib.Core.Path.{sym, _∙_}
+use borrow.Author.Needs.{needs}
+use Rattle.read_keys.proofs.terms.date_behind.Statement.{statement}
+use Rattle.read_keys.proofs.terms.date_behind.Tie as tie
+use Rattle.octets.specs.Rows.{in-text}
+
+octet-at-requires : tie.Need-octet-at-requires
+octet-at-requires c κs = search needs
+
+add-date-at : tie.Need-add-date-at
+add-date-at c = let i = in-text (c .before .before .before .args .text .now) (c .before .before .before .args .at) (sym (c .before .octet-at .ensures) ∙ c .if1 .taken) (omega arith) in omega arith
+
+date-at-requires : tie.Need-date-at-requires
+date-at-requires c κs = search needs
+
+returns : tie.Need-returns
+returns c = record { exact = c .date-at .ensures .exact ∙ next-yes (c .before .before .before .before .args .text .now) (c .before .before .before .before .args .at) (λ q. dateAt (c .before .before .before .before .args .text .now) q) (sym (c .before .before .octet-at .ensures) ∙ c .before .if1 .taken); within = within-from (c .before .before .before .before .args .text .now) (c .before .before .before .before .args .at) (c .date-at .result) (c .date-at .ensures .within) }
+
+returns-2 : tie.Need-returns-2
+returns-2 c = record { exact = next-no (c .before .before .before .args .text .now) (c .before .before .before .args .at) (λ q. dateAt (c .before .before .before .args .text .now) q) (λ e. c .if1 .left (c .before .octet-at .ensures ∙ e)); within = tt }
+
+pub date-behind-spec : {M : Type 1} → statement M
+date-behind-spec =
+    tie.close (tie.spec octet-at-requires add-date-at date-at-requires returns returns-2)

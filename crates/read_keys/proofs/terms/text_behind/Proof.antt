@@ -1,0 +1,28 @@
+-- `keys::text_behind` meets its contract. Assumes nothing.
+use Rattle.read_keys.proofs.Shapes.{next-yes, next-no, within-from}
+use Rattle.model.specs.Reading.{astringAt}
+use native.Mathlib.Omega.{arith}
+use mathlib.Core.Path.{sym, _∙_}
+use borrow.Author.Needs.{needs}
+use Rattle.read_keys.proofs.terms.text_behind.Statement.{statement}
+use Rattle.read_keys.proofs.terms.text_behind.Tie as tie
+use Rattle.octets.specs.Rows.{in-text}
+
+octet-at-requires : tie.Need-octet-at-requires
+octet-at-requires c κs = search needs
+
+add-text-at : tie.Need-add-text-at
+add-text-at c = let i = in-text (c .before .before .before .args .text .now) (c .before .before .before .args .at) (sym (c .before .octet-at .ensures) ∙ c .if1 .taken) (omega arith) in omega arith
+
+text-at-requires : tie.Need-text-at-requires
+text-at-requires c κs = search needs
+
+returns : tie.Need-returns
+returns c = record { exact = c .text-at .ensures .exact ∙ next-yes (c .before .before .before .before .args .text .now) (c .before .before .before .before .args .at) (λ q. astringAt (c .before .before .before .before .args .text .now) q) (sym (c .before .before .octet-at .ensures) ∙ c .before .if1 .taken); within = within-from (c .before .before .before .before .args .text .now) (c .before .before .before .before .args .at) (c .text-at .result) (c .text-at .ensures .within) }
+
+returns-2 : tie.Need-returns-2
+returns-2 c = record { exact = next-no (c .before .before .before .args .text .now) (c .before .before .before .args .at) (λ q. astringAt (c .before .before .before .args .text .now) q) (λ e. c .if1 .left (c .before .octet-at .ensures ∙ e)); within = tt }
+
+pub text-behind-spec : {M : Type 1} → statement M
+text-behind-spec =
+    tie.close (tie.spec octet-at-requires add-text-at text-at-requires returns returns-2)

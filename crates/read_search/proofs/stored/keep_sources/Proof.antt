@@ -1,0 +1,44 @@
+-- `keep_sources`: the sources, or the selected mailbox where IN does not stand. Assumes nothing.
+use mathlib.Core.Path.{sym, _∙_}
+use native.Mathlib.Omega.{arith}
+use Rattle.read_search.proofs.Keeping.{sources-given, sources-left}
+use borrow.Author.Needs.{needs}
+use Rattle.read_search.proofs.stored.keep_sources.Statement.{statement}
+use Rattle.read_search.proofs.stored.keep_sources.Tie as tie
+
+slice-aggregate-word-at : tie.Need-slice-aggregate-word-at
+slice-aggregate-word-at c = search needs
+
+word-at-requires : tie.Need-word-at-requires
+word-at-requires c κs = search needs
+
+list-by-requires : tie.Need-list-by-requires
+list-by-requires c κs = search needs
+
+returns : tie.Need-returns
+returns c = c .list-by .ensures ∙ sources-given (c .before .before .before .before .before .args .text .now) (c .before .before .before .before .before .args .at) (sym (c .before .before .word-at .ensures) ∙ c .before .if1 .taken)
+
+nothing-listed-requires : tie.Need-nothing-listed-requires
+nothing-listed-requires c κs = search needs
+
+keep-nothing-requires : tie.Need-keep-nothing-requires
+keep-nothing-requires c κs = search needs
+
+put-listed-requires : tie.Need-put-listed-requires
+put-listed-requires c κs = rw (c .before .nothing-listed .ensures) (omega arith)
+
+returns-2 : tie.Need-returns-2
+returns-2 c = rw (c .put-listed .ensures, c .before .before .nothing-listed .ensures, c .before .keep-nothing .ensures) (sources-left (c .before .before .before .before .before .before .before .args .text .now) (c .before .before .before .before .before .before .before .args .at) (sym (c .before .before .before .before .word-at .ensures) ∙ c .before .before .before .if1 .left))
+
+pub keep-sources-spec : {M : Type 1} → statement M
+keep-sources-spec =
+    tie.close
+    (tie.spec
+    slice-aggregate-word-at
+    word-at-requires
+    list-by-requires
+    returns
+    nothing-listed-requires
+    keep-nothing-requires
+    put-listed-requires
+    returns-2)

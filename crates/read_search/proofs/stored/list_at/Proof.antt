@@ -1,0 +1,45 @@
+-- `list_at`: the row behind a parenthesis. Assumes nothing.
+use mathlib.Core.Path.{sym, ap, _∙_}
+use native.Mathlib.Omega.{arith}
+use Prim.Native.Nat.{_+_}
+use lib.ListN.{length}
+use Rattle.read_search.specs.Listing.{nothingListed, readListed}
+use Rattle.read_search.specs.declared.Listed.{Listed}
+use Rattle.read_search.proofs.Keeping.{row, list-row, list-none}
+use borrow.Author.Needs.{needs}
+use Rattle.read_search.proofs.stored.list_at.Statement.{statement}
+use Rattle.read_search.proofs.stored.list_at.Tie as tie
+use Rattle.octets.specs.Rows.{in-text}
+
+octet-at-requires : tie.Need-octet-at-requires
+octet-at-requires c κs = search needs
+
+unlisted-requires : tie.Need-unlisted-requires
+unlisted-requires c κs = search needs
+
+returns : tie.Need-returns
+returns c = c .unlisted .ensures ∙ list-none (c .before .before .before .before .args .text .now) (c .before .before .before .before .args .at) nothingListed (λ e. c .before .if1 .taken (c .before .before .octet-at .ensures ∙ e))
+
+add-list-row : tie.Need-add-list-row
+add-list-row c = let i = in-text (c .before .before .before .args .text .now) (c .before .before .before .args .at) (sym (c .before .octet-at .ensures) ∙ c .if1 .left) (omega arith) in omega arith
+
+nothing-listed-requires : tie.Need-nothing-listed-requires
+nothing-listed-requires c κs = search needs
+
+list-row-requires : tie.Need-list-row-requires
+list-row-requires c κs = rw (c .nothing-listed .ensures) (omega arith, omega arith)
+
+returns-2 : tie.Need-returns-2
+returns-2 c = let i = in-text (c .before .before .before .before .before .args .text .now) (c .before .before .before .before .before .args .at) (sym (c .before .before .before .octet-at .ensures) ∙ c .before .before .if1 .left) (omega arith) in c .list-row .ensures (length (c .before .before .before .before .before .args .text .now)) (omega arith) ∙ ap (λ (t : Listed). readListed t (row (length (c .before .before .before .before .before .args .text .now)) (c .before .before .before .before .before .args .text .now) ((c .before .before .before .before .before .args .at) + 1))) (c .before .nothing-listed .ensures) ∙ list-row (c .before .before .before .before .before .args .text .now) (c .before .before .before .before .before .args .at) nothingListed (sym (c .before .before .before .octet-at .ensures) ∙ c .before .before .if1 .left)
+
+pub list-at-spec : {M : Type 1} → statement M
+list-at-spec =
+    tie.close
+    (tie.spec
+    octet-at-requires
+    unlisted-requires
+    returns
+    add-list-row
+    nothing-listed-requires
+    list-row-requires
+    returns-2)

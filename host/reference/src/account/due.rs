@@ -1,0 +1,175 @@
+//! What a taken call owes the client, and the change it makes in what exists.
+
+use super::store::Mailbox;
+use super::written::line;
+use super::{Account, Cause, Rule, Wait};
+use crate::command::{self, Command};
+use crate::lines;
+use crate::matching::meets;
+use crate::memory::*;
+use crate::names::Name;
+use crate::records::Record;
+
+pub(super) enum Due {
+    Nothing(Rule),
+    /// Nothing now, and the client hears of it later.
+    Later(Wait, Cause),
+    /// These lines together; without room for them it waits so, or is lost.
+    Now(Vec<Vec<u8>>, Option<Wait>),
+    /// Lines that tell of older calls.
+    Older(Vec<Vec<u8>>),
+}
+
+impl Account {
+    /// Takes in what a record changes. What the call wrote is asked for a command's acceptance
+    /// alone, and the view is left to the lines.
+    pub(super) fn take(&mut self, record: &Record, written: &[&[u8]]) -> Due {
+        self.event(record, written)
+            .unwrap_or(Due::Nothing(Rule::NoEvent))
+    }
+
+    /// What is owed, or none where nothing came about.
+    fn event(&mut self, record: &Record, written: &[&[u8]]) -> Option<Due> {
+        match *record {
+            Record::Create {
+                id,
+                attributes,
+                quiet,
+                name,
+                ..
+            } => {
+                self.mailboxes.insert(id, Mailbox::new(name, attributes));
+                Some(self.listed(quiet, &name, attributes, lines::kind(attributes)))
+            }
+            Record::Delete { id, quiet } => {
+                let gone = self.mailboxes.remove(&id)?;
+                Some(self.listed(quiet, &gone.name, gone.attributes, "\\NonExistent"))
+            }
+            Record::Rename { id, quiet, name } => self.renamed(id, quiet, name),
+            Record::Subscribe {
+                id,
+                subscribed,
+                quiet,
+            } => self.subscribed(id, subscribed, quiet),
+            Record::Rights { id, rights } => self.rights(id, rights),
+            Record::Message {
+                id,
+                uid,
+                flags,
+                size,
+            } => self.arrived(Message {
+                mailbox: id,
+                uid,
+                flags,
+                size,
+                state: 0,
+            }),
+            Record::Expunge { id, uid } => self.expunged(id, uid),
+            Record::Flags { id, uid, flags } => self.flagged(id, uid, flags),
+            Record::Select { id } => self.select(id),
+            Record::End { class } => Some(Due::Older(self.fitting(self.owed_to(class)))),
+            Record::Command { line } => self.command(line, written),
+            Record::Drained { count } => {
+                self.filled = self.filled.saturating_sub(count as usize);
+                None
+            }
+        }
+    }
+
+    fn renamed(&mut self, id: u16, quiet: bool, name: Name) -> Option<Due> {
+        let mailbox = self.mailboxes.get_mut(&id)?;
+        let attributes = mailbox.attributes;
+        let old = std::mem::replace(&mut mailbox.name, name);
+        if quiet {
+            return Some(Due::Nothing(Rule::Quiet));
+        }
+        let line = line(|out| lines::renamed(out, lines::kind(attributes), &name, &old));
+        Some(self.notice(MAILBOX_NAME, &[old, name], attributes, line))
+    }
+
+    fn subscribed(&mut self, id: u16, subscribed: bool, quiet: bool) -> Option<Due> {
+        let mailbox = self.mailboxes.get_mut(&id)?;
+        let was = mailbox.attributes & SUBSCRIBED != 0;
+        if was == subscribed {
+            return None;
+        }
+        mailbox.attributes ^= SUBSCRIBED;
+        let (name, attributes) = (mailbox.name, mailbox.attributes | SUBSCRIBED);
+        if quiet {
+            return Some(Due::Nothing(Rule::Quiet));
+        }
+        let kind = if subscribed { "\\Subscribed" } else { "" };
+        let line = line(|out| lines::list(out, kind, &name));
+        Some(self.notice(SUBSCRIPTION, &[name], attributes, line))
+    }
+
+    /// Only l makes a mailbox appear or vanish; both rights count on the side where it is seen.
+    fn rights(&mut self, id: u16, rights: u8) -> Option<Due> {
+        let mailbox = self.mailboxes.get_mut(&id)?;
+        let (name, before) = (mailbox.name, mailbox.attributes);
+        let after = before & !RIGHTS | rights;
+        mailbox.attributes = after;
+        match (before & LOOKUP != 0, after & LOOKUP != 0) {
+            (false, true) => Some(self.listed(false, &name, after, lines::kind(after))),
+            (true, false) => Some(self.listed(false, &name, before, "\\NonExistent")),
+            _ => None,
+        }
+    }
+
+    /// A mailbox's coming or going.
+    fn listed(&self, quiet: bool, name: &Name, attributes: u8, kind: &str) -> Due {
+        if quiet {
+            return Due::Nothing(Rule::Quiet);
+        }
+        let line = line(|out| lines::list(out, kind, name));
+        self.notice(MAILBOX_NAME, &[*name], attributes, line)
+    }
+
+    /// The counts of a mailbox that is not selected.
+    pub(super) fn counted(&self, id: u16, event: u8) -> Option<Due> {
+        let mailbox = self.mailboxes.get(&id)?;
+        let messages = mailbox.messages.len() as u32;
+        let line = line(|out| lines::status_later(out, &mailbox.name, mailbox.uid_next, messages));
+        Some(self.notice(event, &[mailbox.name], mailbox.attributes, line))
+    }
+
+    /// A notice that any group but the selected one may ask for, by any of the names.
+    fn notice(&self, event: u8, names: &[Name], attributes: u8, line: Vec<u8>) -> Due {
+        if attributes & RIGHTS != RIGHTS {
+            return Due::Nothing(Rule::RightMissing);
+        }
+        let groups = self.groups.unwrap_or_default();
+        let meets = |group: &Group| {
+            let by = |name: &Name| meets(&groups, group, name, attributes);
+            names.iter().any(by)
+        };
+        let met: Vec<&Group> = groups.used().iter().filter(|group| meets(group)).collect();
+        if met.is_empty() {
+            Due::Nothing(Rule::NoGroup)
+        } else if met.iter().all(|group| group.events & event == 0) {
+            Due::Nothing(Rule::NotAsked)
+        } else {
+            Due::Now(vec![line], None)
+        }
+    }
+
+    /// NOTIFY counts if its answer accepts it; no other command changes or owes anything.
+    fn command(&mut self, line: &[u8], written: &[&[u8]]) -> Option<Due> {
+        let (tag, rest) = command::split(line)?;
+        let accepted = [tag, b" OK NOTIFY done\r\n"].concat();
+        if *written.last()? != accepted {
+            return None;
+        }
+        match command::read(rest)? {
+            Command::NotifyNone => {
+                self.groups = Some(Groups::default());
+                None
+            }
+            Command::NotifySet(notify) => {
+                self.groups = Some(notify.filters.groups);
+                Some(Due::Older(self.owed_to(1)))
+            }
+            Command::Search(_) => None,
+        }
+    }
+}

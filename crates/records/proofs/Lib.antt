@@ -1,0 +1,6 @@
+-- Laws on plain values, for the proofs of this crate.
+mod Marks
+mod Letters
+mod Turns
+mod Frames
+mod Whole

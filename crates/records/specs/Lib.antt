@@ -1,0 +1,5 @@
+pub mod Kinds
+pub mod Layouts
+pub mod Reading
+pub mod Laws
+pub mod Examples

@@ -1,0 +1,35 @@
+use borrow.Author.Needs.{needs}
+use Rattle.counting.proofs.count.Statement.{statement}
+use Rattle.counting.proofs.count.Tie as tie
+use mathlib.Core.Path.{_∙_, ap}
+use Prim.Native.Nat.{ℕ}
+use native.Mathlib.Omega.{arith}
+use lib.ListN.{length, take}
+use Rattle.model.specs.Memory.{existing}
+use Rattle.entries.specs.Words.{messages}
+use Rattle.rows.specs.Columns.{zero-at}
+use Rattle.counting.specs.Tally.{apart-ids, Apart}
+
+-- src/lib.rt:93:17
+guesses-requires : tie.Need-guesses-requires
+guesses-requires c κs = search needs
+
+-- src/lib.rt:95:44
+slice-aggregate-tally-all : tie.Need-slice-aggregate-tally-all
+slice-aggregate-tally-all c = search needs
+
+-- src/lib.rt:95:5
+tally-all-requires : tie.Need-tally-all-requires
+tally-all-requires c κs = (c .before .before .before .before .pre .0, c .before .before .before .before .pre .1, c .before .before .before .before .pre .2, c .before .before .before .before .pre .2, λ k. zero-at 64 k)
+
+-- src/lib.rt:89:1
+returns : tie.Need-returns
+returns c =
+    let args = c .before .before .before .before .before .before .args in
+    λ l h w a k g.
+    let ids : Apart (args .ids .now) (args .n) = rw h at (apart-ids l (args .ids .now) w a) in
+    c .before .tally-all .ensures ids k g ∙ ap (λ (i : ℕ). length (existing i (take (args .used) (messages (args .words .now))))) (w k (omega arith))
+
+pub count-spec : {M : Type 1} → statement M
+count-spec =
+    tie.close (tie.spec guesses-requires slice-aggregate-tally-all tally-all-requires returns)

@@ -1,0 +1,36 @@
+use borrow.Author.Needs.{needs}
+use Rattle.entries.proofs.count_one.Statement.{statement}
+use Rattle.entries.proofs.count_one.Tie as tie
+use Rattle.entries.proofs.count_one.Reads as reads
+use Rattle.entries.proofs.count_one.Lts as lts
+use Rattle.entries.proofs.get.Reads as get-reads
+use mathlib.Core.Path.{_≡_, refl, sym, _∙_, ap}
+use mathlib.Core.Bool.{Bool, true, false, not, cond, _&&_}
+use Prim.Native.Nat.{ℕ, _≤_, _%_}
+use native.Mathlib.Omega.{arith}
+use lib.Dec.{eqb}
+use lib.ListN.{getD}
+use borrow.Author.Tests.{eq-eqb, ne-eqb}
+use Rattle.model.specs.Memory.{noMessage}
+use Rattle.model.specs.declared.Message.{Message}
+use Rattle.entries.specs.Words.{messages}
+use Rattle.entries.specs.Counted.{lives, one-other, one-gone, one-here}
+
+-- src/lib.rt:55:9
+get-requires : tie.Need-get-requires
+get-requires c κs = search needs
+
+-- src/lib.rt:57:9
+returns : tie.Need-returns
+returns c = (one-other (c .before .before .before .before .args .mailbox) (c .before .before .get .result) _ (c .before .before .get .ensures) (c .if1 .taken), omega arith)
+
+-- src/lib.rt:60:9
+returns-2 : tie.Need-returns-2
+returns-2 c = (one-gone (c .before .before .before .before .before .before .args .mailbox) (c .before .before .before .before .get .result) _ (c .before .before .before .before .get .ensures) (c .if2 .taken), omega arith)
+
+-- src/lib.rt:51:1
+returns-3 : tie.Need-returns-3
+returns-3 c = (one-here (c .before .before .before .before .before .before .args .mailbox) (c .before .before .before .before .get .result) _ (c .before .before .before .before .get .ensures) (c .before .before .if1 .left) (c .if2 .left), omega arith)
+
+pub count-one-spec : {M : Type 1} → statement M
+count-one-spec = tie.close (tie.spec get-requires returns returns-2 returns-3)

@@ -1,0 +1,29 @@
+use borrow.Author.Needs.{needs}
+use Rattle.entries.proofs.entry.Statement.{statement}
+use Rattle.entries.proofs.entry.Tie as tie
+use Rattle.entries.proofs.entry.Reads as reads
+use Rattle.entries.proofs.entry.Lts as lts
+use Rattle.entries.proofs.nothing.Reads as nothing-reads
+use Rattle.entries.proofs.get.Reads as get-reads
+use mathlib.Core.Path.{_≡_, refl, sym, _∙_, ap}
+use native.Mathlib.Omega.{arith}
+use Rattle.entries.specs.Words.{messages, messages-count, past}
+
+-- src/lib.rt:74:9
+nothing-requires : tie.Need-nothing-requires
+nothing-requires c κs = search needs
+
+-- src/lib.rt:74:9
+returns : tie.Need-returns
+returns c = c .nothing .ensures ∙ sym (past (messages (c .before .before .before .args .words .now)) (c .before .before .before .args .i) (let z = messages-count (c .before .before .before .args .words .now) in omega arith))
+
+-- src/lib.rt:76:5
+get-requires : tie.Need-get-requires
+get-requires c κs = search needs
+
+-- src/lib.rt:69:1
+returns-2 : tie.Need-returns-2
+returns-2 c = search needs
+
+pub entry-spec : {M : Type 1} → statement M
+entry-spec = tie.close (tie.spec nothing-requires returns get-requires returns-2)

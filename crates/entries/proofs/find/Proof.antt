@@ -1,0 +1,79 @@
+use Rattle.entries.proofs.find.Statement.{statement}
+use Rattle.entries.proofs.find.Tie as tie
+use Rattle.entries.proofs.find.Reads as reads
+use Rattle.entries.proofs.find.Lts as lts
+use Rattle.entries.proofs.is_message.Reads as is-message-reads
+use mathlib.Core.Path.{_≡_, refl, sym, _∙_, ap}
+use mathlib.Core.Bool.{Bool, true, false, not}
+use Prim.Native.Nat.{_≤_, _+_, _-_}
+use native.Mathlib.Omega.{arith}
+use lib.ListN.{length, take, drop, getD}
+use lib.Seq.{length-take-le, getD-take}
+use borrow.Author.Tests.{not-true}
+use Rattle.model.specs.Memory.{noMessage}
+use Rattle.model.specs.declared.Message.{Message}
+use Rattle.entries.specs.Words.{messages, messages-length}
+use Rattle.entries.specs.Found.{stands, first, first-start, first-next, first-here, first-none}
+use borrow.Author.Needs.{needs}
+
+abbrev Inv-loop : tie.InvT-loop
+Inv-loop words used mailbox uid i₀ i = (i ≤ used) × (first (stands mailbox (uid .0)) (take used (messages words)) ≡ i + first (stands mailbox (uid .0)) (drop i (take used (messages words))))
+
+abbrev μ-loop : tie.MeasureT-loop
+μ-loop words used mailbox uid i₀ i = used - i
+
+-- src/lib.rt:123:5
+loop-holds : tie.Need-loop-holds Inv-loop μ-loop
+loop-holds c = let a = c .before .args in (search needs, first-start (stands (a .mailbox) (a .uid .0)) (take (a .used) (messages (a .words .now))))
+
+-- src/lib.rt:124:12
+is-message-requires : tie.Need-is-message-requires Inv-loop μ-loop
+is-message-requires c κs = search needs
+
+-- src/lib.rt:125:13
+returns : tie.Need-returns Inv-loop μ-loop
+returns c = let a = c .before .before .before .before .before .args in
+    let o = c .before .before .before .loop in
+    let k = messages-length (a .used) (a .words .now) (c .before .before .before .before .before .pre) in
+    let l = length-take-le (a .used) (messages (a .words .now)) k in
+    let d = getD-take (a .used) (messages (a .words .now)) (o .i) noMessage (omega arith) in
+    first-here (stands (a .mailbox) (a .uid .0)) (take (a .used) (messages (a .words .now))) (o .i) (omega arith) (ap (stands (a .mailbox) (a .uid .0)) d ∙ (sym (c .before .is-message .ensures) ∙ c .if1 .taken)) (o .inv .1)
+
+-- src/lib.rt:127:9
+add-i : tie.Need-add-i Inv-loop μ-loop
+add-i c = search needs
+
+-- src/lib.rt:123:5
+loop-less : tie.Need-loop-less Inv-loop μ-loop
+loop-less c = search needs
+
+-- src/lib.rt:123:5
+loop-again : tie.Need-loop-again Inv-loop μ-loop
+loop-again c = let a = c .before .before .before .before .before .args in
+    let o = c .before .before .before .loop in
+    let k = messages-length (a .used) (a .words .now) (c .before .before .before .before .before .pre) in
+    let l = length-take-le (a .used) (messages (a .words .now)) k in
+    let d = getD-take (a .used) (messages (a .words .now)) (o .i) noMessage (omega arith) in
+    (search needs, first-next (stands (a .mailbox) (a .uid .0)) (take (a .used) (messages (a .words .now))) (o .i) (omega arith) (ap (stands (a .mailbox) (a .uid .0)) d ∙ (sym (c .before .is-message .ensures) ∙ c .if1 .left)) (o .inv .1))
+
+-- src/lib.rt:118:1
+returns-2 : tie.Need-returns-2 Inv-loop μ-loop
+returns-2 c = let a = c .before .before .before .args in
+    let o = c .before .loop in
+    let k = messages-length (a .used) (a .words .now) (c .before .before .before .pre) in
+    let l = length-take-le (a .used) (messages (a .words .now)) k in
+    first-none (stands (a .mailbox) (a .uid .0)) (take (a .used) (messages (a .words .now))) (o .i) (omega arith) (omega arith) (o .inv .1)
+
+pub find-spec : {M : Type 1} → statement M
+find-spec =
+    tie.close
+    (tie.spec
+    Inv-loop
+    μ-loop
+    loop-holds
+    is-message-requires
+    returns
+    add-i
+    loop-less
+    loop-again
+    returns-2)

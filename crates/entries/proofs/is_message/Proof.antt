@@ -1,0 +1,29 @@
+use borrow.Author.Needs.{needs}
+use Rattle.entries.proofs.is_message.Statement.{statement}
+use Rattle.entries.proofs.is_message.Tie as tie
+use Rattle.entries.proofs.is_message.Reads as reads
+use Rattle.entries.proofs.is_message.Lts as lts
+use Rattle.entries.proofs.get.Reads as get-reads
+use mathlib.Core.Path.{_≡_, refl, sym, _∙_, ap}
+use mathlib.Core.Bool.{Bool, true, false, not}
+use borrow.Author.Tests.{not-true, not-false}
+use Rattle.entries.specs.Found.{stands, other-box, other-uid, that-one}
+
+-- src/lib.rt:107:9
+get-requires : tie.Need-get-requires
+get-requires c κs = search needs
+
+-- src/lib.rt:109:9
+returns : tie.Need-returns
+returns c = let a = c .before .before .before .before .args in other-box (a .mailbox) (a .uid .0) (c .before .before .get .result) _ (c .before .before .get .ensures) (c .if1 .taken)
+
+-- src/lib.rt:112:9
+returns-2 : tie.Need-returns-2
+returns-2 c = let a = c .before .before .before .before .before .before .before .args in other-uid (a .mailbox) (a .uid .0) (c .before .before .before .before .before .get .result) _ (c .before .before .before .before .before .get .ensures) (c .before .before .before .if1 .left) (c .if2 .taken)
+
+-- src/lib.rt:103:1
+returns-3 : tie.Need-returns-3
+returns-3 c = let a = c .before .before .before .before .before .before .before .before .args in that-one (a .mailbox) (a .uid .0) (c .before .before .before .before .before .before .get .result) _ (c .before .before .before .before .before .before .get .ensures) (c .before .before .before .before .if1 .left) (c .before .if2 .left)
+
+pub is-message-spec : {M : Type 1} → statement M
+is-message-spec = tie.close (tie.spec get-requires returns returns-2 returns-3)

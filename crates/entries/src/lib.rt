@@ -1,0 +1,318 @@
+// The message table: a lent slice of words, five to an entry. Entries are read, put, found, counted, taken out and swept.
+use model::Message;
+use model::MessageNumber;
+use model::Uid;
+ghost use mathlib.Core.Path.{_≡_};
+ghost use mathlib.Core.Bool.{cond, _&&_};
+ghost use mathlib.Core.List.{_++_};
+ghost use Prim.Native.Nat.{_+_, _*_, _-_, _≤_, _<_};
+ghost use lib.Dec.{eqb, ltb};
+ghost use lib.ListN.{length, take, drop, getD, set, replicate};
+ghost use Rattle.model.specs.Memory.{noMessage, marked, existing, refill, withFlags, withStates};
+ghost use Rattle.model.specs.Events.{message};
+ghost use Rattle.laws.specs.Counting.{countb};
+ghost use Rattle.entries.specs.Words.{messages, stored};
+ghost use Rattle.entries.specs.Laid.{laid};
+ghost use Rattle.entries.specs.Taken.{shut};
+ghost use Rattle.entries.specs.Found.{stands, first};
+ghost use Rattle.entries.specs.Counted.{lives, before};
+ghost use Rattle.entries.specs.Swept.{goes, calm, kept, Moves};
+
+// ---- one entry
+// Entry i.
+pub fn get(words: &[u64], i: usize) -> Message
+    requires { ⌜ (i + 1) * 5 ≤ length (now words) ⌝ }
+    ensures { λ r. ⌜ r ≡ getD (messages (now (words .entry))) i noMessage ⌝ }
+{
+    let b = i * 5;
+    Message {
+        mailbox: words[b],
+        uid: Uid(words[b + 1]),
+        flags: words[b + 2],
+        size: words[b + 3],
+        states: words[b + 4],
+    }
+}
+
+// Puts e at i: five words change, and no other.
+pub fn put(words: &mut [u64], i: usize, e: Message)
+    requires { ⌜ (i + 1) * 5 ≤ length (now words) ⌝ }
+    ensures { λ _. ⌜ now (words .exit) ≡ stored (now (words .entry)) i e ⌝ }
+{
+    let b = i * 5;
+    words[b] = e.mailbox;
+    words[b + 1] = e.uid.0;
+    words[b + 2] = e.flags;
+    words[b + 3] = e.size;
+    words[b + 4] = e.states;
+}
+
+// An entry that is free.
+pub fn nothing() -> Message
+    ensures { λ r. ⌜ r ≡ noMessage ⌝ }
+{
+    Message {
+        mailbox: 0,
+        uid: Uid(0),
+        flags: 0,
+        size: 0,
+        states: 0,
+    }
+}
+
+// Entry i, or nothing where there is none.
+pub fn entry(words: &[u64], i: usize) -> Message
+    ensures { λ r. ⌜ r ≡ getD (messages (now (words .entry))) i noMessage ⌝ }
+{
+    let n = words.len() / 5;
+    if n <= i {
+        return nothing();
+    }
+    get(words, i)
+}
+
+// A message that has just come.
+pub fn fresh(mailbox: u64, uid: Uid, flags: u64, size: u64) -> Message
+    ensures { λ r. ⌜ r ≡ message mailbox (uid .0) flags size ⌝ }
+{
+    Message {
+        mailbox,
+        uid,
+        flags,
+        size,
+        states: 0,
+    }
+}
+
+// The message with other flags and states.
+pub fn changed(e: Message, flags: u64, states: u64) -> Message
+    ensures { λ r. ⌜ r ≡ withStates (withFlags e flags) states ⌝ }
+{
+    let uid = e.uid;
+    Message {
+        mailbox: e.mailbox,
+        uid,
+        flags,
+        size: e.size,
+        states,
+    }
+}
+
+// ---- an entry found
+// Whether entry i is message uid of the mailbox, and exists.
+fn is_message(words: &[u64], i: usize, mailbox: u64, uid: Uid) -> bool
+    requires { ⌜ (i + 1) * 5 ≤ length (now words) ⌝ }
+    ensures { λ r. ⌜ r ≡ stands mailbox (uid .0) (getD (messages (now (words .entry))) i noMessage) ⌝ }
+{
+    let e = get(words, i);
+    if e.mailbox != mailbox {
+        return false;
+    }
+    if e.uid.0 != uid.0 {
+        return false;
+    }
+    e.states % 2 != 1
+}
+
+// The place of message uid of the mailbox, if it is there and not expunged; else `used`.
+pub fn find(words: &[u64], used: usize, mailbox: u64, uid: Uid) -> usize
+    requires { ⌜ used * 5 ≤ length (now words) ⌝ }
+    ensures { λ r. ⌜ r ≡ first (stands mailbox (uid .0)) (take used (messages (now (words .entry)))) ⌝ }
+{
+    let mut i = 0;
+    while i < used {
+        if is_message(words, i, mailbox, uid) {
+            return i;
+        }
+        i += 1;
+    }
+    i
+}
+
+// ---- counts
+// One for an entry of the mailbox that exists.
+fn count_one(words: &[u64], i: usize, mailbox: u64) -> u64
+    requires { ⌜ (i + 1) * 5 ≤ length (now words) ⌝ }
+    ensures { λ r. ⌜ (r ≡ cond (lives mailbox (getD (messages (now (words .entry))) i noMessage)) 1 0) × (r ≤ 1) ⌝ }
+{
+    let e = get(words, i);
+    if e.mailbox != mailbox {
+        return 0;
+    }
+    if e.states % 2 == 1 {
+        return 0;
+    }
+    1
+}
+
+// How many messages of a mailbox exist.
+pub fn count(words: &[u64], used: usize, mailbox: u64) -> u64
+    requires { ⌜ used * 5 ≤ length (now words) ⌝ }
+    ensures { λ r. ⌜ r ≡ length (existing mailbox (take used (messages (now (words .entry))))) ⌝ }
+{
+    let mut n = 0;
+    let mut i = 0;
+    while i < used {
+        n += count_one(words, i, mailbox);
+        i += 1;
+    }
+    n
+}
+
+// One for an entry of the mailbox that is announced and has a lower UID.
+fn before_one(words: &[u64], i: usize, mailbox: u64, told: Uid, uid: Uid) -> u64
+    requires { ⌜ (i + 1) * 5 ≤ length (now words) ⌝ }
+    ensures { λ r. ⌜ (r ≡ cond (before mailbox (told .0) (uid .0) (getD (messages (now (words .entry))) i noMessage)) 1 0) × (r ≤ 1) ⌝ }
+{
+    let e = get(words, i);
+    if e.mailbox != mailbox {
+        return 0;
+    }
+    if told.0 <= e.uid.0 {
+        return 0;
+    }
+    if uid.0 <= e.uid.0 {
+        return 0;
+    }
+    1
+}
+
+// The place of message uid in the view, which is all below `told`.
+pub fn place_of(words: &[u64], used: usize, mailbox: u64, told: Uid, uid: Uid) -> MessageNumber
+    requires { ⌜ used * 5 ≤ length (now words) ⌝ }
+    ensures { λ r. ⌜ r .0 ≡ 1 + countb (before mailbox (told .0) (uid .0)) (take used (messages (now (words .entry)))) ⌝ }
+{
+    let mut n = 0;
+    let mut i = 0;
+    while i < used {
+        n += before_one(words, i, mailbox, told, uid);
+        i += 1;
+    }
+    let place = 1 + n;
+    MessageNumber(place)
+}
+
+// ---- an entry taken out
+// Entry k leaves: those behind it move up, and the last becomes nothing.
+pub fn remove(words: &mut [u64], used: usize, k: usize)
+    requires { ⌜ (k < used) × (used * 5 ≤ length (now words)) ⌝ }
+    ensures { λ _. ⌜ now (words .exit) ≡ laid (now (words .entry)) (shut k used (messages (now (words .entry)))) ⌝ }
+{
+    let mut i = k;
+    while i + 1 < used {
+        let e = get(words, i + 1);
+        put(words, i, e);
+        i += 1;
+    }
+    put(words, i, nothing());
+}
+
+// ---- a pass over all
+// What a pass is for: a selection, where the expunged go and nothing waits; lines that were told of a mailbox, the expunged
+// below one UID and the marked below another; a mailbox that is deleted, with all its messages.
+pub enum Sweep {
+    Rested,
+    Told(u64, Uid, Uid),
+    Deleted(u64),
+}
+
+fn both(a: bool, b: bool) -> bool
+    ensures { λ r. ⌜ r ≡ (a && b) ⌝ }
+{
+    if a {
+        return b;
+    }
+    false
+}
+
+// Whether it is of the mailbox and below a UID.
+fn is_below(e: Message, mailbox: u64, bound: Uid) -> bool
+    ensures { λ r. ⌜ r ≡ (eqb (e .mailbox) mailbox && ltb (e .uid .0) (bound .0)) ⌝ }
+{
+    both(e.mailbox == mailbox, e.uid.0 < bound.0)
+}
+
+// Whether an entry goes.
+fn is_gone(e: Message, sweep: Sweep) -> bool
+    ensures { λ r. ⌜ r ≡ goes sweep e ⌝ }
+{
+    match sweep {
+        Sweep::Rested => e.states % 2 == 1,
+        Sweep::Told(mailbox, gone, _) => {
+            let low = is_below(e, mailbox, gone);
+            both(e.states % 2 == 1, low)
+        }
+        Sweep::Deleted(mailbox) => e.mailbox == mailbox,
+    }
+}
+
+// An entry whose FETCH was written waits no more.
+fn shown_one(e: Message, mailbox: u64, shown: Uid) -> Message
+    ensures { λ r. ⌜ r ≡ cond (marked e && (eqb (e .mailbox) mailbox && ltb (e .uid .0) (shown .0))) (withStates e 0) e ⌝ }
+{
+    let low = is_below(e, mailbox, shown);
+    if both(e.states / 2 % 2 == 1, low) {
+        return changed(e, e.flags, 0);
+    }
+    e
+}
+
+// What an entry that stays becomes.
+fn calmed(e: Message, sweep: Sweep) -> Message
+    ensures { λ r. ⌜ r ≡ calm sweep e ⌝ }
+{
+    match sweep {
+        Sweep::Rested => changed(e, e.flags, 0),
+        Sweep::Told(mailbox, _, shown) => shown_one(e, mailbox, shown),
+        Sweep::Deleted(_) => e,
+    }
+}
+
+// Entry i goes, or moves up to o.
+fn move_one(words: &mut [u64], i: usize, o: usize, sweep: Sweep) -> usize
+    requires { ⌜ (o ≤ i) × ((i + 1) * 5 ≤ length (now words)) ⌝ }
+    ensures { λ r. ⌜ Moves sweep (now (words .entry)) i o (now (words .exit)) r ⌝ }
+{
+    let e = get(words, i);
+    if is_gone(e, sweep) {
+        return o;
+    }
+    put(words, o, calmed(e, sweep));
+    o + 1
+}
+
+// Those that stay move up.
+fn compact(words: &mut [u64], used: usize, sweep: Sweep) -> usize
+    requires { ⌜ used * 5 ≤ length (now words) ⌝ }
+    ensures { λ r. ⌜ (now (words .exit) ≡ laid (now (words .entry)) (kept sweep (take used (messages (now (words .entry)))) ++ drop r (messages (now (words .entry))))) × (r ≡ length (kept sweep (take used (messages (now (words .entry)))))) × (r ≤ used) ⌝ }
+{
+    let mut o = 0;
+    let mut i = 0;
+    while i < used {
+        o = move_one(words, i, o, sweep);
+        i += 1;
+    }
+    o
+}
+
+// Entries become nothing.
+fn wipe(words: &mut [u64], from: usize, upto: usize)
+    requires { ⌜ (from ≤ upto) × (upto * 5 ≤ length (now words)) ⌝ }
+    ensures { λ _. ⌜ now (words .exit) ≡ laid (now (words .entry)) (take from (messages (now (words .entry))) ++ (replicate (upto - from) noMessage ++ drop upto (messages (now (words .entry))))) ⌝ }
+{
+    let mut j = from;
+    while j < upto {
+        put(words, j, nothing());
+        j += 1;
+    }
+}
+
+// One pass: what goes is dropped, what stays moves up and is changed, what was freed is nothing. Answers how many stay.
+pub fn settle(words: &mut [u64], used: usize, sweep: Sweep) -> usize
+    requires { ⌜ used * 5 ≤ length (now words) ⌝ }
+    ensures { λ r. ⌜ (now (words .exit) ≡ laid (now (words .entry)) (refill noMessage (messages (now (words .entry))) used (kept sweep (take used (messages (now (words .entry))))))) × (r ≡ length (kept sweep (take used (messages (now (words .entry)))))) × (r ≤ used) ⌝ }
+{
+    let o = compact(words, used, sweep);
+    wipe(words, o, used);
+    o
+}

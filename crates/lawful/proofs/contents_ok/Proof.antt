@@ -1,0 +1,73 @@
+-- One test that says no is enough; where session, view and fields are in order, the tables decide.
+use mathlib.Core.Path.{sym, _∙_}
+use lib.ListN.{take}
+use borrow.Author.Tests.{not-true, not-false}
+use Rattle.model.specs.Lawful.{contentsOk}
+use Rattle.entries.specs.Words.{messages}
+use Rattle.session.specs.Tests.{no-at}
+use Rattle.lawful.specs.Lent.{owners, called, tables-decide}
+use borrow.Author.Needs.{needs}
+use Rattle.lawful.proofs.contents_ok.Statement.{statement}
+use Rattle.lawful.proofs.contents_ok.Tie as tie
+
+session-ok-requires : tie.Need-session-ok-requires
+session-ok-requires c κs = search needs
+
+returns : tie.Need-returns
+returns c =
+    let args = c .before .before .before .args in
+    λ l h w. no-at (contentsOk l (take (args .used) (messages (args .words .now))) (args .s)) 2 (sym (c .before .session-ok .ensures) ∙ not-true _ (c .if1 .taken))
+
+cast-selected : tie.Need-cast-selected
+cast-selected c = search needs
+
+cast-told : tie.Need-cast-told
+cast-told c = search needs
+
+view-ok-requires : tie.Need-view-ok-requires
+view-ok-requires c κs = search needs
+
+returns-2 : tie.Need-returns-2
+returns-2 c =
+    let args = c .before .before .before .before .before .before .before .args in
+    λ l h w.
+    no-at (contentsOk l (take (args .used) (messages (args .words .now))) (args .s)) 6
+    (sym (c .before .view-ok .ensures l h (owners w)) ∙ not-true _ (c .if2 .taken))
+
+rows-ok-requires : tie.Need-rows-ok-requires
+rows-ok-requires c κs = search needs
+
+returns-3 : tie.Need-returns-3
+returns-3 c =
+    let args = c .before .before .before .before .before .before .before .before .before .args in
+    λ l h w.
+    no-at (contentsOk l (take (args .used) (messages (args .words .now))) (args .s)) 0
+    (sym (c .before .rows-ok .ensures l h w) ∙ not-true _ (c .if3 .taken))
+
+tables-ok-requires : tie.Need-tables-ok-requires
+tables-ok-requires c κs = search needs
+
+returns-4 : tie.Need-returns-4
+returns-4 c =
+    let args = c .before .before .before .before .before .before .before .before .before .before .args in
+    λ l h w.
+    c .tables-ok .ensures l h (owners w) (called w)
+    ∙ tables-decide l (take (args .used) (messages (args .words .now))) (args .s)
+    (sym (c .before .before .rows-ok .ensures l h w) ∙ not-false _ (c .before .if3 .left))
+    (sym (c .before .before .before .before .before .before .before .before .session-ok .ensures) ∙ not-false _ (c .before .before .before .before .before .before .before .if1 .left))
+    (sym (c .before .before .before .before .view-ok .ensures l h (owners w)) ∙ not-false _ (c .before .before .before .if2 .left))
+
+pub contents-ok-spec : {M : Type 1} → statement M
+contents-ok-spec =
+    tie.close
+    (tie.spec
+    session-ok-requires
+    returns
+    cast-selected
+    cast-told
+    view-ok-requires
+    returns-2
+    rows-ok-requires
+    returns-3
+    tables-ok-requires
+    returns-4)

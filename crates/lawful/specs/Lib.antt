@@ -1,0 +1,3 @@
+pub mod Fields
+pub mod Clashing
+pub mod Lent

@@ -1,0 +1,8 @@
+pub mod Shift
+pub mod Changing
+pub mod Telling
+pub mod Counting
+pub mod Dropping
+pub mod Fitting
+pub mod Reflagging
+pub mod Announcing

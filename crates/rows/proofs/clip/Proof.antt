@@ -1,0 +1,17 @@
+use borrow.Author.Needs.{needs}
+use Rattle.rows.proofs.clip.Statement.{statement}
+use Rattle.rows.proofs.clip.Tie as tie
+use native.Mathlib.Omega.{arith}
+use mathlib.Core.Path.{sym, _∙_}
+use lib.Seq.{take-all}
+
+-- src/lib.rt:122:1
+returns : tie.Need-returns
+returns c = search needs
+
+-- src/lib.rt:122:1
+returns-2 : tie.Need-returns-2
+returns-2 c = (omega arith, λ l h. take-all 64 l (omega arith) ∙ sym (take-all (c .before .args .long) l (omega arith)))
+
+pub clip-spec : {M : Type 1} → statement M
+clip-spec = tie.close (tie.spec returns returns-2)

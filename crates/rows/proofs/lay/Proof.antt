@@ -1,0 +1,23 @@
+use mathlib.Core.Path.{_≡_}
+use lib.ListN.{length}
+use Rattle.rows.specs.Walks.{mapped-length}
+use borrow.Author.Needs.{needs}
+use Rattle.rows.proofs.lay.Statement.{statement}
+use Rattle.rows.proofs.lay.Tie as tie
+
+-- src/lib.rt:136:9
+few-requires : tie.Need-few-requires
+few-requires c κs = search needs
+
+-- src/lib.rt:137:5
+fill-requires : tie.Need-fill-requires
+fill-requires c κs = search needs
+
+-- src/lib.rt:124:1
+returns : tie.Need-returns
+returns c =
+    let args = c .before .before .before .before .before .before .before .before .args in
+    let long : length (args .rows) ≡ 64 = search (needs, mapped-length) in rw (← c .before .before .before .before .before .before .before .few .ensures .1 (args .rows) long) (c .fill .ensures)
+
+pub lay-spec : {M : Type 1} → statement M
+lay-spec = tie.close (tie.spec few-requires fill-requires returns)

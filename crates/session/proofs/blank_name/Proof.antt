@@ -1,0 +1,27 @@
+use borrow.Author.Needs.{needs}
+use Rattle.session.proofs.blank_name.Statement.{statement}
+use Rattle.session.proofs.blank_name.Tie as tie
+use mathlib.Core.Path.{_≡_}
+use Prim.Native.Nat.{_-_}
+use native.Mathlib.Omega.{arith}
+use lib.ListN.{length}
+
+-- src/lib.rt:257:39
+slice-aggregate-all-zero : tie.Need-slice-aggregate-all-zero
+slice-aggregate-all-zero c = search needs
+
+-- src/lib.rt:257:22
+all-zero-requires : tie.Need-all-zero-requires
+all-zero-requires c κs = let lx : length (c .before .before .before .args .x .octets) ≡ 64 = search needs in omega arith
+
+-- src/lib.rt:257:5
+both-requires : tie.Need-both-requires
+both-requires c κs = search needs
+
+-- src/lib.rt:253:1
+returns : tie.Need-returns
+returns c = rw (c .both .ensures, c .before .all-zero .ensures)
+
+pub blank-name-spec : {M : Type 1} → statement M
+blank-name-spec =
+    tie.close (tie.spec slice-aggregate-all-zero all-zero-requires both-requires returns)

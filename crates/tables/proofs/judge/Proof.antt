@@ -1,0 +1,22 @@
+use borrow.Author.Needs.{needs}
+use Rattle.tables.proofs.judge.Statement.{statement}
+use Rattle.tables.proofs.judge.Tie as tie
+use Rattle.tables.proofs.judge.Reads as reads
+use Rattle.tables.proofs.judge.Lts as lts
+use Rattle.lawful.proofs.is_lawful.Reads as is-lawful-reads
+use Rattle.rows.proofs.lay.Reads as lay-reads
+
+-- src/main.rt:193:5
+lay-requires : tie.Need-lay-requires
+lay-requires c κs = search needs
+
+-- src/main.rt:203:5
+is-lawful-requires : tie.Need-is-lawful-requires
+is-lawful-requires c κs = search needs
+
+-- src/main.rt:177:1
+returns : tie.Need-returns
+returns c = λ t q w e. c .is-lawful .ensures t (c .before .before .before .before .before .before .before .before .before .before .before .before .before .before .before .args .table) q w (c .before .before .before .before .before .before .before .lay .ensures) e
+
+pub judge-spec : {M : Type 1} → statement M
+judge-spec = tie.close (tie.spec lay-requires is-lawful-requires returns)

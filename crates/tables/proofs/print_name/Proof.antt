@@ -1,0 +1,40 @@
+use mathlib.Core.Path.{sym}
+use native.Mathlib.Omega.{arith}
+use lib.Seq.{length-take-le}
+use borrow.Author.Needs.{needs}
+use Rattle.tables.proofs.print_name.Statement.{statement}
+use Rattle.tables.proofs.print_name.Tie as tie
+use Rattle.tables.proofs.print_name.Reads as reads
+use Rattle.tables.proofs.print_name.Lts as lts
+use Rattle.tables.proofs.at_most.Reads as at-most-reads
+use Rattle.tables.proofs.copy_name.Reads as copy-name-reads
+
+-- src/main.rt:268:9
+at-most-requires : tie.Need-at-most-requires
+at-most-requires c κs = search needs
+
+-- src/main.rt:269:15
+array-borrow-prefix-name : tie.Need-array-borrow-prefix-name
+array-borrow-prefix-name c = search needs
+
+-- src/main.rt:269:15
+slice-aggregate-copy-name : tie.Need-slice-aggregate-copy-name
+slice-aggregate-copy-name c = sym (length-take-le _ _ (omega arith))
+
+-- src/main.rt:269:5
+copy-name-requires : tie.Need-copy-name-requires
+copy-name-requires c κs = search needs
+
+-- src/main.rt:266:1
+returns : tie.Need-returns
+returns c = search needs
+
+pub print-name-spec : {M : Type 1} → statement M
+print-name-spec =
+    tie.close
+    (tie.spec
+    at-most-requires
+    array-borrow-prefix-name
+    slice-aggregate-copy-name
+    copy-name-requires
+    returns)

@@ -1,0 +1,96 @@
+use borrow.Author.Needs.{needs}
+use Rattle.ending.proofs.end_command.Statement.{statement}
+use Rattle.ending.proofs.end_command.Tie as tie
+use Rattle.ending.proofs.end_command.Reads as reads
+use Rattle.ending.proofs.end_command.Lts as lts
+use Rattle.ending.proofs.announced.Reads as announced-reads
+use Rattle.entries.proofs.settle.Reads as settle-reads
+use Rattle.ending.proofs.speak.Reads as speak-reads
+use Rattle.order.proofs.by_uid.Reads as by-uid-reads
+use mathlib.Core.Path.{_≡_, refl, sym, _∙_, ap}
+use mathlib.Core.Bool.{Bool, true, false, not, cond, _&&_}
+use Prim.Native.Nat.{ℕ, _≤_, _<_, _+_, _-_}
+use native.Mathlib.Omega.{arith}
+use lib.Dec.{eqb, ltb}
+use lib.ListN.{length, getD, take}
+use borrow.Author.Tests.{eq-eqb, ne-eqb, not-true, not-false}
+use Rattle.model.specs.Memory.{withView}
+use Rattle.model.specs.declared.Session.{Session}
+use Rattle.entries.specs.Words.{messages}
+use Rattle.entries.specs.Laid.{laid-own}
+use Rattle.order.specs.Chosen.{chosen}
+use Rattle.ending.specs.declared.Going.{Going}
+use Rattle.ending.specs.Saying.{State, runE, firstPart}
+use Rattle.order.specs.Counts.{order-short}
+use Rattle.ending.specs.Coded.{stateOf}
+use Rattle.ending.specs.Ending.{Speaks, speaks, Leaves, leaves-none, leaves-some, endAfter, endRest}
+
+-- src/lib.rt:491:9
+returns : tie.Need-returns
+returns c =
+    let a = c .before .before .before .before .args in
+    rw (not-true (c .before .before .before .before .args .rights) (c .if1 .taken)) (leaves-none (messages (a .words .now)) (a .used) (a .queue .now) (a .s) (a .filled) (a .class) (a .next) (a .words .now) (laid-own (a .words .now)))
+
+-- src/lib.rt:498:14
+cast-id : tie.Need-cast-id
+cast-id c = search needs
+
+-- src/lib.rt:499:16
+cast-told : tie.Need-cast-told
+cast-told c = search needs
+
+-- src/lib.rt:500:17
+sub-limit : tie.Need-sub-limit
+sub-limit c = search needs
+
+-- src/lib.rt:501:9
+by-uid-requires : tie.Need-by-uid-requires
+by-uid-requires c κs = search needs
+
+-- src/lib.rt:502:9
+speak-requires : tie.Need-speak-requires
+speak-requires c κs = let n = order-short (messages (c .before .before .before .before .before .before .before .before .before .before .before .before .before .before .args .words .now)) _ (c .before .before .before .before .before .by-uid .result) (c .before .before .before .before .before .before .before .before .before .before .before .before .before .before .args .used) (c .before .before .before .before .before .before .before .before .before .before .before .before .before .before .args .s .selected) (c .before .before .before .before .before .by-uid .ensures) in (omega arith, omega arith, omega arith, omega arith, omega arith, omega arith)
+
+-- src/lib.rt:503:9
+settle-requires : tie.Need-settle-requires
+settle-requires c κs = search needs
+
+-- src/lib.rt:505:18
+announced-requires : tie.Need-announced-requires
+announced-requires c κs = search needs
+
+-- src/lib.rt:486:1
+same-length : tie.Need-same-length
+same-length c = search needs
+
+-- src/lib.rt:486:1
+same-length-2 : tie.Need-same-length-2
+same-length-2 c = search needs
+
+-- src/lib.rt:486:1
+same-length-3 : tie.Need-same-length-3
+same-length-3 c = search needs
+
+-- src/lib.rt:486:1
+returns-2 : tie.Need-returns-2
+returns-2 c =
+    let a = c .before .before .before .before .before .before .before .before .before .before .before .before .before .before .before .before .before .before .before .before .before .before .before .before .args in
+    rw (not-false (c .before .before .before .before .before .before .before .before .before .before .before .before .before .before .before .before .before .before .before .before .before .before .before .before .args .rights) (c .before .before .before .before .before .before .before .before .before .before .before .before .before .before .before .before .before .before .before .before .if1 .left))
+    (leaves-some (messages (a .words .now)) (a .used) (a .queue .now) (a .s) (a .filled) (a .class) (a .next) _ (c .before .before .before .before .before .before .before .before .before .before .before .before .before .before .before .by-uid .ensures) _ (c .before .before .before .before .before .before .before .before .before .speak .result) (c .before .before .before .before .before .before .before .before .before .speak .ensures) (a .words .now) _ (c .before .before .before .settle .result) (c .before .before .before .settle .ensures) (c .announced .result) (c .announced .ensures))
+
+pub end-command-spec : {M : Type 1} → statement M
+end-command-spec =
+    tie.close
+    (tie.spec
+    returns
+    cast-id
+    cast-told
+    sub-limit
+    by-uid-requires
+    speak-requires
+    settle-requires
+    announced-requires
+    same-length
+    same-length-2
+    same-length-3
+    returns-2)

@@ -1,0 +1,12 @@
+pub mod Shift
+pub mod Saying
+pub mod Coded
+pub mod After
+pub mod Ending
+pub mod Sunk
+pub mod Runs
+pub mod Cut
+pub mod Effects
+pub mod Accepted
+pub mod Closing
+pub mod Owed

@@ -1,0 +1,53 @@
+use borrow.Author.Needs.{needs}
+use Rattle.fetches.proofs.say_fetch.Statement.{statement}
+use Rattle.fetches.proofs.say_fetch.Tie as tie
+use Rattle.fetches.proofs.say_fetch.Reads as reads
+use Rattle.fetches.proofs.say_fetch.Lts as lts
+use Rattle.fetches.proofs.put_fetch.Reads as put-fetch-reads
+use Rattle.out.proofs.overflow.Reads as overflow-reads
+use mathlib.Core.Path.{_≡_, refl}
+use native.Mathlib.Omega.{arith}
+use Rattle.model.specs.Lines.{render}
+use Rattle.out.specs.Says.{says-fits, says-over}
+
+-- src/lib.rt:105:17
+sub-limit : tie.Need-sub-limit
+sub-limit c = search needs
+
+-- src/lib.rt:106:9
+put-fetch-requires : tie.Need-put-fetch-requires
+put-fetch-requires c κs = search needs
+
+-- src/lib.rt:108:13
+put-fetch-requires-2 : tie.Need-put-fetch-requires-2
+put-fetch-requires-2 c κs = search needs
+
+-- src/lib.rt:109:9
+same-length : tie.Need-same-length
+same-length c = search needs
+
+-- src/lib.rt:109:9
+returns : tie.Need-returns
+returns c = says-fits _ _ _ _ _ _ _ _ (c .before .before .before .before .before .before .before .put-fetch .ensures .0) (c .before .before .put-fetch2 .ensures .0) refl (omega arith)
+
+overflow-requires : tie.Need-overflow-requires
+overflow-requires c κs = search needs
+
+same-length-2 : tie.Need-same-length-2
+same-length-2 c = search needs
+
+returns-2 : tie.Need-returns-2
+returns-2 c = says-over _ _ _ _ _ _ _ _ (c .before .before .before .before .before .before .before .put-fetch .ensures .0) (c .before .before .overflow .ensures) (omega arith) (omega arith) (omega arith)
+
+pub say-fetch-spec : {M : Type 1} → statement M
+say-fetch-spec =
+    tie.close
+    (tie.spec
+    sub-limit
+    put-fetch-requires
+    put-fetch-requires-2
+    same-length
+    returns
+    overflow-requires
+    same-length-2
+    returns-2)

@@ -1,0 +1,5 @@
+pub mod Fetch
+pub mod Counts
+pub mod Items
+pub mod Parts
+pub mod Whole

@@ -1,0 +1,35 @@
+use borrow.Author.Needs.{needs}
+use Rattle.mail.proofs.is_told.Statement.{statement}
+use Rattle.mail.proofs.is_told.Tie as tie
+use Rattle.mail.proofs.is_told.Reads as reads
+use Rattle.mail.proofs.is_told.Lts as lts
+use Rattle.mailboxes.proofs.both.Reads as both-reads
+use Rattle.told.proofs.is_asked_of.Reads as is-asked-of-reads
+use mathlib.Core.Path.{_≡_, refl, sym, _∙_, ap}
+use mathlib.Core.Bool.{Bool, true, false, not, _&&_}
+use borrow.Author.Tests.{not-true, not-false}
+use Rattle.model.specs.Memory.{bothRights}
+use Rattle.model.specs.Groups.{askedOf}
+
+-- src/lib.rt:162:9
+returns : tie.Need-returns
+returns c = search needs
+
+-- src/lib.rt:164:9
+both-requires : tie.Need-both-requires
+both-requires c κs = search needs
+
+-- src/lib.rt:165:9
+returns-2 : tie.Need-returns-2
+returns-2 c = rw (c .before .before .if1 .left, sym (c .before .both .ensures) ∙ not-true _ (c .if2 .taken))
+
+-- src/lib.rt:167:5
+is-asked-of-requires : tie.Need-is-asked-of-requires
+is-asked-of-requires c κs = search needs
+
+-- src/lib.rt:158:1
+returns-3 : tie.Need-returns-3
+returns-3 c = rw (c .before .before .before .if1 .left, sym (c .before .before .both .ensures) ∙ not-false _ (c .before .if2 .left)) (c .is-asked-of .ensures)
+
+pub is-told-spec : {M : Type 1} → statement M
+is-told-spec = tie.close (tie.spec returns both-requires returns-2 is-asked-of-requires returns-3)

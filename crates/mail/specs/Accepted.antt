@@ -1,0 +1,148 @@
+-- What the code leaves is what the rules say of `XP`. Assumes nothing.
+use mathlib.Core.Path.{_≡_, refl, ap, ap₂, sym, _∙_}
+use mathlib.Core.Bool.{Bool, true, false, not, cond, _&&_, _||_}
+use mathlib.Core.List.{List, [], _∷_, _++_}
+use Prim.Native.Nat.{ℕ, _+_, _-_, _<_, _≤_}
+use native.Mathlib.Omega.{arith}
+use lib.Dec.{eqb, leb, ltb}
+use lib.ListN.{length, take, getD, set}
+use borrow.Author.Tests.{leb-true, leb-false, le-leb, lt-leb, eqb-true}
+use Rattle.model.specs.Laws.{and-l, and-r, and-false}
+use Rattle.model.specs.Lists.{when}
+use Rattle.model.specs.Memory.{Memory, boxes, mails, filled, nameOf, noMessage, theMailbox, selectedBox, bothRights, isSelected, isMessage, existing, withStates, dropMails, changeMails}
+use Rattle.model.specs.Groups.{askedOf, asksExpunge}
+use Rattle.model.specs.Lines.{Line, status, expunge, overflow, render}
+use Rattle.model.specs.Queue.{room, enqueue, effect}
+use Rattle.model.specs.View.{view, placeOf, expungeAtOnce}
+use Rattle.model.specs.Events.{Event, inView, expire, removed, statusLines, silence}
+use Rattle.model.specs.Rules.{Outcome, accepted, told}
+use Rattle.model.specs.Records.{expunge as expungeRecord}
+use Rattle.model.specs.Lasting.Law.{Law}
+use Rattle.model.specs.declared.Mailbox.{Mailbox}
+use Rattle.model.specs.declared.Message.{Message}
+use Rattle.laws.specs.Changing.{setEntry, change-at}
+use Rattle.laws.specs.Telling.{told-none, told-one, told-over}
+use Rattle.out.specs.Says.{hasRoom, spoken}
+use Rattle.entries.specs.Taken.{shut}
+use Rattle.fetches.specs.Counts.{countText, expungeWord, expunge-text}
+use Rattle.mailboxes.specs.Heard.{Heard, heard}
+use Rattle.mail.specs.Taken.{tablesAre, drop-at}
+use Rattle.mail.specs.After.{After, statusText, dropAfter, waitAfter, onceAfter, removeAfter}
+
+-- memory with what was left, and these rows
+abbrev pub left : Memory → List Mailbox → After → Memory
+left m rs x = record {
+  rows = rs;
+  entries = x .entries;
+  counts = record { mailboxes = m .counts .mailboxes; messages = x .used; filled = x .heard .filled };
+  session = x .heard .session;
+  queue = x .heard .queue;
+}
+
+-- room below the last 64 octets, counted from the front or from what is filled
+pub room-same : (f a b : ℕ) → f ≤ b → leb (f + a) b ≡ leb a (b - f)
+room-same f a b h = go (leb a (b - f)) refl
+  where
+    go : (c : Bool) → leb a (b - f) ≡ c → leb (f + a) b ≡ c
+    go true q = let z = leb-true a (b - f) q in le-leb (f + a) b (omega arith)
+    go false q = let z = leb-false a (b - f) q in lt-leb (f + a) b (omega arith)
+
+-- a record that changes the tables and owes at most a line that ends nothing
+module _ (m : Memory) (event : Memory → Event) (rs : List Mailbox) (es : List Message) (n : ℕ) (l : Line)
+    (stored : event m .stored ≡ tablesAre m rs es n) (silent : event (silence m) .stored ≡ tablesAre (silence m) rs es n)
+    (ends : (j : Memory) → effect j l ≡ j) where
+  pub told-tables : (on : Bool) → event m .lines ≡ when on l → (on ≡ true → filled m ≤ length (m .queue) - 64)
+      → told m event .after ≡ left m rs (record { entries = es; used = n; heard = heard (m .queue) (m .session) (filled m) on (render l) })
+  unfolding heard
+  told-tables false e free = ap (λ (o : Outcome). o .after) (told-none m event e) ∙ stored
+  told-tables true e free = go (leb (length (render l)) (room m)) refl
+    where
+      fit : (r : Bool) → leb (length (render l)) (room m) ≡ r → hasRoom (m .queue) (filled m) (render l) ≡ r
+      fit r q = room-same (filled m) (length (render l)) (length (m .queue) - 64) (free refl) ∙ q
+
+      go : (r : Bool) → leb (length (render l)) (room m) ≡ r → told m event .after ≡ left m rs (record { entries = es; used = n; heard = heard (m .queue) (m .session) (filled m) true (render l) })
+      go true q = ap (λ (o : Outcome). o .after) (told-one m event l e q) ∙ (ends (enqueue (event m .stored) (render l)) ∙ (ap (λ (j : Memory). enqueue j (render l)) stored ∙ rw (fit true q)))
+      go false q = ap (λ (o : Outcome). o .after) (told-over m event l e q) ∙ (ap (λ (j : Memory). enqueue j (render overflow)) silent ∙ rw (fit false q))
+
+-- ---- `XP`: who is told of a message gone elsewhere
+abbrev pub goneTold : Memory → ℕ → Mailbox → Bool
+goneTold m i x = not (isSelected m i) && (bothRights x && askedOf (m .session) x asksExpunge)
+
+status-when : (m : Memory) (x : Mailbox) (sel wanted : Bool) → cond sel [] (statusLines m x wanted) ≡ when (not sel && (bothRights x && wanted)) (status (nameOf x) (x .uidnext) (length (existing (x .id) (mails m))))
+status-when m x true wanted = refl
+status-when m x false wanted = refl
+
+module _ (m : Memory) (law : Law m) (i u k : ℕ) (h : k < m .counts .messages) (is : isMessage i u (getD (m .entries) k noMessage) ≡ true) where
+  abbrev x : Mailbox
+  x = theMailbox i (boxes m)
+
+  abbrev n : ℕ
+  n = placeOf u (view m) .0
+
+  abbrev out : List Message
+  out = shut k (m .counts .messages) (m .entries)
+
+  abbrev line : Line
+  line = expunge (placeOf u (view m)) (record { 0 = u })
+
+  gone : dropMails m (isMessage i u) ≡ tablesAre m (m .rows) out (m .counts .messages - 1)
+  gone = drop-at m law i u k h is
+
+  only : (e : Message) → isMessage i u e ≡ false → expire i u e ≡ e
+  only e q = rw q
+
+  waits : changeMails m (expire i u) ≡ setEntry m k (withStates (getD (m .entries) k noMessage) 1)
+  waits = change-at m law i u (expire i u) only k h is ∙ ap (setEntry m k) (rw is)
+
+  -- not in the view
+  away : inView m i u ≡ false → (goneTold m i x ≡ true → filled m ≤ length (m .queue) - 64)
+      → told m (λ (j : Memory). removed j i u) .after ≡ left m (m .rows) (dropAfter (m .entries) (m .counts .messages) (m .queue) (m .session) (filled m) k x (goneTold m i x))
+  away v free =
+      told-tables m (λ (j : Memory). removed j i u) (m .rows) out (m .counts .messages - 1) (status (nameOf x) (x .uidnext) (length (existing (x .id) (take (m .counts .messages - 1) out))))
+      (rw v gone)
+      (rw v (ap silence gone))
+      (λ j. refl)
+      (goneTold m i x)
+      (rw v (status-when (dropMails m (isMessage i u)) x (isSelected m i) (askedOf (m .session) x asksExpunge) ∙ ap (λ (j : Memory). when (goneTold m i x) (status (nameOf x) (x .uidnext) (length (existing (x .id) (mails j))))) gone))
+      free
+
+  -- in the view, and told at once
+  now-told : (r : Bool) → leb (length (render line)) (room m) ≡ r → inView m i u ≡ true → expungeAtOnce m ≡ true → filled m ≤ length (m .queue) - 64
+      → told m (λ (j : Memory). removed j i u) .after ≡ left m (m .rows) (onceAfter (m .entries) (m .counts .messages) (m .queue) (m .session) (filled m) k n)
+  unfolding heard
+  now-told r e v a z = go r e
+    where
+      fit : (r : Bool) → leb (length (render line)) (room m) ≡ r → hasRoom (m .queue) (filled m) (render line) ≡ r
+      fit r q = room-same (filled m) (length (render line)) (length (m .queue) - 64) z ∙ q
+
+      expires : inView m i u ≡ true → removed (silence m) i u .stored ≡ silence (setEntry m k (withStates (getD (m .entries) k noMessage) 1))
+      expires v = rw (v, and-false (bothRights (selectedBox m))) (ap silence waits)
+
+      sel : i ≡ m .session .selected
+      sel = eqb-true i (m .session .selected) (and-r (not (eqb i 0)) _ (and-l (isSelected m i) _ v))
+
+      go : (r : Bool) → leb (length (render line)) (room m) ≡ r → told m (λ (j : Memory). removed j i u) .after ≡ left m (m .rows) (onceAfter (m .entries) (m .counts .messages) (m .queue) (m .session) (filled m) k n)
+      go true q =
+          ap (λ (o : Outcome). o .after) (told-one m (λ (j : Memory). removed j i u) line (rw (v, a)) q)
+          ∙ (ap (λ (j : Memory). effect (enqueue j (render line)) line) (stays v a)
+          ∙ (ap (λ (w : ℕ). enqueue (dropMails m (isMessage w u)) (render line)) (sym sel)
+          ∙ (ap (λ (j : Memory). enqueue j (render line)) gone
+          ∙ rw (expunge-text n (record { 0 = u }), fit true q))))
+        where
+          stays : inView m i u ≡ true → expungeAtOnce m ≡ true → removed m i u .stored ≡ m
+          stays v a = rw (v, a)
+      go false q =
+          ap (λ (o : Outcome). o .after) (told-over m (λ (j : Memory). removed j i u) line (rw (v, a)) q)
+          ∙ (ap (λ (j : Memory). enqueue j (render overflow)) (expires v)
+          ∙ rw (expunge-text n (record { 0 = u }), fit false q))
+
+  pub remove-accepted : ((inView m i u && expungeAtOnce m) ≡ true → filled m ≤ length (m .queue) - 64) → (goneTold m i x ≡ true → filled m ≤ length (m .queue) - 64)
+      → accepted m (expungeRecord i u) .after ≡ left m (m .rows) (removeAfter (m .entries) (m .counts .messages) (m .queue) (m .session) (filled m) k x n (inView m i u) (expungeAtOnce m) (goneTold m i x))
+  unfolding accepted removeAfter
+  remove-accepted soon free = go (inView m i u) refl (expungeAtOnce m) refl soon
+    where
+      go : (v : Bool) → inView m i u ≡ v → (a : Bool) → expungeAtOnce m ≡ a → ((v && a) ≡ true → filled m ≤ length (m .queue) - 64)
+          → told m (λ (j : Memory). removed j i u) .after ≡ left m (m .rows) (cond v (cond a (onceAfter (m .entries) (m .counts .messages) (m .queue) (m .session) (filled m) k n) (waitAfter (m .entries) (m .counts .messages) (m .queue) (m .session) (filled m) k)) (dropAfter (m .entries) (m .counts .messages) (m .queue) (m .session) (filled m) k x (goneTold m i x)))
+      go true v true a z = now-told (leb (length (render line)) (room m)) refl v a (z refl)
+      go true v false a z = ap (λ (o : Outcome). o .after) (told-none m (λ (j : Memory). removed j i u) (rw (v, a))) ∙ rw (v, a) waits
+      go false v a b z = away v free

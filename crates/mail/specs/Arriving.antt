@@ -1,0 +1,177 @@
+-- What the code leaves is what the rules say of `ME`: elsewhere, waiting, or announced at once. Assumes nothing.
+use mathlib.Core.Path.{_≡_, refl, ap, ap₂, sym, _∙_}
+use mathlib.Core.Bool.{Bool, true, false, not, cond, _&&_, _||_}
+use mathlib.Core.List.{List, [], _∷_, _++_, append-assoc}
+use Prim.Native.Nat.{ℕ, zero, suc, _+_, _-_, _<_, _≤_, max}
+use native.Mathlib.Omega.{arith}
+use lib.Dec.{eqb, leb, ltb}
+use lib.ListN.{length, take, drop, getD, set, replicate, length-append}
+use lib.Seq.{length-take-le, set-split, getD-set-same}
+use borrow.Author.Tests.{leb-true, eqb-true, eq-eqb, le-ltb}
+use Rattle.model.specs.Laws.{tf, and-l, and-r, all-passed}
+use Rattle.model.specs.Lists.{when, allb, filterb, sorted}
+use Rattle.model.specs.Memory.{Memory, boxes, mails, filled, nameOf, noMailbox, noMessage, place, theMailbox, bothRights, isSelected, existing, messagesOf, inMailbox, uidOf, selectedBox, withNext, withSession, withView, refill, putBox, addMail}
+use Rattle.model.specs.Groups.{askedOf, asksNew}
+use Rattle.model.specs.Lines.{Line, status, overflow, render, renderAll}
+use Rattle.model.specs.Queue.{room, enqueue, announce, effects}
+use Rattle.model.specs.View.{newAtOnce, announcing, view, unannounced, selectedMessages, showsAny, shownItems, newLines}
+use Rattle.model.specs.Events.{message, withArrived, arrived, statusLines, silence}
+use Rattle.model.specs.Rules.{accepted, told}
+use Rattle.model.specs.Records.{arrive}
+use Rattle.model.specs.Lawful.{stateOk}
+use Rattle.model.specs.Lasting.Law.{Law}
+use Rattle.model.specs.Lasting.Rows.{all-snoc}
+use Rattle.model.specs.Isolation.Alike.{boxes-with, mails-with}
+use Rattle.model.specs.declared.Mailbox.{Mailbox}
+use Rattle.model.specs.declared.Message.{Message}
+use Rattle.rows.specs.Rows.{rowsAre, boxes-long, put-at}
+use Rattle.laws.specs.Announcing.{told-many, told-past, exists-effect, new-effects, among}
+use Rattle.out.specs.Says.{hasRoom}
+use Rattle.fetches.specs.declared.Shows.{Shows}
+use Rattle.fetches.specs.Items.{shown}
+use Rattle.fetches.specs.Whole.{newsText, news-text}
+use Rattle.mail.specs.Taken.{tablesAre}
+use Rattle.mail.specs.After.{After, newsOf, newsAfter, statusAfter, arriveAfter}
+use Rattle.mail.specs.Accepted.{left, told-tables, room-same}
+
+-- an entry is put behind the last
+pub add-mail-at : (m : Memory) (e : Message) → m .counts .messages < length (m .entries) → addMail m e ≡ tablesAre m (m .rows) (set (m .entries) (m .counts .messages) e) (m .counts .messages + 1)
+add-mail-at m e h =
+    let n = length-take-le (m .counts .messages) (m .entries) (omega arith) in
+    let l = length-append (mails m) (e ∷ []) in
+    let s : length (mails m ++ (e ∷ [])) ≡ m .counts .messages + 1 = omega arith in
+    ap₂ (tablesAre m (m .rows)) (grown (m .entries) (m .counts .messages) (length (mails m)) n s h) s
+  where
+    grown : (t : List Message) (n k : ℕ) → k ≡ n → length (take n t ++ (e ∷ [])) ≡ n + 1 → n < length t → refill noMessage t k (take n t ++ (e ∷ [])) ≡ set t n e
+    grown t n k q s h =
+        let a : k - length (take n t ++ (e ∷ [])) ≡ 0 = omega arith in
+        let b : max k (length (take n t ++ (e ∷ []))) ≡ suc n = omega arith in
+        rw (a, b) (append-assoc (take n t) (e ∷ []) (drop (suc n) t) ∙ sym (set-split t n e h))
+
+-- a row with the same id is found where the old one was
+place-set : (i k : ℕ) (l : List Mailbox) (y : Mailbox) → y .id ≡ getD l k noMailbox .id → place i (set l k y) ≡ place i l
+unfolding place
+place-set i k [] y e = refl
+place-set i zero (x ∷ l) y e = rw e
+place-set i (suc k) (x ∷ l) y e = ap (λ (n : ℕ). cond (eqb (x .id) i) 0 (suc n)) (place-set i k l y e)
+
+found : (i : ℕ) (l : List Mailbox) (y : Mailbox) → y .id ≡ theMailbox i l .id → place i l < length l → theMailbox i (set l (place i l) y) ≡ y
+found i l y e h = ap (λ (n : ℕ). getD (set l (place i l) y) n noMailbox) (place-set i (place i l) l y e) ∙ getD-set-same l (place i l) y noMailbox h
+
+-- who is told of a message elsewhere; y is the row with the new UIDNEXT
+abbrev pub newTold : Memory → ℕ → Mailbox → Bool
+newTold m i y = not (isSelected m i) && (bothRights y && askedOf (m .session) y asksNew)
+
+arrive-when : (sel soon : Bool) (ls : List Line) (wanted : Bool) (m : Memory) (y : Mailbox) → (sel && soon) ≡ false
+    → cond sel (cond soon ls []) (statusLines m y wanted) ≡ when (not sel && (bothRights y && wanted)) (status (nameOf y) (y .uidnext) (length (existing (y .id) (mails m))))
+arrive-when true true ls wanted m y c = tf _ refl c
+arrive-when true false ls wanted m y c = refl
+arrive-when false soon ls wanted m y c = refl
+
+module _ (m : Memory) (law : Law m) (i u f z k : ℕ) (at : k ≡ place i (boxes m)) (h : k < m .counts .mailboxes) (space : m .counts .messages < length (m .entries)) where
+  abbrev y : Mailbox
+  y = withNext (theMailbox i (boxes m)) (u + 1)
+
+  abbrev rs : List Mailbox
+  rs = set (m .rows) k y
+
+  abbrev es : List Message
+  es = set (m .entries) (m .counts .messages) (message i u f z)
+
+  fit : m .counts .mailboxes ≤ length (m .rows)
+  fit = leb-true (m .counts .mailboxes) (length (m .rows)) (law .used)
+
+  came : withArrived m i u f z ≡ tablesAre m rs es (m .counts .messages + 1)
+  came = ap (λ (j : Memory). addMail j (message i u f z)) (put-at m fit i k y at h) ∙ add-mail-at (rowsAre m rs (m .counts .mailboxes)) (message i u f z) space
+
+  the-row : theMailbox i (boxes (withArrived m i u f z)) ≡ y
+  the-row =
+      let n = boxes-long m fit in
+      ap (theMailbox i) (boxes-with m (set (boxes m) (place i (boxes m)) y)) ∙ found i (boxes m) y refl (omega arith)
+
+  said : (isSelected m i && newAtOnce m) ≡ false → arrived m i u f z .lines ≡ when (newTold m i y) (status (nameOf y) (y .uidnext) (length (existing (y .id) (take (m .counts .messages + 1) es))))
+  said calm =
+      arrive-when (isSelected m i) (newAtOnce m) (announcing (withArrived m i u f z)) (askedOf (m .session) (theMailbox i (boxes (withArrived m i u f z))) asksNew) (withArrived m i u f z) (theMailbox i (boxes (withArrived m i u f z))) calm
+      ∙ ap₂ (λ (w : Mailbox) (j : Memory). when (not (isSelected m i) && (bothRights w && askedOf (m .session) w asksNew)) (status (nameOf w) (w .uidnext) (length (existing (w .id) (mails j))))) the-row came
+
+  -- elsewhere, or waiting
+  elsewhere : (isSelected m i && newAtOnce m) ≡ false → (newTold m i y ≡ true → filled m ≤ length (m .queue) - 64)
+      → told m (λ (j : Memory). arrived j i u f z) .after ≡ left m rs (statusAfter (m .entries) (m .counts .messages) (m .queue) (m .session) (filled m) y (message i u f z) (newTold m i y))
+  elsewhere calm free =
+      told-tables m (λ (j : Memory). arrived j i u f z) rs es (m .counts .messages + 1) (status (nameOf y) (y .uidnext) (length (existing (y .id) (take (m .counts .messages + 1) es))))
+      came
+      (ap silence came)
+      (λ j. refl)
+      (newTold m i y)
+      (said calm)
+      free
+
+  -- at once
+  module _ (sel : isSelected m i ≡ true) (soon : newAtOnce m ≡ true) (low : m .session .told ≤ u) (free : filled m ≤ length (m .queue) - 64)
+      (w : Shows) (any : w .any ≡ showsAny (m .session)) (items : (e : Message) → shown w e ≡ shownItems (m .session) e) where
+    abbrev new : Message
+    new = message i u f z
+
+    abbrev after : Memory
+    after = withArrived m i u f z
+
+    abbrev lines : List Line
+    lines = announcing after
+
+    its : i ≡ m .session .selected
+    its = eqb-true i (m .session .selected) (and-r (not (eqb i 0)) (eqb i (m .session .selected)) sel)
+
+    held : mails after ≡ mails m ++ (new ∷ [])
+    held = mails-with (putBox m i y) (mails m ++ (new ∷ []))
+
+    calm : allb (stateOk (m .session)) (mails after) ≡ true
+    calm = ap (allb (stateOk (m .session))) held ∙ all-snoc (stateOk (m .session)) (mails m) new (law .states) refl
+
+    some : 0 < length (unannounced after)
+    some = rw held (among (λ (e : Message). not (ltb (uidOf e) (m .session .told))) (inMailbox (m .session .selected)) (mails m) new (eq-eqb i (m .session .selected) its) (rw (le-ltb u (m .session .told) low)))
+
+    -- EXISTS announces, and the FETCH lines end nothing
+    ends : (t : List ℕ) → effects (enqueue after t) lines ≡ announce (enqueue after t)
+    unfolding effects
+    ends t = exists-effect (enqueue after t) (length (view after)) (unannounced after) (cond (showsAny (m .session)) (newLines (m .session) (length (view after) + 1) (unannounced after)) []) some ∙ go (showsAny (m .session))
+      where
+        go : (b : Bool) → effects (announce (enqueue after t)) (cond b (newLines (m .session) (length (view after) + 1) (unannounced after)) []) ≡ announce (enqueue after t)
+        go true = new-effects (announce (enqueue after t)) (m .session) (ap length held) calm (m .session) (length (view after) + 1) (unannounced after) (all-passed (λ (e : Message). not (ltb (uidOf e) (m .session .told))) (selectedMessages after))
+        go false = refl
+
+    text : renderAll lines ≡ newsOf (m .entries) (m .counts .messages) (m .queue) (m .session) (filled m) y new w
+    text = sym (news-text after w any items) ∙ ap (λ (j : Memory). newsText (m .session .told) w (messagesOf (m .session .selected) (mails j))) came
+
+    next : selectedBox after .uidnext ≡ u + 1
+    next = ap (λ (n : ℕ). theMailbox n (boxes after) .uidnext) (sym its) ∙ ap (λ (x : Mailbox). x .uidnext) the-row
+
+    owes : arrived m i u f z .lines ≡ lines
+    owes = rw (sel, soon)
+
+    pub at-once : told m (λ (j : Memory). arrived j i u f z) .after ≡ left m rs (newsAfter (m .entries) (m .counts .messages) (m .queue) (m .session) (filled m) y new w)
+    at-once = go (leb (length (renderAll lines)) (room m)) refl
+      where
+        fit : (r : Bool) → leb (length (renderAll lines)) (room m) ≡ r → hasRoom (m .queue) (filled m) (newsOf (m .entries) (m .counts .messages) (m .queue) (m .session) (filled m) y new w) ≡ r
+        fit r q = ap (hasRoom (m .queue) (filled m)) (sym text) ∙ (room-same (filled m) (length (renderAll lines)) (length (m .queue) - 64) free ∙ q)
+
+        go : (r : Bool) → leb (length (renderAll lines)) (room m) ≡ r → told m (λ (j : Memory). arrived j i u f z) .after ≡ left m rs (newsAfter (m .entries) (m .counts .messages) (m .queue) (m .session) (filled m) y new w)
+        go true q =
+            told-many m (λ (j : Memory). arrived j i u f z) lines owes q
+            ∙ (ends (renderAll lines)
+            ∙ (ap₂ (λ (j : Memory) (n : ℕ). enqueue (withSession j (withView (m .session) (m .session .selected) n)) (renderAll lines)) came next
+            ∙ rw (fit true q) (ap (λ (t : List ℕ). enqueue (withSession (tablesAre m rs es (m .counts .messages + 1)) (withView (m .session) (m .session .selected) (u + 1))) t) text)))
+        go false q =
+            told-past m (λ (j : Memory). arrived j i u f z) lines owes q
+            ∙ (ap (λ (j : Memory). enqueue (silence j) (render overflow)) came ∙ rw (fit false q))
+
+  -- what the caller shows where it is at once: the room, and what a FETCH shows
+  pub arrive-accepted : (w : Shows) → w .any ≡ showsAny (m .session) → ((e : Message) → shown w e ≡ shownItems (m .session) e) → m .session .told ≤ u
+      → ((isSelected m i && newAtOnce m) ≡ true → filled m ≤ length (m .queue) - 64) → (newTold m i y ≡ true → filled m ≤ length (m .queue) - 64)
+      → accepted m (arrive i u f z) .after ≡ left m rs (arriveAfter (m .entries) (m .counts .messages) (m .queue) (m .session) (filled m) y (message i u f z) (isSelected m i && newAtOnce m) (newTold m i y) w)
+  unfolding accepted arriveAfter
+  arrive-accepted w any items low soon free = go (isSelected m i && newAtOnce m) refl
+    where
+      go : (b : Bool) → (isSelected m i && newAtOnce m) ≡ b → told m (λ (j : Memory). arrived j i u f z) .after
+          ≡ left m rs (cond b (newsAfter (m .entries) (m .counts .messages) (m .queue) (m .session) (filled m) y (message i u f z) w) (statusAfter (m .entries) (m .counts .messages) (m .queue) (m .session) (filled m) y (message i u f z) (newTold m i y)))
+      go true q = at-once (and-l (isSelected m i) (newAtOnce m) q) (and-r (isSelected m i) (newAtOnce m) q) low (soon q) w any items
+      go false q = elsewhere q free

@@ -1,0 +1,144 @@
+-- What code finds by itself before it serves a record about a message: is it in the view, at which place, is it told at once, who is told. Assumes nothing.
+use mathlib.Core.Path.{_≡_, refl, ap, ap₂, sym, _∙_}
+use mathlib.Core.Bool.{Bool, true, false, not, cond, _&&_, _||_}
+use mathlib.Core.List.{List, map}
+use Prim.Native.Nat.{ℕ, _+_, _-_, _<_, _≤_}
+use native.Mathlib.Omega.{arith}
+use lib.Dec.{eqb, ltb}
+use lib.ListN.{length, take, getD}
+use borrow.Author.Tests.{eqb-true}
+use Rattle.model.specs.Laws.{and-l, and-r, tf}
+use Rattle.model.specs.Lists.{anyb}
+use Rattle.model.specs.Memory.{Memory, boxes, mails, filled, noMessage, uidOf, known, theMailbox, selectedBox, bothRights, isSelected, isMessage}
+use Rattle.model.specs.Groups.{groupOf, groupsOf, askedOf, selectedAsks, immediateAsks, asksExpunge, asksFlags}
+use Rattle.model.specs.View.{view, placeOf, expungeAtOnce, flagsAtOnce, flagsWait}
+use Rattle.model.specs.Events.{inView}
+use Rattle.model.specs.Rules.{accepted}
+use Rattle.model.specs.Records.{expunge, reflag}
+use Rattle.model.specs.Lasting.Law.{Law}
+use Rattle.model.specs.Isolation.Erase.{box-id}
+use Rattle.model.specs.declared.Group.{Group}
+use Rattle.model.specs.declared.Mailbox.{Mailbox}
+use Rattle.model.specs.declared.Message.{Message}
+use Rattle.model.specs.declared.Session.{Session}
+use Rattle.laws.specs.Counting.{countb}
+use Rattle.entries.specs.Counted.{before}
+use Rattle.told.specs.Asking.{asksBit}
+use Rattle.mail.specs.After.{After, waitAfter, onceAfter, removeAfter}
+use Rattle.mail.specs.Flagged.{flagAfter}
+use Rattle.mail.specs.Accepted.{left, goneTold, remove-accepted}
+use Rattle.mail.specs.Flagging.{reflag-accepted}
+use Rattle.mail.specs.Free.{soon-free, gone-free, flags-free, place-is}
+
+-- the row is the selected mailbox's
+abbrev pub isChosen : Session → Mailbox → Bool
+isChosen s x = not (eqb (x .id) 0) && eqb (x .id) (s .selected)
+
+-- the client has message u of the mailbox
+abbrev pub hasSeen : Session → Mailbox → ℕ → Bool
+hasSeen s x u = isChosen s x && ltb u (s .told)
+
+-- its place in the view
+abbrev pub placeIn : Session → ℕ → List Message → ℕ
+placeIn s u l = 1 + countb (before (s .selected) (s .told) u) l
+
+module _ (es : List Message) (used : ℕ) (q : List ℕ) (s : Session) (at k : ℕ) (x : Mailbox) where
+  abbrev uid : ℕ
+  uid = uidOf (getD es k noMessage)
+
+  -- `XP` of entry k
+  unfoldable pub expungeAfter : After
+  expungeAfter = removeAfter es used q s at k x (placeIn s uid (take used es)) (hasSeen s x uid) (bothRights x && immediateAsks s (asksBit 1)) (not (isChosen s x) && (bothRights x && askedOf s x (asksBit 1)))
+
+  -- `FL` of entry k
+  unfoldable pub reflagAfter : ℕ → After
+  reflagAfter f = flagAfter es used q s at k f (placeIn s uid (take used es)) (hasSeen s x uid && (bothRights x && selectedAsks s (asksBit 2))) (hasSeen s x uid && (bothRights x && eqb (s .notified) 0))
+
+-- ---- whoever is told has a group
+pub asks-some : (s : Session) (p : Group → Bool) → anyb p (groupsOf s) ≡ true → s .groupcount ≡ 0 → ⊥
+asks-some s p h z = tf (anyb p (groupsOf s)) h (ap (λ (n : ℕ). anyb p (map groupOf (take n (s .groups)))) z)
+
+pub once-some : (s : Session) (seen once b r : Bool) (p : Group → Bool) → once ≡ (b && r) → r ≡ anyb p (groupsOf s) → (seen && once) ≡ true → s .groupcount ≡ 0 → ⊥
+once-some s seen once b r p e f h = asks-some s p (sym f ∙ and-r b r (sym e ∙ and-r seen once h))
+
+pub told-some : (s : Session) (on c b : Bool) (p : Group → Bool) → on ≡ (c && (b && anyb p (groupsOf s))) → on ≡ true → s .groupcount ≡ 0 → ⊥
+told-some s on c b p e h = asks-some s p (and-r b (anyb p (groupsOf s)) (and-r c (b && anyb p (groupsOf s)) (sym e ∙ h)))
+
+-- what is left, from what was found
+each : (f : ℕ → Bool → Bool → Bool → After) {n n′ : ℕ} {a a′ b b′ c c′ : Bool} → n ≡ n′ → a ≡ a′ → b ≡ b′ → c ≡ c′ → f n a b c ≡ f n′ a′ b′ c′
+each f {n} {n′} {a} {a′} {b} {b′} {c} {c′} p q r t = ap₂ (λ (i : ℕ) (j : Bool). f i j b c) p q ∙ ap₂ (λ (i j : Bool). f n′ a′ i j) r t
+
+three : (f : ℕ → Bool → Bool → After) {n n′ : ℕ} {a a′ b b′ : Bool} → n ≡ n′ → a ≡ a′ → b ≡ b′ → f n a b ≡ f n′ a′ b′
+three f {n} {n′} {a} {a′} {b} {b′} p q r = ap (λ (i : ℕ). f i a b) p ∙ ap₂ (λ (i j : Bool). f n′ i j) q r
+
+-- ---- in the rules' words
+and-same : (v a b : Bool) → (v ≡ true → a ≡ b) → (v && a) ≡ (v && b)
+and-same true a b e = e refl
+and-same false a b e = refl
+
+same-once : (es : List Message) (used : ℕ) (q : List ℕ) (s : Session) (at k : ℕ) (x : Mailbox) (n : ℕ) (on v a b : Bool) → (v ≡ true → a ≡ b) → removeAfter es used q s at k x n v a on ≡ removeAfter es used q s at k x n v b on
+unfolding removeAfter
+same-once es used q s at k x n on true a b e = ap (λ (c : Bool). cond c (onceAfter es used q s at k n) (waitAfter es used q s at k)) (e refl)
+same-once es used q s at k x n on false a b e = refl
+
+module _ (m : Memory) (law : Law m) (i u k : ℕ) (h : k < m .counts .messages) (is : isMessage i u (getD (m .entries) k noMessage) ≡ true) (there : known i (boxes m) ≡ true) where
+  abbrev x : Mailbox
+  x = theMailbox i (boxes m)
+
+  the-uid : uidOf (getD (m .entries) k noMessage) ≡ u
+  the-uid = eqb-true (uidOf (getD (m .entries) k noMessage)) u (and-r (eqb (getD (m .entries) k noMessage .mailbox) i) (eqb (uidOf (getD (m .entries) k noMessage)) u) is)
+
+  the-id : x .id ≡ i
+  the-id = box-id i (boxes m) there
+
+  chosen : isChosen (m .session) x ≡ isSelected m i
+  chosen = ap (λ (n : ℕ). not (eqb n 0) && eqb n (m .session .selected)) the-id
+
+  seen : hasSeen (m .session) x (uidOf (getD (m .entries) k noMessage)) ≡ inView m i u
+  seen = ap₂ _&&_ chosen (ap (λ (n : ℕ). ltb n (m .session .told)) the-uid)
+
+  placed : placeIn (m .session) (uidOf (getD (m .entries) k noMessage)) (mails m) ≡ placeOf u (view m) .0
+  placed = ap (λ (n : ℕ). placeIn (m .session) n (mails m)) the-uid ∙ sym (place-is m u)
+
+  -- the selected mailbox's rights are this one's
+  rights : inView m i u ≡ true → bothRights (selectedBox m) ≡ bothRights x
+  rights v = ap (λ (n : ℕ). bothRights (theMailbox n (boxes m))) (sym (eqb-true i (m .session .selected) (and-r (not (eqb i 0)) _ (and-l (isSelected m i) _ v))))
+
+  pub expunge-accepted : accepted m (expunge i u) .after ≡ left m (m .rows) (expungeAfter (m .entries) (m .counts .messages) (m .queue) (m .session) (filled m) k x)
+  unfolding expungeAfter
+  expunge-accepted =
+      remove-accepted m law i u k h is (soon-free m law i u) (gone-free m law i x)
+      ∙ ap (left m (m .rows))
+      (same-once (m .entries) (m .counts .messages) (m .queue) (m .session) (filled m) k x (placeOf u (view m) .0) (goneTold m i x) (inView m i u) (expungeAtOnce m) (bothRights x && immediateAsks (m .session) (asksBit 1)) (λ v. ap (λ (b : Bool). b && immediateAsks (m .session) (asksBit 1)) (rights v))
+      ∙ sym (each (removeAfter (m .entries) (m .counts .messages) (m .queue) (m .session) (filled m) k x) placed seen refl (ap (λ (c : Bool). not c && (bothRights x && askedOf (m .session) x (asksBit 1))) chosen)))
+
+  pub flags-accepted : (f : ℕ) → accepted m (reflag i u f) .after ≡ left m (m .rows) (reflagAfter (m .entries) (m .counts .messages) (m .queue) (m .session) (filled m) k x f)
+  unfolding reflagAfter
+  flags-accepted f =
+      reflag-accepted m law i u f k (placeOf u (view m) .0) h is refl (flags-free m law i u)
+      ∙ ap (left m (m .rows))
+      (ap₂ (λ (a b : Bool). flagAfter (m .entries) (m .counts .messages) (m .queue) (m .session) (filled m) k f (placeOf u (view m) .0) a b)
+      (and-same (inView m i u) (flagsAtOnce m) (bothRights x && selectedAsks (m .session) (asksBit 2)) (λ v. ap (λ (b : Bool). b && selectedAsks (m .session) (asksBit 2)) (rights v)))
+      (and-same (inView m i u) (flagsWait m) (bothRights x && eqb (m .session .notified) 0) (λ v. ap (λ (b : Bool). b && eqb (m .session .notified) 0) (rights v)))
+      ∙ sym (three (flagAfter (m .entries) (m .counts .messages) (m .queue) (m .session) (filled m) k f) placed
+      (ap (λ (v : Bool). v && (bothRights x && selectedAsks (m .session) (asksBit 2))) seen)
+      (ap (λ (v : Bool). v && (bothRights x && eqb (m .session .notified) 0)) seen)))
+
+-- ---- as the code puts it together
+module _ (es : List Message) (used : ℕ) (q : List ℕ) (s : Session) (at k : ℕ) (x : Mailbox) (e : Message) (p : e ≡ getD es k noMessage) (n : ℕ) (place : n ≡ placeIn s (uidOf e) (take used es))
+    (c v : Bool) (i : c ≡ isChosen s x) (j : v ≡ (c && ltb (uidOf e) (s .told))) where
+  here : n ≡ placeIn s (uidOf (getD es k noMessage)) (take used es)
+  here = place ∙ ap (λ (d : Message). placeIn s (uidOf d) (take used es)) p
+
+  known-now : v ≡ hasSeen s x (uidOf (getD es k noMessage))
+  known-now = j ∙ ap₂ (λ (b : Bool) (d : Message). b && ltb (uidOf d) (s .told)) i p
+
+  pub expunge-as : (a o : Bool) → a ≡ (bothRights x && immediateAsks s (asksBit 1)) → o ≡ (not c && (bothRights x && askedOf s x (asksBit 1)))
+      → removeAfter es used q s at k x n v a o ≡ expungeAfter es used q s at k x
+  unfolding expungeAfter
+  expunge-as a o l w = each (removeAfter es used q s at k x) here known-now l (w ∙ ap (λ (b : Bool). not b && (bothRights x && askedOf s x (asksBit 1))) i)
+
+  pub reflag-as : (f : ℕ) (g w : Bool) → g ≡ (v && (bothRights x && selectedAsks s (asksBit 2))) → w ≡ (v && (bothRights x && eqb (s .notified) 0))
+      → flagAfter es used q s at k f n g w ≡ reflagAfter es used q s at k x f
+  unfolding reflagAfter
+  reflag-as f g w y z = three (flagAfter es used q s at k f) here (y ∙ ap (λ (b : Bool). b && (bothRights x && selectedAsks s (asksBit 2))) known-now) (z ∙ ap (λ (b : Bool). b && (bothRights x && eqb (s .notified) 0)) known-now)

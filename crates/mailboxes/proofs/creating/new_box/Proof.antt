@@ -1,0 +1,21 @@
+-- `new_box`: the row of a new mailbox; INBOX in any case is INBOX. Assumes nothing.
+use borrow.Author.Needs.{needs}
+use Rattle.mailboxes.proofs.creating.new_box.Statement.{statement}
+use Rattle.mailboxes.proofs.creating.new_box.Tie as tie
+use mathlib.Core.Path.{ap}
+use Rattle.model.specs.declared.LentName.{LentName}
+use Rattle.model.specs.declared.Mailbox.{Mailbox}
+use Prim.Native.Nat.{ℕ}
+
+-- the row with a name as it is kept
+abbrev made : ℕ → ℕ → ℕ → LentName → Mailbox
+made i a v n = record { id = i; attributes = a; namelen = n .len; uidvalidity = v; uidnext = 1; name = n .octets }
+
+stored-requires : tie.Need-stored-requires
+stored-requires c κs = search needs
+
+returns : tie.Need-returns
+returns c = let a = c .before .before .before .args in ap (made (a .id) (a .a) (a .validity)) (c .before .stored .ensures)
+
+pub new-box-spec : {M : Type 1} → statement M
+new-box-spec = tie.close (tie.spec stored-requires returns)

@@ -1,0 +1,10 @@
+pub mod Heard
+pub mod Rights
+pub mod Subscriptions
+pub mod Creating
+pub mod Renaming
+pub mod Deleting
+pub mod Free
+pub mod Dropping
+pub mod Telling
+pub mod Accepted

@@ -1,0 +1,34 @@
+use borrow.Author.Needs.{needs}
+use Rattle.notices.proofs.put_counted.Statement.{statement}
+use Rattle.notices.proofs.put_counted.Tie as tie
+use Rattle.notices.proofs.put_counted.Reads as reads
+use Rattle.notices.proofs.put_counted.Lts as lts
+use Rattle.out.proofs.put.Reads as put-reads
+use Rattle.out.proofs.put_number.Reads as put-number-reads
+use mathlib.Core.Path.{_≡_, refl, sym, _∙_, ap}
+use mathlib.Core.List.{List, [], _∷_, _++_}
+use Prim.Native.Nat.{ℕ, _≤_, _+_}
+use native.Mathlib.Omega.{arith}
+use Rattle.model.specs.Lines.{render}
+use Rattle.out.specs.Put.{_then_, put-as}
+use Rattle.out.specs.Says.{says-fits, says-over}
+use Rattle.notices.specs.Texts.{markOf, listed, list-text, renamed-text, status-text, at-set-text}
+
+-- src/lib.rt:77:9
+put-requires : tie.Need-put-requires
+put-requires c κs = search needs
+
+-- src/lib.rt:78:5
+put-number-requires : tie.Need-put-number-requires
+put-number-requires c κs = search needs
+
+-- src/lib.rt:73:1
+same-length : tie.Need-same-length
+same-length c = search needs
+
+-- src/lib.rt:73:1
+returns : tie.Need-returns
+returns c = (_then_ (c .before .before .before .before .before .before .put .ensures) (c .before .before .put-number .ensures .0), omega (arith, c .before .before .before .before .before .before .put .ensures .next, c .before .before .put-number .ensures .1))
+
+pub put-counted-spec : {M : Type 1} → statement M
+put-counted-spec = tie.close (tie.spec put-requires put-number-requires same-length returns)

@@ -1,0 +1,39 @@
+use borrow.Author.Needs.{needs}
+use Rattle.notices.proofs.put_list.Statement.{statement}
+use Rattle.notices.proofs.put_list.Tie as tie
+use Rattle.notices.proofs.put_list.Reads as reads
+use Rattle.notices.proofs.put_list.Lts as lts
+use Rattle.notices.proofs.put_listed.Reads as put-listed-reads
+use Rattle.out.proofs.put.Reads as put-reads
+use mathlib.Core.Path.{_≡_, refl, sym, _∙_, ap}
+use mathlib.Core.List.{List, [], _∷_, _++_}
+use Prim.Native.Nat.{ℕ, _≤_, _+_}
+use native.Mathlib.Omega.{arith}
+use Rattle.model.specs.Lines.{render}
+use Rattle.out.specs.Put.{_then_, put-as}
+use Rattle.out.specs.Says.{says-fits, says-over}
+use Rattle.notices.specs.Texts.{markOf, listed, list-text, renamed-text, status-text, at-set-text}
+
+-- src/lib.rt:50:9
+put-listed-requires : tie.Need-put-listed-requires
+put-listed-requires c κs = search needs
+
+-- src/lib.rt:51:31
+slice-aggregate-put : tie.Need-slice-aggregate-put
+slice-aggregate-put c = search needs
+
+-- src/lib.rt:51:5
+put-requires : tie.Need-put-requires
+put-requires c κs = search needs
+
+-- src/lib.rt:46:1
+same-length : tie.Need-same-length
+same-length c = search needs
+
+-- src/lib.rt:46:1
+returns : tie.Need-returns
+returns c = (put-as (_then_ (c .before .before .before .before .before .before .before .put-listed .ensures .0) (c .before .before .put .ensures)) (list-text (markOf (c .before .before .before .before .before .before .before .before .before .before .before .args .mark)) (c .before .before .before .before .before .before .before .before .before .before .before .args .name .now)), omega (arith, c .before .before .before .before .before .before .before .put-listed .ensures .1, c .before .before .put .ensures .next))
+
+pub put-list-spec : {M : Type 1} → statement M
+put-list-spec =
+    tie.close (tie.spec put-listed-requires slice-aggregate-put put-requires same-length returns)

@@ -1,0 +1,62 @@
+use borrow.Author.Needs.{needs}
+use Rattle.notices.proofs.put_listed.Statement.{statement}
+use Rattle.notices.proofs.put_listed.Tie as tie
+use Rattle.notices.proofs.put_listed.Reads as reads
+use Rattle.notices.proofs.put_listed.Lts as lts
+use Rattle.notices.proofs.put_mark.Reads as put-mark-reads
+use Rattle.out.proofs.put.Reads as put-reads
+use Rattle.out.proofs.put_quoted.Reads as put-quoted-reads
+use mathlib.Core.Path.{_≡_, refl, sym, _∙_, ap}
+use mathlib.Core.List.{List, [], _∷_, _++_}
+use Prim.Native.Nat.{ℕ, _≤_, _+_}
+use native.Mathlib.Omega.{arith}
+use Rattle.model.specs.Lines.{render}
+use Rattle.out.specs.Put.{_then_, put-as}
+use Rattle.out.specs.Says.{says-fits, says-over}
+use Rattle.notices.specs.Texts.{markOf, listed, list-text, renamed-text, status-text, at-set-text}
+
+-- src/lib.rt:40:40
+slice-aggregate-put : tie.Need-slice-aggregate-put
+slice-aggregate-put c = search needs
+
+-- src/lib.rt:40:9
+put-requires : tie.Need-put-requires
+put-requires c κs = search needs
+
+-- src/lib.rt:41:9
+put-mark-requires : tie.Need-put-mark-requires
+put-mark-requires c κs = search needs
+
+-- src/lib.rt:42:39
+slice-aggregate-put-2 : tie.Need-slice-aggregate-put-2
+slice-aggregate-put-2 c = search needs
+
+-- src/lib.rt:42:9
+put-requires-2 : tie.Need-put-requires-2
+put-requires-2 c κs = search needs
+
+-- src/lib.rt:43:5
+put-quoted-requires : tie.Need-put-quoted-requires
+put-quoted-requires c κs = search needs
+
+-- src/lib.rt:36:1
+same-length : tie.Need-same-length
+same-length c = search needs
+
+-- src/lib.rt:36:1
+returns : tie.Need-returns
+unfolding listed
+returns c = (_then_ (_then_ (_then_ (c .before .before .before .before .before .before .before .before .before .before .before .before .before .before .before .put .ensures) (c .before .before .before .before .before .before .before .before .before .before .before .put-mark .ensures .0)) (c .before .before .before .before .before .before .put2 .ensures)) (c .before .before .put-quoted .ensures .0), omega (arith, c .before .before .before .before .before .before .before .before .before .before .before .before .before .before .before .before .before .before .before .before .pre, c .before .before .before .before .before .before .before .before .before .before .before .before .before .before .before .put .ensures .next, c .before .before .before .before .before .before .before .before .before .before .before .put-mark .ensures .1, c .before .before .before .before .before .before .put2 .ensures .next, c .before .before .put-quoted .ensures .1))
+
+pub put-listed-spec : {M : Type 1} → statement M
+put-listed-spec =
+    tie.close
+    (tie.spec
+    slice-aggregate-put
+    put-requires
+    put-mark-requires
+    slice-aggregate-put-2
+    put-requires-2
+    put-quoted-requires
+    same-length
+    returns)

@@ -1,0 +1,57 @@
+use borrow.Author.Needs.{needs}
+use Rattle.notices.proofs.say_list.Statement.{statement}
+use Rattle.notices.proofs.say_list.Tie as tie
+use Rattle.notices.proofs.say_list.Reads as reads
+use Rattle.notices.proofs.say_list.Lts as lts
+use Rattle.notices.proofs.put_list.Reads as put-list-reads
+use Rattle.out.proofs.overflow.Reads as overflow-reads
+use mathlib.Core.Path.{_≡_, refl, sym, _∙_, ap}
+use mathlib.Core.List.{List, [], _∷_, _++_}
+use Prim.Native.Nat.{ℕ, _≤_, _+_}
+use native.Mathlib.Omega.{arith}
+use Rattle.model.specs.Lines.{render}
+use Rattle.out.specs.Put.{_then_, put-as}
+use Rattle.out.specs.Says.{says-fits, says-over}
+use Rattle.notices.specs.Texts.{markOf, listed, list-text, renamed-text, status-text, at-set-text}
+
+-- src/lib.rt:126:17
+sub-limit : tie.Need-sub-limit
+sub-limit c = search needs
+
+-- src/lib.rt:127:9
+put-list-requires : tie.Need-put-list-requires
+put-list-requires c κs = search needs
+
+-- src/lib.rt:129:13
+put-list-requires-2 : tie.Need-put-list-requires-2
+put-list-requires-2 c κs = search needs
+
+-- src/lib.rt:130:9
+same-length : tie.Need-same-length
+same-length c = search needs
+
+-- src/lib.rt:130:9
+returns : tie.Need-returns
+returns c = says-fits _ _ _ _ _ _ _ _ (c .before .before .before .before .before .before .before .put-list .ensures .0) (c .before .before .put-list2 .ensures .0) refl (omega arith)
+
+overflow-requires : tie.Need-overflow-requires
+overflow-requires c κs = search needs
+
+same-length-2 : tie.Need-same-length-2
+same-length-2 c = search needs
+
+returns-2 : tie.Need-returns-2
+returns-2 c = says-over _ _ _ _ _ _ _ _ (c .before .before .before .before .before .before .before .put-list .ensures .0) (c .before .before .overflow .ensures) (omega arith) (omega arith) (omega arith)
+
+pub say-list-spec : {M : Type 1} → statement M
+say-list-spec =
+    tie.close
+    (tie.spec
+    sub-limit
+    put-list-requires
+    put-list-requires-2
+    same-length
+    returns
+    overflow-requires
+    same-length-2
+    returns-2)

@@ -1,0 +1,25 @@
+use borrow.Author.Needs.{needs}
+use Rattle.out.proofs.hear.Statement.{statement}
+use Rattle.out.proofs.hear.Tie as tie
+use Rattle.out.proofs.hear.Reads as reads
+use Rattle.out.proofs.hear.Lts as lts
+use Rattle.out.proofs.silence.Reads as silence-reads
+use mathlib.Core.Path.{_≡_, refl, sym, _∙_, ap}
+use mathlib.Core.Bool.{Bool, true, false, cond}
+use Rattle.model.specs.Memory.{silenced}
+use Rattle.model.specs.declared.Session.{Session}
+
+-- src/lib.rt:148:9
+returns : tie.Need-returns
+returns c = search needs
+
+-- src/lib.rt:151:18
+silence-requires : tie.Need-silence-requires
+silence-requires c κs = search needs
+
+-- src/lib.rt:143:1
+returns-2 : tie.Need-returns-2
+returns-2 c = (c .silence .ensures ∙ sym (ap (λ (b : Bool). cond b (c .before .before .args .s) (silenced (c .before .before .args .s))) (c .before .if1 .left)), refl)
+
+pub hear-spec : {M : Type 1} → statement M
+hear-spec = tie.close (tie.spec returns silence-requires returns-2)

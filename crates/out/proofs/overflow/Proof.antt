@@ -1,0 +1,28 @@
+use borrow.Author.Needs.{needs}
+use Rattle.out.proofs.overflow.Statement.{statement}
+use Rattle.out.proofs.overflow.Tie as tie
+use Rattle.out.proofs.overflow.Reads as reads
+use Rattle.out.proofs.overflow.Lts as lts
+use Rattle.out.proofs.put.Reads as put-reads
+use mathlib.Core.Path.{_≡_, refl}
+use Rattle.model.specs.Lines.{render}
+
+-- src/lib.rt:107:36
+slice-aggregate-put : tie.Need-slice-aggregate-put
+slice-aggregate-put c = search needs
+
+-- src/lib.rt:107:9
+put-requires : tie.Need-put-requires
+put-requires c κs = search needs
+
+-- src/lib.rt:102:1
+same-length : tie.Need-same-length
+same-length c = search needs
+
+-- src/lib.rt:102:1
+returns : tie.Need-returns
+unfolding render
+returns c = (refl, c .before .before .put .ensures)
+
+pub overflow-spec : {M : Type 1} → statement M
+overflow-spec = tie.close (tie.spec slice-aggregate-put put-requires same-length returns)

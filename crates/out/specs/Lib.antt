@@ -1,0 +1,4 @@
+pub mod Wrote
+pub mod Put
+pub mod Decimals
+pub mod Says

@@ -1,0 +1,175 @@
+use Rattle.found.proofs.find_runs.Statement.{statement}
+use Rattle.found.proofs.find_runs.Tie as tie
+use Rattle.found.proofs.find_runs.Reads as reads
+use Rattle.found.proofs.find_runs.Lts as lts
+use Rattle.found.proofs.search_row.Reads as search-row-reads
+use Rattle.found.proofs.within.Reads as within-reads
+use mathlib.Core.Path.{_≡_, refl, sym, ap, _∙_}
+use native.Mathlib.Omega.{arith}
+use Prim.Native.Nat.{ℕ, _≤_, _-_, _<_, _+_}
+use lib.ListN.{length, take, drop, length-set, length-drop}
+use Rattle.entries.specs.Words.{messages}
+use Rattle.found.specs.Runs.{Finding, finding-start, finding-next, finding-end}
+use borrow.Author.Needs.{needs}
+use borrow.Rule.Slice.PartMut.{mid-len}
+use Rattle.found.specs.Runs.{row-longer, idAt}
+
+abbrev Inv-loop : tie.InvT-loop
+Inv-loop words used selected below ids rows n cells filled order₀ view₀ uids₀ starts₀ counts₀ i₀ total₀ order view uids starts counts i total =
+    (i ≤ n) × ((length order ≡ length order₀) × (length view ≡ length view₀)) × (length uids ≡ length uids₀) × ((length starts ≡ length starts₀) × (length counts ≡ length counts₀)) × Finding (take used (messages words)) ids rows n selected below cells filled uids starts counts i total
+
+abbrev μ-loop : tie.MeasureT-loop
+μ-loop words used selected below ids rows n cells filled order₀ view₀ uids₀ starts₀ counts₀ i₀ total₀ order view uids starts counts i total =
+    i
+
+-- src/lib.rt:216:5
+loop-holds : tie.Need-loop-holds Inv-loop μ-loop
+loop-holds c = (omega arith, (refl, refl), refl, (refl, refl), finding-start (take (c .before .before .before .before .before .before .before .before .args .used) (messages (c .before .before .before .before .before .before .before .before .args .words .now))) (c .before .before .before .before .before .before .before .before .args .ids .now) (c .before .before .before .before .before .before .before .before .args .rows .now) (c .before .before .before .before .before .before .before .before .args .n) (c .before .before .before .before .before .before .before .before .args .selected) (c .before .before .before .before .before .before .before .before .args .below) (c .before .before .before .before .before .before .before .before .args .cells .now) (c .before .before .before .before .before .before .before .before .args .filled) _ _ _)
+
+-- src/lib.rt:217:9
+sub-i : tie.Need-sub-i Inv-loop μ-loop
+sub-i c = search needs
+
+-- src/lib.rt:218:22
+mul-id : tie.Need-mul-id Inv-loop μ-loop
+mul-id c = search needs
+
+-- src/lib.rt:218:22
+shared-slice-read-id : tie.Need-shared-slice-read-id Inv-loop μ-loop
+shared-slice-read-id c = search needs
+
+-- src/lib.rt:218:18
+mul-id-2 : tie.Need-mul-id-2 Inv-loop μ-loop
+mul-id-2 c = search needs
+
+-- src/lib.rt:218:18
+element-copy-out-id : tie.Need-element-copy-out-id Inv-loop μ-loop
+element-copy-out-id c = search needs
+
+-- src/lib.rt:219:13
+within-requires : tie.Need-within-requires Inv-loop μ-loop
+within-requires c κs = search needs
+
+-- src/lib.rt:220:90
+mul-search-row : tie.Need-mul-search-row Inv-loop μ-loop
+mul-search-row c = search needs
+
+-- src/lib.rt:220:90
+sub-search-row : tie.Need-sub-search-row Inv-loop μ-loop
+sub-search-row c = search needs
+
+-- src/lib.rt:220:90
+part-search-row-start : tie.Need-part-search-row-start Inv-loop μ-loop
+part-search-row-start c = search needs
+
+-- src/lib.rt:220:90
+part-search-row-end : tie.Need-part-search-row-end Inv-loop μ-loop
+part-search-row-end c = search needs
+
+-- src/lib.rt:220:13
+search-row-requires : tie.Need-search-row-requires Inv-loop μ-loop
+search-row-requires c κs = let l = c .before .before .before .before .before .before .before .loop .inv .2 in let w = c .before .before .before .within .ensures .0 in let p = c .before .before .before .before .before .before .before .before .before .before .before .before .before .before .before .before .pre .1 .2 in let u = c .before .before .before .before .before .before .before .before .before .before .before .before .before .before .before .before .pre .0 .1 .0 in let m = mid-len (c .before .before .before .within .result) (length (c .before .before .before .before .before .before .before .loop .uids)) (c .before .before .before .before .before .before .before .loop .uids) (omega arith) in let y : c .before .before .before .before .before .before .before .before .before .before .before .before .before .before .before .before .args .used ≤ length (take (length (c .before .before .before .before .before .before .before .loop .uids) - c .before .before .before .within .result) (drop (c .before .before .before .within .result) (c .before .before .before .before .before .before .before .loop .uids))) = omega arith in ((search needs, (search needs, search needs)), (y, search needs))
+
+-- src/lib.rt:221:9
+mul-starts : tie.Need-mul-starts Inv-loop μ-loop
+mul-starts c = omega (arith, c .before .before .before .before .before .before .before .before .before .before .before .before .before .before .before .before .before .before .before .before .before .before .before .pre .3, c .before .before .before .before .before .before .before .before .before .before .before .before .before .before .loop .inv .0)
+
+-- src/lib.rt:221:9
+slice-write-starts : tie.Need-slice-write-starts Inv-loop μ-loop
+slice-write-starts c = search needs
+
+-- src/lib.rt:222:9
+mul-counts : tie.Need-mul-counts Inv-loop μ-loop
+mul-counts c = omega (arith, c .before .before .before .before .before .before .before .before .before .before .before .before .before .before .before .before .before .before .before .before .before .before .before .pre .3, c .before .before .before .before .before .before .before .before .before .before .before .before .before .before .loop .inv .0)
+
+-- src/lib.rt:222:9
+slice-write-counts : tie.Need-slice-write-counts Inv-loop μ-loop
+slice-write-counts c = search needs
+
+-- src/lib.rt:223:17
+add-total : tie.Need-add-total Inv-loop μ-loop
+add-total c = search needs
+
+-- src/lib.rt:216:5
+loop-less : tie.Need-loop-less Inv-loop μ-loop
+loop-less c = search needs
+
+-- src/lib.rt:216:5
+loop-again : tie.Need-loop-again Inv-loop μ-loop
+loop-again c =
+    let es = take (c .before .before .before .before .before .before .before .before .before .before .before .before .before .before .before .before .before .before .before .before .before .before .before .args .used) (messages (c .before .before .before .before .before .before .before .before .before .before .before .before .before .before .before .before .before .before .before .before .before .before .before .args .words .now)) in
+    let l = c .before .before .before .before .before .before .before .before .before .before .before .before .before .before .loop .inv .2 in
+    let w = c .before .before .before .before .before .before .before .before .before .before .within .ensures .0 in
+    let p = c .before .before .before .before .before .before .before .before .before .before .before .before .before .before .before .before .before .before .before .before .before .before .before .pre .1 .2 in
+    let u = c .before .before .before .before .before .before .before .before .before .before .before .before .before .before .before .before .before .before .before .before .before .before .before .pre .0 .1 .0 in
+    let f = c .before .before .before .before .before .before .search-row .ensures .1 in
+    let i = c .before .before .before .before .before .before .before .before .before .before .before .before .before .before .loop .inv .0 in
+    let ls = c .before .before .before .before .before .before .before .before .before .before .before .before .before .before .loop .inv .3 .0 in
+    let lc = c .before .before .before .before .before .before .before .before .before .before .before .before .before .before .loop .inv .3 .1 in
+    let ns = c .before .before .before .before .before .before .before .before .before .before .before .before .before .before .before .before .before .before .before .before .before .before .before .pre .2 .1 in
+    let nc = c .before .before .before .before .before .before .before .before .before .before .before .before .before .before .before .before .before .before .before .before .before .before .before .pre .2 .2 in
+    let h : 0 < c .before .before .before .before .before .before .before .before .before .before .before .before .before .before .loop .i = search needs in
+    let m = c .before .uids .given .0 ∙ mid-len (c .before .before .before .before .before .before .before .before .before .before .within .result) (length (c .before .before .before .before .before .before .before .before .before .before .before .before .before .before .loop .uids)) (c .before .before .before .before .before .before .before .before .before .before .before .before .before .before .loop .uids) (omega arith) in (
+      search needs,
+      (search needs, search needs),
+      c .before .uids .given .1 ∙ l,
+      (search needs, search needs),
+      finding-next es (c .before .before .before .before .before .before .before .before .before .before .before .before .before .before .before .before .before .before .before .before .before .before .before .args .ids .now) (c .before .before .before .before .before .before .before .before .before .before .before .before .before .before .before .before .before .before .before .before .before .before .before .args .rows .now) (c .before .before .before .before .before .before .before .before .before .before .before .before .before .before .before .before .before .before .before .before .before .before .before .args .n) (c .before .before .before .before .before .before .before .before .before .before .before .before .before .before .before .before .before .before .before .before .before .before .before .args .selected) (c .before .before .before .before .before .before .before .before .before .before .before .before .before .before .before .before .before .before .before .before .before .before .before .args .below) (c .before .before .before .before .before .before .before .before .before .before .before .before .before .before .before .before .before .before .before .before .before .before .before .args .cells .now) (c .before .before .before .before .before .before .before .before .before .before .before .before .before .before .before .before .before .before .before .before .before .before .before .args .filled) (c .before .before .before .before .before .before .before .before .before .before .before .before .before .before .loop .uids) (c .before .before .before .before .before .before .before .before .before .before .before .before .before .before .loop .starts) (c .before .before .before .before .before .before .before .before .before .before .before .before .before .before .loop .counts) (c .before .before .before .before .before .before .before .before .before .before .before .before .before .before .loop .i) (c .before .before .before .before .before .before .before .before .before .before .before .before .before .before .loop .total) (c .before .before .before .before .before .before .before .before .before .before .before .before .before .before .loop .inv .4) h i (omega arith) (omega arith) (c .before .before .before .before .before .before .before .before .before .before .within .result) w (omega arith) (c .before .before .before .before .before .before .before .before .before .before .within .ensures .1) _ (c .before .before .before .before .before .before .search-row .result) (omega arith)
+          (row-longer es (idAt (c .before .before .before .before .before .before .before .before .before .before .before .before .before .before .before .before .before .before .before .before .before .before .before .args .ids .now) (c .before .before .before .before .before .before .before .before .before .before .before .before .before .before .before .before .before .before .before .before .before .before .before .args .rows .now) (c .before .before .before .before .before .before .before .before .before .before .before .before .before .before .loop .i - 1)) (c .before .before .before .before .before .before .before .before .before .before .before .before .before .before .before .before .before .before .before .before .before .before .before .args .selected) (c .before .before .before .before .before .before .before .before .before .before .before .before .before .before .before .before .before .before .before .before .before .before .before .args .below) (c .before .before .before .before .before .before .before .before .before .before .before .before .before .before .before .before .before .before .before .before .before .before .before .args .cells .now) (c .before .before .before .before .before .before .before .before .before .before .before .before .before .before .before .before .before .before .before .before .before .before .before .args .filled) _ (c .before .before .before .before .before .before .search-row .result) (c .before .before .before .before .before .before .search-row .ensures .0) (omega arith) _),
+    )
+
+-- src/lib.rt:195:1
+same-length : tie.Need-same-length Inv-loop μ-loop
+same-length c = search needs
+
+-- src/lib.rt:195:1
+same-length-2 : tie.Need-same-length-2 Inv-loop μ-loop
+same-length-2 c = search needs
+
+-- src/lib.rt:195:1
+same-length-3 : tie.Need-same-length-3 Inv-loop μ-loop
+same-length-3 c = search needs
+
+-- src/lib.rt:195:1
+same-length-4 : tie.Need-same-length-4 Inv-loop μ-loop
+same-length-4 c = search needs
+
+-- src/lib.rt:195:1
+same-length-5 : tie.Need-same-length-5 Inv-loop μ-loop
+same-length-5 c = search needs
+
+-- src/lib.rt:195:1
+returns : tie.Need-returns Inv-loop μ-loop
+returns c = finding-end (take (c .before .before .before .before .before .before .before .before .before .before .args .used) (messages (c .before .before .before .before .before .before .before .before .before .before .args .words .now))) (c .before .before .before .before .before .before .before .before .before .before .args .ids .now) (c .before .before .before .before .before .before .before .before .before .before .args .rows .now) (c .before .before .before .before .before .before .before .before .before .before .args .n) (c .before .before .before .before .before .before .before .before .before .before .args .selected) (c .before .before .before .before .before .before .before .before .before .before .args .below) (c .before .before .before .before .before .before .before .before .before .before .args .cells .now) (c .before .before .before .before .before .before .before .before .before .before .args .filled) _ _ _ (c .before .loop .i) (c .before .loop .total) (omega arith) (c .before .loop .inv .4)
+
+pub find-runs-spec : {M : Type 1} → statement M
+find-runs-spec =
+    tie.close
+    (tie.spec
+    Inv-loop
+    μ-loop
+    loop-holds
+    sub-i
+    mul-id
+    shared-slice-read-id
+    mul-id-2
+    element-copy-out-id
+    within-requires
+    mul-search-row
+    sub-search-row
+    part-search-row-start
+    part-search-row-end
+    search-row-requires
+    mul-starts
+    slice-write-starts
+    mul-counts
+    slice-write-counts
+    add-total
+    loop-less
+    loop-again
+    same-length
+    same-length-2
+    same-length-3
+    same-length-4
+    same-length-5
+    returns)

@@ -1,0 +1,68 @@
+use borrow.Author.Needs.{needs}
+use Rattle.found.proofs.search_row.Statement.{statement}
+use Rattle.found.proofs.search_row.Tie as tie
+use Rattle.found.proofs.search_row.Reads as reads
+use Rattle.found.proofs.search_row.Lts as lts
+use Rattle.found.proofs.search_box.Reads as search-box-reads
+use Rattle.found.proofs.search_view.Reads as search-view-reads
+use Rattle.sources.proofs.is_selected.Reads as is-selected-reads
+use mathlib.Core.Path.{_≡_}
+use native.Mathlib.Omega.{arith}
+use lib.ListN.{take}
+use Rattle.entries.specs.Words.{messages}
+use Rattle.found.specs.Runs.{row-viewed, row-boxed}
+
+-- src/lib.rt:177:8
+is-selected-requires : tie.Need-is-selected-requires
+is-selected-requires c κs = search needs
+
+-- src/lib.rt:178:9
+search-view-requires : tie.Need-search-view-requires
+search-view-requires c κs = search needs
+
+-- src/lib.rt:178:9
+same-length : tie.Need-same-length
+same-length c = search needs
+
+-- src/lib.rt:178:9
+same-length-2 : tie.Need-same-length-2
+same-length-2 c = search needs
+
+-- src/lib.rt:178:9
+same-length-3 : tie.Need-same-length-3
+same-length-3 c = search needs
+
+-- src/lib.rt:178:9
+returns : tie.Need-returns
+returns c = (row-viewed (take (c .before .before .before .before .before .before .before .before .before .before .before .before .before .before .before .before .before .args .used) (messages (c .before .before .before .before .before .before .before .before .before .before .before .before .before .before .before .before .before .args .words .now))) (c .before .before .before .before .before .before .before .before .before .before .before .before .before .before .before .before .before .args .used) (c .before .before .before .before .before .before .before .before .before .before .before .before .before .before .before .before .before .args .id) (c .before .before .before .before .before .before .before .before .before .before .before .before .before .before .before .before .before .args .selected) (c .before .before .before .before .before .before .before .before .before .before .before .before .before .before .before .before .before .args .below) (c .before .before .before .before .before .before .before .before .before .before .before .before .before .before .before .before .before .args .cells .now) (c .before .before .before .before .before .before .before .before .before .before .before .before .before .before .before .before .before .args .filled) _ (c .before .before .before .before .before .before .search-view .result) (c .before .before .before .before .before .before .before .before .before .before .before .is-selected .result) (c .before .before .before .before .before .before .before .before .before .before .before .is-selected .ensures) (c .before .before .before .before .before .before .before .before .before .before .if1 .taken) (c .before .before .before .before .before .before .search-view .ensures), c .before .before .before .before .before .before .search-view .ensures .few)
+
+-- src/lib.rt:180:5
+search-box-requires : tie.Need-search-box-requires
+search-box-requires c κs = search needs
+
+-- src/lib.rt:162:1
+same-length-4 : tie.Need-same-length-4
+same-length-4 c = search needs
+
+-- src/lib.rt:162:1
+same-length-5 : tie.Need-same-length-5
+same-length-5 c = search needs
+
+-- src/lib.rt:162:1
+returns-2 : tie.Need-returns-2
+returns-2 c = (row-boxed (take (c .before .before .before .before .before .before .before .before .before .before .before .before .before .before .args .used) (messages (c .before .before .before .before .before .before .before .before .before .before .before .before .before .before .args .words .now))) (c .before .before .before .before .before .before .before .before .before .before .before .before .before .before .args .used) (c .before .before .before .before .before .before .before .before .before .before .before .before .before .before .args .id) (c .before .before .before .before .before .before .before .before .before .before .before .before .before .before .args .selected) (c .before .before .before .before .before .before .before .before .before .before .before .before .before .before .args .below) (c .before .before .before .before .before .before .before .before .before .before .before .before .before .before .args .cells .now) (c .before .before .before .before .before .before .before .before .before .before .before .before .before .before .args .filled) _ (c .before .before .before .before .search-box .result) (c .before .before .before .before .before .before .before .before .is-selected .result) (c .before .before .before .before .before .before .before .before .is-selected .ensures) (c .before .before .before .before .before .before .before .if1 .left) (c .before .before .before .before .search-box .ensures), c .before .before .before .before .search-box .ensures .few)
+
+pub search-row-spec : {M : Type 1} → statement M
+search-row-spec =
+    tie.close
+    (tie.spec
+    is-selected-requires
+    search-view-requires
+    same-length
+    same-length-2
+    same-length-3
+    returns
+    search-box-requires
+    same-length-4
+    same-length-5
+    returns-2)

@@ -1,0 +1,4 @@
+pub mod Finds
+pub mod Laws
+pub mod Searched
+pub mod Runs

@@ -1,0 +1,30 @@
+use borrow.Author.Needs.{needs}
+use Rattle.results.proofs.follows.Statement.{statement}
+use Rattle.results.proofs.follows.Tie as tie
+use Rattle.results.proofs.follows.Reads as reads
+use Rattle.results.proofs.follows.Lts as lts
+use mathlib.Core.Path.{_≡_, refl, sym, ap, _∙_}
+use native.Mathlib.Omega.{arith}
+use Rattle.out.specs.Put.{_then_, put-as, put-none}
+use borrow.Author.Tests.{not-true, not-false}
+use mathlib.Core.List.{_++_}
+use Rattle.model.specs.Text.{octets, decimal}
+use Rattle.model.specs.Lines.{setText}
+use Rattle.results.specs.Line.{uidsOf, tagText, boxText, resultsText, lineText}
+use lib.ListN.{take}
+use Rattle.results.specs.Writing.{follows-not, follows-by}
+
+-- src/lib.rt:18:9
+returns : tie.Need-returns
+returns c = follows-not (c .before .before .args .u .0) (c .before .before .args .upto .0) (c .if1 .taken)
+
+-- src/lib.rt:20:5
+sub-result : tie.Need-sub-result
+sub-result c = search needs
+
+-- src/lib.rt:14:1
+returns-2 : tie.Need-returns-2
+returns-2 c = follows-by (c .before .before .before .before .args .u .0) (c .before .before .before .before .args .upto .0) (c .before .before .if1 .left)
+
+pub follows-spec : {M : Type 1} → statement M
+follows-spec = tie.close (tie.spec returns sub-result returns-2)

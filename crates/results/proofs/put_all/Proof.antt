@@ -1,0 +1,46 @@
+use borrow.Author.Needs.{needs}
+use Rattle.results.proofs.put_all.Statement.{statement}
+use Rattle.results.proofs.put_all.Tie as tie
+use Rattle.results.proofs.put_all.Reads as reads
+use Rattle.results.proofs.put_all.Lts as lts
+use Rattle.results.proofs.put_set.Reads as put-set-reads
+use Rattle.out.proofs.put.Reads as put-reads
+use mathlib.Core.Path.{_≡_, refl, sym, ap, _∙_}
+use native.Mathlib.Omega.{arith}
+use Rattle.out.specs.Put.{_then_, put-as, put-none}
+use borrow.Author.Tests.{not-true, not-false}
+use mathlib.Core.List.{_++_}
+use Rattle.model.specs.Text.{octets, decimal}
+use Rattle.model.specs.Lines.{setText}
+use Rattle.results.specs.Line.{uidsOf, tagText, boxText, resultsText, lineText}
+use lib.ListN.{take}
+use Rattle.results.specs.Writing.{asked-not, asked}
+
+-- src/lib.rt:84:9
+returns : tie.Need-returns
+returns c = (put-as (put-none (c .before .before .before .args .queue .now) (c .before .before .before .args .at) (c .before .before .before .args .limit) (c .before .before .before .pre .0 .0)) (asked-not (c .before .before .before .args .on) (octets " ALL " ++ setText (uidsOf (take (c .before .before .before .args .n) (c .before .before .before .args .uids .now)))) (not-true _ (c .if1 .taken))), omega arith)
+
+-- src/lib.rt:86:40
+slice-aggregate-put : tie.Need-slice-aggregate-put
+slice-aggregate-put c = search needs
+
+-- src/lib.rt:86:9
+put-requires : tie.Need-put-requires
+put-requires c κs = search needs
+
+-- src/lib.rt:87:5
+put-set-requires : tie.Need-put-set-requires
+put-set-requires c κs = search needs
+
+-- src/lib.rt:79:1
+same-length : tie.Need-same-length
+same-length c = search needs
+
+-- src/lib.rt:79:1
+returns-2 : tie.Need-returns-2
+returns-2 c = (put-as (_then_ (c .before .before .before .before .before .before .put .ensures) (c .before .before .put-set .ensures .0)) (asked (c .before .before .before .before .before .before .before .before .before .before .before .before .args .on) (octets " ALL " ++ setText (uidsOf (take (c .before .before .before .before .before .before .before .before .before .before .before .before .args .n) (c .before .before .before .before .before .before .before .before .before .before .before .before .args .uids .now)))) (not-false _ (c .before .before .before .before .before .before .before .before .before .if1 .left))), omega (arith, c .before .before .before .before .before .before .put .ensures .next, c .before .before .put-set .ensures .1))
+
+pub put-all-spec : {M : Type 1} → statement M
+put-all-spec =
+    tie.close
+    (tie.spec returns slice-aggregate-put put-requires put-set-requires same-length returns-2)

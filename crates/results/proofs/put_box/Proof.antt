@@ -1,0 +1,63 @@
+use borrow.Author.Needs.{needs}
+use Rattle.results.proofs.put_box.Statement.{statement}
+use Rattle.results.proofs.put_box.Tie as tie
+use Rattle.results.proofs.put_box.Reads as reads
+use Rattle.results.proofs.put_box.Lts as lts
+use Rattle.out.proofs.put.Reads as put-reads
+use Rattle.out.proofs.put_number.Reads as put-number-reads
+use Rattle.out.proofs.put_quoted.Reads as put-quoted-reads
+use mathlib.Core.Path.{_≡_, refl, sym, ap, _∙_}
+use native.Mathlib.Omega.{arith}
+use Rattle.out.specs.Put.{_then_, put-as, put-none}
+use borrow.Author.Tests.{not-true, not-false}
+use mathlib.Core.List.{_++_}
+use Rattle.model.specs.Text.{octets, decimal}
+use Rattle.model.specs.Lines.{setText}
+use Rattle.results.specs.Line.{uidsOf, tagText, boxText, resultsText, lineText}
+use lib.ListN.{take}
+
+-- src/lib.rt:123:9
+put-quoted-requires : tie.Need-put-quoted-requires
+put-quoted-requires c κs = search needs
+
+-- src/lib.rt:124:39
+slice-aggregate-put : tie.Need-slice-aggregate-put
+slice-aggregate-put c = search needs
+
+-- src/lib.rt:124:9
+put-requires : tie.Need-put-requires
+put-requires c κs = search needs
+
+-- src/lib.rt:125:9
+put-number-requires : tie.Need-put-number-requires
+put-number-requires c κs = search needs
+
+-- src/lib.rt:126:31
+slice-aggregate-put-2 : tie.Need-slice-aggregate-put-2
+slice-aggregate-put-2 c = search needs
+
+-- src/lib.rt:126:5
+put-requires-2 : tie.Need-put-requires-2
+put-requires-2 c κs = search needs
+
+-- src/lib.rt:119:1
+same-length : tie.Need-same-length
+same-length c = search needs
+
+-- src/lib.rt:119:1
+returns : tie.Need-returns
+unfolding boxText
+returns c = (_then_ (_then_ (_then_ (c .before .before .before .before .before .before .before .before .before .before .before .before .before .before .before .before .put-quoted .ensures .0) (c .before .before .before .before .before .before .before .before .before .before .before .put .ensures)) (c .before .before .before .before .before .before .before .put-number .ensures .0)) (c .before .before .put2 .ensures), omega (arith, c .before .before .before .before .before .before .before .before .before .before .before .before .before .before .before .before .put-quoted .ensures .1, c .before .before .before .before .before .before .before .before .before .before .before .put .ensures .next, c .before .before .before .before .before .before .before .put-number .ensures .1, c .before .before .put2 .ensures .next))
+
+pub put-box-spec : {M : Type 1} → statement M
+put-box-spec =
+    tie.close
+    (tie.spec
+    put-quoted-requires
+    slice-aggregate-put
+    put-requires
+    put-number-requires
+    slice-aggregate-put-2
+    put-requires-2
+    same-length
+    returns)

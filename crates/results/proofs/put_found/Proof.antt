@@ -1,0 +1,59 @@
+use borrow.Author.Needs.{needs}
+use Rattle.results.proofs.put_found.Statement.{statement}
+use Rattle.results.proofs.put_found.Tie as tie
+use Rattle.results.proofs.put_found.Reads as reads
+use Rattle.results.proofs.put_found.Lts as lts
+use Rattle.results.proofs.put_box.Reads as put-box-reads
+use Rattle.results.proofs.put_results.Reads as put-results-reads
+use Rattle.results.proofs.put_tag.Reads as put-tag-reads
+use Rattle.out.proofs.put.Reads as put-reads
+use mathlib.Core.Path.{_≡_, refl, sym, ap, _∙_}
+use native.Mathlib.Omega.{arith}
+use Rattle.out.specs.Put.{_then_, put-as, put-none}
+use borrow.Author.Tests.{not-true, not-false}
+use mathlib.Core.List.{_++_}
+use Rattle.model.specs.Text.{octets, decimal}
+use Rattle.model.specs.Lines.{setText}
+use Rattle.results.specs.Line.{uidsOf, tagText, boxText, resultsText, lineText}
+use lib.ListN.{take}
+use Rattle.results.specs.Writing.{line-pieces}
+
+-- src/lib.rt:144:9
+put-tag-requires : tie.Need-put-tag-requires
+put-tag-requires c κs = search needs
+
+-- src/lib.rt:145:9
+put-box-requires : tie.Need-put-box-requires
+put-box-requires c κs = search needs
+
+-- src/lib.rt:146:9
+put-results-requires : tie.Need-put-results-requires
+put-results-requires c κs = search needs
+
+-- src/lib.rt:147:31
+slice-aggregate-put : tie.Need-slice-aggregate-put
+slice-aggregate-put c = search needs
+
+-- src/lib.rt:147:5
+put-requires : tie.Need-put-requires
+put-requires c κs = search needs
+
+-- src/lib.rt:130:1
+same-length : tie.Need-same-length
+same-length c = search needs
+
+-- src/lib.rt:130:1
+returns : tie.Need-returns
+returns c = (put-as (_then_ (_then_ (_then_ (c .before .before .before .before .before .before .before .before .before .before .before .before .before .before .before .put-tag .ensures .0) (c .before .before .before .before .before .before .before .before .before .before .before .put-box .ensures .0)) (c .before .before .before .before .before .before .before .put-results .ensures .0)) (c .before .before .put .ensures)) (line-pieces (c .before .before .before .before .before .before .before .before .before .before .before .before .before .before .before .before .before .before .before .before .before .args .tag .now) (c .before .before .before .before .before .before .before .before .before .before .before .before .before .before .before .before .before .before .before .before .before .args .name .now) (c .before .before .before .before .before .before .before .before .before .before .before .before .before .before .before .before .before .before .before .before .before .args .validity) (c .before .before .before .before .before .before .before .before .before .before .before .before .before .before .before .before .before .before .before .before .before .args .w) (c .before .before .before .before .before .before .before .before .before .before .before .before .before .before .before .before .before .before .before .before .before .args .uids .now) (c .before .before .before .before .before .before .before .before .before .before .before .before .before .before .before .before .before .before .before .before .before .args .n) (c .before .before .before .before .before .before .before .before .before .before .before .before .before .before .before .before .before .before .before .before .before .pre .1 .0) (c .before .before .before .before .before .before .before .before .before .before .before .before .before .before .before .before .before .before .before .before .before .pre .1 .1 .0)), omega (arith, c .before .before .before .before .before .before .before .before .before .before .before .before .before .before .before .put-tag .ensures .1, c .before .before .before .before .before .before .before .before .before .before .before .put-box .ensures .1, c .before .before .before .before .before .before .before .put-results .ensures .1, c .before .before .put .ensures .next))
+
+pub put-found-spec : {M : Type 1} → statement M
+put-found-spec =
+    tie.close
+    (tie.spec
+    put-tag-requires
+    put-box-requires
+    put-results-requires
+    slice-aggregate-put
+    put-requires
+    same-length
+    returns)

@@ -1,0 +1,41 @@
+use borrow.Author.Needs.{needs}
+use Rattle.results.proofs.put_labelled.Statement.{statement}
+use Rattle.results.proofs.put_labelled.Tie as tie
+use Rattle.results.proofs.put_labelled.Reads as reads
+use Rattle.results.proofs.put_labelled.Lts as lts
+use Rattle.out.proofs.put.Reads as put-reads
+use Rattle.out.proofs.put_number.Reads as put-number-reads
+use mathlib.Core.Path.{_≡_, refl, sym, ap, _∙_}
+use native.Mathlib.Omega.{arith}
+use Rattle.out.specs.Put.{_then_, put-as, put-none}
+use borrow.Author.Tests.{not-true, not-false}
+use mathlib.Core.List.{_++_}
+use Rattle.model.specs.Text.{octets, decimal}
+use Rattle.model.specs.Lines.{setText}
+use Rattle.results.specs.Line.{uidsOf, tagText, boxText, resultsText, lineText}
+use lib.ListN.{take}
+use Rattle.results.specs.Writing.{asked-not, asked}
+
+-- src/lib.rt:73:9
+returns : tie.Need-returns
+returns c = (put-as (put-none (c .before .before .before .args .queue .now) (c .before .before .before .args .at) (c .before .before .before .args .limit) (c .before .before .before .pre .0)) (asked-not (c .before .before .before .args .on) (c .before .before .before .args .label .now ++ decimal (c .before .before .before .args .n)) (not-true _ (c .if1 .taken))), omega arith)
+
+-- src/lib.rt:75:9
+put-requires : tie.Need-put-requires
+put-requires c κs = search needs
+
+-- src/lib.rt:76:5
+put-number-requires : tie.Need-put-number-requires
+put-number-requires c κs = search needs
+
+-- src/lib.rt:68:1
+same-length : tie.Need-same-length
+same-length c = search needs
+
+-- src/lib.rt:68:1
+returns-2 : tie.Need-returns-2
+returns-2 c = (put-as (_then_ (c .before .before .before .before .before .before .put .ensures) (c .before .before .put-number .ensures .0)) (asked (c .before .before .before .before .before .before .before .before .before .before .before .args .on) (c .before .before .before .before .before .before .before .before .before .before .before .args .label .now ++ decimal (c .before .before .before .before .before .before .before .before .before .before .before .args .n)) (not-false _ (c .before .before .before .before .before .before .before .before .if1 .left))), omega (arith, c .before .before .before .before .before .before .put .ensures .next, c .before .before .put-number .ensures .1))
+
+pub put-labelled-spec : {M : Type 1} → statement M
+put-labelled-spec =
+    tie.close (tie.spec returns put-requires put-number-requires same-length returns-2)

@@ -1,0 +1,35 @@
+use borrow.Author.Needs.{needs}
+use Rattle.results.proofs.put_part.Statement.{statement}
+use Rattle.results.proofs.put_part.Tie as tie
+use Rattle.results.proofs.put_part.Reads as reads
+use Rattle.results.proofs.put_part.Lts as lts
+use Rattle.results.proofs.put_run.Reads as put-run-reads
+use Rattle.out.proofs.put_byte.Reads as put-byte-reads
+use mathlib.Core.Path.{_≡_, refl, sym, ap, _∙_}
+use native.Mathlib.Omega.{arith}
+use Rattle.out.specs.Put.{_then_, put-as, put-none}
+use borrow.Author.Tests.{not-true, not-false}
+use mathlib.Core.List.{_++_}
+use Rattle.model.specs.Text.{octets, decimal}
+use Rattle.model.specs.Lines.{setText}
+use Rattle.results.specs.Line.{uidsOf, tagText, boxText, resultsText, lineText}
+use lib.ListN.{take}
+
+-- src/lib.rt:40:9
+put-run-requires : tie.Need-put-run-requires
+put-run-requires c κs = search needs
+
+-- src/lib.rt:41:5
+put-byte-requires : tie.Need-put-byte-requires
+put-byte-requires c κs = search needs
+
+-- src/lib.rt:36:1
+same-length : tie.Need-same-length
+same-length c = search needs
+
+-- src/lib.rt:36:1
+returns : tie.Need-returns
+returns c = (_then_ (c .before .before .before .before .before .before .put-run .ensures .0) (c .before .before .put-byte .ensures), omega (arith, c .before .before .before .before .before .before .put-run .ensures .1, c .before .before .put-byte .ensures .next))
+
+pub put-part-spec : {M : Type 1} → statement M
+put-part-spec = tie.close (tie.spec put-run-requires put-byte-requires same-length returns)

@@ -1,0 +1,56 @@
+use borrow.Author.Needs.{needs}
+use Rattle.results.proofs.put_tag.Statement.{statement}
+use Rattle.results.proofs.put_tag.Tie as tie
+use Rattle.results.proofs.put_tag.Reads as reads
+use Rattle.results.proofs.put_tag.Lts as lts
+use Rattle.out.proofs.put.Reads as put-reads
+use mathlib.Core.Path.{_≡_, refl, sym, ap, _∙_}
+use native.Mathlib.Omega.{arith}
+use Rattle.out.specs.Put.{_then_, put-as, put-none}
+use borrow.Author.Tests.{not-true, not-false}
+use mathlib.Core.List.{_++_}
+use Rattle.model.specs.Text.{octets, decimal}
+use Rattle.model.specs.Lines.{setText}
+use Rattle.results.specs.Line.{uidsOf, tagText, boxText, resultsText, lineText}
+use lib.ListN.{take}
+
+-- src/lib.rt:114:40
+slice-aggregate-put : tie.Need-slice-aggregate-put
+slice-aggregate-put c = search needs
+
+-- src/lib.rt:114:9
+put-requires : tie.Need-put-requires
+put-requires c κs = search needs
+
+-- src/lib.rt:115:9
+put-requires-2 : tie.Need-put-requires-2
+put-requires-2 c κs = search needs
+
+-- src/lib.rt:116:31
+slice-aggregate-put-2 : tie.Need-slice-aggregate-put-2
+slice-aggregate-put-2 c = search needs
+
+-- src/lib.rt:116:5
+put-requires-3 : tie.Need-put-requires-3
+put-requires-3 c κs = search needs
+
+-- src/lib.rt:110:1
+same-length : tie.Need-same-length
+same-length c = search needs
+
+-- src/lib.rt:110:1
+returns : tie.Need-returns
+unfolding tagText
+returns c = (_then_ (_then_ (c .before .before .before .before .before .before .before .before .before .before .before .put .ensures) (c .before .before .before .before .before .before .before .put2 .ensures)) (c .before .before .put3 .ensures), omega (arith, c .before .before .before .before .before .before .before .before .before .before .before .put .ensures .next, c .before .before .before .before .before .before .before .put2 .ensures .next, c .before .before .put3 .ensures .next))
+
+pub put-tag-spec : {M : Type 1} → statement M
+put-tag-spec =
+    tie.close
+    (tie.spec
+    slice-aggregate-put
+    put-requires
+    put-requires-2
+    slice-aggregate-put-2
+    put-requires-3
+    same-length
+    returns)

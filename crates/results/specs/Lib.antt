@@ -1,0 +1,5 @@
+pub mod Line
+pub mod Writing
+pub mod Telling
+pub mod Room
+pub mod Commanded

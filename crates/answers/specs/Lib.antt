@@ -1,0 +1,4 @@
+pub mod Sizes
+pub mod Tagged
+pub mod Effects
+pub mod Answered

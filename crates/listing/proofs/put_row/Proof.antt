@@ -1,0 +1,91 @@
+use borrow.Author.Needs.{needs}
+use Rattle.listing.proofs.put_row.Statement.{statement}
+use Rattle.listing.proofs.put_row.Tie as tie
+use Rattle.listing.proofs.put_row.Reads as reads
+use Rattle.listing.proofs.put_row.Lts as lts
+use Rattle.listing.proofs.put_line.Reads as put-line-reads
+use Rattle.rows.proofs.name_end.Reads as name-end-reads
+use mathlib.Core.Path.{_≡_, refl, sym, _∙_, ap}
+use mathlib.Core.List.{List}
+use Prim.Native.Nat.{ℕ}
+use native.Mathlib.Omega.{arith}
+use lib.ListN.{length, getD}
+use Rattle.out.specs.Put.{put-as}
+use Rattle.listing.specs.Telling.{lineBy}
+
+-- src/lib.rt:61:16
+mul-from : tie.Need-mul-from
+mul-from c = search needs
+
+-- src/lib.rt:62:9
+name-end-requires : tie.Need-name-end-requires
+name-end-requires c κs = search needs
+
+-- src/lib.rt:63:13
+element-copy-out-a : tie.Need-element-copy-out-a
+element-copy-out-a c = search needs
+
+-- src/lib.rt:64:16
+mul-next : tie.Need-mul-next
+mul-next c = search needs
+
+-- src/lib.rt:64:16
+element-copy-out-next : tie.Need-element-copy-out-next
+element-copy-out-next c = search needs
+
+-- src/lib.rt:65:20
+mul-validity : tie.Need-mul-validity
+mul-validity c = search needs
+
+-- src/lib.rt:65:20
+element-copy-out-validity : tie.Need-element-copy-out-validity
+element-copy-out-validity c = search needs
+
+-- src/lib.rt:66:35
+sub-put-line : tie.Need-sub-put-line
+sub-put-line c = search needs
+
+-- src/lib.rt:66:35
+part-put-line-start : tie.Need-part-put-line-start
+part-put-line-start c = search needs
+
+-- src/lib.rt:66:35
+part-put-line-end : tie.Need-part-put-line-end
+part-put-line-end c = search needs
+
+-- src/lib.rt:66:5
+put-line-requires : tie.Need-put-line-requires
+put-line-requires c κs = search needs
+
+-- src/lib.rt:44:1
+same-length : tie.Need-same-length
+same-length c = search needs
+
+-- src/lib.rt:44:1
+returns : tie.Need-returns
+returns c =
+    let args = c .before .before .before .before .before .before .before .before .before .before .before .args in
+    let long : length (args .names .now) ≡ 4096 = search needs in
+    let name = c .before .before .before .before .before .before .before .before .name-end .ensures .name (args .names .now) long in (
+      put-as (c .before .before .put-line .ensures .0)
+          (ap (λ (o : List ℕ). lineBy (getD (args .attributes .now) (args .k) 0) o (getD (args .nexts .now) (args .k) 0) (getD (args .validities .now) (args .k) 0) (args .messages) (args .status)) name),
+      omega (arith, c .before .before .put-line .ensures .1),
+    )
+
+pub put-row-spec : {M : Type 1} → statement M
+put-row-spec =
+    tie.close
+    (tie.spec
+    mul-from
+    name-end-requires
+    element-copy-out-a
+    mul-next
+    element-copy-out-next
+    mul-validity
+    element-copy-out-validity
+    sub-put-line
+    part-put-line-start
+    part-put-line-end
+    put-line-requires
+    same-length
+    returns)

@@ -32,7 +32,7 @@ use Rattle.matching.specs.Tests.{Propers}
 use Rattle.matching.specs.Read.{read-proper, read-cells}
 use Rattle.found.specs.Finds.{Held}
 use Rattle.sources.specs.Admitting.{Few}
-use Rattle.sources.specs.Columns.{Column, Names}
+use Rattle.rows.specs.Columns.{Column, Names}
 use Rattle.sources.specs.Picking.{Noted, Picks, picks-searched}
 use Rattle.results.specs.declared.Wanted.{Wanted}
 use Rattle.results.specs.Line.{wanted}

@@ -4,28 +4,20 @@ use mathlib.Core.Bool.{Bool, true, false, not, cond, _&&_, _||_}
 use mathlib.Core.List.{List, [], _∷_}
 use Prim.Native.Nat.{ℕ, zero, suc, _+_, _%_, _<_, _≤_}
 use native.Mathlib.Omega.{arith}
-use borrow.Author.Tests.{eqb-true, eqb-false, eq-eqb}
+use borrow.Author.Tests.{eqb-true}
 use lib.Dec.{eqb}
 use lib.ListN.{length, getD}
 use Rattle.model.specs.Lists.{anyb, apart, filterb, sorted, same}
-use Rattle.model.specs.Memory.{inMailbox, messagesOf, byUid, nameOf, noMailbox}
+use Rattle.model.specs.Memory.{inMailbox, messagesOf, nameOf}
 use Rattle.model.specs.Lawful.{clash}
 use Rattle.model.specs.Listing.{byName}
 use Rattle.model.specs.declared.Mailbox.{Mailbox}
 use Rattle.model.specs.declared.Message.{Message}
 use Rattle.laws.specs.Counting.{countb, filter-count, filter-both, count-sorted}
-use Rattle.sources.specs.Columns.{Column}
+use Rattle.rows.specs.Columns.{Column}
+use Rattle.byname.specs.Named.{chosen, Below}
 use Rattle.found.specs.Searched.{sorted-long}
 use Rattle.found.specs.Runs.{idAt, sizes}
-
--- the first n places of an order of rows, the highest first; a place is a row by its last six bits
-unfoldable pub chosen : List Mailbox → List ℕ → ℕ → List Mailbox
-chosen l at zero = []
-chosen l at (suc n) = getD l (getD at n 0 % 64) noMailbox ∷ chosen l at n
-
--- the first n places are rows of the list
-abbrev pub Below : List ℕ → ℕ → ℕ → Type 0
-Below at n b = (j : ℕ) → j < n → getD at j 0 < b
 
 -- ---- entries of several mailboxes together
 abbrev total : List Message → List Mailbox → ℕ

@@ -18,13 +18,14 @@ use Rattle.model.specs.declared.Mailbox.{Mailbox}
 use Rattle.model.specs.declared.Message.{Message}
 use Rattle.model.specs.declared.Uid.{Uid}
 use Rattle.out.specs.Put.{Put, put-none, put-as, _then_}
-use Rattle.sources.specs.Columns.{Column, Names}
+use Rattle.rows.specs.Columns.{Column, Names}
 use Rattle.sources.specs.Picking.{nameAt}
 use Rattle.found.specs.Finds.{Held}
 use Rattle.found.specs.Runs.{sought, sought-is, idAt, sizes, runAt, Found}
 use Rattle.results.specs.declared.Wanted.{Wanted}
 use Rattle.results.specs.Line.{uidsOf, lineText, wanted, line-is}
-use Rattle.results.specs.Room.{chosen, Below, sizes-fit}
+use Rattle.results.specs.Room.{sizes-fit}
+use Rattle.byname.specs.Named.{chosen, Below}
 
 -- ---- one line
 -- nothing was found

@@ -17,7 +17,7 @@ use Rattle.model.specs.declared.Mailbox.{Mailbox}
 use Rattle.read_search.specs.Listing.{nothingListed, addAll}
 use Rattle.read_search.specs.declared.Listed.{Listed}
 use Rattle.sources.specs.Admitting.{searchedBy, Few, searched-is}
-use Rattle.sources.specs.Columns.{Column, Names}
+use Rattle.rows.specs.Columns.{Column, Names}
 
 -- the mailbox with this id is the selected one
 abbrev pub selectedBy : ℕ → ℕ → Bool

@@ -62,17 +62,13 @@ fn admits(scope: u64, attributes: u8, selected: bool, named: bool) -> bool
     if scope == 7 {
         return named;
     }
-    let a1 = attributes / 2;
-    let a2 = a1 / 2;
-    let a3 = a2 / 2;
-    let a4 = a3 / 2;
     by_rights(
         scope,
-        attributes % 2 == 1,
-        a1 % 2 == 1,
-        a2 % 2 == 1,
-        a3 % 2 == 1,
-        a4 % 2 == 1,
+        rows::has(attributes, 0),
+        rows::has(attributes, 1),
+        rows::has(attributes, 2),
+        rows::has(attributes, 3),
+        rows::has(attributes, 4),
         named,
     )
 }
@@ -161,12 +157,7 @@ fn any_admits(listed: Listed, attributes: u8, name: &[u8], selected: bool) -> bo
 pub fn is_searched(listed: Listed, attributes: u8, name: &[u8], selected: bool) -> bool
     ensures { λ r. ⌜ r ≡ searchedBy listed attributes (now (name .entry)) selected ⌝ }
 {
-    let a1 = attributes / 2;
-    let a2 = a1 / 2;
-    let a3 = a2 / 2;
-    let a4 = a3 / 2;
-    let a5 = a4 / 2;
-    if a5 % 2 != 1 {
+    if !rows::has(attributes, 5) {
         return false;
     }
     any_admits(listed, attributes, name, selected)

@@ -1,3 +1,3 @@
 pub mod Asking
 pub mod Picked
-pub mod Columns
+pub mod Notes

@@ -8,7 +8,8 @@ ghost use Rattle.model.specs.Groups.{asked, selectedAsks, asksMessages, asksMai
 ghost use Rattle.model.specs.Listing.{asksAny};
 ghost use Rattle.model.specs.declared.Mailbox.{Mailbox};
 ghost use Rattle.told.specs.Picked.{selects, pickedBy, statusBy};
-ghost use Rattle.told.specs.Columns.{Column, Names, nameAt, Ends, noted, Notes, NotesAll};
+ghost use Rattle.rows.specs.Columns.{Column, Names, nameAt, Ends};
+ghost use Rattle.told.specs.Notes.{noted, Notes, NotesAll};
 
 // A message event is asked for of the mailbox with this name and these attributes.
 pub fn asks_messages(s: Session, name: &[u8], a: u8) -> bool
@@ -114,14 +115,6 @@ fn note(s: Session, wanted: bool, id: u64, a: u8, name: &[u8]) -> RowNote
     RowNote { picked, asks }
 }
 
-// Where the name of row k ends in the run of names.
-fn name_end(lens: &[u8; 64], k: usize) -> usize
-    requires { ⌜ k < 64 ⌝ }
-    ensures { λ r. ⌜ Ends (now (lens .entry)) k r ⌝ }
-{
-    64 * k + rows::clip(lens[k])
-}
-
 // Row k.
 fn note_at(
     s: Session,
@@ -137,7 +130,7 @@ fn note_at(
 {
     let all = &names[..];
     let from = 64 * k;
-    let end = name_end(lens, k);
+    let end = rows::name_end(lens, k);
     note(s, wanted, ids[k], attributes[k], &all[from..end])
 }
 

@@ -1,24 +1,27 @@
+-- `is_searched`: without the right to read nothing is searched; else one of the sources must admit the mailbox. Assumes nothing.
 use borrow.Author.Needs.{needs}
 use Rattle.sources.proofs.is_searched.Statement.{statement}
 use Rattle.sources.proofs.is_searched.Tie as tie
-use Rattle.sources.proofs.is_searched.Reads as reads
-use Rattle.sources.proofs.is_searched.Lts as lts
-use Rattle.sources.proofs.any_admits.Reads as any-admits-reads
-use mathlib.Core.Path.{_∙_}
-use borrow.Author.Tests.{eq-eqb, ne-eqb}
+use mathlib.Core.Path.{sym, _∙_}
+use borrow.Author.Tests.{not-true, not-false}
 use Rattle.sources.specs.Admitting.{searched-not, searched-by}
 
--- src/lib.rt:169:9
-returns : tie.Need-returns
-returns c = searched-not (c .before .before .args .listed) (c .before .before .args .attributes) (c .before .before .args .name .now) (c .before .before .args .selected) (ne-eqb _ _ (c .if1 .taken))
+has-requires : tie.Need-has-requires
+has-requires c κs = search needs
 
--- src/lib.rt:171:5
+returns : tie.Need-returns
+returns c =
+    searched-not (c .before .before .before .args .listed) (c .before .before .before .args .attributes) (c .before .before .before .args .name .now)
+    (c .before .before .before .args .selected) (sym (c .before .has .ensures) ∙ not-true _ (c .if1 .taken))
+
 any-admits-requires : tie.Need-any-admits-requires
 any-admits-requires c κs = search needs
 
--- src/lib.rt:160:1
 returns-2 : tie.Need-returns-2
-returns-2 c = c .any-admits .ensures ∙ searched-by (c .before .before .before .args .listed) (c .before .before .before .args .attributes) (c .before .before .before .args .name .now) (c .before .before .before .args .selected) (eq-eqb _ _ (c .before .if1 .left))
+returns-2 c =
+    c .any-admits .ensures
+    ∙ searched-by (c .before .before .before .before .args .listed) (c .before .before .before .before .args .attributes) (c .before .before .before .before .args .name .now)
+    (c .before .before .before .before .args .selected) (sym (c .before .before .has .ensures) ∙ not-false _ (c .before .if1 .left))
 
 pub is-searched-spec : {M : Type 1} → statement M
-is-searched-spec = tie.close (tie.spec returns any-admits-requires returns-2)
+is-searched-spec = tie.close (tie.spec has-requires returns any-admits-requires returns-2)

@@ -5,7 +5,8 @@ use mathlib.Core.Path.{_≡_, refl, _∙_}
 use Prim.Native.Nat.{ℕ, _≤_, _<_, _-_}
 use native.Mathlib.Omega.{arith}
 use lib.ListN.{length, getD, length-set}
-use Rattle.told.specs.Columns.{nameAt, Notes, notes-next, notes-all}
+use Rattle.rows.specs.Columns.{nameAt}
+use Rattle.told.specs.Notes.{Notes, notes-next, notes-all}
 use borrow.Author.Needs.{needs}
 
 abbrev Inv-loop : tie.InvT-loop

@@ -1,56 +1,20 @@
--- The mailbox table by columns, and notes beside it: an octet for each row that is not 0 where a test says yes. Assumes nothing.
-use mathlib.Core.Path.{_≡_, ap, ap₂, sym, _∙_}
+-- Notes beside the rows of the mailbox table: an octet for each row that is not 0 where a test says yes. Assumes nothing.
+use mathlib.Core.Path.{_≡_, ap, ap₂, _∙_}
 use mathlib.Core.Bool.{Bool, not}
 use mathlib.Core.List.{List}
-use Prim.Native.Nat.{ℕ, _+_, _-_, _*_, _<_, _≤_}
+use Prim.Native.Nat.{ℕ, _+_, _-_, _<_}
 use native.Mathlib.Omega.{arith}
 use lib.Dec.{eqb}
-use lib.ListN.{length, take, drop, getD, set, length-drop}
-use lib.Seq.{getD-set-same, getD-set-other, length-take-le, take-take}
+use lib.ListN.{length, getD, set}
+use lib.Seq.{getD-set-same, getD-set-other}
 use borrow.Author.Count.{below-more}
 use Rattle.model.specs.Names.{Name}
-use Rattle.model.specs.Memory.{noMailbox, nameOf}
+use Rattle.model.specs.Memory.{noMailbox}
 use Rattle.model.specs.declared.Mailbox.{Mailbox}
 use Rattle.model.specs.declared.Session.{Session}
+use Rattle.rows.specs.Columns.{Column, Names, nameAt, name-at}
 use Rattle.told.specs.Picked.{selects, pickedBy, statusBy, isPicked, isStatus}
 
--- one field of the rows, side by side
-abbrev pub Column : (Mailbox → ℕ) → List Mailbox → List ℕ → Type 0
-Column f l c = (k : ℕ) → k < length l → getD c k 0 ≡ f (getD l k noMailbox)
-
--- the 64 octets of row k
-abbrev pub block : List ℕ → ℕ → List ℕ
-block names k = take 64 (drop (64 * k) names)
-
--- the names of the rows, one behind the other
-abbrev pub Names : List Mailbox → List ℕ → Type 0
-Names l names = (k : ℕ) → k < length l → block names k ≡ getD l k noMailbox .name
-
--- the name that the columns have of row k
-abbrev pub nameAt : List ℕ → List ℕ → ℕ → List ℕ
-nameAt lens names k = take (getD lens k 0) (block names k)
-
-pub name-at : (l : List Mailbox) (lens names : List ℕ) (k : ℕ) → Column (λ (x : Mailbox). x .namelen) l lens → Names l names → k < length l → nameAt lens names k ≡ nameOf (getD l k noMailbox)
-name-at l lens names k p q h = ap₂ (λ (n : ℕ) (o : List ℕ). take n o) (p k h) (q k h)
-
--- r is where that name ends
-pub record Ends (lens : List ℕ) (k r : ℕ) : Type 0 where
-  pub low : 64 * k ≤ r
-  pub high : r ≤ 64 * k + 64
-  pub name : (names : List ℕ) → length names ≡ 4096 → take (r - 64 * k) (drop (64 * k) names) ≡ nameAt lens names k
-
-pub ends-at : (lens : List ℕ) (k r m : ℕ) → k < 64 → r ≡ 64 * k + m → m ≤ 64 → ((o : List ℕ) → length o ≡ 64 → take m o ≡ take (getD lens k 0) o) → Ends lens k r
-ends-at lens k r m h e w f = record {
-  low = omega arith;
-  high = omega arith;
-  name = λ names l.
-      let d = length-drop (64 * k) names in
-      let b : length (block names k) ≡ 64 = length-take-le 64 (drop (64 * k) names) (omega arith) in
-      let z : r - 64 * k ≡ m = omega arith in
-      rw (z, ← f (block names k) b) (sym (take-take m 64 (drop (64 * k) names) w));
-}
-
--- ---- notes
 -- an octet that says yes
 abbrev pub noted : ℕ → Bool
 noted b = not (eqb b 0)

@@ -12,8 +12,8 @@ use Rattle.model.specs.Memory.{Memory, boxes, mails, filled, theMailbox, noMess
 use Rattle.model.specs.Queue.{shifted, dequeue}
 use Rattle.model.specs.Rules.{Outcome, accepted, rested, selecting}
 use Rattle.model.specs.Records.{select, drained}
-use Rattle.model.specs.Lasting.Law.{Law}
-use Rattle.model.specs.Isolation.Alike.{mails-with}
+use Rattle.demands.specs.Lasting.Law.{Law}
+use Rattle.demands.specs.Isolation.Alike.{mails-with}
 use Rattle.model.specs.declared.Message.{Message}
 use Rattle.model.specs.declared.Session.{Session}
 use Rattle.model.specs.declared.Answer.the-variants.{Done}

@@ -17,8 +17,8 @@ use Rattle.model.specs.View.{expungeLines, markedLines, existsLine, owed}
 use Rattle.model.specs.Rules.{Outcome, accepted}
 use Rattle.model.specs.Records.{ended}
 use Rattle.model.specs.Lawful.{twin, stateOk, messageOk}
-use Rattle.model.specs.Lasting.Law.{Law}
-use Rattle.model.specs.Lasting.Owing.{fitting-take}
+use Rattle.demands.specs.Lasting.Law.{Law}
+use Rattle.demands.specs.Lasting.Owing.{fitting-take}
 use Rattle.model.specs.declared.Message.{Message}
 use Rattle.model.specs.declared.Session.{Session}
 use Rattle.laws.specs.Changing.{used-long}

@@ -12,7 +12,7 @@ use Rattle.model.specs.Laws.{tf, and-l, and-r, and-false, or-l, or-r, or-false}
 use Rattle.model.specs.Memory.{noMessage, uidOf, isMessage, inMailbox, byUid, messagesOf}
 use Rattle.model.specs.Lawful.{twin}
 use Rattle.model.specs.declared.Message.{Message}
-use Rattle.model.specs.Lasting.Rising.{Rising, rising-filter, twin-apart, rising-messages}
+use Rattle.demands.specs.Lasting.Rising.{Rising, rising-filter, twin-apart, rising-messages}
 use Rattle.ending.specs.Sunk.{topOf}
 use Rattle.ending.specs.Runs.{seen, viewOf, uids}
 

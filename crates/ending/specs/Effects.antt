@@ -15,9 +15,9 @@ use Rattle.model.specs.Lines.{Line, exists, expunge, fetch, render, renderAll}
 use Rattle.model.specs.Queue.{room, fitting, enqueue, effect, effects, say, announce, unmark}
 use Rattle.model.specs.View.{view, selectedMessages, unannounced, remainder, expungeLines, markedLines, existsLine, flagsLine, owedLines, owed}
 use Rattle.model.specs.Lawful.{twin, stateOk, messageOk}
-use Rattle.model.specs.Lasting.Law.{Law}
-use Rattle.model.specs.Lasting.Owing.{fitting-take}
-use Rattle.model.specs.Isolation.Alike.{mails-with}
+use Rattle.demands.specs.Lasting.Law.{Law}
+use Rattle.demands.specs.Lasting.Owing.{fitting-take}
+use Rattle.demands.specs.Isolation.Alike.{mails-with}
 use Rattle.model.specs.declared.Message.{Message}
 use Rattle.model.specs.declared.Session.{Session}
 use Rattle.laws.specs.Changing.{used-long, refill-same}

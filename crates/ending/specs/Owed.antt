@@ -11,7 +11,7 @@ use Rattle.model.specs.Queue.{room, fitting, say}
 use Rattle.model.specs.View.{owed, owedLines}
 use Rattle.model.specs.Rules.{accepted}
 use Rattle.model.specs.Records.{ended}
-use Rattle.model.specs.Lasting.Law.{Law}
+use Rattle.demands.specs.Lasting.Law.{Law}
 use Rattle.laws.specs.Fitting.{size, fitting-append}
 use Rattle.fetches.specs.Whole.{owedText, owed-text}
 use Rattle.model.specs.View.{selectedMessages}

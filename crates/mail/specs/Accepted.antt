@@ -17,7 +17,7 @@ use Rattle.model.specs.View.{view, placeOf, expungeAtOnce}
 use Rattle.model.specs.Events.{Event, inView, expire, removed, statusLines, silence}
 use Rattle.model.specs.Rules.{Outcome, accepted, told}
 use Rattle.model.specs.Records.{expunge as expungeRecord}
-use Rattle.model.specs.Lasting.Law.{Law}
+use Rattle.demands.specs.Lasting.Law.{Law}
 use Rattle.model.specs.declared.Mailbox.{Mailbox}
 use Rattle.model.specs.declared.Message.{Message}
 use Rattle.laws.specs.Changing.{setEntry, change-at}

@@ -19,9 +19,9 @@ use Rattle.model.specs.Events.{message, withArrived, arrived, statusLines, sile
 use Rattle.model.specs.Rules.{accepted, told}
 use Rattle.model.specs.Records.{arrive}
 use Rattle.model.specs.Lawful.{stateOk}
-use Rattle.model.specs.Lasting.Law.{Law}
-use Rattle.model.specs.Lasting.Rows.{all-snoc}
-use Rattle.model.specs.Isolation.Alike.{boxes-with, mails-with}
+use Rattle.demands.specs.Lasting.Law.{Law}
+use Rattle.demands.specs.Lasting.Rows.{all-snoc}
+use Rattle.demands.specs.Isolation.Alike.{boxes-with, mails-with}
 use Rattle.model.specs.declared.Mailbox.{Mailbox}
 use Rattle.model.specs.declared.Message.{Message}
 use Rattle.rows.specs.Rows.{rowsAre, boxes-long, put-at}

@@ -15,8 +15,8 @@ use Rattle.model.specs.View.{view, placeOf, expungeAtOnce, flagsAtOnce, flagsWa
 use Rattle.model.specs.Events.{inView}
 use Rattle.model.specs.Rules.{accepted}
 use Rattle.model.specs.Records.{expunge, reflag}
-use Rattle.model.specs.Lasting.Law.{Law}
-use Rattle.model.specs.Isolation.Erase.{box-id}
+use Rattle.demands.specs.Lasting.Law.{Law}
+use Rattle.demands.specs.Isolation.Erase.{box-id}
 use Rattle.model.specs.declared.Group.{Group}
 use Rattle.model.specs.declared.Mailbox.{Mailbox}
 use Rattle.model.specs.declared.Message.{Message}

@@ -15,7 +15,7 @@ use Rattle.model.specs.View.{view, placeOf, flagsAtOnce, flagsWait, flagsLine}
 use Rattle.model.specs.Events.{inView, message}
 use Rattle.model.specs.Rules.{Outcome, accepted}
 use Rattle.model.specs.Records.{reflag}
-use Rattle.model.specs.Lasting.Law.{Law}
+use Rattle.demands.specs.Lasting.Law.{Law}
 use Rattle.model.specs.declared.Message.{Message}
 use Rattle.laws.specs.Reflagging.{fl-plain, fl-waits, fl-told, fl-over}
 use Rattle.out.specs.Says.{hasRoom, spoken}

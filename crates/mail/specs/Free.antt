@@ -12,7 +12,7 @@ use Rattle.model.specs.Memory.{Memory, filled, selectedBox, bothRights, isSelec
 use Rattle.model.specs.Groups.{groupOf, groupsOf, asked, askedOf, asksNew, asksExpunge}
 use Rattle.model.specs.View.{newAtOnce, expungeAtOnce, flagsAtOnce}
 use Rattle.model.specs.Events.{inView}
-use Rattle.model.specs.Lasting.Law.{Law}
+use Rattle.demands.specs.Lasting.Law.{Law}
 use Rattle.model.specs.declared.Group.{Group}
 use Rattle.model.specs.declared.Mailbox.{Mailbox}
 use Rattle.model.specs.View.{view, placeOf}

@@ -12,8 +12,8 @@ use Rattle.model.specs.Laws.{and-l, and-r, or-l, or-r, tf}
 use Rattle.model.specs.Lists.{filterb, keep, anyb, apart}
 use Rattle.model.specs.Memory.{Memory, mails, noMessage, uidOf, isMessage, refill, dropMails}
 use Rattle.model.specs.Lawful.{twin}
-use Rattle.model.specs.Lasting.Law.{Law}
-use Rattle.model.specs.Lasting.Clash.{eqb-sym}
+use Rattle.demands.specs.Lasting.Law.{Law}
+use Rattle.demands.specs.Lasting.Clash.{eqb-sym}
 use Rattle.model.specs.declared.Mailbox.{Mailbox}
 use Rattle.model.specs.declared.Message.{Message}
 use Rattle.laws.specs.Changing.{used-long}

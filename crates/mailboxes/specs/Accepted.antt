@@ -15,8 +15,8 @@ use Rattle.model.specs.Events.{silence, created, deleted, renamedTo, subscribed
 use Rattle.model.specs.Refusals.{tableFull}
 use Rattle.model.specs.Rules.{accepted}
 use Rattle.model.specs.Records.{create, delete, rename, subscribe, grant}
-use Rattle.model.specs.Lasting.Law.{Law}
-use Rattle.model.specs.Lasting.Spoken.{law-silence}
+use Rattle.demands.specs.Lasting.Law.{Law}
+use Rattle.demands.specs.Lasting.Spoken.{law-silence}
 use Rattle.model.specs.declared.Mailbox.{Mailbox}
 use Rattle.model.specs.declared.Message.{Message}
 use Rattle.rows.specs.Walks.{row-at}

@@ -12,8 +12,8 @@ use Rattle.model.specs.Laws.{and-l, and-r, or-l, or-r}
 use Rattle.model.specs.Lists.{filterb, keep, anyb, apart, same}
 use Rattle.model.specs.Memory.{Memory, boxes, nameOf, noMailbox, place, refill, dropBox}
 use Rattle.model.specs.Lawful.{clash}
-use Rattle.model.specs.Lasting.Law.{Law}
-use Rattle.model.specs.Lasting.Clash.{eqb-sym}
+use Rattle.demands.specs.Lasting.Law.{Law}
+use Rattle.demands.specs.Lasting.Clash.{eqb-sym}
 use Rattle.model.specs.declared.Mailbox.{Mailbox}
 use Rattle.rows.specs.Rows.{rowsAre, boxes-long}
 use Rattle.laws.specs.Shift.{without, length-without}

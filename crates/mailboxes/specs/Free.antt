@@ -13,7 +13,7 @@ use Rattle.model.specs.Memory.{Memory, filled, nameOf, mayList, bothRights}
 use Rattle.model.specs.Groups.{groupOf, groupsOf, asked, askedOf, asksName, asksSubscription}
 use Rattle.model.specs.Events.{withSubscribed}
 use Rattle.model.specs.Lawful.{queueOk, filledOk}
-use Rattle.model.specs.Lasting.Law.{Law}
+use Rattle.demands.specs.Lasting.Law.{Law}
 use Rattle.model.specs.declared.Group.{Group}
 use Rattle.model.specs.declared.Mailbox.{Mailbox}
 use Rattle.model.specs.declared.Session.{Session}

@@ -35,7 +35,3 @@ pub mod Tally
 pub mod Pushrun
 pub mod Examples
 pub mod Laws
-pub mod Isolation
-pub mod Lasting
-pub mod Theorems
-pub mod Ledger

@@ -12,7 +12,7 @@ use Rattle.model.specs.Laws.{and-l, and-r, or-r, tf, all-hold}
 use Rattle.model.specs.Lists.{allb, anyb, apart, every}
 use Rattle.model.specs.Memory.{noMailbox, uidOf, place, known, theMailbox}
 use Rattle.model.specs.Lawful.{clash, messageOk, twin, owned}
-use Rattle.model.specs.Lasting.Rows.{all-snoc, all-imp, any-none, apart-snoc}
+use Rattle.demands.specs.Lasting.Rows.{all-snoc, all-imp, any-none, apart-snoc}
 use Rattle.rows.specs.Columns.{Column}
 use Rattle.model.specs.declared.Mailbox.{Mailbox}
 use Rattle.model.specs.declared.Message.{Message}

@@ -13,7 +13,7 @@ use Rattle.model.specs.Reading.{Parsed, bad, ok}
 use Rattle.model.specs.Limits.{limits, nameCount, tooLarge}
 use Rattle.model.specs.Replies.{selectedTwice, misplacedEvent, misplacedAttributes, unpaired, replyOf}
 use Rattle.model.specs.Answering.{sessionBy}
-use Rattle.model.specs.Lasting.Watching.{passed}
+use Rattle.demands.specs.Lasting.Watching.{passed}
 use Rattle.model.specs.declared.Limits.{Limits}
 use Rattle.model.specs.declared.Session.{Session}
 use Rattle.model.specs.declared.Reply.the-variants.{Accepted}

@@ -12,7 +12,7 @@ use borrow.Author.Tests.{leb-true}
 use Rattle.model.specs.Lists.{same}
 use Rattle.model.specs.Names.{Name}
 use Rattle.model.specs.Memory.{Memory, boxes, nameOf, noMailbox, refill, withBoxes, putBox, addBox, place}
-use Rattle.model.specs.Lasting.Law.{Law}
+use Rattle.demands.specs.Lasting.Law.{Law}
 use Rattle.model.specs.declared.Mailbox.{Mailbox}
 use Rattle.laws.specs.Changing.{refill-same, set-front}
 use Rattle.rows.specs.Columns.{Column, Names, nameAt, name-at}

@@ -1,0 +1,86 @@
+-- What the fields of a record are known to be, once it is one. Assumes nothing.
+use mathlib.Core.Path.{_≡_}
+use mathlib.Core.List.{List, [], _∷_}
+use mathlib.Core.Bool.{true, _&&_}
+use Prim.Native.Nat.{ℕ, _%_}
+use lib.Dec.{eqb, leb}
+use lib.ListN.{length, drop}
+use Rattle.model.specs.Lists.{same}
+use Rattle.model.specs.Laws.{and-l, and-r}
+use Rattle.model.specs.Text.{little}
+use Rattle.model.specs.Names.{Name, valid, fold}
+use Rattle.model.specs.Records.{Kind, MB, DL, RN, SB, RT, ME, XP, FL, SE, CE, CM, DR, unknown, Field, id, attributes, quiet, uidvalidity, subscribed, rights, uid, flags, size, width, inRange, layout, values, widths, allInRange, tailOk, bodyOk, isKnown, kindOf, bodyOf, framed, isRecord, recordBy, recordOf, Record, create, delete, rename, subscribe, grant, arrive, expunge, reflag, select, ended, command, drained, noRecord}
+use Rattle.demands.specs.Lasting.NameLaws.{fold-valid, fold-fold}
+
+-- a name as it is stored
+pub record NameOk (n : Name) : Type 0 where
+  pub isValid : valid n ≡ true
+  pub isFolded : same (fold n) n ≡ true
+
+-- the facts that storing needs, by kind
+abbrev pub InRange : Record → Type 0
+InRange (create i a q v n) = (leb 1 i ≡ true) × (leb a 63 ≡ true) × (leb 1 v ≡ true) × NameOk n
+InRange (delete i q) = Unit {0}
+InRange (rename i q n) = NameOk n
+InRange (subscribe i s q) = leb s 1 ≡ true
+InRange (grant i r) = leb r 48 ≡ true
+InRange (arrive i u f z) = (leb 1 u ≡ true) × (leb f 31 ≡ true) × (leb z 4294967295 ≡ true)
+InRange (expunge i u) = Unit {0}
+InRange (reflag i u f) = leb f 31 ≡ true
+InRange (select i) = Unit {0}
+InRange (ended c) = Unit {0}
+InRange (command t) = Unit {0}
+InRange (drained n) = Unit {0}
+InRange noRecord = Unit {0}
+
+-- a folded name that was valid
+folded : (n : Name) → valid n ≡ true → NameOk (fold n)
+folded n h = record { isValid = fold-valid n h; isFolded = fold-fold n }
+
+-- the first field's range, and the others'
+module _ (f : Field) (fs : List Field) (b : List ℕ) (e : allInRange (f ∷ fs) b ≡ true) where
+  head : inRange f (little (width f) b) ≡ true
+  head = and-l (inRange f (little (width f) b)) (allInRange fs (drop (width f) b)) e
+
+  rest : allInRange fs (drop (width f) b) ≡ true
+  rest = and-r (inRange f (little (width f) b)) (allInRange fs (drop (width f) b)) e
+
+module _ (k : Kind) (b : List ℕ) (e : bodyOk (layout k) b ≡ true) where
+  fields-ok : allInRange (layout k .fields) b ≡ true
+  fields-ok = and-l (allInRange (layout k .fields) b) (tailOk (layout k .tail) (drop (widths (layout k .fields)) b)) (and-r (leb (widths (layout k .fields)) (length b)) _ e)
+
+  tail-ok : tailOk (layout k .tail) (drop (widths (layout k .fields)) b) ≡ true
+  tail-ok = and-r (allInRange (layout k .fields) b) (tailOk (layout k .tail) (drop (widths (layout k .fields)) b)) (and-r (leb (widths (layout k .fields)) (length b)) _ e)
+
+range-by : (k : Kind) (b : List ℕ) → bodyOk (layout k) b ≡ true → InRange (recordBy k (values (layout k .fields) b) (drop (widths (layout k .fields)) b))
+range-by MB b e =
+    let a = fields-ok MB b e in
+    let c = rest id (attributes ∷ quiet ∷ uidvalidity ∷ []) b a in
+    let d = rest quiet (uidvalidity ∷ []) (drop 1 (drop 2 b)) (rest attributes (quiet ∷ uidvalidity ∷ []) (drop 2 b) c) in (
+      and-l (leb 1 (little 2 b)) _ (head id (attributes ∷ quiet ∷ uidvalidity ∷ []) b a),
+      head attributes (quiet ∷ uidvalidity ∷ []) (drop 2 b) c,
+      and-l (leb 1 (little 4 (drop 1 (drop 1 (drop 2 b))))) _ (head uidvalidity [] (drop 1 (drop 1 (drop 2 b))) d),
+      folded (drop 8 b) (tail-ok MB b e),
+    )
+range-by DL b e = tt
+range-by RN b e = folded (drop 3 b) (tail-ok RN b e)
+range-by SB b e = head subscribed (quiet ∷ []) (drop 2 b) (rest id (subscribed ∷ quiet ∷ []) b (fields-ok SB b e))
+range-by RT b e = and-r (eqb (little 1 (drop 2 b) % 16) 0) _ (head rights [] (drop 2 b) (rest id (rights ∷ []) b (fields-ok RT b e)))
+range-by ME b e =
+    let a = rest id (uid ∷ flags ∷ size ∷ []) b (fields-ok ME b e) in
+    let c = rest uid (flags ∷ size ∷ []) (drop 2 b) a in (
+      and-l (leb 1 (little 4 (drop 2 b))) _ (head uid (flags ∷ size ∷ []) (drop 2 b) a),
+      head flags (size ∷ []) (drop 4 (drop 2 b)) c,
+      head size [] (drop 1 (drop 4 (drop 2 b))) (rest flags (size ∷ []) (drop 4 (drop 2 b)) c),
+    )
+range-by XP b e = tt
+range-by FL b e = head flags [] (drop 4 (drop 2 b)) (rest uid (flags ∷ []) (drop 2 b) (rest id (uid ∷ flags ∷ []) b (fields-ok FL b e)))
+range-by SE b e = tt
+range-by CE b e = tt
+range-by CM b e = tt
+range-by DR b e = tt
+range-by unknown b e = tt
+
+pub in-range : (o : List ℕ) → isRecord o ≡ true → InRange (recordOf o)
+unfolding recordOf
+in-range o e = range-by (kindOf o) (bodyOf o) (and-r (framed o) (bodyOk (layout (kindOf o)) (bodyOf o)) (and-r (isKnown (kindOf o)) (framed o && bodyOk (layout (kindOf o)) (bodyOf o)) e))

@@ -1,0 +1,90 @@
+-- Where no group stands, no event owes a line. Assumes nothing.
+use mathlib.Core.Path.{_≡_, refl, _∙_, ap}
+use mathlib.Core.List.{List, []}
+use mathlib.Core.Bool.{Bool, true, false, cond, _&&_}
+use Prim.Native.Nat.{ℕ}
+use lib.Dec.{eqb}
+use Rattle.model.specs.Lists.{when}
+use Rattle.model.specs.Laws.{and-false, cond-same}
+use Rattle.model.specs.Names.{Name}
+use Rattle.model.specs.Memory.{Memory, boxes, nameOf, theMailbox, mayList, bothRights, isSelected, selectedBox, dropMails, isMessage}
+use Rattle.model.specs.Groups.{asked, askedOf, selectedAsks, asksNew, asksExpunge, asksFlags}
+use Rattle.model.specs.Lines.{Line}
+use Rattle.model.specs.View.{newAtOnce, expungeAtOnce, flagsAtOnce, flagsWait, announcing}
+use Rattle.model.specs.Events.{Event, loud, createLines, deleteLines, subscriptionLines, newBox, created, deleted, renamedTo, subscribedTo, withRights, granted, statusLines, withArrived, arrived, inView, removed, reflagged}
+use Rattle.model.specs.declared.Mailbox.{Mailbox}
+use Rattle.model.specs.declared.Group.{Group}
+
+-- a line that a test forbids
+no-line : (b c : Bool) (l : Line) → c ≡ false → when (b && c) l ≡ []
+no-line b c l e = rw (e, and-false b)
+
+quiet : (q : ℕ) (ls : List Line) → ls ≡ [] → loud q ls ≡ []
+quiet q ls e = ap (loud q) e ∙ cond-same (eqb q 0) []
+
+-- the lines of one of two events
+of-two : (b : Bool) (x y : Event) → x .lines ≡ [] → y .lines ≡ [] → cond b x y .lines ≡ []
+of-two true x y e f = e
+of-two false x y e f = f
+
+-- the event that is not chosen
+not-first : (b : Bool) (x y : Event) → b ≡ false → y .lines ≡ [] → cond b x y .lines ≡ []
+not-first b x y e f = rw e f
+
+module _ (m : Memory) (e : m .session .groupcount ≡ 0) where
+  nobody : (n : Name) (a : ℕ) (asks : Group → Bool) → asked (m .session) n a asks ≡ false
+  nobody n a asks = rw e
+
+  unselected : (asks : Group → Bool) → selectedAsks (m .session) asks ≡ false
+  unselected asks = rw e
+
+  no-create : (x : Mailbox) → createLines (m .session) x ≡ []
+  no-create x = no-line (bothRights x) _ _ (nobody (nameOf x) (x .attributes) _)
+
+  no-delete : (x : Mailbox) → deleteLines (m .session) x ≡ []
+  no-delete x = no-line (bothRights x) _ _ (nobody (nameOf x) (x .attributes) _)
+
+  pub created-none : (i a q v : ℕ) (n : Name) → created m i a q v n .lines ≡ []
+  created-none i a q v n = quiet q _ (no-create (newBox i a v n))
+
+  pub deleted-none : (i q : ℕ) → deleted m i q .lines ≡ []
+  deleted-none i q = quiet q _ (no-delete (theMailbox i (boxes m)))
+
+  pub renamed-none : (i q : ℕ) (n : Name) → renamedTo m i q n .lines ≡ []
+  renamed-none i q n = quiet q _ (no-line (bothRights (theMailbox i (boxes m))) _ _ (rw e))
+
+  pub subscribed-none : (i b q : ℕ) → subscribedTo m i b q .lines ≡ []
+  subscribed-none i b q = quiet q (subscriptionLines (m .session) (theMailbox i (boxes m)) b) (rw (e, and-false (bothRights (theMailbox i (boxes m))), and-false))
+
+  pub granted-none : (i r : ℕ) → granted m i r .lines ≡ []
+  granted-none i r = go (mayList (theMailbox i (boxes m))) (mayList (withRights (theMailbox i (boxes m)) r))
+    where
+      go : (b c : Bool) → cond b (cond c [] (deleteLines (m .session) (theMailbox i (boxes m)))) (cond c (createLines (m .session) (withRights (theMailbox i (boxes m)) r)) []) ≡ []
+      go true true = refl
+      go true false = no-delete (theMailbox i (boxes m))
+      go false true = no-create (withRights (theMailbox i (boxes m)) r)
+      go false false = refl
+
+  no-new : newAtOnce m ≡ false
+  no-new = ap (λ (b : Bool). bothRights (selectedBox m) && b) (unselected asksNew) ∙ and-false (bothRights (selectedBox m))
+
+  no-expunge : expungeAtOnce m ≡ false
+  no-expunge = rw (e, and-false (bothRights (selectedBox m)))
+
+  no-flags : flagsAtOnce m ≡ false
+  no-flags = ap (λ (b : Bool). bothRights (selectedBox m) && b) (unselected asksFlags) ∙ and-false (bothRights (selectedBox m))
+
+  no-status : (k : Memory) (x : Mailbox) (asks : Group → Bool) → statusLines k x (askedOf (m .session) x asks) ≡ []
+  no-status k x asks = no-line (bothRights x) _ _ (nobody (nameOf x) (x .attributes) asks)
+
+  pub arrived-none : (i u f z : ℕ) → arrived m i u f z .lines ≡ []
+  arrived-none i u f z =
+      (λ j. cond (isSelected m i) (cond (no-new j) (announcing (withArrived m i u f z)) []) (no-status (withArrived m i u f z) (theMailbox i (boxes (withArrived m i u f z))) asksNew j))
+      ∙ cond-same (isSelected m i) []
+
+  pub removed-none : (i u : ℕ) → removed m i u .lines ≡ []
+  removed-none i u = of-two (inView m i u) _ _ (not-first (expungeAtOnce m) _ _ no-expunge refl)
+      (ap (cond (isSelected m i) []) (no-status (dropMails m (isMessage i u)) (theMailbox i (boxes m)) asksExpunge) ∙ cond-same (isSelected m i) [])
+
+  pub reflagged-none : (i u f : ℕ) → reflagged m i u f .lines ≡ []
+  reflagged-none i u f = of-two (inView m i u) _ _ (not-first (flagsAtOnce m) _ _ no-flags (of-two (flagsWait m) _ _ refl refl)) refl

@@ -1,0 +1,4 @@
+pub mod Isolation
+pub mod Lasting
+pub mod Theorems
+pub mod Ledger

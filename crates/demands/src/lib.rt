@@ -1,0 +1,1 @@
+// The user's demands, proved of the rules in specs. No code stands here.

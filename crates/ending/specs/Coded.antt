@@ -19,7 +19,7 @@ use Rattle.ending.specs.Saying.{State, say, more, stepE, runE, stepM, ru
 use Rattle.ending.specs.declared.Going.{Going}
 
 abbrev pub stateOf : List ℕ → Going → State
-stateOf q g = record { queue = q; end = g .end; whole = g .whole; rest = g .rest; next = g .next; bound = g .bound }
+stateOf q g = record { queue = q; end = g .end; whole = g .whole; rest = g .rest; next = g .next .0; bound = g .bound .0 }
 
 module _ (told lim : ℕ) (e x : Message) (p : e ≡ x) (s : State) where
   pub e-off : told ≤ uidOf e → s ≡ stepE told lim x s

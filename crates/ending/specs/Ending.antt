@@ -35,18 +35,18 @@ module _ (told : ℕ) (c : Bool) (lim : ℕ) (all : List Message) (q : List ℕ)
     pub end : r .end ≡ third .end
     pub rest : r .rest ≡ third .rest
     pub gone : r .gone .0 ≡ first .bound
-    pub news : r .news ≡ second .bound
+    pub news : r .news ≡ eqb (second .bound) 1
     pub shown : r .shown .0 ≡ third .bound
 
   -- as the code goes
   pub speaks : (q₁ q₂ q₃ : List ℕ) (a a′ b b′ c′ : Going) (k f : ℕ)
       → stateOf q₁ a ≡ firstPart told c lim all (start q at)
-      → a′ ≡ record { end = a .end; whole = a .whole; rest = a .rest; next = 1; bound = 0 }
+      → a′ ≡ record { end = a .end; whole = a .whole; rest = a .rest; next = record { 0 = 1 }; bound = record { 0 = 0 } }
       → k ≡ length (filterb (stays told c) all) → f ≡ length (filterb (fresh told) all)
       → stateOf q₂ b ≡ sayExists lim k f (stateOf q₁ a′)
-      → b′ ≡ record { end = b .end; whole = b .whole; rest = b .rest; next = 1; bound = 0 }
+      → b′ ≡ record { end = b .end; whole = b .whole; rest = b .rest; next = record { 0 = 1 }; bound = record { 0 = 0 } }
       → stateOf q₃ c′ ≡ runM told c lim all (stateOf q₂ b′)
-      → Speaks q₃ (record { end = c′ .end; rest = c′ .rest; gone = record { 0 = a .bound }; news = b .bound; shown = record { 0 = c′ .bound } })
+      → Speaks q₃ (record { end = c′ .end; rest = c′ .rest; gone = a .bound; news = eqb (b .bound .0) 1; shown = c′ .bound })
   unfolding first second third part
   speaks q₁ q₂ q₃ a a′ b b′ c′ k f x x′ n m y y′ z =
       let p : stateOf q₁ a′ ≡ part first = ap (stateOf q₁) x′ ∙ ap part x in
@@ -58,7 +58,7 @@ module _ (told : ℕ) (c : Bool) (lim : ℕ) (all : List Message) (q : List ℕ)
         end = ap (λ (s : State). s .end) z₁;
         rest = ap (λ (s : State). s .rest) z₁;
         gone = ap (λ (s : State). s .bound) x;
-        news = ap (λ (s : State). s .bound) y₁;
+        news = ap (λ (s : State). eqb (s .bound) 1) y₁;
         shown = ap (λ (s : State). s .bound) z₁;
       }
 
@@ -113,7 +113,7 @@ module _ (es : List Message) (used : ℕ) (q : List ℕ) (s : Session) (at : ℕ
 
   pub leaves-some : (l : List Message) → l ≡ messagesOf (s .selected) (take used es) → (q′ : List ℕ) (t : Spoken) → Speaks (s .told) c (length q - 64) l q at q′ t
       → (ws ws′ : List ℕ) (n : ℕ) → (ws′ ≡ laid ws (refill noMessage es used (kept (toldTo (s .selected) (t .gone .0) (t .shown .0)) (take used es)))) × (n ≡ length (kept (toldTo (s .selected) (t .gone .0) (t .shown .0)) (take used es))) × (n ≤ used)
-      → (s′ : Session) → s′ ≡ cond (eqb (t .news) 1) (withView s (s .selected) next) s
+      → (s′ : Session) → s′ ≡ cond (t .news) (withView s (s .selected) next) s
       → Leaves (endAfter es used q s at c true next) (endRest es used q s at c true) ws ws′ q′ (record { session = s′; used = n; filled = t .end; rest = t .rest })
   unfolding endAfter endRest
   leaves-some l e q′ t x ws ws′ n w s′ v = go (rw e at x)
@@ -123,7 +123,7 @@ module _ (es : List Message) (used : ℕ) (q : List ℕ) (s : Session) (at : ℕ
         words = w .0 ∙ ap₂ (λ (a b : ℕ). laid ws (refill noMessage es used (kept (toldTo (s .selected) a b) (take used es)))) (y .gone) (y .shown);
         used = w .1 ∙ ap₂ (λ (a b : ℕ). length (kept (toldTo (s .selected) a b) (take used es))) (y .gone) (y .shown);
         queue = y .queue;
-        session = v ∙ ap (λ (a : ℕ). cond (eqb a 1) (withView s (s .selected) next) s) (y .news);
+        session = v ∙ ap (λ (a : Bool). cond a (withView s (s .selected) next) s) (y .news);
         filled = y .end;
         rest = y .rest;
       }

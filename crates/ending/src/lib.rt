@@ -89,45 +89,48 @@ pub struct Going {
     pub end: usize,
     pub whole: bool,
     pub rest: u64,
-    pub next: u64,
-    pub bound: u64,
+    pub next: MessageNumber,
+    pub bound: Uid,
 }
 
 fn refused(g: Going) -> Going
     requires { ⌜ g .rest ≤ 1048576 ⌝ }
     ensures { λ r. ⌜ r ≡ record { end = g .end; whole = false; rest = g .rest + 1; next = g .next; bound = g .bound } ⌝ }
 {
+    let next = g.next;
+    let bound = g.bound;
     Going {
         end: g.end,
         whole: false,
         rest: g.rest + 1,
-        next: g.next,
-        bound: g.bound,
+        next,
+        bound,
     }
 }
 
 fn advanced(g: Going) -> Going
-    requires { ⌜ g .next ≤ 1048576 ⌝ }
-    ensures { λ r. ⌜ r ≡ record { end = g .end; whole = g .whole; rest = g .rest; next = g .next + 1; bound = g .bound } ⌝ }
+    requires { ⌜ g .next .0 ≤ 1048576 ⌝ }
+    ensures { λ r. ⌜ r ≡ record { end = g .end; whole = g .whole; rest = g .rest; next = record { 0 = g .next .0 + 1 }; bound = g .bound } ⌝ }
 {
+    let bound = g.bound;
     Going {
         end: g.end,
         whole: g.whole,
         rest: g.rest,
-        next: g.next + 1,
-        bound: g.bound,
+        next: MessageNumber(g.next.0 + 1),
+        bound,
     }
 }
 
 fn begun(g: Going) -> Going
-    ensures { λ r. ⌜ r ≡ record { end = g .end; whole = g .whole; rest = g .rest; next = 1; bound = 0 } ⌝ }
+    ensures { λ r. ⌜ r ≡ record { end = g .end; whole = g .whole; rest = g .rest; next = record { 0 = 1 }; bound = record { 0 = 0 } } ⌝ }
 {
     Going {
         end: g.end,
         whole: g.whole,
         rest: g.rest,
-        next: 1,
-        bound: 0,
+        next: MessageNumber(1),
+        bound: Uid(0),
     }
 }
 
@@ -141,7 +144,7 @@ fn say_count(
     uid: Uid,
 ) -> Going
     requires { ⌜ (limit ≤ length (now queue)) × (limit ≤ 65536) × (g .end ≤ 65536) × (g .rest ≤ 1048576) × (length (now word) ≤ 16) × (uid .0 ≤ 1099511627776) ⌝ }
-    ensures { λ r. ⌜ (stateOf (now (queue .exit)) r ≡ say limit (countText (n .0) (now (word .entry))) (uid .0) (stateOf (now (queue .entry)) g)) × (r .end ≤ 65536) × (r .rest ≤ g .rest + 1) × (r .next ≡ g .next) ⌝ }
+    ensures { λ r. ⌜ (stateOf (now (queue .exit)) r ≡ say limit (countText (n .0) (now (word .entry))) (uid .0) (stateOf (now (queue .entry)) g)) × (r .end ≤ 65536) × (r .rest ≤ g .rest + 1) × (r .next .0 ≡ g .next .0) ⌝ }
 {
     if !g.whole {
         return refused(g);
@@ -152,12 +155,14 @@ fn say_count(
         return refused(g);
     }
     let e = fetches::put_count(queue, at, limit, n, word);
+    let next = g.next;
+    let bound = uid.0 + 1;
     Going {
         end: e,
         whole: true,
         rest: g.rest,
-        next: g.next,
-        bound: uid.0 + 1,
+        next,
+        bound: Uid(bound),
     }
 }
 
@@ -171,7 +176,7 @@ fn say_fetch(
     flags: u64,
 ) -> Going
     requires { ⌜ (limit ≤ length (now queue)) × (limit ≤ 65536) × (g .end ≤ 65536) × (g .rest ≤ 1048576) × (uid .0 ≤ 1099511627776) ⌝ }
-    ensures { λ r. ⌜ (stateOf (now (queue .exit)) r ≡ say limit (fetchText (n .0) (uid .0) flags) (uid .0) (stateOf (now (queue .entry)) g)) × (r .end ≤ 65536) × (r .rest ≤ g .rest + 1) × (r .next ≡ g .next) ⌝ }
+    ensures { λ r. ⌜ (stateOf (now (queue .exit)) r ≡ say limit (fetchText (n .0) (uid .0) flags) (uid .0) (stateOf (now (queue .entry)) g)) × (r .end ≤ 65536) × (r .rest ≤ g .rest + 1) × (r .next .0 ≡ g .next .0) ⌝ }
 {
     if !g.whole {
         return refused(g);
@@ -182,12 +187,14 @@ fn say_fetch(
         return refused(g);
     }
     let e = fetches::put_fetch(queue, at, limit, n, uid, flags);
+    let next = g.next;
+    let bound = uid.0 + 1;
     Going {
         end: e,
         whole: true,
         rest: g.rest,
-        next: g.next,
-        bound: uid.0 + 1,
+        next,
+        bound: Uid(bound),
     }
 }
 
@@ -195,21 +202,22 @@ fn say_fetch(
 fn expunge_one(
     words: &[u64],
     p: usize,
-    told: u64,
+    told: Uid,
     queue: &mut [u8],
     limit: usize,
     g: Going,
 ) -> Going
-    requires { ⌜ (limit ≤ length (now queue)) × (limit ≤ 65536) × (g .end ≤ 65536) × (g .rest ≤ 1048576) × (g .next ≤ 1048576) × (told ≤ 1099511627776) ⌝ }
-    ensures { λ r. ⌜ (stateOf (now (queue .exit)) r ≡ stepE told limit (getD (messages (now (words .entry))) p noMessage) (stateOf (now (queue .entry)) g)) × (r .end ≤ 65536) × (r .rest ≤ g .rest + 1) × (r .next ≤ g .next + 1) ⌝ }
+    requires { ⌜ (limit ≤ length (now queue)) × (limit ≤ 65536) × (g .end ≤ 65536) × (g .rest ≤ 1048576) × (g .next .0 ≤ 1048576) × (told .0 ≤ 1099511627776) ⌝ }
+    ensures { λ r. ⌜ (stateOf (now (queue .exit)) r ≡ stepE (told .0) limit (getD (messages (now (words .entry))) p noMessage) (stateOf (now (queue .entry)) g)) × (r .end ≤ 65536) × (r .rest ≤ g .rest + 1) × (r .next .0 ≤ g .next .0 + 1) ⌝ }
 {
     let e = entries::entry(words, p);
-    if told <= e.uid.0 {
+    if told.0 <= e.uid.0 {
         return g;
     }
     if e.states % 2 == 1 {
         let uid = e.uid;
-        return say_count(queue, limit, g, MessageNumber(g.next), b" EXPUNGE\r\n", uid);
+        let next = g.next;
+        return say_count(queue, limit, g, next, b" EXPUNGE\r\n", uid);
     }
     advanced(g)
 }
@@ -218,13 +226,13 @@ fn expunges(
     words: &[u64],
     order: &[usize],
     n: usize,
-    told: u64,
+    told: Uid,
     queue: &mut [u8],
     limit: usize,
     g: Going,
 ) -> Going
-    requires { ⌜ (n ≤ length (now order)) × (n ≤ 1024) × (limit ≤ length (now queue)) × (limit ≤ 65536) × (g .end ≤ 65536) × (g .rest ≤ 4096) × (g .next ≤ 4096) × (told ≤ 1099511627776) ⌝ }
-    ensures { λ r. ⌜ (stateOf (now (queue .exit)) r ≡ runE told limit (chosen (messages (now (words .entry))) (now (order .entry)) n) (stateOf (now (queue .entry)) g)) × (r .end ≤ 65536) × (r .rest ≤ g .rest + n) ⌝ }
+    requires { ⌜ (n ≤ length (now order)) × (n ≤ 1024) × (limit ≤ length (now queue)) × (limit ≤ 65536) × (g .end ≤ 65536) × (g .rest ≤ 4096) × (g .next .0 ≤ 4096) × (told .0 ≤ 1099511627776) ⌝ }
+    ensures { λ r. ⌜ (stateOf (now (queue .exit)) r ≡ runE (told .0) limit (chosen (messages (now (words .entry))) (now (order .entry)) n) (stateOf (now (queue .entry)) g)) × (r .end ≤ 65536) × (r .rest ≤ g .rest + n) ⌝ }
 {
     let mut s = g;
     let mut j = n;
@@ -239,17 +247,17 @@ fn expunges(
 fn mark_one(
     words: &[u64],
     p: usize,
-    told: u64,
+    told: Uid,
     skip: bool,
     queue: &mut [u8],
     limit: usize,
     g: Going,
 ) -> Going
-    requires { ⌜ (limit ≤ length (now queue)) × (limit ≤ 65536) × (g .end ≤ 65536) × (g .rest ≤ 1048576) × (g .next ≤ 1048576) × (told ≤ 1099511627776) ⌝ }
-    ensures { λ r. ⌜ (stateOf (now (queue .exit)) r ≡ stepM told skip limit (getD (messages (now (words .entry))) p noMessage) (stateOf (now (queue .entry)) g)) × (r .end ≤ 65536) × (r .rest ≤ g .rest + 1) × (r .next ≤ g .next + 1) ⌝ }
+    requires { ⌜ (limit ≤ length (now queue)) × (limit ≤ 65536) × (g .end ≤ 65536) × (g .rest ≤ 1048576) × (g .next .0 ≤ 1048576) × (told .0 ≤ 1099511627776) ⌝ }
+    ensures { λ r. ⌜ (stateOf (now (queue .exit)) r ≡ stepM (told .0) skip limit (getD (messages (now (words .entry))) p noMessage) (stateOf (now (queue .entry)) g)) × (r .end ≤ 65536) × (r .rest ≤ g .rest + 1) × (r .next .0 ≤ g .next .0 + 1) ⌝ }
 {
     let e = entries::entry(words, p);
-    if told <= e.uid.0 {
+    if told.0 <= e.uid.0 {
         return g;
     }
     if both(skip, e.states % 2 == 1) {
@@ -257,7 +265,8 @@ fn mark_one(
     }
     if e.states / 2 % 2 == 1 {
         let uid = e.uid;
-        let h = say_fetch(queue, limit, g, MessageNumber(g.next), uid, e.flags);
+        let next = g.next;
+        let h = say_fetch(queue, limit, g, next, uid, e.flags);
         return advanced(h);
     }
     advanced(g)
@@ -267,14 +276,14 @@ fn marks(
     words: &[u64],
     order: &[usize],
     n: usize,
-    told: u64,
+    told: Uid,
     skip: bool,
     queue: &mut [u8],
     limit: usize,
     g: Going,
 ) -> Going
-    requires { ⌜ (n ≤ length (now order)) × (n ≤ 1024) × (limit ≤ length (now queue)) × (limit ≤ 65536) × (g .end ≤ 65536) × (g .rest ≤ 4096) × (g .next ≤ 4096) × (told ≤ 1099511627776) ⌝ }
-    ensures { λ r. ⌜ (stateOf (now (queue .exit)) r ≡ runM told skip limit (chosen (messages (now (words .entry))) (now (order .entry)) n) (stateOf (now (queue .entry)) g)) × (r .end ≤ 65536) × (r .rest ≤ g .rest + n) ⌝ }
+    requires { ⌜ (n ≤ length (now order)) × (n ≤ 1024) × (limit ≤ length (now queue)) × (limit ≤ 65536) × (g .end ≤ 65536) × (g .rest ≤ 4096) × (g .next .0 ≤ 4096) × (told .0 ≤ 1099511627776) ⌝ }
+    ensures { λ r. ⌜ (stateOf (now (queue .exit)) r ≡ runM (told .0) skip limit (chosen (messages (now (words .entry))) (now (order .entry)) n) (stateOf (now (queue .entry)) g)) × (r .end ≤ 65536) × (r .rest ≤ g .rest + n) ⌝ }
 {
     let mut s = g;
     let mut j = n;
@@ -306,14 +315,14 @@ fn say_first(
     words: &[u64],
     order: &[usize],
     n: usize,
-    told: u64,
+    told: Uid,
     class: bool,
     queue: &mut [u8],
     limit: usize,
     g: Going,
 ) -> Going
-    requires { ⌜ (n ≤ length (now order)) × (n ≤ 1024) × (limit ≤ length (now queue)) × (limit ≤ 65536) × (g .end ≤ 65536) × (g .rest ≤ 4096) × (g .next ≤ 4096) × (told ≤ 1099511627776) ⌝ }
-    ensures { λ r. ⌜ (stateOf (now (queue .exit)) r ≡ firstPart told class limit (chosen (messages (now (words .entry))) (now (order .entry)) n) (stateOf (now (queue .entry)) g)) × (r .end ≤ 65536) × (r .rest ≤ g .rest + n) × (length (now (queue .exit)) ≡ length (now (queue .entry))) ⌝ }
+    requires { ⌜ (n ≤ length (now order)) × (n ≤ 1024) × (limit ≤ length (now queue)) × (limit ≤ 65536) × (g .end ≤ 65536) × (g .rest ≤ 4096) × (g .next .0 ≤ 4096) × (told .0 ≤ 1099511627776) ⌝ }
+    ensures { λ r. ⌜ (stateOf (now (queue .exit)) r ≡ firstPart (told .0) class limit (chosen (messages (now (words .entry))) (now (order .entry)) n) (stateOf (now (queue .entry)) g)) × (r .end ≤ 65536) × (r .rest ≤ g .rest + n) × (length (now (queue .exit)) ≡ length (now (queue .entry))) ⌝ }
 {
     if class {
         return expunges(words, order, n, told, queue, limit, g);
@@ -321,12 +330,13 @@ fn say_first(
     g
 }
 
-// What was written: where the queue ends, how many lines did not fit, and the bounds of the three parts.
+// What was written: where the queue ends, whether EXISTS stands there, and the bounds of the EXPUNGE and FETCH lines; and how many lines
+// did not fit.
 pub struct Spoken {
     pub end: usize,
     pub rest: u64,
     pub gone: Uid,
-    pub news: u64,
+    pub news: bool,
     pub shown: Uid,
 }
 
@@ -335,41 +345,43 @@ fn speak(
     words: &[u64],
     order: &[usize],
     n: usize,
-    told: u64,
+    told: Uid,
     class: bool,
     queue: &mut [u8],
     limit: usize,
     filled: usize,
 ) -> Spoken
-    requires { ⌜ (n ≤ length (now order)) × (n ≤ 1024) × (limit ≤ length (now queue)) × (limit ≤ 65536) × (filled ≤ 65536) × (told ≤ 1099511627776) ⌝ }
-    ensures { λ r. ⌜ Speaks told class limit (chosen (messages (now (words .entry))) (now (order .entry)) n) (now (queue .entry)) filled (now (queue .exit)) r ⌝ }
+    requires { ⌜ (n ≤ length (now order)) × (n ≤ 1024) × (limit ≤ length (now queue)) × (limit ≤ 65536) × (filled ≤ 65536) × (told .0 ≤ 1099511627776) ⌝ }
+    ensures { λ r. ⌜ Speaks (told .0) class limit (chosen (messages (now (words .entry))) (now (order .entry)) n) (now (queue .entry)) filled (now (queue .exit)) r ⌝ }
 {
     let g = Going {
         end: filled,
         whole: true,
         rest: 0,
-        next: 1,
-        bound: 0,
+        next: MessageNumber(1),
+        bound: Uid(0),
     };
     let a = say_first(words, order, n, told, class, queue, limit, g);
-    let k = order::staying(words, order, n, Uid(told), class);
-    let f = order::unseen(words, order, n, Uid(told));
+    let k = order::staying(words, order, n, told, class);
+    let f = order::unseen(words, order, n, told);
     let b = say_exists(queue, limit, begun(a), k, f);
     let c = marks(words, order, n, told, class, queue, limit, begun(b));
+    let gone = a.bound;
+    let shown = c.bound;
     Spoken {
         end: c.end,
         rest: c.rest,
-        gone: Uid(a.bound),
-        news: b.bound,
-        shown: Uid(c.bound),
+        gone,
+        news: b.bound.0 == 1,
+        shown,
     }
 }
 
 // The view, if EXISTS was written.
-fn announced(s: Session, news: u64, next: u32) -> Session
-    ensures { λ r. ⌜ r ≡ cond (eqb news 1) (withView s (s .selected) next) s ⌝ }
+fn announced(s: Session, news: bool, next: u32) -> Session
+    ensures { λ r. ⌜ r ≡ cond news (withView s (s .selected) next) s ⌝ }
 {
-    if news == 1 {
+    if news {
         return viewed(s, s.selected, next);
     }
     s
@@ -410,7 +422,7 @@ pub fn end_command(
     let told = s.told as u64;
     let limit = queue.len() - 64;
     let n = order::by_uid(words, used, id, order);
-    let t = speak(words, order, n, told, class, queue, limit, filled);
+    let t = speak(words, order, n, Uid(told), class, queue, limit, filled);
     let gone = t.gone;
     let shown = t.shown;
     let left = entries::settle(words, used, Sweep::Told(id, gone, shown));

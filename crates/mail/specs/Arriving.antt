@@ -165,7 +165,7 @@ module _ (m : Memory) (law : Law m) (i u f z k : ℕ) (at : k ≡ place i (boxes
             ∙ (ap (λ (j : Memory). enqueue (silence j) (render overflow)) came ∙ rw (fit false q))
 
   -- what the caller shows where it is at once: the room, and what a FETCH shows
-  pub arrive-accepted : (w : Shows) → w .any ≡ showsAny (m .session) → ((e : Message) → shown w e ≡ shownItems (m .session) e) → m .session .told ≤ u
+  pub arrive-accepted : (w : Shows) → w .any ≡ showsAny (m .session) → ((e : Message) → shown w e ≡ shownItems (m .session) e) → (isSelected m i ≡ true → m .session .told ≤ u)
       → ((isSelected m i && newAtOnce m) ≡ true → filled m ≤ length (m .queue) - 64) → (newTold m i y ≡ true → filled m ≤ length (m .queue) - 64)
       → accepted m (arrive i u f z) .after ≡ left m rs (arriveAfter (m .entries) (m .counts .messages) (m .queue) (m .session) (filled m) y (message i u f z) (isSelected m i && newAtOnce m) (newTold m i y) w)
   unfolding accepted arriveAfter
@@ -173,5 +173,5 @@ module _ (m : Memory) (law : Law m) (i u f z k : ℕ) (at : k ≡ place i (boxes
     where
       go : (b : Bool) → (isSelected m i && newAtOnce m) ≡ b → told m (λ (j : Memory). arrived j i u f z) .after
           ≡ left m rs (cond b (newsAfter (m .entries) (m .counts .messages) (m .queue) (m .session) (filled m) y (message i u f z) w) (statusAfter (m .entries) (m .counts .messages) (m .queue) (m .session) (filled m) y (message i u f z) (newTold m i y)))
-      go true q = at-once (and-l (isSelected m i) (newAtOnce m) q) (and-r (isSelected m i) (newAtOnce m) q) low (soon q) w any items
+      go true q = at-once (and-l (isSelected m i) (newAtOnce m) q) (and-r (isSelected m i) (newAtOnce m) q) (low (and-l (isSelected m i) (newAtOnce m) q)) (soon q) w any items
       go false q = elsewhere q free

@@ -72,7 +72,7 @@ three : (f : ℕ → Bool → Bool → After) {n n′ : ℕ} {a a′ b b′ : Bo
 three f {n} {n′} {a} {a′} {b} {b′} p q r = ap (λ (i : ℕ). f i a b) p ∙ ap₂ (λ (i j : Bool). f n′ i j) q r
 
 -- ---- in the rules' words
-and-same : (v a b : Bool) → (v ≡ true → a ≡ b) → (v && a) ≡ (v && b)
+pub and-same : (v a b : Bool) → (v ≡ true → a ≡ b) → (v && a) ≡ (v && b)
 and-same true a b e = e refl
 and-same false a b e = refl
 

@@ -6,3 +6,5 @@ pub mod Flagged
 pub mod Flagging
 pub mod Free
 pub mod Deciding
+pub mod Shown
+pub mod Receiving

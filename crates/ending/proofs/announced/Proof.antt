@@ -27,11 +27,11 @@ viewed-requires c κs = search needs
 
 -- src/lib.rt:472:9
 returns : tie.Need-returns
-returns c = c .viewed .ensures ∙ sym (ap (λ (b : Bool). cond b (withView (c .before .before .args .s) (c .before .before .args .s .selected) (c .before .before .args .next)) (c .before .before .args .s)) (eq-eqb (c .before .before .args .news) 1 (c .before .if1 .taken)))
+returns c = c .viewed .ensures ∙ sym (ap (λ (b : Bool). cond b (withView (c .before .before .args .s) (c .before .before .args .s .selected) (c .before .before .args .next)) (c .before .before .args .s)) (c .before .if1 .taken))
 
 -- src/lib.rt:468:1
 returns-2 : tie.Need-returns-2
-returns-2 c = sym (ap (λ (b : Bool). cond b (withView (c .before .args .s) (c .before .args .s .selected) (c .before .args .next)) (c .before .args .s)) (ne-eqb (c .before .args .news) 1 (c .if1 .left)))
+returns-2 c = sym (ap (λ (b : Bool). cond b (withView (c .before .args .s) (c .before .args .s .selected) (c .before .args .next)) (c .before .args .s)) (c .if1 .left))
 
 pub announced-spec : {M : Type 1} → statement M
 announced-spec = tie.close (tie.spec viewed-requires returns returns-2)

@@ -22,7 +22,7 @@ use Rattle.ending.specs.Coded.{stateOf, e-off, e-gone, e-stay, m-off, m-
 use borrow.Author.Needs.{needs}
 
 abbrev Inv-loop : tie.InvT-loop
-Inv-loop words order n told queue₀ limit s₀ j₀ queue s j = (j ≤ n) × (length queue ≡ length queue₀) × (s .end ≤ 65536) × (s .rest + j ≤ s₀ .rest + n) × (s .next + j ≤ s₀ .next + n) × (runE told limit (chosen (messages words) order j) (stateOf queue s) ≡ runE told limit (chosen (messages words) order n) (stateOf queue₀ s₀))
+Inv-loop words order n told queue₀ limit s₀ j₀ queue s j = (j ≤ n) × (length queue ≡ length queue₀) × (s .end ≤ 65536) × (s .rest + j ≤ s₀ .rest + n) × (s .next .0 + j ≤ s₀ .next .0 + n) × (runE (told .0) limit (chosen (messages words) order j) (stateOf queue s) ≡ runE (told .0) limit (chosen (messages words) order n) (stateOf queue₀ s₀))
 
 abbrev μ-loop : tie.MeasureT-loop
 μ-loop words order n told queue₀ limit s₀ j₀ queue s j = j
@@ -53,7 +53,7 @@ loop-less c = search needs
 
 -- src/lib.rt:319:5
 loop-again : tie.Need-loop-again Inv-loop μ-loop
-loop-again c = (search needs, search needs, c .before .before .expunge-one .ensures .1, omega (arith, c .before .before .expunge-one .ensures .2, c .before .before .before .before .before .before .loop .inv .3), omega (arith, c .before .before .expunge-one .ensures .3, c .before .before .before .before .before .before .loop .inv .4), runE-next (messages (c .before .before .before .before .before .before .before .before .before .before .args .words .now)) (c .before .before .before .before .before .before .before .before .before .before .args .order .now) (c .before .before .before .before .before .before .before .before .before .before .args .told) (c .before .before .before .before .before .before .before .before .before .before .args .limit) (c .before .before .before .before .before .before .loop .j) (stateOf (c .before .before .before .before .before .before .loop .queue) (c .before .before .before .before .before .before .loop .s)) _ _ (c .before .before .before .before .before .loop-test .taken) (c .before .before .before .before .before .before .loop .inv .5) (c .before .before .expunge-one .ensures .0))
+loop-again c = (search needs, search needs, c .before .before .expunge-one .ensures .1, omega (arith, c .before .before .expunge-one .ensures .2, c .before .before .before .before .before .before .loop .inv .3), omega (arith, c .before .before .expunge-one .ensures .3, c .before .before .before .before .before .before .loop .inv .4), runE-next (messages (c .before .before .before .before .before .before .before .before .before .before .args .words .now)) (c .before .before .before .before .before .before .before .before .before .before .args .order .now) (c .before .before .before .before .before .before .before .before .before .before .args .told .0) (c .before .before .before .before .before .before .before .before .before .before .args .limit) (c .before .before .before .before .before .before .loop .j) (stateOf (c .before .before .before .before .before .before .loop .queue) (c .before .before .before .before .before .before .loop .s)) _ _ (c .before .before .before .before .before .loop-test .taken) (c .before .before .before .before .before .before .loop .inv .5) (c .before .before .expunge-one .ensures .0))
 
 -- src/lib.rt:313:1
 same-length : tie.Need-same-length Inv-loop μ-loop
@@ -61,7 +61,7 @@ same-length c = search needs
 
 -- src/lib.rt:313:1
 returns : tie.Need-returns Inv-loop μ-loop
-returns c = (runE-end (messages (c .before .before .before .before .before .args .words .now)) (c .before .before .before .before .before .args .order .now) (c .before .before .before .before .before .args .told) (c .before .before .before .before .before .args .limit) (c .before .loop .j) (stateOf (c .before .loop .queue) (c .before .loop .s)) _ (omega arith) (c .before .loop .inv .5), c .before .loop .inv .2, omega (arith, c .before .loop .inv .3))
+returns c = (runE-end (messages (c .before .before .before .before .before .args .words .now)) (c .before .before .before .before .before .args .order .now) (c .before .before .before .before .before .args .told .0) (c .before .before .before .before .before .args .limit) (c .before .loop .j) (stateOf (c .before .loop .queue) (c .before .loop .s)) _ (omega arith) (c .before .loop .inv .5), c .before .loop .inv .2, omega (arith, c .before .loop .inv .3))
 
 pub expunges-spec : {M : Type 1} → statement M
 expunges-spec =

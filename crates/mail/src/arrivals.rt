@@ -1,0 +1,168 @@
+// `ME`: a message arrives. It is stored, and announced at once, or it waits, or its mailbox's STATUS is told.
+use crate::Arrived;
+use fetches::Shows;
+use model::Mailbox;
+use model::Message;
+use model::Session;
+use model::Uid;
+use out::Kept;
+ghost use mathlib.Core.Path.{_≡_};
+ghost use mathlib.Core.Bool.{true, false, cond, _&&_};
+ghost use Prim.Native.Nat.{_+_, _*_, _-_, _≤_};
+ghost use lib.ListN.{length, take};
+ghost use Rattle.model.specs.Memory.{bothRights, messagesOf, withNext, withView, silenced};
+ghost use Rattle.model.specs.Groups.{selectedAsks};
+ghost use Rattle.entries.specs.Words.{messages};
+ghost use Rattle.fetches.specs.Whole.{newsText};
+ghost use Rattle.told.specs.Asking.{asksBit};
+ghost use Rattle.mail.specs.After.{Leaves, arriveAfter, Announces};
+ghost use Rattle.mail.specs.Receiving.{receiveAfter};
+
+// The row with its new UIDNEXT.
+fn with_next(x: Mailbox, next: u32) -> Mailbox
+    ensures { λ r. ⌜ r ≡ withNext x next ⌝ }
+{
+    let name = x.name;
+    Mailbox {
+        id: x.id,
+        attributes: x.attributes,
+        namelen: x.namelen,
+        uidvalidity: x.uidvalidity,
+        uidnext: next,
+        name,
+    }
+}
+
+// The session where all that is new was announced, or the overflow line was written.
+fn announced(s: Session, next: u32, fits: bool) -> Session
+    ensures { λ r. ⌜ r ≡ cond fits (withView s (s .selected) next) (silenced s) ⌝ }
+{
+    if !fits {
+        return out::silence(s);
+    }
+    let groups = s.groups;
+    let names = s.names;
+    Session {
+        selected: s.selected,
+        notified: s.notified,
+        groupcount: s.groupcount,
+        told: next,
+        groups,
+        names,
+    }
+}
+
+// All that is new in the selected mailbox is announced, or else the overflow line is written. `order` is scratch.
+fn announce(
+    words: &[u64],
+    used: usize,
+    order: &mut [usize],
+    queue: &mut [u8],
+    s: Session,
+    filled: usize,
+    next: u32,
+    w: Shows,
+) -> Kept
+    requires { ⌜ (used * 5 ≤ length (now words)) × (used ≤ 1024) × (used ≤ length (now order)) × (64 ≤ length (now queue)) × (length (now queue) ≤ 65536) × (filled ≤ length (now queue) - 64) ⌝ }
+    ensures { λ r. ⌜ Announces (now (queue .entry)) s filled next (newsText (s .told) w (messagesOf (s .selected) (take used (messages (now (words .entry)))))) (now (queue .exit)) (r .session) (r .filled) ⌝ }
+{
+    let n = order::by_uid(words, used, s.selected as u64, order);
+    let said = fetches::say_news(words, order, n, queue, filled, Uid(s.told as u64), w);
+    Kept {
+        session: announced(s, next, said.fits),
+        filled: said.end as u64,
+    }
+}
+
+// `ME` of message e in mailbox x: it stands behind the last entry; all that is new is announced, or STATUS is told, or neither.
+pub fn arrive(
+    words: &mut [u64],
+    used: usize,
+    order: &mut [usize],
+    queue: &mut [u8],
+    s: Session,
+    filled: usize,
+    x: Mailbox,
+    next: u32,
+    e: Message,
+    soon: bool,
+    on: bool,
+    w: Shows,
+) -> Arrived
+    requires { ⌜ ((used + 1) * 5 ≤ length (now words)) × (used + 1 ≤ 1024) × (used + 1 ≤ length (now order)) × (64 ≤ length (now queue)) × (length (now queue) ≤ 65536) × (filled ≤ 65536) × (soon ≡ true → filled ≤ length (now queue) - 64) × (on ≡ true → filled ≤ length (now queue) - 64) ⌝ }
+    ensures { λ r. ⌜ (r .row ≡ withNext x next) × Leaves (arriveAfter (messages (now (words .entry))) used (now (queue .entry)) s filled (withNext x next) e soon on w) (now (words .entry)) (now (words .exit)) (r .used) (now (queue .exit)) (r .session) (r .filled) ⌝ }
+{
+    entries::put(words, used, e);
+    let more = used + 1;
+    let row = with_next(x, next);
+    if soon {
+        let kept = announce(words, more, order, queue, s, filled, next, w);
+        let session = kept.session;
+        return Arrived {
+            row,
+            used: more,
+            session,
+            filled: kept.filled,
+        };
+    }
+    let n = entries::count(words, more, row.id as u64);
+    let kept = crate::tell_row(queue, s, filled, on, row, n);
+    let session = kept.session;
+    Arrived {
+        row,
+        used: more,
+        session,
+        filled: kept.filled,
+    }
+}
+
+// Whether a new message of mailbox x is announced at once.
+fn is_soon(s: Session, x: Mailbox, selected: bool) -> bool
+    ensures { λ r. ⌜ r ≡ (selected && (bothRights x && selectedAsks s (asksBit 0))) ⌝ }
+{
+    if !selected {
+        return false;
+    }
+    if !mailboxes::both(x.attributes) {
+        return false;
+    }
+    told::selected_asks(s, 0)
+}
+
+// `ME` of a message of mailbox x, with a UID above all that were used there.
+pub fn receive(
+    words: &mut [u64],
+    used: usize,
+    order: &mut [usize],
+    queue: &mut [u8],
+    s: Session,
+    filled: usize,
+    x: Mailbox,
+    uid: Uid,
+    flags: u64,
+    size: u64,
+) -> Arrived
+    requires { ⌜ ((used + 1) * 5 ≤ length (now words)) × (used + 1 ≤ 1024) × (used + 1 ≤ length (now order)) × (64 ≤ length (now queue)) × (length (now queue) ≤ 65536) × (filled ≤ 65536) × ((s .groupcount ≡ 0 → ⊥) → filled ≤ length (now queue) - 64) × (uid .0 ≤ 4294967294) ⌝ }
+    ensures { λ r. ⌜ (r .row ≡ withNext x (uid .0 + 1)) × Leaves (receiveAfter (messages (now (words .entry))) used (now (queue .entry)) s filled x (uid .0) flags size) (now (words .entry)) (now (words .exit)) (r .used) (now (queue .exit)) (r .session) (r .filled) ⌝ }
+{
+    let e = entries::fresh(x.id as u64, uid, flags, size);
+    let next = uid.0 as u32 + 1;
+    let chosen = crate::is_chosen(s, x);
+    let soon = is_soon(s, x, chosen);
+    let on = crate::is_told(s, x, chosen, 0);
+    let w = crate::showing::shows(s);
+    arrive(
+        words,
+        used,
+        order,
+        queue,
+        s,
+        filled,
+        x,
+        next,
+        e,
+        soon,
+        on,
+        w,
+    )
+}

@@ -1,0 +1,108 @@
+// `FL`: the flags of a message change. That is told at once, or kept as a mark, or neither.
+use crate::Left;
+use model::Mailbox;
+use model::MessageNumber;
+use model::Session;
+use model::Uid;
+ghost use mathlib.Core.Path.{_≡_};
+ghost use mathlib.Core.Bool.{true, false, cond};
+ghost use Prim.Native.Nat.{_+_, _*_, _-_, _≤_, _<_};
+ghost use lib.ListN.{length};
+ghost use Rattle.entries.specs.Words.{messages};
+ghost use Rattle.mail.specs.After.{Leaves};
+ghost use Rattle.mail.specs.Flagged.{flagAfter};
+ghost use Rattle.mail.specs.Deciding.{reflagAfter};
+
+// x where it is so, else y.
+fn pick(so: bool, x: u64, y: u64) -> u64
+    ensures { λ r. ⌜ r ≡ cond so x y ⌝ }
+{
+    if so {
+        return x;
+    }
+    y
+}
+
+// The change is told at once and ends a mark, or else the overflow line is written.
+fn flag_now(
+    words: &mut [u64],
+    used: usize,
+    queue: &mut [u8],
+    s: Session,
+    filled: usize,
+    k: usize,
+    flags: u64,
+    n: MessageNumber,
+) -> Left
+    requires { ⌜ ((k + 1) * 5 ≤ length (now words)) × (64 ≤ length (now queue)) × (length (now queue) ≤ 65536) × (filled ≤ length (now queue) - 64) ⌝ }
+    ensures { λ r. ⌜ Leaves (flagAfter (messages (now (words .entry))) used (now (queue .entry)) s filled k flags (n .0) true false) (now (words .entry)) (now (words .exit)) (r .used) (now (queue .exit)) (r .session) (r .filled) ⌝ }
+{
+    let e = entries::get(words, k);
+    let uid = e.uid;
+    let said = fetches::say_fetch(queue, filled, n, uid, flags);
+    let states = pick(said.fits, 0, e.states);
+    entries::put(words, k, entries::changed(e, flags, states));
+    let kept = out::hear(s, said);
+    let session = kept.session;
+    Left {
+        used,
+        session,
+        filled: kept.filled,
+    }
+}
+
+// `FL` of entry k, whose place in the view is n: told at once, or kept as a mark, or told to nobody.
+pub fn reflag(
+    words: &mut [u64],
+    used: usize,
+    queue: &mut [u8],
+    s: Session,
+    filled: usize,
+    k: usize,
+    flags: u64,
+    n: MessageNumber,
+    once: bool,
+    waits: bool,
+) -> Left
+    requires { ⌜ ((k + 1) * 5 ≤ length (now words)) × (64 ≤ length (now queue)) × (length (now queue) ≤ 65536) × (filled ≤ 65536) × (once ≡ true → filled ≤ length (now queue) - 64) ⌝ }
+    ensures { λ r. ⌜ Leaves (flagAfter (messages (now (words .entry))) used (now (queue .entry)) s filled k flags (n .0) once waits) (now (words .entry)) (now (words .exit)) (r .used) (now (queue .exit)) (r .session) (r .filled) ⌝ }
+{
+    if once {
+        return flag_now(words, used, queue, s, filled, k, flags, n);
+    }
+    let e = entries::get(words, k);
+    let states = pick(waits, 2, e.states);
+    entries::put(words, k, entries::changed(e, flags, states));
+    Left {
+        used,
+        session: s,
+        filled: filled as u64,
+    }
+}
+
+// `FL` of entry k, which is a message of mailbox x.
+pub fn flag(
+    words: &mut [u64],
+    used: usize,
+    queue: &mut [u8],
+    s: Session,
+    filled: usize,
+    x: Mailbox,
+    k: usize,
+    flags: u64,
+) -> Left
+    requires { ⌜ (k < used) × (used * 5 ≤ length (now words)) × (64 ≤ length (now queue)) × (length (now queue) ≤ 65536) × (filled ≤ 65536) × ((s .groupcount ≡ 0 → ⊥) → filled ≤ length (now queue) - 64) ⌝ }
+    ensures { λ r. ⌜ Leaves (reflagAfter (messages (now (words .entry))) used (now (queue .entry)) s filled k x flags) (now (words .entry)) (now (words .exit)) (r .used) (now (queue .exit)) (r .session) (r .filled) ⌝ }
+{
+    let e = entries::get(words, k);
+    let uid = e.uid;
+    let below = Uid(s.told as u64);
+    let chosen = crate::is_chosen(s, x);
+    let n = entries::place_of(words, used, s.selected as u64, below, uid);
+    let seen = crate::both(chosen, uid.0 < below.0);
+    let rights = mailboxes::both(x.attributes);
+    let asked = told::selected_asks(s, 2);
+    let once = crate::both(seen, crate::both(rights, asked));
+    let waits = crate::both(seen, crate::both(rights, s.notified == 0));
+    reflag(words, used, queue, s, filled, k, flags, n, once, waits)
+}

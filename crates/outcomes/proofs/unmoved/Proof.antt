@@ -1,0 +1,16 @@
+-- `unmoved`: an answer, and no row changes. Assumes nothing.
+use borrow.Author.Needs.{needs}
+use mathlib.Core.Path.{ap}
+use Rattle.model.specs.declared.Mailbox.{Mailbox}
+use Rattle.outcomes.specs.Coming.{calm}
+use Rattle.outcomes.proofs.unmoved.Statement.{statement}
+use Rattle.outcomes.proofs.unmoved.Tie as tie
+
+vacant-requires : tie.Need-vacant-requires
+vacant-requires c κs = search needs
+
+returns : tie.Need-returns
+returns c = let a = c .before .args in ap (calm (a .answer) (a .counts) (a .s)) (c .vacant .ensures)
+
+pub unmoved-spec : {M : Type 1} → statement M
+unmoved-spec = tie.close (tie.spec vacant-requires returns)

@@ -1,7 +1,6 @@
 // The messages that an ESEARCH finds: in one mailbox an order of entries, each tested once, and the UIDs of those that match; in several
-// the UIDs of all in one array, a run for each.
+// the UIDs of all in one array, a run for each. That array is one of words, since the prover takes no slice of structs; a single UID is a `Uid`.
 use matching::Probe;
-use model::Message;
 use model::MessageNumber;
 use model::Uid;
 ghost use mathlib.Core.Path.{_≡_};
@@ -16,23 +15,6 @@ ghost use Rattle.found.specs.Finds.{Pushed, Hits, Finds, Keeps};
 ghost use Rattle.found.specs.Searched.{Searched, told};
 ghost use Rattle.found.specs.Runs.{RowSearched, Found};
 
-// Entry i, all zeros where there is none.
-fn entry_at(words: &[u64], i: usize) -> Message
-    ensures { λ r. ⌜ r ≡ getD (messages (now (words .entry))) i noMessage ⌝ }
-{
-    let n = words.len() / 5;
-    if n <= i {
-        return Message {
-            mailbox: 0,
-            uid: Uid(0),
-            flags: 0,
-            size: 0,
-            states: 0,
-        };
-    }
-    entries::get(words, i)
-}
-
 // A message that is not expunged, and of which all the keys hold.
 fn is_hit(cells: &[u64], used: usize, p: Probe) -> bool
     requires { ⌜ used ≤ length (now cells) ⌝ }
@@ -45,18 +27,19 @@ fn is_hit(cells: &[u64], used: usize, p: Probe) -> bool
     matching::all_hold(cells, used, p)
 }
 
-// One more of a list, where it is wanted.
-fn push(list: &mut [u64], r: usize, x: u64, on: bool) -> usize
+// One UID more, where it is wanted.
+fn push(list: &mut [u64], r: usize, x: Uid, on: bool) -> usize
     requires { ⌜ r < length (now list) ⌝ }
-    ensures { λ z. ⌜ Pushed (now (list .entry)) r x on (now (list .exit)) z ⌝ }
+    ensures { λ z. ⌜ Pushed (now (list .entry)) r (x .0) on (now (list .exit)) z ⌝ }
 {
     if on {
-        list[r] = x;
+        list[r] = x.0;
         return r + 1;
     }
     r
 }
 
+// One place more, where it is wanted.
 fn push_place(list: &mut [usize], r: usize, x: usize, on: bool) -> usize
     requires { ⌜ r < length (now list) ⌝ }
     ensures { λ z. ⌜ Pushed (now (list .entry)) r x on (now (list .exit)) z ⌝ }
@@ -84,14 +67,14 @@ pub fn find(
         return 0;
     }
     let bottom = order[0];
-    let top = entry_at(words, bottom);
+    let top = entries::entry(words, bottom);
     let last = top.uid;
     let mut k = n;
     let mut r = 0;
     while 0 < k {
         k -= 1;
         let i = order[k];
-        let e = entry_at(words, i);
+        let e = entries::entry(words, i);
         let p = Probe {
             message: e,
             number: MessageNumber((n - k) as u64),
@@ -99,22 +82,22 @@ pub fn find(
             lastuid: last,
         };
         let on = is_hit(cells, used, p);
-        r = push(uids, r, e.uid.0, on);
+        r = push(uids, r, e.uid, on);
     }
     r
 }
 
 // Of an order those that the client was told of: the view.
-pub fn told_of(words: &[u64], order: &[usize], n: usize, told: u64, view: &mut [usize]) -> usize
+pub fn told_of(words: &[u64], order: &[usize], n: usize, told: Uid, view: &mut [usize]) -> usize
     requires { ⌜ (n ≤ length (now order)) × (n ≤ length (now view)) ⌝ }
-    ensures { λ r. ⌜ Keeps (messages (now (words .entry))) (now (order .entry)) n told (now (view .entry)) (now (view .exit)) r ⌝ }
+    ensures { λ r. ⌜ Keeps (messages (now (words .entry))) (now (order .entry)) n (told .0) (now (view .entry)) (now (view .exit)) r ⌝ }
 {
     let mut i = 0;
     let mut r = 0;
     while i < n {
         let place = order[i];
-        let e = entry_at(words, place);
-        let on = e.uid.0 < told;
+        let e = entries::entry(words, place);
+        let on = e.uid.0 < told.0;
         r = push_place(view, r, place, on);
         i += 1;
     }
@@ -143,7 +126,7 @@ pub fn search_view(
     words: &[u64],
     used: usize,
     id: u64,
-    below: u64,
+    below: Uid,
     cells: &[u64],
     filled: usize,
     order: &mut [usize],
@@ -151,7 +134,7 @@ pub fn search_view(
     uids: &mut [u64],
 ) -> usize
     requires { ⌜ ((used * 5 ≤ length (now words)) × ((used ≤ length (now order)) × (used ≤ length (now view)))) × ((used ≤ length (now uids)) × (filled ≤ length (now cells))) ⌝ }
-    ensures { λ r. ⌜ Searched used (told below (messagesOf id (take used (messages (now (words .entry)))))) (now (cells .entry)) filled (now (uids .exit)) r ⌝ }
+    ensures { λ r. ⌜ Searched used (told (below .0) (messagesOf id (take used (messages (now (words .entry)))))) (now (cells .entry)) filled (now (uids .exit)) r ⌝ }
 {
     let n = order::by_uid(words, used, id, order);
     let v = told_of(words, order, n, below, view);
@@ -164,7 +147,7 @@ fn search_row(
     used: usize,
     id: u64,
     selected: u64,
-    below: u64,
+    below: Uid,
     cells: &[u64],
     filled: usize,
     order: &mut [usize],
@@ -172,7 +155,7 @@ fn search_row(
     uids: &mut [u64],
 ) -> usize
     requires { ⌜ ((used * 5 ≤ length (now words)) × ((used ≤ length (now order)) × (used ≤ length (now view)))) × ((used ≤ length (now uids)) × (filled ≤ length (now cells))) ⌝ }
-    ensures { λ r. ⌜ (RowSearched (take used (messages (now (words .entry)))) id selected below (now (cells .entry)) filled (now (uids .exit)) r) × (r ≤ used) ⌝ }
+    ensures { λ r. ⌜ (RowSearched (take used (messages (now (words .entry)))) id selected (below .0) (now (cells .entry)) filled (now (uids .exit)) r) × (r ≤ used) ⌝ }
 {
     if sources::is_selected(id, selected) {
         return search_view(words, used, id, below, cells, filled, order, view, uids);
@@ -196,7 +179,7 @@ pub fn find_runs(
     words: &[u64],
     used: usize,
     selected: u64,
-    below: u64,
+    below: Uid,
     ids: &[u64; 64],
     rows: &[usize],
     n: usize,
@@ -209,7 +192,7 @@ pub fn find_runs(
     counts: &mut [usize],
 )
     requires { ⌜ ((used * 5 ≤ length (now words)) × ((used ≤ 1024) × (filled ≤ length (now cells)))) × ((used ≤ length (now order)) × (used ≤ length (now view)) × (2048 ≤ length (now uids))) × ((n ≤ length (now rows)) × (n ≤ length (now starts)) × (n ≤ length (now counts))) × (n ≤ 64) ⌝ }
-    ensures { λ _. ⌜ Found (take used (messages (now (words .entry)))) (now (ids .entry)) (now (rows .entry)) n selected below (now (cells .entry)) filled (now (uids .exit)) (now (starts .exit)) (now (counts .exit)) ⌝ }
+    ensures { λ _. ⌜ Found (take used (messages (now (words .entry)))) (now (ids .entry)) (now (rows .entry)) n selected (below .0) (now (cells .entry)) filled (now (uids .exit)) (now (starts .exit)) (now (counts .exit)) ⌝ }
 {
     let mut i = n;
     let mut total = 0;

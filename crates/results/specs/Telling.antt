@@ -66,7 +66,7 @@ module _ (tag lens names validities rows : List ℕ) (w : Wanted) (uids starts c
   pub goes-end : (q : List ℕ) (at lim n : ℕ) (q′ : List ℕ) (o i : ℕ) → lim ≤ length q′ → i ≤ 0 → Goes q at lim n q′ o i → Put q at lim (texts n) q′ o
   goes-end q at lim n q′ o i w h g = g q′ o (put-as (put-none q′ o lim w) (sym (texts-none) ∙ ap texts (let z : 0 ≡ i = omega arith in z)))
 
-render-both : (a b : List Line) → renderAll (a ++ b) ≡ renderAll a ++ renderAll b
+pub render-both : (a b : List Line) → renderAll (a ++ b) ≡ renderAll a ++ renderAll b
 unfolding renderAll
 render-both [] b = refl
 render-both (x ∷ a) b = ap (λ (l : List ℕ). render x ++ l) (render-both a b) ∙ sym (append-assoc (render x) (renderAll a) (renderAll b))

@@ -1,4 +1,5 @@
 // The lines of an ESEARCH: one for each mailbox that it found something in, with MIN, MAX, ALL and COUNT as they were asked for.
+// UIDs come in an array of words, since the prover takes no slice of structs; a single UID is a `Uid`.
 use model::Uid;
 use read_options::Returns;
 ghost use mathlib.Core.Path.{_≡_};
@@ -52,22 +53,22 @@ fn put_set(queue: &mut [u8], at: usize, limit: usize, uids: &[u64], n: usize) ->
     requires { ⌜ ((limit ≤ length (now queue)) × (at ≤ 4294967296)) × ((1 ≤ n) × ((n ≤ length (now uids)) × (n ≤ 1048576))) ⌝ }
     ensures { λ r. ⌜ (Put (now (queue .entry)) at limit (setText (uidsOf (take n (now (uids .entry))))) (now (queue .exit)) r) × (r ≤ at + 42 * n) ⌝ }
 {
-    let mut from = uids[0];
+    let mut from = Uid(uids[0]);
     let mut upto = from;
     let mut o = at;
     let mut i = 1;
     while i < n {
-        let u = uids[i];
+        let u = Uid(uids[i]);
         i += 1;
-        if follows(Uid(u), Uid(upto)) {
+        if follows(u, upto) {
             upto = u;
         } else {
-            o = put_part(queue, o, limit, Uid(from), Uid(upto));
+            o = put_part(queue, o, limit, from, upto);
             from = u;
             upto = u;
         }
     }
-    put_run(queue, o, limit, Uid(from), Uid(upto))
+    put_run(queue, o, limit, from, upto)
 }
 
 // A number behind its label, where it was asked for.
@@ -80,6 +81,14 @@ fn put_labelled(queue: &mut [u8], at: usize, limit: usize, on: bool, label: &[u8
     }
     let a = out::put(queue, at, limit, label);
     out::put_number(queue, a, limit, n)
+}
+
+// A UID behind its label.
+fn put_uid(queue: &mut [u8], at: usize, limit: usize, on: bool, label: &[u8], u: Uid) -> usize
+    requires { ⌜ (limit ≤ length (now queue)) × (at ≤ 274877906944) × (length (now label) ≤ 8) ⌝ }
+    ensures { λ r. ⌜ (Put (now (queue .entry)) at limit (cond on (now (label .entry) ++ decimal (u .0)) []) (now (queue .exit)) r) × (r ≤ at + 28) ⌝ }
+{
+    put_labelled(queue, at, limit, on, label, u.0)
 }
 
 fn put_all(queue: &mut [u8], at: usize, limit: usize, on: bool, uids: &[u64], n: usize) -> usize
@@ -124,10 +133,10 @@ fn put_results(
     requires { ⌜ ((limit ≤ length (now queue)) × (at ≤ 1073741824)) × ((1 ≤ n) × ((n ≤ length (now uids)) × (n ≤ 1048576))) ⌝ }
     ensures { λ r. ⌜ (Put (now (queue .entry)) at limit (resultsText w (uidsOf (take n (now (uids .entry))))) (now (queue .exit)) r) × (r ≤ at + 100 + 42 * n) ⌝ }
 {
-    let first = uids[0];
-    let last = uids[n - 1];
-    let a = put_labelled(queue, at, limit, w.least, b" MIN ", first);
-    let b = put_labelled(queue, a, limit, w.most, b" MAX ", last);
+    let first = Uid(uids[0]);
+    let last = Uid(uids[n - 1]);
+    let a = put_uid(queue, at, limit, w.least, b" MIN ", first);
+    let b = put_uid(queue, a, limit, w.most, b" MAX ", last);
     let c = put_all(queue, b, limit, w.every, uids, n);
     put_labelled(queue, c, limit, w.count, b" COUNT ", n as u64)
 }

@@ -2,7 +2,6 @@ use Rattle.found.proofs.find.Statement.{statement}
 use Rattle.found.proofs.find.Tie as tie
 use Rattle.found.proofs.find.Reads as reads
 use Rattle.found.proofs.find.Lts as lts
-use Rattle.found.proofs.entry_at.Reads as entry-at-reads
 use Rattle.found.proofs.is_hit.Reads as is-hit-reads
 use Rattle.found.proofs.push.Reads as push-reads
 use Rattle.found.specs.Laws.{Sought, find-none, sought-start, sought-next, sought-end}
@@ -27,12 +26,12 @@ shared-slice-read-bottom : tie.Need-shared-slice-read-bottom Inv-loop μ-loop
 shared-slice-read-bottom c = search needs
 
 -- src/lib.rt:84:9
-entry-at-requires : tie.Need-entry-at-requires Inv-loop μ-loop
-entry-at-requires c κs = search needs
+entry-requires : tie.Need-entry-requires Inv-loop μ-loop
+entry-requires c κs = search needs
 
 -- src/lib.rt:88:5
 loop-holds : tie.Need-loop-holds Inv-loop μ-loop
-loop-holds c = sought-start (messages (c .before .before .before .before .before .before .before .before .args .words .now)) (c .before .before .before .before .before .before .before .before .args .order .now) (c .before .before .before .before .before .before .before .before .args .n) (c .before .before .before .before .before .before .before .before .args .cells .now) (c .before .before .before .before .before .before .before .before .args .used) (c .before .entry-at .result .uid) (c .before .before .before .before .before .before .before .before .args .uids .now)
+loop-holds c = sought-start (messages (c .before .before .before .before .before .before .before .before .args .words .now)) (c .before .before .before .before .before .before .before .before .args .order .now) (c .before .before .before .before .before .before .before .before .args .n) (c .before .before .before .before .before .before .before .before .args .cells .now) (c .before .before .before .before .before .before .before .before .args .used) (c .before .entry .result .uid) (c .before .before .before .before .before .before .before .before .args .uids .now)
 
 -- src/lib.rt:89:9
 sub-k : tie.Need-sub-k Inv-loop μ-loop
@@ -47,8 +46,8 @@ shared-slice-read-i : tie.Need-shared-slice-read-i Inv-loop μ-loop
 shared-slice-read-i c = let f = c .before .before .loop .inv .few in omega arith
 
 -- src/lib.rt:91:13
-entry-at-requires-2 : tie.Need-entry-at-requires-2 Inv-loop μ-loop
-entry-at-requires-2 c κs = search needs
+entry-requires-2 : tie.Need-entry-requires-2 Inv-loop μ-loop
+entry-requires-2 c κs = search needs
 
 -- src/lib.rt:94:36
 sub-t20 : tie.Need-sub-t20 Inv-loop μ-loop
@@ -68,7 +67,7 @@ loop-less c = omega arith
 
 -- src/lib.rt:88:5
 loop-again : tie.Need-loop-again Inv-loop μ-loop
-loop-again c = let f = c .before .before .before .before .before .before .before .before .loop .inv .few in let g = c .before .before .before .before .before .before .before .before .loop .inv .long in sought-next (messages (c .before .before .before .before .before .before .before .before .before .before .before .before .before .before .before .before .before .args .words .now)) (c .before .before .before .before .before .before .before .before .before .before .before .before .before .before .before .before .before .args .order .now) (c .before .before .before .before .before .before .before .before .before .before .before .before .before .before .before .before .before .args .n) (c .before .before .before .before .before .before .before .before .before .before .before .before .before .before .before .before .before .args .cells .now) (c .before .before .before .before .before .before .before .before .before .before .before .before .before .before .before .before .before .args .used) (c .before .before .before .before .before .before .before .before .before .before .entry-at .result .uid) (c .before .before .before .before .before .before .before .before .before .before .before .before .before .before .before .before .before .args .uids .now) (c .before .before .before .before .before .before .before .before .loop .uids) (c .before .before .before .before .before .before .before .before .loop .k) (c .before .before .before .before .before .before .before .before .loop .r) (c .before .before .before .before .before .before .before .before .loop .inv) (c .before .before .before .before .before .before .before .loop-test .taken) (c .before .before .before .before .before .entry-at2 .result) (c .before .before .before .before .before .entry-at2 .ensures) (c .before .before .before .before .is-hit .result) (c .before .before .before .before .is-hit .ensures) (omega arith) _ (c .before .before .push .result) (c .before .before .push .ensures)
+loop-again c = let f = c .before .before .before .before .before .before .before .before .loop .inv .few in let g = c .before .before .before .before .before .before .before .before .loop .inv .long in sought-next (messages (c .before .before .before .before .before .before .before .before .before .before .before .before .before .before .before .before .before .args .words .now)) (c .before .before .before .before .before .before .before .before .before .before .before .before .before .before .before .before .before .args .order .now) (c .before .before .before .before .before .before .before .before .before .before .before .before .before .before .before .before .before .args .n) (c .before .before .before .before .before .before .before .before .before .before .before .before .before .before .before .before .before .args .cells .now) (c .before .before .before .before .before .before .before .before .before .before .before .before .before .before .before .before .before .args .used) (c .before .before .before .before .before .before .before .before .before .before .entry .result .uid) (c .before .before .before .before .before .before .before .before .before .before .before .before .before .before .before .before .before .args .uids .now) (c .before .before .before .before .before .before .before .before .loop .uids) (c .before .before .before .before .before .before .before .before .loop .k) (c .before .before .before .before .before .before .before .before .loop .r) (c .before .before .before .before .before .before .before .before .loop .inv) (c .before .before .before .before .before .before .before .loop-test .taken) (c .before .before .before .before .before .entry2 .result) (c .before .before .before .before .before .entry2 .ensures) (c .before .before .before .before .is-hit .result) (c .before .before .before .before .is-hit .ensures) (omega arith) _ (c .before .before .push .result) (c .before .before .push .ensures)
 
 -- src/lib.rt:69:1
 same-length : tie.Need-same-length Inv-loop μ-loop
@@ -76,7 +75,7 @@ same-length c = c .before .loop .inv .long
 
 -- src/lib.rt:69:1
 returns-2 : tie.Need-returns-2 Inv-loop μ-loop
-returns-2 c = sought-end (messages (c .before .before .before .before .before .before .before .before .before .before .args .words .now)) (c .before .before .before .before .before .before .before .before .before .before .args .order .now) (c .before .before .before .before .before .before .before .before .before .before .args .n) (c .before .before .before .before .before .before .before .before .before .before .args .cells .now) (c .before .before .before .before .before .before .before .before .before .before .args .used) (c .before .before .before .entry-at .result .uid) (c .before .before .before .before .before .before .before .before .before .before .args .uids .now) (c .before .loop .uids) (c .before .loop .k) (c .before .loop .r) (c .before .loop .inv) (c .loop-test .left) (c .before .before .before .before .before .if1 .left) (ap (λ (e : Message). e .uid) (c .before .before .before .entry-at .ensures))
+returns-2 c = sought-end (messages (c .before .before .before .before .before .before .before .before .before .before .args .words .now)) (c .before .before .before .before .before .before .before .before .before .before .args .order .now) (c .before .before .before .before .before .before .before .before .before .before .args .n) (c .before .before .before .before .before .before .before .before .before .before .args .cells .now) (c .before .before .before .before .before .before .before .before .before .before .args .used) (c .before .before .before .entry .result .uid) (c .before .before .before .before .before .before .before .before .before .before .args .uids .now) (c .before .loop .uids) (c .before .loop .k) (c .before .loop .r) (c .before .loop .inv) (c .loop-test .left) (c .before .before .before .before .before .if1 .left) (ap (λ (e : Message). e .uid) (c .before .before .before .entry .ensures))
 
 pub find-spec : {M : Type 1} → statement M
 find-spec =
@@ -86,12 +85,12 @@ find-spec =
     μ-loop
     returns
     shared-slice-read-bottom
-    entry-at-requires
+    entry-requires
     loop-holds
     sub-k
     mul-i
     shared-slice-read-i
-    entry-at-requires-2
+    entry-requires-2
     sub-t20
     is-hit-requires
     push-requires

@@ -16,7 +16,7 @@ use Rattle.found.specs.Runs.{row-longer, idAt}
 
 abbrev Inv-loop : tie.InvT-loop
 Inv-loop words used selected below ids rows n cells filled order₀ view₀ uids₀ starts₀ counts₀ i₀ total₀ order view uids starts counts i total =
-    (i ≤ n) × ((length order ≡ length order₀) × (length view ≡ length view₀)) × (length uids ≡ length uids₀) × ((length starts ≡ length starts₀) × (length counts ≡ length counts₀)) × Finding (take used (messages words)) ids rows n selected below cells filled uids starts counts i total
+    (i ≤ n) × ((length order ≡ length order₀) × (length view ≡ length view₀)) × (length uids ≡ length uids₀) × ((length starts ≡ length starts₀) × (length counts ≡ length counts₀)) × Finding (take used (messages words)) ids rows n selected (below .0) cells filled uids starts counts i total
 
 abbrev μ-loop : tie.MeasureT-loop
 μ-loop words used selected below ids rows n cells filled order₀ view₀ uids₀ starts₀ counts₀ i₀ total₀ order view uids starts counts i total =
@@ -24,7 +24,7 @@ abbrev μ-loop : tie.MeasureT-loop
 
 -- src/lib.rt:216:5
 loop-holds : tie.Need-loop-holds Inv-loop μ-loop
-loop-holds c = (omega arith, (refl, refl), refl, (refl, refl), finding-start (take (c .before .before .before .before .before .before .before .before .args .used) (messages (c .before .before .before .before .before .before .before .before .args .words .now))) (c .before .before .before .before .before .before .before .before .args .ids .now) (c .before .before .before .before .before .before .before .before .args .rows .now) (c .before .before .before .before .before .before .before .before .args .n) (c .before .before .before .before .before .before .before .before .args .selected) (c .before .before .before .before .before .before .before .before .args .below) (c .before .before .before .before .before .before .before .before .args .cells .now) (c .before .before .before .before .before .before .before .before .args .filled) _ _ _)
+loop-holds c = (omega arith, (refl, refl), refl, (refl, refl), finding-start (take (c .before .before .before .before .before .before .before .before .args .used) (messages (c .before .before .before .before .before .before .before .before .args .words .now))) (c .before .before .before .before .before .before .before .before .args .ids .now) (c .before .before .before .before .before .before .before .before .args .rows .now) (c .before .before .before .before .before .before .before .before .args .n) (c .before .before .before .before .before .before .before .before .args .selected) (c .before .before .before .before .before .before .before .before .args .below .0) (c .before .before .before .before .before .before .before .before .args .cells .now) (c .before .before .before .before .before .before .before .before .args .filled) _ _ _)
 
 -- src/lib.rt:217:9
 sub-i : tie.Need-sub-i Inv-loop μ-loop
@@ -114,8 +114,8 @@ loop-again c =
       (search needs, search needs),
       c .before .uids .given .1 ∙ l,
       (search needs, search needs),
-      finding-next es (c .before .before .before .before .before .before .before .before .before .before .before .before .before .before .before .before .before .before .before .before .before .before .before .args .ids .now) (c .before .before .before .before .before .before .before .before .before .before .before .before .before .before .before .before .before .before .before .before .before .before .before .args .rows .now) (c .before .before .before .before .before .before .before .before .before .before .before .before .before .before .before .before .before .before .before .before .before .before .before .args .n) (c .before .before .before .before .before .before .before .before .before .before .before .before .before .before .before .before .before .before .before .before .before .before .before .args .selected) (c .before .before .before .before .before .before .before .before .before .before .before .before .before .before .before .before .before .before .before .before .before .before .before .args .below) (c .before .before .before .before .before .before .before .before .before .before .before .before .before .before .before .before .before .before .before .before .before .before .before .args .cells .now) (c .before .before .before .before .before .before .before .before .before .before .before .before .before .before .before .before .before .before .before .before .before .before .before .args .filled) (c .before .before .before .before .before .before .before .before .before .before .before .before .before .before .loop .uids) (c .before .before .before .before .before .before .before .before .before .before .before .before .before .before .loop .starts) (c .before .before .before .before .before .before .before .before .before .before .before .before .before .before .loop .counts) (c .before .before .before .before .before .before .before .before .before .before .before .before .before .before .loop .i) (c .before .before .before .before .before .before .before .before .before .before .before .before .before .before .loop .total) (c .before .before .before .before .before .before .before .before .before .before .before .before .before .before .loop .inv .4) h i (omega arith) (omega arith) (c .before .before .before .before .before .before .before .before .before .before .within .result) w (omega arith) (c .before .before .before .before .before .before .before .before .before .before .within .ensures .1) _ (c .before .before .before .before .before .before .search-row .result) (omega arith)
-          (row-longer es (idAt (c .before .before .before .before .before .before .before .before .before .before .before .before .before .before .before .before .before .before .before .before .before .before .before .args .ids .now) (c .before .before .before .before .before .before .before .before .before .before .before .before .before .before .before .before .before .before .before .before .before .before .before .args .rows .now) (c .before .before .before .before .before .before .before .before .before .before .before .before .before .before .loop .i - 1)) (c .before .before .before .before .before .before .before .before .before .before .before .before .before .before .before .before .before .before .before .before .before .before .before .args .selected) (c .before .before .before .before .before .before .before .before .before .before .before .before .before .before .before .before .before .before .before .before .before .before .before .args .below) (c .before .before .before .before .before .before .before .before .before .before .before .before .before .before .before .before .before .before .before .before .before .before .before .args .cells .now) (c .before .before .before .before .before .before .before .before .before .before .before .before .before .before .before .before .before .before .before .before .before .before .before .args .filled) _ (c .before .before .before .before .before .before .search-row .result) (c .before .before .before .before .before .before .search-row .ensures .0) (omega arith) _),
+      finding-next es (c .before .before .before .before .before .before .before .before .before .before .before .before .before .before .before .before .before .before .before .before .before .before .before .args .ids .now) (c .before .before .before .before .before .before .before .before .before .before .before .before .before .before .before .before .before .before .before .before .before .before .before .args .rows .now) (c .before .before .before .before .before .before .before .before .before .before .before .before .before .before .before .before .before .before .before .before .before .before .before .args .n) (c .before .before .before .before .before .before .before .before .before .before .before .before .before .before .before .before .before .before .before .before .before .before .before .args .selected) (c .before .before .before .before .before .before .before .before .before .before .before .before .before .before .before .before .before .before .before .before .before .before .before .args .below .0) (c .before .before .before .before .before .before .before .before .before .before .before .before .before .before .before .before .before .before .before .before .before .before .before .args .cells .now) (c .before .before .before .before .before .before .before .before .before .before .before .before .before .before .before .before .before .before .before .before .before .before .before .args .filled) (c .before .before .before .before .before .before .before .before .before .before .before .before .before .before .loop .uids) (c .before .before .before .before .before .before .before .before .before .before .before .before .before .before .loop .starts) (c .before .before .before .before .before .before .before .before .before .before .before .before .before .before .loop .counts) (c .before .before .before .before .before .before .before .before .before .before .before .before .before .before .loop .i) (c .before .before .before .before .before .before .before .before .before .before .before .before .before .before .loop .total) (c .before .before .before .before .before .before .before .before .before .before .before .before .before .before .loop .inv .4) h i (omega arith) (omega arith) (c .before .before .before .before .before .before .before .before .before .before .within .result) w (omega arith) (c .before .before .before .before .before .before .before .before .before .before .within .ensures .1) _ (c .before .before .before .before .before .before .search-row .result) (omega arith)
+          (row-longer es (idAt (c .before .before .before .before .before .before .before .before .before .before .before .before .before .before .before .before .before .before .before .before .before .before .before .args .ids .now) (c .before .before .before .before .before .before .before .before .before .before .before .before .before .before .before .before .before .before .before .before .before .before .before .args .rows .now) (c .before .before .before .before .before .before .before .before .before .before .before .before .before .before .loop .i - 1)) (c .before .before .before .before .before .before .before .before .before .before .before .before .before .before .before .before .before .before .before .before .before .before .before .args .selected) (c .before .before .before .before .before .before .before .before .before .before .before .before .before .before .before .before .before .before .before .before .before .before .before .args .below .0) (c .before .before .before .before .before .before .before .before .before .before .before .before .before .before .before .before .before .before .before .before .before .before .before .args .cells .now) (c .before .before .before .before .before .before .before .before .before .before .before .before .before .before .before .before .before .before .before .before .before .before .before .args .filled) _ (c .before .before .before .before .before .before .search-row .result) (c .before .before .before .before .before .before .search-row .ensures .0) (omega arith) _),
     )
 
 -- src/lib.rt:195:1
@@ -140,7 +140,7 @@ same-length-5 c = search needs
 
 -- src/lib.rt:195:1
 returns : tie.Need-returns Inv-loop μ-loop
-returns c = finding-end (take (c .before .before .before .before .before .before .before .before .before .before .args .used) (messages (c .before .before .before .before .before .before .before .before .before .before .args .words .now))) (c .before .before .before .before .before .before .before .before .before .before .args .ids .now) (c .before .before .before .before .before .before .before .before .before .before .args .rows .now) (c .before .before .before .before .before .before .before .before .before .before .args .n) (c .before .before .before .before .before .before .before .before .before .before .args .selected) (c .before .before .before .before .before .before .before .before .before .before .args .below) (c .before .before .before .before .before .before .before .before .before .before .args .cells .now) (c .before .before .before .before .before .before .before .before .before .before .args .filled) _ _ _ (c .before .loop .i) (c .before .loop .total) (omega arith) (c .before .loop .inv .4)
+returns c = finding-end (take (c .before .before .before .before .before .before .before .before .before .before .args .used) (messages (c .before .before .before .before .before .before .before .before .before .before .args .words .now))) (c .before .before .before .before .before .before .before .before .before .before .args .ids .now) (c .before .before .before .before .before .before .before .before .before .before .args .rows .now) (c .before .before .before .before .before .before .before .before .before .before .args .n) (c .before .before .before .before .before .before .before .before .before .before .args .selected) (c .before .before .before .before .before .before .before .before .before .before .args .below .0) (c .before .before .before .before .before .before .before .before .before .before .args .cells .now) (c .before .before .before .before .before .before .before .before .before .before .args .filled) _ _ _ (c .before .loop .i) (c .before .loop .total) (omega arith) (c .before .loop .inv .4)
 
 pub find-runs-spec : {M : Type 1} → statement M
 find-runs-spec =

@@ -23,11 +23,11 @@ same-length c = search needs
 
 -- src/lib.rt:52:9
 returns : tie.Need-returns
-returns c = pushed-on (c .before .args .list .now) (c .before .args .r) (c .before .args .x) (c .before .args .on) (c .if1 .taken)
+returns c = pushed-on (c .before .args .list .now) (c .before .args .r) (c .before .args .x .0) (c .before .args .on) (c .if1 .taken)
 
 -- src/lib.rt:46:1
 returns-2 : tie.Need-returns-2
-returns-2 c = pushed-off (c .before .args .list .now) (c .before .args .r) (c .before .args .x) (c .before .args .on) (c .if1 .left)
+returns-2 c = pushed-off (c .before .args .list .now) (c .before .args .r) (c .before .args .x .0) (c .before .args .on) (c .if1 .left)
 
 pub push-spec : {M : Type 1} → statement M
 push-spec = tie.close (tie.spec mul-list slice-write-list add-result same-length returns returns-2)

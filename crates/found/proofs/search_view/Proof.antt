@@ -36,7 +36,7 @@ same-length-3 c = search needs
 
 -- src/lib.rt:27:1
 returns : tie.Need-returns
-returns c = view-searched (messages (c .before .before .before .before .before .before .before .before .before .before .before .before .before .before .before .before .before .before .before .args .words .now)) (c .before .before .before .before .before .before .before .before .before .before .before .before .before .before .before .before .before .before .before .args .used) (c .before .before .before .before .before .before .before .before .before .before .before .before .before .before .before .before .before .before .before .args .id) _ (c .before .before .before .before .before .before .before .before .before .before .before .before .by-uid .result) (c .before .before .before .before .before .before .before .before .before .before .before .before .by-uid .ensures) (c .before .before .before .before .before .before .before .before .before .before .before .before .before .before .before .before .before .before .before .args .below) _ _ (c .before .before .before .before .before .before .before .told-of .result) (c .before .before .before .before .before .before .before .told-of .ensures) (c .before .before .before .before .before .before .before .before .before .before .before .before .before .before .before .before .before .before .before .args .cells .now) (c .before .before .before .before .before .before .before .before .before .before .before .before .before .before .before .before .before .before .before .args .filled) _ _ (c .before .before .find .result) (c .before .before .find .ensures)
+returns c = view-searched (messages (c .before .before .before .before .before .before .before .before .before .before .before .before .before .before .before .before .before .before .before .args .words .now)) (c .before .before .before .before .before .before .before .before .before .before .before .before .before .before .before .before .before .before .before .args .used) (c .before .before .before .before .before .before .before .before .before .before .before .before .before .before .before .before .before .before .before .args .id) _ (c .before .before .before .before .before .before .before .before .before .before .before .before .by-uid .result) (c .before .before .before .before .before .before .before .before .before .before .before .before .by-uid .ensures) (c .before .before .before .before .before .before .before .before .before .before .before .before .before .before .before .before .before .before .before .args .below .0) _ _ (c .before .before .before .before .before .before .before .told-of .result) (c .before .before .before .before .before .before .before .told-of .ensures) (c .before .before .before .before .before .before .before .before .before .before .before .before .before .before .before .before .before .before .before .args .cells .now) (c .before .before .before .before .before .before .before .before .before .before .before .before .before .before .before .before .before .before .before .args .filled) _ _ (c .before .before .find .result) (c .before .before .find .ensures)
 
 pub search-view-spec : {M : Type 1} → statement M
 search-view-spec =

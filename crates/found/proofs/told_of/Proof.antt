@@ -2,7 +2,6 @@ use Rattle.found.proofs.told_of.Statement.{statement}
 use Rattle.found.proofs.told_of.Tie as tie
 use Rattle.found.proofs.told_of.Reads as reads
 use Rattle.found.proofs.told_of.Lts as lts
-use Rattle.found.proofs.entry_at.Reads as entry-at-reads
 use Rattle.found.proofs.push_place.Reads as push-place-reads
 use Rattle.found.specs.Laws.{Keeping, keeping-start, keeping-next, keeping-end}
 use Rattle.entries.specs.Words.{messages}
@@ -13,14 +12,14 @@ use mathlib.Core.Path.{_≡_, refl, sym, ap, _∙_}
 use borrow.Author.Needs.{needs}
 
 abbrev Inv-loop : tie.InvT-loop
-Inv-loop words order n told view₀ i₀ r₀ view i r = Keeping (messages words) order n told view₀ view i r
+Inv-loop words order n told view₀ i₀ r₀ view i r = Keeping (messages words) order n (told .0) view₀ view i r
 
 abbrev μ-loop : tie.MeasureT-loop
 μ-loop words order n told view₀ i₀ r₀ view i r = n - i
 
 -- src/lib.rt:111:5
 loop-holds : tie.Need-loop-holds Inv-loop μ-loop
-loop-holds c = keeping-start (messages (c .before .before .before .args .words .now)) (c .before .before .before .args .order .now) (c .before .before .before .args .n) (c .before .before .before .args .told) (c .before .before .before .args .view .now)
+loop-holds c = keeping-start (messages (c .before .before .before .args .words .now)) (c .before .before .before .args .order .now) (c .before .before .before .args .n) (c .before .before .before .args .told .0) (c .before .before .before .args .view .now)
 
 -- src/lib.rt:112:21
 mul-place : tie.Need-mul-place Inv-loop μ-loop
@@ -31,12 +30,12 @@ shared-slice-read-place : tie.Need-shared-slice-read-place Inv-loop μ-loop
 shared-slice-read-place c = search needs
 
 -- src/lib.rt:113:13
-entry-at-requires : tie.Need-entry-at-requires Inv-loop μ-loop
-entry-at-requires c κs = search needs
+entry-requires : tie.Need-entry-requires Inv-loop μ-loop
+entry-requires c κs = search needs
 
 -- src/lib.rt:115:9
 push-place-requires : tie.Need-push-place-requires Inv-loop μ-loop
-push-place-requires c κs = let f = c .before .before .before .before .before .loop .inv .few in let g = c .before .before .before .before .before .loop .inv .long in omega arith
+push-place-requires c κs = let f = c .before .before .before .before .before .before .loop .inv .few in let g = c .before .before .before .before .before .before .loop .inv .long in omega arith
 
 -- src/lib.rt:116:9
 add-i : tie.Need-add-i Inv-loop μ-loop
@@ -48,7 +47,11 @@ loop-less c = search needs
 
 -- src/lib.rt:111:5
 loop-again : tie.Need-loop-again Inv-loop μ-loop
-loop-again c = let f = c .before .before .before .before .before .before .before .before .loop .inv .few in let g = c .before .before .before .before .before .before .before .before .loop .inv .long in keeping-next (messages (c .before .before .before .before .before .before .before .before .before .before .before .before .args .words .now)) (c .before .before .before .before .before .before .before .before .before .before .before .before .args .order .now) (c .before .before .before .before .before .before .before .before .before .before .before .before .args .n) (c .before .before .before .before .before .before .before .before .before .before .before .before .args .told) (c .before .before .before .before .before .before .before .before .before .before .before .before .args .view .now) (c .before .before .before .before .before .before .before .before .loop .view) (c .before .before .before .before .before .before .before .before .loop .i) (c .before .before .before .before .before .before .before .before .loop .r) (c .before .before .before .before .before .before .before .before .loop .inv) (c .before .before .before .before .before .before .before .loop-test .taken) (c .before .before .before .before .before .entry-at .result) (c .before .before .before .before .before .entry-at .ensures) _ refl (omega arith) _ (c .before .before .push-place .result) (c .before .before .push-place .ensures)
+loop-again c =
+    let f = c .before .before .before .before .before .before .before .before .before .loop .inv .few in
+    let g = c .before .before .before .before .before .before .before .before .before .loop .inv .long in
+    let a = c .before .before .before .before .before .before .before .before .before .before .before .before .before .args in
+    keeping-next (messages (a .words .now)) (a .order .now) (a .n) (a .told .0) (a .view .now) (c .before .before .before .before .before .before .before .before .before .loop .view) (c .before .before .before .before .before .before .before .before .before .loop .i) (c .before .before .before .before .before .before .before .before .before .loop .r) (c .before .before .before .before .before .before .before .before .before .loop .inv) (c .before .before .before .before .before .before .before .before .loop-test .taken) (c .before .before .before .before .before .before .entry .result) (c .before .before .before .before .before .before .entry .ensures) _ refl (omega arith) _ (c .before .before .push-place .result) (c .before .before .push-place .ensures)
 
 -- src/lib.rt:105:1
 same-length : tie.Need-same-length Inv-loop μ-loop
@@ -56,7 +59,7 @@ same-length c = c .before .loop .inv .long
 
 -- src/lib.rt:105:1
 returns : tie.Need-returns Inv-loop μ-loop
-returns c = keeping-end (messages (c .before .before .before .before .before .args .words .now)) (c .before .before .before .before .before .args .order .now) (c .before .before .before .before .before .args .n) (c .before .before .before .before .before .args .told) (c .before .before .before .before .before .args .view .now) (c .before .loop .view) (c .before .loop .i) (c .before .loop .r) (c .before .loop .inv) (c .loop-test .left)
+returns c = keeping-end (messages (c .before .before .before .before .before .args .words .now)) (c .before .before .before .before .before .args .order .now) (c .before .before .before .before .before .args .n) (c .before .before .before .before .before .args .told .0) (c .before .before .before .before .before .args .view .now) (c .before .loop .view) (c .before .loop .i) (c .before .loop .r) (c .before .loop .inv) (c .loop-test .left)
 
 pub told-of-spec : {M : Type 1} → statement M
 told-of-spec =
@@ -67,7 +70,7 @@ told-of-spec =
     loop-holds
     mul-place
     shared-slice-read-place
-    entry-at-requires
+    entry-requires
     push-place-requires
     add-i
     loop-less

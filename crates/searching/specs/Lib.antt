@@ -1,0 +1,4 @@
+pub mod Headed
+pub mod Finding
+pub mod Lines
+pub mod Coming

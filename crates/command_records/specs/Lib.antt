@@ -1,0 +1,7 @@
+pub mod Left
+pub mod Sized
+pub mod Listed
+pub mod Owing
+pub mod Setting
+pub mod Verbs
+pub mod Worded

@@ -1,0 +1,139 @@
+// A command, `CM`: answered from its text to the last octet of its answer. This file has the tagged line alone, and the whole.
+pub mod notifying;
+pub mod sets;
+
+use model::Answer;
+use model::Counts;
+use model::Mailbox;
+use model::Refusal;
+use model::Reply;
+use model::Session;
+use outcomes::Outcome;
+use read_commands::Judged;
+use read_options::Verb;
+ghost use mathlib.Core.Path.{_≡_};
+ghost use mathlib.Core.Bool.{false, not};
+ghost use mathlib.Core.List.{List};
+ghost use Prim.Native.Nat.{ℕ, _+_, _*_, _≤_, _<_};
+ghost use lib.Dec.{eqb};
+ghost use lib.ListN.{length};
+ghost use Rattle.model.specs.Memory.{Memory, boxes, selectedBox};
+ghost use Rattle.model.specs.Commands.{commandOf};
+ghost use Rattle.model.specs.Limits.{limits};
+ghost use Rattle.model.specs.Records.{command};
+ghost use Rattle.model.specs.Answering.{verb as verbOf, isAccepted, reply as replyOf};
+ghost use Rattle.demands.specs.Lasting.Law.{Law};
+ghost use Rattle.rows.specs.Columns.{Laid};
+ghost use Rattle.read_commands.specs.Judging.{wordOf, judgedOf};
+ghost use Rattle.outcomes.specs.Coming.{Lends, Ready, Comes, ladder};
+ghost use Rattle.command_records.specs.Left.{upto};
+
+// ---- the tagged line alone
+
+// The counts with so many messages, and a queue that ends elsewhere.
+fn with_counts(counts: Counts, used: usize, end: usize) -> Counts
+    ensures { λ r. ⌜ r ≡ upto counts used end ⌝ }
+{
+    Counts {
+        mailboxes: counts.mailboxes,
+        messages: used as u64,
+        filled: end as u64,
+    }
+}
+
+// The counts with a queue that ends elsewhere.
+fn ending_at(counts: Counts, end: usize) -> Counts
+    ensures { λ r. ⌜ r ≡ upto counts (counts .messages) end ⌝ }
+{
+    Counts {
+        mailboxes: counts.mailboxes,
+        messages: counts.messages,
+        filled: end as u64,
+    }
+}
+
+// A command that is not accepted: its tagged line, where that finds room.
+pub fn refuse(
+    queue: &mut [u8],
+    counts: Counts,
+    s: Session,
+    text: &[u8],
+    verb: Verb,
+    reply: Reply,
+) -> Outcome
+    requires { ⌜ (64 ≤ length (now queue)) × (counts .filled ≤ 65536) ⌝ }
+    ensures { λ r. ⌜ ((m : Memory) (ws : List ℕ) → Lends m ws counts s (now (queue .entry)) → wordOf verb ≡ verbOf (commandOf (now (text .entry))) → reply ≡ replyOf m (now (text .entry)) → isAccepted reply ≡ false → Comes m (ladder m (command (now (text .entry)))) r ws ws (now (queue .exit))) ⌝ }
+{
+    let filled = counts.filled as usize;
+    let said = answers::say_reply(queue, filled, text, verb, reply);
+    if said.fits {
+        return outcomes::unmoved(Answer::Done, ending_at(counts, said.end), s);
+    }
+    outcomes::refused(Refusal::NoRoom, counts, s)
+}
+
+// ---- the whole command
+
+// Whose answer it is, and the reply before sizes. No key is kept: one cell is as good as many.
+fn judged(text: &[u8], s: Session) -> Judged
+    requires { ⌜ length (now text) ≤ 1024 ⌝ }
+    ensures { λ r. ⌜ r ≡ judgedOf limits (not (eqb (s .selected) 0)) (commandOf (now (text .entry))) ⌝ }
+{
+    let mut cells = [0u64; 1];
+    read_commands::judge(text, s.selected != 0, read_commands::limits(), &mut cells)
+}
+
+// A command from its text on; x is the selected mailbox's row. A verb that is none was refused before.
+pub fn answer(
+    words: &mut [u64],
+    queue: &mut [u8],
+    counts: Counts,
+    s: Session,
+    ids: &[u64; 64],
+    attributes: &[u8; 64],
+    lens: &[u8; 64],
+    validities: &[u64; 64],
+    nexts: &[u64; 64],
+    names: &[u8; 4096],
+    x: Mailbox,
+    text: &[u8],
+) -> Outcome
+    requires { ⌜ (Ready (now words) counts s (now queue)) × (length (now text) ≤ 1024) ⌝ }
+    ensures { λ r. ⌜ ((m : Memory) → Lends m (now (words .entry)) counts s (now (queue .entry)) → Law m → Laid (boxes m) (now (ids .entry)) (now (attributes .entry)) (now (lens .entry)) (now (validities .entry)) (now (nexts .entry)) (now (names .entry)) → x ≡ selectedBox m → Comes m (ladder m (command (now (text .entry)))) r (now (words .entry)) (now (words .exit)) (now (queue .exit))) ⌝ }
+{
+    let first = judged(text, s);
+    let verb = first.verb;
+    let reply = first.reply;
+    if !answers::is_accepted(reply) {
+        return refuse(queue, counts, s, text, verb, reply);
+    }
+    match verb {
+        Verb::Notify => notifying::notify(
+            words,
+            queue,
+            counts,
+            s,
+            ids,
+            attributes,
+            lens,
+            validities,
+            nexts,
+            names,
+            x,
+            text,
+        ),
+        Verb::Esearch => searching::answer(
+            words,
+            queue,
+            counts,
+            s,
+            ids,
+            attributes,
+            lens,
+            validities,
+            names,
+            text,
+        ),
+        Verb::Other => outcomes::refused(Refusal::NoRoom, counts, s),
+    }
+}

@@ -1,14 +1,12 @@
 -- The answer to a search by its size, and what it comes to. Assumes nothing.
 use mathlib.Core.Path.{_≡_, refl, ap, ap₂, sym, _∙_, subst}
-use mathlib.Core.Bool.{Bool, true, false, not, cond, _&&_}
+use mathlib.Core.Bool.{Bool, true, false, not, cond}
 use mathlib.Core.List.{List}
-use Prim.Native.Nat.{ℕ, _+_, _-_, _*_, _<_, _≤_}
+use Prim.Native.Nat.{ℕ, _-_, _<_, _≤_}
 use native.Mathlib.Omega.{arith}
 use borrow.Author.Tests.{leb-true}
-use lib.Dec.{leb}
 use lib.ListN.{length, take}
 use lib.Seq.{length-take-le}
-use Rattle.model.specs.Laws.{tf}
 use Rattle.model.specs.Requests.{esearch, Command, Search, search}
 use Rattle.model.specs.Reading.{Parsed, ok}
 use Rattle.model.specs.Commands.{tagOf, commandOf}
@@ -17,7 +15,7 @@ use Rattle.model.specs.Lines.{answer, render, renderAll}
 use Rattle.model.specs.Memory.{Memory, boxes, mails, filled}
 use Rattle.model.specs.Replies.{replyOf, refused, badEvent, notSupported, badCharset}
 use Rattle.model.specs.Answering.{someSelected, isAccepted, firstReply, reply, answerLines, verb, noRoom}
-use Rattle.model.specs.Rules.{Outcome, accepted}
+use Rattle.model.specs.Rules.{accepted}
 use Rattle.model.specs.Records.{command}
 use Rattle.model.specs.Call.{refuse}
 use Rattle.model.specs.Queue.{written}

@@ -1,13 +1,13 @@
 -- What a search asks, which rows it searches, and what it finds in them. Assumes nothing.
 use mathlib.Core.Path.{_≡_, refl, ap, sym, _∙_, subst}
-use mathlib.Core.Bool.{Bool, true, false, cond, _&&_}
+use mathlib.Core.Bool.{Bool, true, false, _&&_}
 use mathlib.Core.List.{List}
-use Prim.Native.Nat.{ℕ, _+_, _*_, _<_, _≤_}
+use Prim.Native.Nat.{ℕ, _+_, _≤_}
 use native.Mathlib.Omega.{arith}
-use lib.ListN.{length, take, getD}
+use lib.ListN.{length, take}
 use Rattle.model.specs.Lists.{anyb, apart}
-use Rattle.model.specs.Requests.{Filter, Command, Search, search}
-use Rattle.model.specs.Reading.{Parsed, bad, ok}
+use Rattle.model.specs.Requests.{Filter, Search, search}
+use Rattle.model.specs.Reading.{ok}
 use Rattle.model.specs.SearchGrammar.{searchAt}
 use Rattle.model.specs.Commands.{commandOf}
 use Rattle.model.specs.Limits.{limits, tooLarge}
@@ -16,8 +16,6 @@ use Rattle.model.specs.Lines.{renderAll}
 use Rattle.model.specs.Memory.{Memory, boxes, mails, mayRead}
 use Rattle.model.specs.Searching.{admits, orSelected, foundLines}
 use Rattle.model.specs.declared.Mailbox.{Mailbox}
-use Rattle.model.specs.declared.Message.{Message}
-use Rattle.read_options.specs.declared.Returns.{Returns}
 use Rattle.read_search.specs.Parts.{inAt}
 use Rattle.read_search.specs.Searched.{readSearch, Within, ReadsSearch}
 use Rattle.read_search.specs.Listing.{nothingListed, addAll, keptSources}

@@ -13,7 +13,7 @@ use Rattle.model.specs.Requests.{Verb as Word, notify, esearch, otherVerb, Aske
 use Rattle.model.specs.Reading.{Parsed, bad, ok, andThen, afterBy, stands, endOf, atomAt, wordAt}
 use Rattle.model.specs.NotifyGrammar.{groupsAt, setBy, Form, cancel, replace, formless, formAt, notifyBy, notifyAt}
 use Rattle.model.specs.SearchGrammar.{searchAt}
-use Rattle.model.specs.Commands.{tagEnd, tagged, tagOf, verbAt, commandBy, commandAt, wholeLine, commandOf}
+use Rattle.model.specs.Commands.{tagEnd, tagged, tagOf, verbAt, commandBy, commandAt, commandOf}
 use Rattle.octets.specs.Rows.{in-text}
 use Rattle.read_options.specs.Heads.{readVerb, VerbWithin, ReadsVerb}
 use Rattle.read_options.specs.declared.Verb.{Verb}

@@ -1,11 +1,11 @@
 -- The lines of a search and its tagged line, as code writes them one after the other. Assumes nothing.
-use mathlib.Core.Path.{_≡_, refl, ap, ap₂, sym, _∙_}
-use mathlib.Core.Bool.{Bool, true, false}
+use mathlib.Core.Path.{_≡_, ap, ap₂, sym, _∙_}
+use mathlib.Core.Bool.{false}
 use mathlib.Core.List.{List, [], _∷_, _++_, append-nil}
-use Prim.Native.Nat.{ℕ, _+_, _-_, _*_, _<_, _≤_}
+use Prim.Native.Nat.{ℕ, _+_, _-_, _<_, _≤_}
 use native.Mathlib.Omega.{arith}
 use lib.ListN.{length, length-append}
-use Rattle.model.specs.Requests.{esearch, Search, search}
+use Rattle.model.specs.Requests.{esearch, Command, Search, search}
 use Rattle.model.specs.Reading.{Parsed, ok}
 use Rattle.model.specs.Commands.{tagOf, commandOf}
 use Rattle.model.specs.Limits.{limits, tooLarge}
@@ -70,4 +70,4 @@ module _ (text words : List ℕ) (used s told : ℕ) (ids attributes lens names 
       let l : Line = answer (tagOf text) esearch Accepted in
       ap₂ (λ (a b : List ℕ). a ++ b) lines-found (sym (append-nil (render l)))
       ∙ (sym (render-both (foundLines m (tagOf text) q) (l ∷ []))
-      ∙ ap (λ (x : _). renderAll (acceptedLines m (tagOf text) x)) (sym c))
+      ∙ ap (λ (x : Parsed Command). renderAll (acceptedLines m (tagOf text) x)) (sym c))

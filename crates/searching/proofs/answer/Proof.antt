@@ -2,7 +2,6 @@
 use borrow.Author.Needs.{needs}
 use Rattle.searching.proofs.answer.Statement.{statement}
 use Rattle.searching.proofs.answer.Tie as tie
-use mathlib.Core.Path.{_≡_}
 use native.Mathlib.Omega.{arith}
 use lib.ListN.{length}
 use Rattle.mailboxes.specs.Free.{sizes}

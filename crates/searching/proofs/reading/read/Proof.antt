@@ -1,7 +1,7 @@
 -- `read`: a search by what was read of it, and a line that is none. Assumes nothing.
 use borrow.Author.Needs.{needs}
-use Rattle.searching.proofs.read.Statement.{statement}
-use Rattle.searching.proofs.read.Tie as tie
+use Rattle.searching.proofs.reading.read.Statement.{statement}
+use Rattle.searching.proofs.reading.read.Tie as tie
 use Rattle.searching.specs.Finding.{asks-is, asks-none}
 
 behind-word-requires : tie.Need-behind-word-requires

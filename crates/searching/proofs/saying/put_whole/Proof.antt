@@ -1,7 +1,7 @@
 -- `put_whole`: the tagged line behind the lines. Assumes nothing.
 use borrow.Author.Needs.{needs}
-use Rattle.searching.proofs.put_whole.Statement.{statement}
-use Rattle.searching.proofs.put_whole.Tie as tie
+use Rattle.searching.proofs.saying.put_whole.Statement.{statement}
+use Rattle.searching.proofs.saying.put_whole.Tie as tie
 use Rattle.out.specs.Put.{_then_}
 
 put-lines-requires : tie.Need-put-lines-requires

@@ -1,7 +1,7 @@
 -- `behind_word`: the verb behind the tag, where the line is a search. Assumes nothing.
 use borrow.Author.Needs.{needs}
-use Rattle.searching.proofs.behind_word.Statement.{statement}
-use Rattle.searching.proofs.behind_word.Tie as tie
+use Rattle.searching.proofs.reading.behind_word.Statement.{statement}
+use Rattle.searching.proofs.reading.behind_word.Tie as tie
 use Rattle.searching.specs.Headed.{behind-found, behind-none}
 
 tag-end-requires : tie.Need-tag-end-requires

@@ -1,7 +1,7 @@
 -- `measure`: both parts are measured from one place. Assumes nothing.
 use borrow.Author.Needs.{needs}
-use Rattle.searching.proofs.measure.Statement.{statement}
-use Rattle.searching.proofs.measure.Tie as tie
+use Rattle.searching.proofs.saying.measure.Statement.{statement}
+use Rattle.searching.proofs.saying.measure.Tie as tie
 use Rattle.model.specs.Requests.{esearch}
 use Rattle.model.specs.Commands.{tagOf}
 use Rattle.model.specs.Lines.{answer}

@@ -1,7 +1,7 @@
 -- `tag_length`: the tag as it is cut out. Assumes nothing.
 use borrow.Author.Needs.{needs}
-use Rattle.searching.proofs.tag_length.Statement.{statement}
-use Rattle.searching.proofs.tag_length.Tie as tie
+use Rattle.searching.proofs.reading.tag_length.Statement.{statement}
+use Rattle.searching.proofs.reading.tag_length.Tie as tie
 use Rattle.searching.specs.Headed.{tags-by}
 
 tag-length-requires : tie.Need-tag-length-requires

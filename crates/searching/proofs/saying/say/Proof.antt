@@ -1,7 +1,7 @@
 -- `say`: too large, no room, or written. Assumes nothing.
 use borrow.Author.Needs.{needs}
-use Rattle.searching.proofs.say.Statement.{statement}
-use Rattle.searching.proofs.say.Tie as tie
+use Rattle.searching.proofs.saying.say.Statement.{statement}
+use Rattle.searching.proofs.saying.say.Tie as tie
 use mathlib.Core.Path.{refl, sym, _∙_}
 use native.Mathlib.Omega.{arith}
 use borrow.Author.Tests.{not-true, not-false}

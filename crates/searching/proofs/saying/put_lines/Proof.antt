@@ -1,7 +1,7 @@
 -- `put_lines`: the lines of the rows, with the line's tag. Assumes nothing.
 use borrow.Author.Needs.{needs}
-use Rattle.searching.proofs.put_lines.Statement.{statement}
-use Rattle.searching.proofs.put_lines.Tie as tie
+use Rattle.searching.proofs.saying.put_lines.Statement.{statement}
+use Rattle.searching.proofs.saying.put_lines.Tie as tie
 use mathlib.Core.Path.{ap, sym}
 use mathlib.Core.List.{List}
 use Prim.Native.Nat.{ℕ, _≤_}

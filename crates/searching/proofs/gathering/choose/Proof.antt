@@ -1,7 +1,7 @@
 -- `choose`: the rows that are noted, by name. Assumes nothing.
 use borrow.Author.Needs.{needs}
-use Rattle.searching.proofs.choose.Statement.{statement}
-use Rattle.searching.proofs.choose.Tie as tie
+use Rattle.searching.proofs.gathering.choose.Statement.{statement}
+use Rattle.searching.proofs.gathering.choose.Tie as tie
 use Rattle.searching.specs.Finding.{chooses}
 
 pick-requires : tie.Need-pick-requires

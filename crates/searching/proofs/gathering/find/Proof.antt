@@ -1,7 +1,7 @@
 -- `find`: what the line asks, its rows, and the runs of what is found in them. Assumes nothing.
 use borrow.Author.Needs.{needs}
-use Rattle.searching.proofs.find.Statement.{statement}
-use Rattle.searching.proofs.find.Tie as tie
+use Rattle.searching.proofs.gathering.find.Statement.{statement}
+use Rattle.searching.proofs.gathering.find.Tie as tie
 use native.Mathlib.Omega.{arith}
 use Rattle.searching.specs.Finding.{gathers}
 

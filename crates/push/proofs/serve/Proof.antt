@@ -1,0 +1,57 @@
+-- `serve`: the mailbox is found, and the record is served. Assumes nothing.
+use borrow.Author.Needs.{needs}
+use borrow.Author.Tests.{leb-true}
+use mathlib.Core.Path.{_≡_, refl, ap, _∙_}
+use lib.ListN.{length}
+use Rattle.model.specs.Memory.{boxes}
+use Rattle.model.specs.declared.Counts.{Counts}
+use Rattle.records.specs.Laws.{read-says}
+use Rattle.rows.specs.Rows.{boxes-long}
+use Rattle.outcomes.specs.Coming.{Placed}
+use Rattle.push.specs.Served.{placed}
+use Rattle.push.proofs.serve.Statement.{statement}
+use Rattle.push.proofs.serve.Tie as tie
+
+array-read-sought-id : tie.Need-array-read-sought-id
+array-read-sought-id c = search needs
+
+sought-id-requires : tie.Need-sought-id-requires
+sought-id-requires c κs = search needs
+
+find-requires : tie.Need-find-requires
+find-requires c κs = search needs
+
+row-at-requires : tie.Need-row-at-requires
+row-at-requires c κs = search needs
+
+dispatch-requires : tie.Need-dispatch-requires
+dispatch-requires c κs = let p = c .before .before .before .before .before .before .before .before .before .pre in (p .0, p .1, read-says (p .2) (p .3) _ refl, p .2 .kind)
+
+same-length : tie.Need-same-length
+same-length c = search needs
+
+same-length-2 : tie.Need-same-length-2
+same-length-2 c = search needs
+
+returns : tie.Need-returns
+returns c =
+    let a = c .before .before .before .before .before .before .before .before .before .before .before .before .before .before .args in
+    λ m lends law e len laid.
+    let long : length (boxes m) ≡ a .counts .mailboxes = boxes-long m (leb-true _ _ (law .used)) ∙ ap (λ (j : Counts). j .mailboxes) (lends .counts) in
+    let w : Placed m (c .before .before .before .before .before .before .before .before .before .sought-id .result) (c .before .before .before .before .before .before .before .before .find .result) (c .before .before .before .before .before .before .before .row-at .result) =
+    placed m (a .table) (c .before .before .before .before .before .before .before .before .before .sought-id .result) (c .before .before .before .before .before .before .before .before .find .result) (a .counts .mailboxes) (c .before .before .before .before .before .before .before .row-at .result) e
+    (c .before .before .before .before .before .before .before .before .find .ensures .0 (boxes m) long (laid .id)) (c .before .before .before .before .before .before .before .row-at .ensures) in
+    c .before .before .before .before .dispatch .ensures m lends law len (rw (← c .before .before .before .before .before .before .before .before .before .sought-id .ensures) w) laid
+
+pub serve-spec : {M : Type 1} → statement M
+serve-spec =
+    tie.close
+    (tie.spec
+    array-read-sought-id
+    sought-id-requires
+    find-requires
+    row-at-requires
+    dispatch-requires
+    same-length
+    same-length-2
+    returns)

@@ -1,0 +1,5 @@
+pub mod Steps
+pub mod Served
+pub mod Kinds
+pub mod Runs
+pub mod Isolated

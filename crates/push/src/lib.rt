@@ -1,0 +1,302 @@
+// The step: one record on lent memory. Refusal 1 and 2 are judged here; then each kind of record has its own function.
+use model::Counts;
+use model::Mailbox;
+use model::Refusal;
+use model::Session;
+use outcomes::Outcome;
+use records::Kind;
+use records::Received;
+ghost use mathlib.Core.Path.{_≡_};
+ghost use mathlib.Core.Bool.{true};
+ghost use mathlib.Core.List.{List};
+ghost use Prim.Native.Nat.{ℕ, _≤_, _<_, _/_};
+ghost use lib.ListN.{length, take, getD};
+ghost use Rattle.model.specs.Records.{recordOf, kindOf};
+ghost use Rattle.model.specs.Memory.{Memory, boxes, noMailbox};
+ghost use Rattle.demands.specs.Lasting.Law.{Law};
+ghost use Rattle.rows.specs.Columns.{Laid};
+ghost use Rattle.records.specs.Kinds.{kindFor};
+ghost use Rattle.records.specs.Reading.{Reads};
+ghost use Rattle.records.specs.Laws.{Says};
+ghost use Rattle.outcomes.specs.Coming.{Lends, Ready, Placed, Comes, ladder};
+ghost use Rattle.push.specs.Served.{Stepped, Serves, sought};
+
+// ---- the mailbox that a record is about
+
+// Its id; the selected mailbox's, where the record is of the client and not of a mailbox.
+fn sought_id(kind: Kind, id: u64, selected: u16) -> u64
+    ensures { λ r. ⌜ r ≡ sought kind id selected ⌝ }
+{
+    match kind {
+        Kind::Create => id,
+        Kind::Delete => id,
+        Kind::Rename => id,
+        Kind::Subscribe => id,
+        Kind::Grant => id,
+        Kind::Arrive => id,
+        Kind::Expunge => id,
+        Kind::Reflag => id,
+        Kind::Select => id,
+        Kind::Ended => rows::wide_id(selected),
+        Kind::Command => rows::wide_id(selected),
+        Kind::Drained => rows::wide_id(selected),
+        Kind::Unknown => id,
+    }
+}
+
+// Row k of the first n, or none.
+fn row_at(table: [Mailbox; 64], n: usize, k: usize) -> Mailbox
+    requires { ⌜ n ≤ 64 ⌝ }
+    ensures { λ r. ⌜ r ≡ getD (take n table) k noMailbox ⌝ }
+{
+    if n <= k {
+        return rows::vacant();
+    }
+    table[k]
+}
+
+// ---- a record in lawful memory
+
+// By its kind. x is the mailbox that the record needs, and k its place.
+fn dispatch(
+    kind: Kind,
+    v: [u64; 5],
+    tail: usize,
+    k: usize,
+    x: Mailbox,
+    lent: usize,
+    ids: &[u64; 64],
+    attributes: &[u8; 64],
+    lens: &[u8; 64],
+    validities: &[u64; 64],
+    nexts: &[u64; 64],
+    names: &[u8; 4096],
+    words: &mut [u64],
+    counts: Counts,
+    s: Session,
+    queue: &mut [u8],
+    octets: &[u8],
+) -> Outcome
+    requires { ⌜ Ready (now words) counts s (now queue) × (length (now words) / 5 ≤ 1024) × Says kind (now octets) v tail × (kindFor kind ≡ kindOf (now octets)) ⌝ }
+    ensures { λ z. ⌜ Serves kind v tail k x lent (now (ids .entry)) (now (attributes .entry)) (now (lens .entry)) (now (validities .entry)) (now (nexts .entry)) (now (names .entry)) (now (words .entry)) counts s (now (queue .entry)) (now (octets .entry)) z (now (words .exit)) (now (queue .exit)) ⌝ }
+{
+    let a = v[0];
+    let b = v[1];
+    let c = v[2];
+    let d = v[3];
+    match kind {
+        Kind::Create => mailbox_records::creating::create(
+            queue,
+            counts,
+            s,
+            lent,
+            ids,
+            lens,
+            names,
+            k,
+            a,
+            b,
+            c,
+            d,
+            &octets[tail..],
+        ),
+        Kind::Delete => mailbox_records::deleting::delete(words, queue, counts, s, k, x, a, b),
+        Kind::Rename => mailbox_records::renaming::rename(
+            queue,
+            counts,
+            s,
+            ids,
+            lens,
+            names,
+            k,
+            x,
+            a,
+            b,
+            &octets[tail..],
+        ),
+        Kind::Subscribe => mailbox_records::subscriptions::subscribe(
+            queue,
+            counts,
+            s,
+            k,
+            x,
+            a,
+            b,
+            c,
+        ),
+        Kind::Grant => mailbox_records::rights::grant(queue, counts, s, k, x, a, b),
+        Kind::Arrive => message_records::arrive(words, queue, counts, s, k, x, a, b, c, d),
+        Kind::Expunge => message_records::expunge(words, queue, counts, s, k, x, a, b),
+        Kind::Reflag => message_records::flag(words, queue, counts, s, k, x, a, b, c),
+        Kind::Select => session_records::select(words, counts, s, k, x, a),
+        Kind::Ended => session_records::end_command(words, queue, counts, s, x, a),
+        Kind::Command => command_records::answer(
+            words,
+            queue,
+            counts,
+            s,
+            ids,
+            attributes,
+            lens,
+            validities,
+            nexts,
+            names,
+            x,
+            &octets[tail..],
+        ),
+        Kind::Drained => session_records::drain(queue, counts, s, a),
+        Kind::Unknown => outcomes::refused(Refusal::BadRecord, counts, s),
+    }
+}
+
+// The mailbox is found, and the record is served.
+fn serve(
+    table: [Mailbox; 64],
+    lent: usize,
+    ids: &[u64; 64],
+    attributes: &[u8; 64],
+    lens: &[u8; 64],
+    validities: &[u64; 64],
+    nexts: &[u64; 64],
+    names: &[u8; 4096],
+    words: &mut [u64],
+    counts: Counts,
+    s: Session,
+    queue: &mut [u8],
+    octets: &[u8],
+    r: Received,
+) -> Outcome
+    requires { ⌜ Ready (now words) counts s (now queue) × (length (now words) / 5 ≤ 1024) × Reads (now octets) r × (r .valid ≡ true) ⌝ }
+    ensures { λ z. ⌜ ((m : Memory) → Lends m (now (words .entry)) counts s (now (queue .entry)) → Law m → boxes m ≡ take (counts .mailboxes) table → length (m .rows) ≡ lent → Laid (boxes m) (now (ids .entry)) (now (attributes .entry)) (now (lens .entry)) (now (validities .entry)) (now (nexts .entry)) (now (names .entry)) → Comes m (ladder m (recordOf (now (octets .entry)))) z (now (words .entry)) (now (words .exit)) (now (queue .exit))) ⌝ }
+{
+    let n = counts.mailboxes as usize;
+    let values = r.values;
+    let tail = r.tail;
+    let kind = r.kind;
+    let id = sought_id(kind, values[0], s.selected);
+    let k = rows::find(ids, n, id);
+    let x = row_at(table, n, k);
+    dispatch(
+        kind,
+        values,
+        tail,
+        k,
+        x,
+        lent,
+        ids,
+        attributes,
+        lens,
+        validities,
+        nexts,
+        names,
+        words,
+        counts,
+        s,
+        queue,
+        octets,
+    )
+}
+
+// ---- refusals 1 and 2
+
+// A record on memory whose used rows come by columns.
+fn decide(
+    table: [Mailbox; 64],
+    lent: usize,
+    ids: &[u64; 64],
+    attributes: &[u8; 64],
+    lens: &[u8; 64],
+    validities: &[u64; 64],
+    nexts: &[u64; 64],
+    names: &[u8; 4096],
+    words: &mut [u64],
+    counts: Counts,
+    s: Session,
+    queue: &mut [u8],
+    octets: &[u8],
+) -> Outcome
+    requires { ⌜ Laid (take (counts .mailboxes) table) (now ids) (now attributes) (now lens) (now validities) (now nexts) (now names) ⌝ }
+    ensures { λ r. ⌜ Stepped table lent (now (words .entry)) counts s (now (queue .entry)) (now (octets .entry)) r (now (words .exit)) (now (queue .exit)) ⌝ }
+{
+    let room = queue.len();
+    if !lawful::is_lawful(
+        ids,
+        attributes,
+        lens,
+        validities,
+        nexts,
+        names,
+        lent,
+        words,
+        counts,
+        s,
+        room,
+    ) {
+        return outcomes::refused(Refusal::UnlawfulMemory, counts, s);
+    }
+    let r = records::read(octets);
+    if !r.valid {
+        return outcomes::refused(Refusal::BadRecord, counts, s);
+    }
+    serve(
+        table,
+        lent,
+        ids,
+        attributes,
+        lens,
+        validities,
+        nexts,
+        names,
+        words,
+        counts,
+        s,
+        queue,
+        octets,
+        r,
+    )
+}
+
+// One record on lent memory. `lent` rows are lent, and `table` has the first 64 of them; what becomes of them is in the outcome.
+pub fn step(
+    table: [Mailbox; 64],
+    lent: usize,
+    words: &mut [u64],
+    counts: Counts,
+    s: Session,
+    queue: &mut [u8],
+    octets: &[u8],
+) -> Outcome
+    ensures { λ r. ⌜ Stepped table lent (now (words .entry)) counts s (now (queue .entry)) (now (octets .entry)) r (now (words .exit)) (now (queue .exit)) ⌝ }
+{
+    let mut ids = [0u64; 64];
+    let mut attributes = [0u8; 64];
+    let mut lens = [0u8; 64];
+    let mut validities = [0u64; 64];
+    let mut nexts = [0u64; 64];
+    let mut names = [0u8; 4096];
+    rows::lay(
+        table,
+        counts.mailboxes,
+        &mut ids,
+        &mut attributes,
+        &mut lens,
+        &mut validities,
+        &mut nexts,
+        &mut names,
+    );
+    decide(
+        table,
+        lent,
+        &ids,
+        &attributes,
+        &lens,
+        &validities,
+        &nexts,
+        &names,
+        words,
+        counts,
+        s,
+        queue,
+        octets,
+    )
+}

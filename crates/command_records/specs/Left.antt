@@ -1,6 +1,6 @@
 -- What a command leaves: refusal 8, its tagged line alone, or other parts of memory. Assumes nothing.
 use mathlib.Core.Path.{_≡_, refl, ap, ap₂, sym, _∙_}
-use mathlib.Core.Bool.{Bool, true, false, not, cond}
+use mathlib.Core.Bool.{Bool, true, false, not}
 use mathlib.Core.List.{List}
 use Prim.Native.Nat.{ℕ}
 use Rattle.model.specs.Commands.{tagOf, commandOf}
@@ -8,8 +8,7 @@ use Rattle.model.specs.Memory.{Memory, filled}
 use Rattle.model.specs.Lines.{answer, render, renderAll}
 use Rattle.model.specs.Records.{command}
 use Rattle.model.specs.Requests.{Verb as Word}
-use Rattle.model.specs.Rules.{Outcome, accepted}
-use Rattle.model.specs.Call.{refuse}
+use Rattle.model.specs.Rules.{accepted}
 use Rattle.model.specs.Answering.{verb, isAccepted, reply, answerLines, noRoom}
 use Rattle.model.specs.declared.Counts.{Counts}
 use Rattle.model.specs.declared.Message.{Message}

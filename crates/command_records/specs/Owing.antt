@@ -1,14 +1,14 @@
 -- What NOTIFY SET owes first: its size, and what its lines end beside their octets. Assumes nothing.
 use mathlib.Core.Path.{_≡_, refl, ap, ap₂, sym, _∙_}
-use mathlib.Core.Bool.{Bool, true, false, not, cond}
+use mathlib.Core.Bool.{Bool, true, false, cond}
 use mathlib.Core.List.{List, [], _∷_}
-use Prim.Native.Nat.{ℕ, _+_, _-_, _<_, _≤_}
+use Prim.Native.Nat.{ℕ, _+_, _-_, _≤_}
 use native.Mathlib.Omega.{arith}
 use lib.ListN.{length, take}
 use borrow.Author.Tests.{le-leb}
 use Rattle.model.specs.Memory.{Memory, mails, filled, selectedBox, bothRights, messagesOf, changeMails}
 use Rattle.model.specs.Lines.{Line, status, statusAtSet, list, renamed, exists, expunge, fetch, found, overflow, answer, renderAll}
-use Rattle.model.specs.Queue.{written, room, enqueue, effect, effects, say, showsFlags, unmark}
+use Rattle.model.specs.Queue.{written, room, enqueue, effect, effects, showsFlags, unmark}
 use Rattle.model.specs.View.{owed, owedLines, selectedMessages}
 use Rattle.model.specs.declared.Message.{Message}
 use Rattle.model.specs.declared.Counts.{Counts}

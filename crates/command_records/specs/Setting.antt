@@ -1,6 +1,6 @@
 -- An accepted NOTIFY SET: the size of its answer, and what it leaves. Assumes nothing.
 use mathlib.Core.Path.{_≡_, refl, ap, ap₂, sym, _∙_, subst}
-use mathlib.Core.Bool.{Bool, true, false, not}
+use mathlib.Core.Bool.{Bool, true}
 use mathlib.Core.List.{List, [], _∷_, _++_, append-nil, append-assoc}
 use Prim.Native.Nat.{ℕ, _+_, _-_, _<_, _≤_}
 use native.Mathlib.Omega.{arith}
@@ -13,11 +13,10 @@ use Rattle.model.specs.Memory.{Memory, filled, selectedBox, bothRights}
 use Rattle.model.specs.Lines.{Line, answer, render, renderAll}
 use Rattle.model.specs.View.{owed}
 use Rattle.model.specs.Listing.{listing, watching}
-use Rattle.model.specs.Answering.{someSelected, verb, acceptedLines, isAccepted, firstReply, reply, answerLines, sessionBy, noRoom}
+use Rattle.model.specs.Answering.{someSelected, verb, acceptedLines, isAccepted, firstReply, reply, sessionBy, noRoom}
 use Rattle.model.specs.declared.Counts.{Counts}
 use Rattle.model.specs.declared.Session.{Session}
 use Rattle.model.specs.declared.Reply.the-variants.{TooLarge, Accepted}
-use Rattle.model.specs.declared.Refusal.the-variants.{NoRoom}
 use Rattle.model.specs.declared.Answer.the-variants.{Done}
 use Rattle.model.specs.Records.{command}
 use Rattle.demands.specs.Lasting.Law.{Law}
@@ -32,9 +31,9 @@ use Rattle.answers.specs.Sizes.{Whole}
 use Rattle.answers.specs.Tagged.{some-octets}
 use Rattle.answers.specs.Answered.{leftAs, wholeText, no-room-is, text-accepted, set-left}
 use Rattle.entries.specs.Words.{messages}
-use Rattle.outcomes.specs.Coming.{Lends, Comes, ladder, refusal, quiet}
+use Rattle.outcomes.specs.Coming.{Lends, Comes, ladder, quiet}
 use Rattle.outcomes.specs.declared.Outcome.{Outcome as Came}
-use Rattle.command_records.specs.Left.{upto, comes-roomless, comes-left}
+use Rattle.command_records.specs.Left.{upto, comes-left}
 use Rattle.command_records.specs.Sized.{small-accepted, large-is, roomless-is}
 use Rattle.command_records.specs.Listed.{Noted}
 use Rattle.command_records.specs.Owing.{ended, ended-as, owed-ends, owed-puts}

@@ -1,11 +1,11 @@
 -- An accepted command by the size of its whole answer: too large, no room, or done; NOTIFY NONE's is never too large. Assumes nothing.
 use mathlib.Core.Path.{_≡_, refl, ap, ap₂, sym, _∙_}
 use mathlib.Core.Bool.{Bool, true, false, not}
-use mathlib.Core.List.{List, [], _∷_, _++_, append-nil}
+use mathlib.Core.List.{List, _++_, append-nil}
 use Prim.Native.Nat.{ℕ, _+_, _-_, _<_, _≤_}
 use native.Mathlib.Omega.{arith}
 use lib.Dec.{leb}
-use lib.ListN.{length, take, length-append, length-take}
+use lib.ListN.{length, length-append, length-take}
 use borrow.Author.Tests.{lt-leb}
 use Rattle.model.specs.Requests.{Command, notifyNone, notify}
 use Rattle.model.specs.Reading.{Parsed, ok}
@@ -15,7 +15,6 @@ use Rattle.model.specs.Lines.{answer, render, renderAll, crlf, space, doneText}
 use Rattle.model.specs.Answering.{acceptedLines, isAccepted, firstReply, reply, answerLines, noRoom}
 use Rattle.model.specs.declared.Counts.{Counts}
 use Rattle.model.specs.declared.Session.{Session}
-use Rattle.model.specs.declared.Reply.{Reply}
 use Rattle.model.specs.declared.Reply.the-variants.{TooLarge, Accepted}
 use Rattle.model.specs.declared.Refusal.the-variants.{NoRoom}
 use Rattle.model.specs.declared.Answer.the-variants.{Done}
@@ -24,7 +23,7 @@ use Rattle.mailboxes.specs.Free.{Room, sizes}
 use Rattle.read_notify.specs.Watched.{watchedBy}
 use Rattle.answers.specs.Sizes.{Whole, reply-small, reply-large}
 use Rattle.answers.specs.Tagged.{tag-none, tag-some, tag-short, answer-text}
-use Rattle.answers.specs.Answered.{leftAs, wholeText, no-room-is, text-accepted, none-left, session-is}
+use Rattle.answers.specs.Answered.{leftAs, wholeText, no-room-is, text-accepted, none-left}
 use Rattle.outcomes.specs.Coming.{Lends, Comes, ladder, refusal, quiet}
 use Rattle.outcomes.specs.declared.Outcome.{Outcome as Came}
 use Rattle.command_records.specs.Left.{upto, of-memory, comes-roomless, comes-left, same-words}

@@ -19,7 +19,6 @@ use Rattle.model.specs.declared.Reply.the-variants.{Bad, BadEvent, Unsupported,
 use Rattle.model.specs.Laws.{tf}
 use Rattle.read_notify.specs.Readings.{readNotify}
 use Rattle.read_notify.specs.declared.Tally.{Tally}
-use Rattle.read_notify.specs.declared.NotifyRead.{NotifyRead}
 use Rattle.read_notify.specs.declared.NotifyRead.the-variants.{Nothing, Groups, Bad as Unread}
 use Rattle.read_commands.specs.Judging.{wordOf, judgedOf}
 use Rattle.read_commands.specs.declared.Judged.{Judged}

@@ -6,11 +6,11 @@ use Prim.Native.Nat.{ℕ, _+_}
 use native.Mathlib.Omega.{arith}
 use lib.Dec.{eqb}
 use lib.ListN.{length}
-use Rattle.model.specs.Requests.{Verb as Word, notify, esearch, otherVerb, Filter, Charset, none, Keys, Command, search}
+use Rattle.model.specs.Requests.{Verb as Word, notify, esearch, otherVerb, none, Command}
 use Rattle.model.specs.Reading.{Parsed, bad, ok, andThen, afterBy, stands, atomAt, listAt}
 use Rattle.model.specs.NotifyGrammar.{filterAt}
-use Rattle.model.specs.SearchGrammar.{Return, returnsAt, charsetAt, optionAt, programAt, searchFor, searchAt}
-use Rattle.model.specs.Commands.{tagEnd, tagged, verbAt, commandBy, commandAt, commandOf}
+use Rattle.model.specs.SearchGrammar.{returnsAt, charsetAt, optionAt, programAt, searchAt}
+use Rattle.model.specs.Commands.{tagEnd, tagged, verbAt, commandBy, commandOf}
 use Rattle.model.specs.Answering.{verb}
 use Rattle.read_options.specs.Heads.{readVerb}
 use Rattle.read_options.specs.declared.Verb.{Verb}

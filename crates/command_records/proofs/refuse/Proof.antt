@@ -3,7 +3,6 @@ use borrow.Author.Needs.{needs}
 use Rattle.command_records.proofs.refuse.Statement.{statement}
 use Rattle.command_records.proofs.refuse.Tie as tie
 use mathlib.Core.Path.{ap, _∙_}
-use native.Mathlib.Omega.{arith}
 use Rattle.model.specs.declared.Counts.{Counts}
 use Rattle.model.specs.declared.Answer.the-variants.{Done}
 use Rattle.outcomes.specs.Coming.{quiet}

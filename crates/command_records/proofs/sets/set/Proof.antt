@@ -2,7 +2,7 @@
 use borrow.Author.Needs.{needs}
 use Rattle.command_records.proofs.sets.set.Statement.{statement}
 use Rattle.command_records.proofs.sets.set.Tie as tie
-use mathlib.Core.Path.{_≡_, ap, _∙_}
+use mathlib.Core.Path.{ap, _∙_}
 use native.Mathlib.Omega.{arith}
 use Rattle.model.specs.Memory.{bothRights}
 use Rattle.model.specs.declared.Mailbox.{Mailbox}

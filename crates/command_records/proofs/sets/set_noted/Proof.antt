@@ -2,9 +2,9 @@
 use borrow.Author.Needs.{needs}
 use Rattle.command_records.proofs.sets.set_noted.Statement.{statement}
 use Rattle.command_records.proofs.sets.set_noted.Tie as tie
-use mathlib.Core.Path.{_≡_, ap, sym, refl, subst, _∙_}
+use mathlib.Core.Path.{ap, sym, refl, subst, _∙_}
 use mathlib.Core.List.{List}
-use Prim.Native.Nat.{ℕ, _+_, _-_, _<_, _≤_}
+use Prim.Native.Nat.{ℕ, _-_}
 use native.Mathlib.Omega.{arith}
 use lib.ListN.{length}
 use Rattle.model.specs.Listing.{watching}

@@ -2,7 +2,7 @@
 use borrow.Author.Needs.{needs}
 use Rattle.command_records.proofs.sets.write_set.Statement.{statement}
 use Rattle.command_records.proofs.sets.write_set.Tie as tie
-use mathlib.Core.Path.{ap, sym, refl, _∙_}
+use mathlib.Core.Path.{ap, _∙_}
 use native.Mathlib.Omega.{arith}
 use lib.ListN.{length}
 use Rattle.model.specs.Listing.{watching}

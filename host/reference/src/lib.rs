@@ -5,6 +5,7 @@ pub mod abnf;
 pub mod account;
 pub mod answers;
 pub mod call;
+pub mod cases;
 pub mod command;
 pub mod generate;
 pub mod lawful;

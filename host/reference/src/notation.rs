@@ -45,7 +45,7 @@ pub fn assemble(line: &str) -> Result<Vec<u8>, String> {
     Ok(record(mark, &body))
 }
 
-fn from_hex(text: &str) -> Result<Vec<u8>, String> {
+pub fn from_hex(text: &str) -> Result<Vec<u8>, String> {
     let digits: Vec<u8> = text
         .bytes()
         .filter_map(|octet| (octet as char).to_digit(16))

@@ -10,7 +10,7 @@ pub mod searches;
 use crate::memory::*;
 use crate::names::Name;
 use crate::random::Random;
-use pools::{name, BAD_NAMES, OPEN_IDS, STRAY_IDS};
+use pools::{name, wide_name, BAD_NAMES, OPEN_IDS, STRAY_IDS, WIDE_IDS};
 
 /// A record made from its mark and body.
 pub fn record(mark: &str, body: &[u8]) -> Vec<u8> {
@@ -61,6 +61,8 @@ pub struct Generator {
     ids: &'static [u16],
     /// Never gives a right away.
     hidden: bool,
+    /// Fills both tables.
+    wide: bool,
     lean: Lean,
 }
 
@@ -76,7 +78,16 @@ impl Generator {
             random,
             ids,
             hidden,
+            wide: false,
             lean,
+        }
+    }
+
+    /// One that makes many mailboxes and messages.
+    pub fn wide(seed: u64) -> Generator {
+        Generator {
+            wide: true,
+            ..Generator::over(seed, WIDE_IDS, false)
         }
     }
 
@@ -95,6 +106,14 @@ impl Generator {
     }
 
     fn lawful(&mut self, memory: &Memory) -> Vec<u8> {
+        if self.wide && self.random.chance(50) {
+            let full = memory.mailbox_count == memory.mailboxes.len();
+            return if full || self.random.chance(70) {
+                self.message(memory)
+            } else {
+                self.create(memory)
+            };
+        }
         let mine = |row: &&Mailbox| self.ids.contains(&row.id);
         if memory.rows().iter().filter(mine).count() < 2 && self.random.chance(50) {
             return self.create(memory);
@@ -174,6 +193,9 @@ impl Generator {
     fn name(&mut self, memory: &Memory) -> Vec<u8> {
         if self.random.chance(3) {
             return self.random.pick(BAD_NAMES).as_bytes().to_vec();
+        }
+        if self.wide && self.random.chance(80) {
+            return wide_name(&mut self.random).into_bytes();
         }
         let mut text = name(&mut self.random);
         if self.random.chance(85) {

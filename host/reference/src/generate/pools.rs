@@ -6,6 +6,20 @@ use crate::random::Random;
 pub const OPEN_IDS: &[u16] = &[1, 2, 3, 4, 5, 258];
 pub const STRAY_IDS: &[u16] = &[0, 6, 77, 0xFFFF];
 
+/// Ids enough to fill the mailbox table.
+pub const WIDE_IDS: &[u16] = &wide_ids();
+
+const fn wide_ids() -> [u16; 80] {
+    let mut ids = [0; 80];
+    let mut place = 0;
+    while place < ids.len() {
+        // every 819th id, so that both octets of each differ from those of the others
+        ids[place] = place as u16 * 819 + 1;
+        place += 1;
+    }
+    ids
+}
+
 /// Ids of the mailboxes that hold no right in either stream of a pair.
 pub const HIDDEN_IDS: &[u16] = &[11, 12, 13, 0x0101];
 
@@ -41,6 +55,12 @@ pub fn name(random: &mut Random) -> &'static str {
     } else {
         random.pick(NAMES)
     }
+}
+
+/// One of some hundred names, many of them beneath the usual ones.
+pub fn wide_name(random: &mut Random) -> String {
+    let top = random.pick(&["", "", "Ops/", "a/", "Ops/Mains/", "INBOX/", "z"]);
+    format!("{top}{}", random.below(40))
 }
 
 pub const BAD_NAMES: &[&str] = &["", "/", "/a", "a/", "a//b", "\u{1f}", "x\u{7f}", "\u{e9}"];

@@ -1,10 +1,11 @@
 //! Cases for the program `vectors`.
 //!
 //! `cases stored FOLDER`: those of FOLDER/vectors and FOLDER/cases, in octets; with `--lines`, what `vectors` must print of them.
+//! `cases judge FOLDER`: the first call of each case that the independent program answers otherwise.
 //! `cases random SEED COUNT`: so many random calls, with what the independent program makes of each.
 //! `cases spoiled SEED COUNT`: the same, and one expectation of the last case is wrong.
 
-use reference::cases::{random, stored, text, total, Case};
+use reference::cases::{random, stored, text, total, Call, Case};
 use std::io::{self, BufWriter, Write};
 use std::path::Path;
 
@@ -24,6 +25,16 @@ fn main() -> io::Result<()> {
                 out.write_all(case.passed().as_bytes())?;
             }
             out.write_all(total(&cases).as_bytes())?;
+        }
+        ["judge", folder] => {
+            for case in all(folder) {
+                if let Err((place, got)) = case.judge() {
+                    let wanted = &case.calls[place - 1];
+                    writeln!(out, "{}: call {place}", case.name)?;
+                    writeln!(out, "  wanted {}", shown(wanted))?;
+                    writeln!(out, "  got    {}", shown(&got))?;
+                }
+            }
         }
         [kind @ ("random" | "spoiled"), seed, count] => {
             let (Ok(seed), Ok(count)) = (seed.parse(), count.parse()) else {
@@ -58,6 +69,18 @@ fn all(folder: &str) -> Vec<Case> {
     })
 }
 
+/// An answer and the end of the queue, for people.
+fn shown(call: &Call) -> String {
+    let from = call.held.len().saturating_sub(200);
+    let end = String::from_utf8_lossy(&call.held[from..]).replace("\r\n", "|");
+    format!(
+        "{} {:?} {}: {end}",
+        call.refusal,
+        call.count,
+        call.held.len()
+    )
+}
+
 /// Makes the last expectation of a case wrong by one.
 fn spoil(case: &mut Case) {
     if let Some(call) = case.calls.last_mut() {
@@ -70,6 +93,7 @@ fn spoil(case: &mut Case) {
 
 fn usage() -> ! {
     eprintln!("cases stored [--lines] FOLDER");
+    eprintln!("cases judge FOLDER");
     eprintln!("cases random SEED COUNT");
     eprintln!("cases spoiled SEED COUNT");
     std::process::exit(2)

@@ -25,14 +25,14 @@ pub fn cases<E>(
 
 /// One case of at most so many calls.
 fn case(random: &mut Random, name: &str, most: usize) -> Case {
-    let wide = random.chance(20);
+    let wide = random.chance(8);
     let (queue, mailboxes, messages) = (
         queue(random),
         length(random, MAILBOXES, wide),
         length(random, MESSAGES, wide),
     );
     let length = if wide {
-        random.between(500, 2500)
+        random.between(500, 4500)
     } else {
         random.between(1, 400)
     };

@@ -49,9 +49,7 @@ pub fn cases(text: &str) -> Result<Vec<Case>, String> {
         match word {
             "size" => {
                 let sizes: Result<Vec<usize>, _> = rest.split(' ').map(str::parse).collect();
-                let [queue, mailboxes, messages] =
-                    sizes.map_err(|_| fault("no sizes"))?[..]
-                else {
+                let [queue, mailboxes, messages] = sizes.map_err(|_| fault("no sizes"))?[..] else {
                     return Err(fault("no sizes"));
                 };
                 (case.queue, case.mailboxes, case.messages) = (queue, mailboxes, messages);
@@ -114,9 +112,11 @@ fn queues(case: &mut Case) -> Result<(), String> {
     let mut before: Vec<u8> = Vec::new();
     for call in &mut case.calls {
         if call.refusal == 0 {
-            before.drain(..drained(&call.octets, before.len()).ok_or_else(|| {
-                format!("{}: more is drained than the queue holds", case.name)
-            })?);
+            before.drain(
+                ..drained(&call.octets, before.len()).ok_or_else(|| {
+                    format!("{}: more is drained than the queue holds", case.name)
+                })?,
+            );
         }
         before.append(&mut call.held);
         call.held = before.clone();

@@ -1,12 +1,14 @@
 //! Cases written by hand, expected values and all. A text has lines of these kinds:
 //!
-//!     case NAME                a case begins
-//!     size Q MAILBOXES MESSAGES    its sizes; without this line 8,192, 64 and 1,024
-//!     RECORD                   a call, in the notation of `host/vectors`
-//!     each FIRST LAST RECORD   a call for each number, which stands for `$`, and its double for `$$`
-//!     ! N                      the call above is refused with this number
-//!     = N                      it answers this count
-//!     > LINE                   it writes this line, ended by CR LF
+//! ```text
+//! case NAME                   a case begins
+//! size Q MAILBOXES MESSAGES   its sizes; without this line 8,192, 64 and 1,024
+//! RECORD                      a call, in the notation of `host/vectors`
+//! each FIRST LAST RECORD      a call for each number, which stands for `$`, and its double for `$$`
+//! ! N                         the call above is refused with this number
+//! = N                         it answers this count
+//! > LINE                      it writes this line, ended by CR LF
+//! ```
 //!
 //! Empty lines and lines that begin with `#` are passed over. A `DR` that is not refused takes its octets off the queue's front.
 

@@ -8,8 +8,6 @@ use model::LentName;
 use model::Mailbox;
 use model::Refusal;
 use model::Session;
-use outcomes::Change;
-use outcomes::Outcome;
 ghost use Prim.Native.Nat.{_+_, _≤_, _<_};
 ghost use lib.ListN.{length};
 
@@ -125,43 +123,6 @@ fn start() -> State {
     }
 }
 
-// ---- TEMPORARY: the table after an outcome, until push::streams::applied is there
-
-fn few(used: u64) -> usize
-    ensures { λ r. ⌜ r ≤ 64 ⌝ }
-{
-    if used <= 64 { used as usize } else { 64 }
-}
-
-fn put_row(table: [Mailbox; 64], at: usize, row: Mailbox) -> [Mailbox; 64] {
-    if at < 64 {
-        return rows::put_row(table, at, row);
-    }
-    table
-}
-
-fn take_out(table: [Mailbox; 64], used: u64, at: usize) -> [Mailbox; 64] {
-    let n = few(used);
-    if n == 0 {
-        return table;
-    }
-    if at < n {
-        return rows::close_up(table, n, at);
-    }
-    rows::close_up(table, n, n - 1)
-}
-
-fn applied(table: [Mailbox; 64], used: u64, o: Outcome) -> [Mailbox; 64] {
-    let change = o.change;
-    let at = o.at;
-    let row = o.row;
-    match change {
-        Change::Nothing => table,
-        Change::Put => put_row(table, at, row),
-        Change::Taken => take_out(table, used, at),
-    }
-}
-
 // ---- what is printed
 
 // A refusal's number in 01.
@@ -213,7 +174,7 @@ fn served(m: State, words: &mut [u64], queue: &mut [u8], octets: &[u8]) -> State
     let counts = m.counts;
     let session = m.session;
     let o = push::step(before, 64, words, counts, session, queue, octets);
-    let rows = applied(before, counts.mailboxes, o);
+    let rows = push::streams::applied(before, counts.mailboxes, o);
     let answer = o.answer;
     let after = o.counts;
     let left = o.session;

@@ -148,11 +148,11 @@ fn record_size(stream: &[u8], at: usize) -> usize
 }
 
 // Where a run stands: the table, the counts, the session, and where the next octet goes.
-struct Standing {
-    table: [Mailbox; 64],
-    counts: Counts,
-    session: Session,
-    end: usize,
+pub struct Standing {
+    pub table: [Mailbox; 64],
+    pub counts: Counts,
+    pub session: Session,
+    pub end: usize,
 }
 
 // The table, counts and session after an outcome, with nothing left in the queue.
@@ -174,7 +174,13 @@ fn drained(table: [Mailbox; 64], used: u64, o: Outcome, end: usize) -> Standing
 }
 
 // A record: the step, the refusal if it is one, and all that the queue holds, which is drained.
-fn turn(s: Standing, words: &mut [u64], queue: &mut [u8], octets: &[u8], out: &mut [u8]) -> Standing
+pub fn turn(
+    s: Standing,
+    words: &mut [u64],
+    queue: &mut [u8],
+    octets: &[u8],
+    out: &mut [u8],
+) -> Standing
     requires { ⌜ (s .end ≤ 2305843009213693952) × (length (now queue) ≡ 8192) ⌝ }
     ensures { λ r. ⌜ Turns (standing (s .table) (s .counts) (s .session) (now (words .entry)) (now (queue .entry))) (now (octets .entry)) (now (out .entry)) (s .end) (standing (r .table) (r .counts) (r .session) (now (words .exit)) (now (queue .exit))) (now (out .exit)) (r .end) ⌝ }
 {
@@ -191,7 +197,7 @@ fn turn(s: Standing, words: &mut [u64], queue: &mut [u8], octets: &[u8], out: &m
 // ---- the start
 
 // Nothing there yet.
-fn start() -> Standing
+pub fn start() -> Standing
     ensures { λ r. ⌜ (r .table ≡ replicate 64 noMailbox) × (r .counts ≡ noCounts) × (r .session ≡ noSession) × (r .end ≡ 0) ⌝ }
 {
     let row = rows::vacant();

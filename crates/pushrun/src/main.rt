@@ -1,13 +1,8 @@
 // Serves the records on standard input as they come, on tables of its own: 64 mailboxes, 1,024 messages, a queue of 8,192 octets.
 // A record is as long as its length field says; what is torn at the end is one record more. Behind each, before it waits for the next,
 // it writes `! n` where the record is refused and all that the queue holds, and drains the queue.
-use model::Answer;
-use model::Counts;
-use model::LentGroup;
-use model::LentName;
-use model::Mailbox;
-use model::Refusal;
-use model::Session;
+use push::streams::Standing;
+ghost use mathlib.Core.Path.{_≡_};
 ghost use Prim.Native.Nat.{_+_, _≤_, _<_};
 ghost use lib.ListN.{length};
 
@@ -17,6 +12,9 @@ const QUEUE: usize = 8192;
 
 // the longest record: its four octets and 65,535 more
 const RECORD: usize = 65539;
+
+// the most that a record shows: a refusal in five octets, and a full queue
+const SHOWN: usize = 8197;
 
 fn print(text: &[u8]) {
     io::write_all(1, text);
@@ -62,148 +60,53 @@ fn next_record(octets: &mut [u8]) -> usize
     4 + read_at(octets, 4, size)
 }
 
-// ---- memory
-
-// All that is lent by value.
-struct State {
-    rows: [Mailbox; 64],
-    counts: Counts,
-    session: Session,
-}
-
-fn no_groups() -> [LentGroup; 8] {
-    let none = LentGroup {
-        selector: 0,
-        first: 0,
-        count: 0,
-        events: 0,
-        attributes: 0,
-    };
-    [none; 8]
-}
-
-fn no_names() -> [LentName; 16] {
-    let octets = [0u8; 64];
-    let none = LentName { len: 0, octets };
-    [none; 16]
-}
-
-// None selected, and no NOTIFY yet.
-fn no_session() -> Session {
-    let groups = no_groups();
-    let names = no_names();
-    Session {
-        selected: 0,
-        notified: 0,
-        groupcount: 0,
-        told: 0,
-        groups,
-        names,
-    }
-}
-
-fn no_rows() -> [Mailbox; 64] {
-    let none = rows::vacant();
-    [none; 64]
-}
-
-// Nothing there yet.
-fn start() -> State {
-    let rows = no_rows();
-    let session = no_session();
-    let counts = Counts {
-        mailboxes: 0,
-        messages: 0,
-        filled: 0,
-    };
-    State {
-        rows,
-        counts,
-        session,
-    }
-}
-
-// ---- what is printed
-
-// A refusal's number in 01.
-fn refusal_number(refusal: Refusal) -> u64 {
-    match refusal {
-        Refusal::UnlawfulMemory => 1,
-        Refusal::BadRecord => 2,
-        Refusal::WrongId => 3,
-        Refusal::NameHeld => 4,
-        Refusal::WrongUid => 5,
-        Refusal::WrongState => 6,
-        Refusal::TableFull => 7,
-        Refusal::NoRoom => 8,
-    }
-}
-
-// The refusal, where it is one; counts are not printed.
-fn print_answer(answer: Answer) {
-    match answer {
-        Answer::Refused(refusal) => {
-            print(b"! ");
-            io::print_decimal(1, refusal_number(refusal));
-            print(b"\r\n");
-        }
-        _ => {}
-    }
-}
-
-// How many octets the queue holds: no more than it has.
-fn held_size(filled: u64, room: usize) -> usize
-    ensures { λ r. ⌜ r ≤ room ⌝ }
-{
-    let n = filled as usize;
-    if n <= room { n } else { room }
-}
-
-// Writes what the queue holds, and drains it; what is left in it is nothing.
-fn print_held(filled: u64, queue: &mut [u8]) -> usize {
-    let n = held_size(filled, queue.len());
-    print(&queue[..n]);
-    ending::drain(queue, n, n)
-}
-
 // ---- a record, and all of them
 
-// One record: the answer, what the queue holds, and the memory that is left.
-fn served(m: State, words: &mut [u64], queue: &mut [u8], octets: &[u8]) -> State {
-    let before = m.rows;
-    let counts = m.counts;
-    let session = m.session;
-    let o = push::step(before, 64, words, counts, session, queue, octets);
-    let rows = push::streams::applied(before, counts.mailboxes, o);
-    let answer = o.answer;
-    let after = o.counts;
-    let left = o.session;
-    print_answer(answer);
-    let filled = print_held(after.filled, queue);
-    let drained = Counts {
-        mailboxes: after.mailboxes,
-        messages: after.messages,
-        filled: filled as u64,
-    };
-    State {
-        rows,
-        counts: drained,
-        session: left,
+// Writes what a record shows, which stands at the front of `out`; the next goes there again.
+fn print_shown(s: Standing, out: &[u8]) -> Standing
+    requires { ⌜ s .end ≤ length (now out) ⌝ }
+    ensures { λ r. ⌜ r .end ≡ 0 ⌝ }
+{
+    let end = s.end;
+    print(&out[..end]);
+    let table = s.table;
+    let counts = s.counts;
+    let session = s.session;
+    Standing {
+        table,
+        counts,
+        session,
+        end: 0,
     }
+}
+
+// One record. What it shows, and what it leaves, the rules say (`push::streams::turn`).
+fn serve_one(
+    s: Standing,
+    words: &mut [u64],
+    queue: &mut [u8],
+    octets: &[u8],
+    out: &mut [u8],
+) -> Standing
+    requires { ⌜ (s .end ≡ 0) × (length (now queue) ≡ 8192) × (8197 ≤ length (now out)) ⌝ }
+    ensures { λ r. ⌜ r .end ≡ 0 ⌝ }
+{
+    let t = push::streams::turn(s, words, queue, octets, out);
+    print_shown(t, out)
 }
 
 // A loop that is proved has to end: it counts its turns up to a number that no stream reaches.
-fn serve(words: &mut [u64], queue: &mut [u8], octets: &mut [u8])
-    requires { ⌜ 65539 ≤ length (now octets) ⌝ }
+fn serve(words: &mut [u64], queue: &mut [u8], octets: &mut [u8], out: &mut [u8])
+    requires { ⌜ (length (now queue) ≡ 8192) × (65539 ≤ length (now octets)) × (8197 ≤ length (now out)) ⌝ }
 {
-    let mut m = start();
+    let mut s = push::streams::start();
     let mut turns: u64 = 0;
     while turns < 18446744073709551615 {
         let n = next_record(octets);
         if n == 0 {
             break;
         }
-        m = served(m, words, queue, &octets[..n]);
+        s = serve_one(s, words, queue, &octets[..n], out);
         turns += 1;
     }
 }
@@ -212,5 +115,6 @@ fn main() {
     let mut words = [0u64; WORDS];
     let mut queue = [0u8; QUEUE];
     let mut octets = [0u8; RECORD];
-    serve(&mut words, &mut queue, &mut octets);
+    let mut out = [0u8; SHOWN];
+    serve(&mut words, &mut queue, &mut octets, &mut out);
 }

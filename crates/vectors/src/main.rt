@@ -4,12 +4,8 @@
 // entries of the message table and the number of its calls; the name; and the calls. A call is four numbers, the refusal or 0, the count
 // or 2^32 - 1 for none, how many octets it has, how many the queue holds behind it; its octets; the octets in the queue.
 use model::Answer;
-use model::Counts;
-use model::LentGroup;
-use model::LentName;
-use model::Mailbox;
 use model::Refusal;
-use model::Session;
+use push::streams::Standing;
 ghost use Prim.Native.Nat.{_≤_, _<_};
 
 // the longest name, call and queue, and the most words of a message table
@@ -49,85 +45,27 @@ fn little_size(a: u8, b: u8, c: u8, d: u8) -> usize
 
 // ---- memory
 
-// All that is lent by value.
-struct State {
-    rows: [Mailbox; 64],
-    counts: Counts,
-    session: Session,
-}
-
 // What a call leaves and answers.
 struct After {
-    state: State,
+    state: Standing,
     answer: Answer,
 }
 
-fn no_groups() -> [LentGroup; 8] {
-    let none = LentGroup {
-        selector: 0,
-        first: 0,
-        count: 0,
-        events: 0,
-        attributes: 0,
-    };
-    [none; 8]
-}
-
-fn no_names() -> [LentName; 16] {
-    let octets = [0u8; 64];
-    let none = LentName { len: 0, octets };
-    [none; 16]
-}
-
-// None selected, and no NOTIFY yet.
-fn no_session() -> Session {
-    let groups = no_groups();
-    let names = no_names();
-    Session {
-        selected: 0,
-        notified: 0,
-        groupcount: 0,
-        told: 0,
-        groups,
-        names,
-    }
-}
-
-fn no_rows() -> [Mailbox; 64] {
-    let none = rows::vacant();
-    [none; 64]
-}
-
-// Nothing there yet.
-fn start() -> State {
-    let rows = no_rows();
-    let session = no_session();
-    let counts = Counts {
-        mailboxes: 0,
-        messages: 0,
-        filled: 0,
-    };
-    State {
-        rows,
-        counts,
-        session,
-    }
-}
-
 // One call.
-fn stepped(m: State, lent: usize, words: &mut [u64], queue: &mut [u8], octets: &[u8]) -> After {
-    let before = m.rows;
+fn stepped(m: Standing, lent: usize, words: &mut [u64], queue: &mut [u8], octets: &[u8]) -> After {
+    let before = m.table;
     let counts = m.counts;
     let session = m.session;
     let o = push::step(before, lent, words, counts, session, queue, octets);
-    let rows = push::streams::applied(before, counts.mailboxes, o);
+    let table = push::streams::applied(before, counts.mailboxes, o);
     let after = o.counts;
     let left = o.session;
     let answer = o.answer;
-    let state = State {
-        rows,
+    let state = Standing {
+        table,
         counts: after,
         session: left,
+        end: 0,
     };
     After { state, answer }
 }
@@ -257,12 +195,12 @@ fn compared(
 
 // What a call leaves, and what is wrong with it.
 struct Turn {
-    state: State,
+    state: Standing,
     difference: Difference,
 }
 
 // A call that is not run.
-fn passed(m: State, difference: Difference) -> Turn {
+fn passed(m: Standing, difference: Difference) -> Turn {
     Turn {
         state: m,
         difference,
@@ -271,7 +209,7 @@ fn passed(m: State, difference: Difference) -> Turn {
 
 // Reads a call and what the queue must hold, runs it, and compares.
 fn run(
-    m: State,
+    m: Standing,
     lent: usize,
     words: &mut [u64],
     queue: &mut [u8],
@@ -294,7 +232,7 @@ fn run(
 
 // Runs a call if there is room for what the queue must hold.
 fn run_held(
-    m: State,
+    m: Standing,
     lent: usize,
     words: &mut [u64],
     queue: &mut [u8],
@@ -311,7 +249,7 @@ fn run_held(
 
 // Reads the numbers of the next call, and runs it if there is room for its octets.
 fn next_turn(
-    m: State,
+    m: Standing,
     lent: usize,
     words: &mut [u64],
     queue: &mut [u8],
@@ -423,7 +361,7 @@ fn run_calls(
 ) -> u64
     ensures { λ r. ⌜ r ≤ 2 ⌝ }
 {
-    let mut m = start();
+    let mut m = push::streams::start();
     let mut verdict: u64 = 0;
     let mut i: u64 = 0;
     while i < calls {

@@ -1,4 +1,4 @@
--- Each turn counts one up, to a bound; no slice changes its length.
+-- Each turn counts one up, to a bound; no slice changes its length, and what a record shows starts at the front.
 use mathlib.Core.Path.{sym, _≡_}
 use Prim.Native.Nat.{_≤_, _-_}
 use native.Mathlib.Omega.{arith}
@@ -9,10 +9,12 @@ use Rattle.pushrun.proofs.serve.Statement.{statement}
 use Rattle.pushrun.proofs.serve.Tie as tie
 
 abbrev Inv-loop : tie.InvT-loop
-Inv-loop words₀ queue₀ octets₀ m₀ turns₀ words queue octets m turns = (turns ≤ 18446744073709551615) × (length words ≡ length words₀) × (length queue ≡ length queue₀) × (length octets ≡ length octets₀)
+Inv-loop words₀ queue₀ octets₀ out₀ s₀ turns₀ words queue octets out s turns =
+    (turns ≤ 18446744073709551615) × (s .end ≡ 0) × (length words ≡ length words₀) × (length queue ≡ length queue₀)
+    × (length octets ≡ length octets₀) × (length out ≡ length out₀)
 
 abbrev μ-loop : tie.MeasureT-loop
-μ-loop words₀ queue₀ octets₀ m₀ turns₀ words queue octets m turns = 18446744073709551615 - turns
+μ-loop words₀ queue₀ octets₀ out₀ s₀ turns₀ words queue octets out s turns = 18446744073709551615 - turns
 
 start-requires : tie.Need-start-requires Inv-loop μ-loop
 start-requires c κs = search needs
@@ -23,14 +25,14 @@ loop-holds c = search needs
 next-record-requires : tie.Need-next-record-requires Inv-loop μ-loop
 next-record-requires c κs = search needs
 
-slice-reshare-prefix-served : tie.Need-slice-reshare-prefix-served Inv-loop μ-loop
-slice-reshare-prefix-served c = search needs
+slice-reshare-prefix-serve-one : tie.Need-slice-reshare-prefix-serve-one Inv-loop μ-loop
+slice-reshare-prefix-serve-one c = search needs
 
-slice-aggregate-served : tie.Need-slice-aggregate-served Inv-loop μ-loop
-slice-aggregate-served c = sym (length-take-le _ _ (omega arith))
+slice-aggregate-serve-one : tie.Need-slice-aggregate-serve-one Inv-loop μ-loop
+slice-aggregate-serve-one c = sym (length-take-le _ _ (omega arith))
 
-served-requires : tie.Need-served-requires Inv-loop μ-loop
-served-requires c κs = search needs
+serve-one-requires : tie.Need-serve-one-requires Inv-loop μ-loop
+serve-one-requires c κs = search needs
 
 add-turns : tie.Need-add-turns Inv-loop μ-loop
 add-turns c = search needs
@@ -50,17 +52,23 @@ same-length-2 c = search needs
 same-length-3 : tie.Need-same-length-3 Inv-loop μ-loop
 same-length-3 c = search needs
 
-returns : tie.Need-returns Inv-loop μ-loop
-returns c = search needs
-
 same-length-4 : tie.Need-same-length-4 Inv-loop μ-loop
 same-length-4 c = search needs
+
+returns : tie.Need-returns Inv-loop μ-loop
+returns c = search needs
 
 same-length-5 : tie.Need-same-length-5 Inv-loop μ-loop
 same-length-5 c = search needs
 
 same-length-6 : tie.Need-same-length-6 Inv-loop μ-loop
 same-length-6 c = search needs
+
+same-length-7 : tie.Need-same-length-7 Inv-loop μ-loop
+same-length-7 c = search needs
+
+same-length-8 : tie.Need-same-length-8 Inv-loop μ-loop
+same-length-8 c = search needs
 
 returns-2 : tie.Need-returns-2 Inv-loop μ-loop
 returns-2 c = search needs
@@ -74,17 +82,19 @@ serve-spec =
     start-requires
     loop-holds
     next-record-requires
-    slice-reshare-prefix-served
-    slice-aggregate-served
-    served-requires
+    slice-reshare-prefix-serve-one
+    slice-aggregate-serve-one
+    serve-one-requires
     add-turns
     loop-less
     loop-again
     same-length
     same-length-2
     same-length-3
-    returns
     same-length-4
+    returns
     same-length-5
     same-length-6
+    same-length-7
+    same-length-8
     returns-2)

@@ -1,0 +1,18 @@
+use mathlib.Core.Path.{sym}
+use native.Mathlib.Omega.{arith}
+use lib.Seq.{length-take-le}
+use borrow.Author.Needs.{needs}
+use Rattle.pushrun.proofs.print_shown.Statement.{statement}
+use Rattle.pushrun.proofs.print_shown.Tie as tie
+
+slice-aggregate-print : tie.Need-slice-aggregate-print
+slice-aggregate-print c = sym (length-take-le _ _ (omega arith))
+
+print-requires : tie.Need-print-requires
+print-requires c κs = search needs
+
+returns : tie.Need-returns
+returns c = search needs
+
+pub print-shown-spec : {M : Type 1} → statement M
+print-shown-spec = tie.close (tie.spec slice-aggregate-print print-requires returns)

@@ -2,8 +2,8 @@ use mathlib.Core.Path.{sym}
 use native.Mathlib.Omega.{arith}
 use lib.Seq.{length-take-le}
 use borrow.Author.Needs.{needs}
-use Rattle.vectors.proofs.run_held.Statement.{statement}
-use Rattle.vectors.proofs.run_held.Tie as tie
+use Rattle.vectors.proofs.turns.run_held.Statement.{statement}
+use Rattle.vectors.proofs.turns.run_held.Tie as tie
 
 passed-requires : tie.Need-passed-requires
 passed-requires c κs = search needs

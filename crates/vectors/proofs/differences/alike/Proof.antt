@@ -2,8 +2,8 @@
 use Prim.Native.Nat.{_≤_, _-_}
 use lib.ListN.{length}
 use borrow.Author.Needs.{needs}
-use Rattle.vectors.proofs.alike.Statement.{statement}
-use Rattle.vectors.proofs.alike.Tie as tie
+use Rattle.vectors.proofs.differences.alike.Statement.{statement}
+use Rattle.vectors.proofs.differences.alike.Tie as tie
 
 abbrev Inv-loop : tie.InvT-loop
 Inv-loop a b i₀ i = i ≤ length a

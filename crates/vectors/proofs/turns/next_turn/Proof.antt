@@ -2,8 +2,8 @@ use mathlib.Core.Path.{sym}
 use native.Mathlib.Omega.{arith}
 use lib.Seq.{length-take-le}
 use borrow.Author.Needs.{needs}
-use Rattle.vectors.proofs.next_turn.Statement.{statement}
-use Rattle.vectors.proofs.next_turn.Tie as tie
+use Rattle.vectors.proofs.turns.next_turn.Statement.{statement}
+use Rattle.vectors.proofs.turns.next_turn.Tie as tie
 
 next-expected-requires : tie.Need-next-expected-requires
 next-expected-requires c κs = search needs

@@ -48,6 +48,14 @@ pub fn save(rows: &mut [Mailbox], t: [Mailbox; 64], m: usize)
     }
 }
 
+// Row k becomes x, and then the first m rows become those of the array: what a step leaves of the table.
+pub fn write_back(rows: &mut [Mailbox], k: usize, x: Mailbox, t: [Mailbox; 64], m: usize)
+    ensures { λ _. ⌜ now (rows .exit) ≡ over t (set (now (rows .entry)) k x) (within m (length (now (rows .entry)))) ⌝ }
+{
+    set_row(rows, k, x);
+    save(rows, t, m);
+}
+
 // ---- the array
 
 // How many of the first m rows there are, of a table of n rows, and of 64 at the most.

@@ -1,0 +1,4 @@
+pub mod Kept
+pub mod Numbers
+pub mod Written
+pub mod Called

@@ -1,8 +1,8 @@
 -- A call leaves as many rows as there were: they are the host's. Assumes nothing.
-use mathlib.Core.Path.{_≡_, refl, ap, sym, _∙_}
+use mathlib.Core.Path.{_≡_, refl, _∙_}
 use mathlib.Core.List.{List, [], _∷_, _++_}
 use mathlib.Core.Bool.{Bool, true, false, not, cond}
-use Prim.Native.Nat.{ℕ, _+_, _<_, _≤_}
+use Prim.Native.Nat.{ℕ, _<_}
 use native.Mathlib.Omega.{arith}
 use lib.Dec.{eqb}
 use lib.ListN.{length, set, length-set, length-append}
@@ -10,9 +10,9 @@ use borrow.Author.Tests.{leb-false}
 use Rattle.model.specs.Lists.{filterb}
 use Rattle.model.specs.Laws.{filter-length}
 use Rattle.model.specs.Records.{Record, create, delete, rename, subscribe, grant, arrive, expunge, reflag, select, ended, command, drained, noRecord, isRecord, recordOf}
-use Rattle.model.specs.Memory.{Memory, boxes, place, withBoxes, putBox, addBox, dropBox}
+use Rattle.model.specs.Memory.{Memory, boxes, place, putBox, addBox, dropBox}
 use Rattle.model.specs.Lawful.{lawful}
-use Rattle.model.specs.Lines.{Line, status, statusAtSet, list, renamed, exists, expunge, fetch, found, overflow, answer, Item, renderAll}
+use Rattle.model.specs.Lines.{Line, status, statusAtSet, list, renamed, exists, expunge, fetch, found, overflow, answer, renderAll}
 use Rattle.model.specs.Queue.{effect, effects, enqueue, say, fits, showsFlags}
 use Rattle.model.specs.Events.{Event, created, deleted, renamedTo, subscribedTo, granted, arrived, removed, reflagged, inView, silence, settled, tellings}
 use Rattle.model.specs.View.{expungeAtOnce, flagsAtOnce, flagsWait}

@@ -1,6 +1,4 @@
 -- An answer in numbers. Assumes nothing.
-use mathlib.Core.List.{List, [], _∷_}
-use Prim.Native.Nat.{ℕ}
 use lib.ListN.{length, getD}
 use Rattle.model.specs.Answers.{numberOf, countsOf}
 use Rattle.model.specs.declared.Answer.{Answer}

@@ -1,8 +1,8 @@
 -- What becomes of the lent table after an outcome: a row is put in its place, or the used rows are written anew, one of them taken out. Assumes nothing.
 use mathlib.Core.Path.{_≡_, refl, ap, sym, _∙_}
 use mathlib.Core.Bool.{Bool, true, false, cond}
-use mathlib.Core.List.{List, [], _∷_, _++_}
-use Prim.Native.Nat.{ℕ, zero, suc, _+_, _-_, _<_, _≤_, min}
+use mathlib.Core.List.{List, _∷_}
+use Prim.Native.Nat.{ℕ, _-_, _<_, _≤_}
 use native.Mathlib.Omega.{arith}
 use lib.Dec.{ltb, leb}
 use lib.ListN.{length, set, take, drop, length-append, length-take, length-drop}
@@ -23,7 +23,7 @@ use Rattle.outcomes.specs.Laws.{call-unlawful}
 use Rattle.outcomes.specs.declared.Change.{Change}
 use Rattle.outcomes.specs.declared.Change.the-variants.{Nothing, Put, Taken}
 use Rattle.outcomes.specs.declared.Outcome.{Outcome as Came}
-use Rattle.push.specs.Steps.{Lent, memoryOf, Steps}
+use Rattle.push.specs.Steps.{memoryOf, Steps}
 use Rattle.push.specs.Served.{lentAs}
 use Rattle.lent.specs.Rows.{within, loaded, loaded-length, over-none}
 use Rattle.lent.specs.Closing.{saved-closed}

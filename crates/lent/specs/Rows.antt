@@ -10,7 +10,7 @@ use lib.Seq.{take-all, take-length, take-at}
 use lib.Dec.{leb}
 use borrow.Author.Tests.{leb-true, leb-false}
 use Rattle.model.specs.Lists.{same}
-use Rattle.model.specs.Memory.{noMailbox, nameOf, place}
+use Rattle.model.specs.Memory.{noMailbox, nameOf}
 use Rattle.model.specs.declared.Mailbox.{Mailbox}
 use Rattle.laws.specs.Shift.{over}
 use Rattle.rows.specs.Walks.{head-at}

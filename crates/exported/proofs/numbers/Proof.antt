@@ -3,8 +3,6 @@ use Rattle.exported.proofs.numbers.Statement.{statement}
 use Rattle.exported.proofs.numbers.Tie as tie
 use mathlib.Core.Path.{sym, _∙_, ap}
 use Prim.Native.Nat.{ℕ}
-use Rattle.model.specs.declared.Answer.{Answer}
-use Rattle.exported.specs.declared.Answered.{Answered}
 use Rattle.exported.specs.Numbers.{numbersOf}
 
 enum-told : tie.Need-enum-told

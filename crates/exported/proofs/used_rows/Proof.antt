@@ -1,7 +1,6 @@
-use borrow.Author.Needs.{needs}
 use Rattle.exported.proofs.used_rows.Statement.{statement}
 use Rattle.exported.proofs.used_rows.Tie as tie
-use mathlib.Core.Path.{_≡_, refl}
+use mathlib.Core.Path.{refl}
 use borrow.Author.Tests.{lt-ltb, le-ltb}
 
 returns : tie.Need-returns

@@ -3,7 +3,7 @@ use Rattle.lent.proofs.find_id.Tie as tie
 use mathlib.Core.Path.{_≡_, sym, _∙_, ap}
 use Prim.Native.Nat.{_≤_, _-_, _+_}
 use native.Mathlib.Omega.{arith}
-use lib.ListN.{length, take, drop, getD}
+use lib.ListN.{length, take, drop}
 use lib.Seq.{length-take-le, getD-take}
 use Rattle.model.specs.Memory.{place}
 use Rattle.model.specs.declared.Mailbox.{Mailbox}

@@ -88,9 +88,9 @@ hosts-alike a b start cs ds r s e p q k = at (hiddenOf a b cs ds) (same-hidden a
         ap (λ (l : List (Answered × List ℕ)). getElem? l k) (sym (same-shown K a cs r))
         ∙ (at-mapped shows inNumbers (others K (allMade a cs r)) k
         ∙ (ap (mapped shows inNumbers) (subst (λ (J : ℕ → Bool). getElem? (map shows (others J (allMade a cs r))) k ≡ getElem? (map shows (others J (allMade b ds s))) k) h
-            (alike a b start (allMade a cs r) (allMade b ds s) (made-runs a cs r) (made-runs b ds s)
-            (subst (λ (J : ℕ → Bool). map (λ (c : Made). c .octets) (others J (allMade a cs r)) ≡ map (λ (c : Made). c .octets) (others J (allMade b ds s))) (sym h) (same-octets K a cs r ∙ (e ∙ sym (same-octets K b ds s))))
-            (subst (λ (J : ℕ → Bool). freely (others J (allMade a cs r))) (sym h) (same-refused K a cs r ∙ p))
-            (subst (λ (J : ℕ → Bool). freely (others J (allMade b ds s))) (sym h) (same-refused K b ds s ∙ q)) k))
+        (alike a b start (allMade a cs r) (allMade b ds s) (made-runs a cs r) (made-runs b ds s)
+        (subst (λ (J : ℕ → Bool). map (λ (c : Made). c .octets) (others J (allMade a cs r)) ≡ map (λ (c : Made). c .octets) (others J (allMade b ds s))) (sym h) (same-octets K a cs r ∙ (e ∙ sym (same-octets K b ds s))))
+        (subst (λ (J : ℕ → Bool). freely (others J (allMade a cs r))) (sym h) (same-refused K a cs r ∙ p))
+        (subst (λ (J : ℕ → Bool). freely (others J (allMade b ds s))) (sym h) (same-refused K b ds s ∙ q)) k))
         ∙ (sym (at-mapped shows inNumbers (others K (allMade b ds s)) k)
         ∙ ap (λ (l : List (Answered × List ℕ)). getElem? l k) (same-shown K b ds s))))

@@ -8,7 +8,10 @@ use model::Session;
 use outcomes::Change;
 use outcomes::Outcome;
 ghost use mathlib.Core.Path.{_≡_};
+ghost use lib.ListN.{take, set};
 ghost use Rattle.model.specs.Answers.{refusalNumber};
+ghost use Rattle.model.specs.Memory.{place};
+ghost use Rattle.lent.specs.Rows.{placeNamed};
 ghost use Rattle.push.specs.Served.{lentAs};
 ghost use Rattle.exported.specs.Numbers.{numbersOf};
 ghost use Rattle.exported.specs.Written.{putAt, usedOf, takenOf};
@@ -128,4 +131,33 @@ pub fn borjavid_step(
     let m = taken_of(out, before.mailboxes, n);
     lent::write_back(rows, k, out.row, after, m);
     numbers(out)
+}
+
+// ---- the mailbox table
+
+// The place of the first used row with the id, or how many are used. Of a table that is too long the first 64 rows are searched.
+pub fn borjavid_find_id(rows: &[Mailbox], used: usize, id: u16) -> usize
+    ensures { λ r. ⌜ r ≡ place id (take used (take 64 (now (rows .entry)))) ⌝ }
+{
+    let n = rows.len();
+    let m = lent::reach(used, n);
+    let t = lent::load(rows);
+    lent::find_id(t, m, id)
+}
+
+// The place of the first used row with the name, octet for octet, or how many are used; searched likewise.
+pub fn borjavid_find_name(rows: &[Mailbox], used: usize, name: &[u8]) -> usize
+    ensures { λ r. ⌜ r ≡ placeNamed (now (name .entry)) (take used (take 64 (now (rows .entry)))) ⌝ }
+{
+    let n = rows.len();
+    let m = lent::reach(used, n);
+    let t = lent::load(rows);
+    lent::find_name(t, m, name)
+}
+
+// Row k becomes x; where there is none, nothing changes.
+pub fn borjavid_set_row(rows: &mut [Mailbox], k: usize, x: Mailbox)
+    ensures { λ _. ⌜ now (rows .exit) ≡ set (now (rows .entry)) k x ⌝ }
+{
+    lent::set_row(rows, k, x);
 }

@@ -6,7 +6,7 @@ use Prim.Native.Nat.{ℕ, zero, suc, _+_, _-_, _<_, _≤_, min}
 use native.Mathlib.Nat.{sub-zero}
 use native.Mathlib.Omega.{arith}
 use lib.ListN.{length, take, drop, getD, replicate, length-append, length-replicate, length-take, drop-of-length-le}
-use lib.Seq.{take-all, take-length, take-at}
+use lib.Seq.{take-all, take-length, take-at, take-append-le}
 use lib.Dec.{leb}
 use borrow.Author.Tests.{leb-true, leb-false}
 use Rattle.model.specs.Lists.{same}
@@ -76,6 +76,27 @@ lent-loaded t = record {
   long = refl;
   read = λ h. sym (ap (λ (l : List Mailbox). take (length t) (l ++ replicate (64 - length t) noMailbox)) (take-all 64 t h) ∙ take-at t (replicate (64 - length t) noMailbox) (length t) refl);
 }
+
+-- of the array, as many rows as are used and there are
+pub taken-loaded : (used : ℕ) (t : List Mailbox) → take (within used (length t)) (loaded t) ≡ take used (take 64 t)
+taken-loaded used t = go (leb (length (take 64 t)) used) refl
+  where
+    long : length (take 64 t) ≡ min 64 (length t)
+    long = length-take 64 t
+
+    part : take (within used (length t)) (loaded t) ≡ take (within used (length t)) (take 64 t)
+    part = take-append-le (within used (length t)) (take 64 t) (replicate (64 - length t) noMailbox) (let z = long in omega arith)
+
+    go : (b : Bool) → leb (length (take 64 t)) used ≡ b → take (within used (length t)) (loaded t) ≡ take used (take 64 t)
+    go true e =
+        let z = long in
+        let h : length (take 64 t) ≤ used = leb-true (length (take 64 t)) used e in
+        part ∙ (take-all (within used (length t)) (take 64 t) (omega arith) ∙ sym (take-all used (take 64 t) h))
+    go false e =
+        let z = long in
+        let h : used < length (take 64 t) = leb-false (length (take 64 t)) used e in
+        let w : within used (length t) ≡ used = omega arith in
+        part ∙ ap (λ (n : ℕ). take n (take 64 t)) w
 
 -- ---- finding by name, from place i on
 module _ (n : List ℕ) (l : List Mailbox) (i : ℕ) where

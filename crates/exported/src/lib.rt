@@ -110,7 +110,8 @@ fn taken_of(out: Outcome, used: u64, lent: usize) -> usize
 // ---- the step
 
 // One record on the memory that a host lends.
-pub fn borjavid_step(
+#[no_mangle]
+pub extern "C" fn borjavid_step(
     rows: &mut [Mailbox],
     words: &mut [u64],
     counts: &mut Counts,
@@ -136,7 +137,8 @@ pub fn borjavid_step(
 // ---- the mailbox table
 
 // The place of the first used row with the id, or how many are used. Of a table that is too long the first 64 rows are searched.
-pub fn borjavid_find_id(rows: &[Mailbox], used: usize, id: u16) -> usize
+#[no_mangle]
+pub extern "C" fn borjavid_find_id(rows: &[Mailbox], used: usize, id: u16) -> usize
     ensures { λ r. ⌜ r ≡ place id (take used (take 64 (now (rows .entry)))) ⌝ }
 {
     let n = rows.len();
@@ -146,7 +148,8 @@ pub fn borjavid_find_id(rows: &[Mailbox], used: usize, id: u16) -> usize
 }
 
 // The place of the first used row with the name, octet for octet, or how many are used; searched likewise.
-pub fn borjavid_find_name(rows: &[Mailbox], used: usize, name: &[u8]) -> usize
+#[no_mangle]
+pub extern "C" fn borjavid_find_name(rows: &[Mailbox], used: usize, name: &[u8]) -> usize
     ensures { λ r. ⌜ r ≡ placeNamed (now (name .entry)) (take used (take 64 (now (rows .entry)))) ⌝ }
 {
     let n = rows.len();
@@ -156,7 +159,8 @@ pub fn borjavid_find_name(rows: &[Mailbox], used: usize, name: &[u8]) -> usize
 }
 
 // Row k becomes x; where there is none, nothing changes.
-pub fn borjavid_set_row(rows: &mut [Mailbox], k: usize, x: Mailbox)
+#[no_mangle]
+pub extern "C" fn borjavid_set_row(rows: &mut [Mailbox], k: usize, x: Mailbox)
     ensures { λ _. ⌜ now (rows .exit) ≡ set (now (rows .entry)) k x ⌝ }
 {
     lent::set_row(rows, k, x);

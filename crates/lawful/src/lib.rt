@@ -2,6 +2,7 @@
 use model::Counts;
 use model::Message;
 use model::Session;
+use model::Uid;
 ghost use mathlib.Core.Path.{_≡_};
 ghost use mathlib.Core.Bool.{_&&_, _||_};
 ghost use mathlib.Core.List.{List};
@@ -225,14 +226,14 @@ fn message_ok(e: Message) -> bool
 }
 
 // An entry that is expunged or marked lies in the view.
-fn state_ok(e: Message, selected: u64, told: u64) -> bool
-    ensures { λ r. ⌜ r ≡ stateAt selected told e ⌝ }
+fn state_ok(e: Message, selected: u64, told: Uid) -> bool
+    ensures { λ r. ⌜ r ≡ stateAt selected (told .0) e ⌝ }
 {
     if e.states == 0 {
         return true;
     }
     if e.mailbox == selected {
-        return e.uid.0 < told;
+        return e.uid.0 < told.0;
     }
     false
 }
@@ -244,10 +245,10 @@ fn entry_ok(
     n: usize,
     e: Message,
     selected: u64,
-    told: u64,
+    told: Uid,
 ) -> bool
     requires { ⌜ n ≤ 64 ⌝ }
-    ensures { λ r. ⌜ ((l : List Mailbox) → length l ≡ n → Owners l (now (ids .entry)) (now (nexts .entry)) → r ≡ entryOk l selected told e) ⌝ }
+    ensures { λ r. ⌜ ((l : List Mailbox) → length l ≡ n → Owners l (now (ids .entry)) (now (nexts .entry)) → r ≡ entryOk l selected (told .0) e) ⌝ }
 {
     if !message_ok(e) {
         return false;
@@ -266,10 +267,10 @@ fn mail_ok(
     words: &[u64],
     used: usize,
     selected: u64,
-    told: u64,
+    told: Uid,
 ) -> bool
     requires { ⌜ (n ≤ 64) × (used * 5 ≤ length (now words)) ⌝ }
-    ensures { λ r. ⌜ ((l : List Mailbox) → length l ≡ n → Owners l (now (ids .entry)) (now (nexts .entry)) → r ≡ allb (entryOk l selected told) (take used (messages (now (words .entry))))) ⌝ }
+    ensures { λ r. ⌜ ((l : List Mailbox) → length l ≡ n → Owners l (now (ids .entry)) (now (nexts .entry)) → r ≡ allb (entryOk l selected (told .0)) (take used (messages (now (words .entry))))) ⌝ }
 {
     let mut i: usize = 0;
     while i < used {
@@ -293,10 +294,10 @@ fn slowly(
     words: &[u64],
     used: usize,
     selected: u64,
-    told: u64,
+    told: Uid,
 ) -> bool
     requires { ⌜ (n ≤ 64) × (used * 5 ≤ length (now words)) ⌝ }
-    ensures { λ r. ⌜ ((l : List Mailbox) → length l ≡ n → Owners l (now (ids .entry)) (now (nexts .entry)) → Called l (now (ids .entry)) (now (lens .entry)) (now (names .entry)) → r ≡ every (tablesOk l (take used (messages (now (words .entry)))) selected told)) ⌝ }
+    ensures { λ r. ⌜ ((l : List Mailbox) → length l ≡ n → Owners l (now (ids .entry)) (now (nexts .entry)) → Called l (now (ids .entry)) (now (lens .entry)) (now (names .entry)) → r ≡ every (tablesOk l (take used (messages (now (words .entry)))) selected (told .0))) ⌝ }
 {
     if !rows_apart(ids, lens, names, n) {
         return false;
@@ -317,10 +318,10 @@ fn tables_ok(
     words: &[u64],
     used: usize,
     selected: u64,
-    told: u64,
+    told: Uid,
 ) -> bool
     requires { ⌜ (n ≤ 64) × (used * 5 ≤ length (now words)) ⌝ }
-    ensures { λ r. ⌜ ((l : List Mailbox) → length l ≡ n → Owners l (now (ids .entry)) (now (nexts .entry)) → Called l (now (ids .entry)) (now (lens .entry)) (now (names .entry)) → r ≡ every (tablesOk l (take used (messages (now (words .entry)))) selected told)) ⌝ }
+    ensures { λ r. ⌜ ((l : List Mailbox) → length l ≡ n → Owners l (now (ids .entry)) (now (nexts .entry)) → Called l (now (ids .entry)) (now (lens .entry)) (now (names .entry)) → r ≡ every (tablesOk l (take used (messages (now (words .entry)))) selected (told .0))) ⌝ }
 {
     let digests = quick::digests_of(lens, names, n);
     if quick::sure(ids, nexts, &digests, n, words, used, selected, told) {
@@ -374,18 +375,18 @@ fn sizes_ok(room: u64, lent: u64, entries: u64, counts: Counts, groups: u8) -> b
 }
 
 // The view is that of a mailbox and lies below its UIDNEXT, or there is none.
-fn view_ok(ids: &[u64; 64], nexts: &[u64; 64], n: usize, selected: u64, told: u64) -> bool
+fn view_ok(ids: &[u64; 64], nexts: &[u64; 64], n: usize, selected: u64, told: Uid) -> bool
     requires { ⌜ n ≤ 64 ⌝ }
-    ensures { λ r. ⌜ ((l : List Mailbox) → length l ≡ n → Owners l (now (ids .entry)) (now (nexts .entry)) → r ≡ viewBy l selected told) ⌝ }
+    ensures { λ r. ⌜ ((l : List Mailbox) → length l ≡ n → Owners l (now (ids .entry)) (now (nexts .entry)) → r ≡ viewBy l selected (told .0)) ⌝ }
 {
     if selected == 0 {
-        return told == 0;
+        return told.0 == 0;
     }
     let k = rows::find(ids, n, selected);
     if n <= k {
         return false;
     }
-    told <= nexts[k]
+    told.0 <= nexts[k]
 }
 
 // The session, the view, the mailboxes and the messages.
@@ -408,7 +409,7 @@ fn contents_ok(
         return false;
     }
     let selected = s.selected as u64;
-    let told = s.told as u64;
+    let told = Uid(s.told as u64);
     if !view_ok(ids, nexts, n, selected, told) {
         return false;
     }

@@ -22,17 +22,17 @@ pub fn flag(
     k: usize,
     x: Mailbox,
     id: u64,
-    uid: u64,
+    uid: Uid,
     flags: u64,
 ) -> Outcome
     requires { ⌜ Ready (now words) counts s (now queue) ⌝ }
-    ensures { λ r. ⌜ ((m : Memory) → Lends m (now (words .entry)) counts s (now (queue .entry)) → Law m → Placed m id k x → Comes m (ladder m (reflag id uid flags)) r (now (words .entry)) (now (words .exit)) (now (queue .exit))) ⌝ }
+    ensures { λ r. ⌜ ((m : Memory) → Lends m (now (words .entry)) counts s (now (queue .entry)) → Law m → Placed m id k x → Comes m (ladder m (reflag id (uid .0) flags)) r (now (words .entry)) (now (words .exit)) (now (queue .exit))) ⌝ }
 {
     if counts.mailboxes as usize <= k {
         return outcomes::refused(Refusal::WrongId, counts, s);
     }
     let used = counts.messages as usize;
-    let at = entries::find(words, used, id, Uid(uid));
+    let at = entries::find(words, used, id, uid);
     if used <= at {
         return outcomes::refused(Refusal::WrongUid, counts, s);
     }
@@ -55,16 +55,16 @@ pub fn expunge(
     k: usize,
     x: Mailbox,
     id: u64,
-    uid: u64,
+    uid: Uid,
 ) -> Outcome
     requires { ⌜ Ready (now words) counts s (now queue) ⌝ }
-    ensures { λ r. ⌜ ((m : Memory) → Lends m (now (words .entry)) counts s (now (queue .entry)) → Law m → Placed m id k x → Comes m (ladder m (expunge id uid)) r (now (words .entry)) (now (words .exit)) (now (queue .exit))) ⌝ }
+    ensures { λ r. ⌜ ((m : Memory) → Lends m (now (words .entry)) counts s (now (queue .entry)) → Law m → Placed m id k x → Comes m (ladder m (expunge id (uid .0))) r (now (words .entry)) (now (words .exit)) (now (queue .exit))) ⌝ }
 {
     if counts.mailboxes as usize <= k {
         return outcomes::refused(Refusal::WrongId, counts, s);
     }
     let used = counts.messages as usize;
-    let at = entries::find(words, used, id, Uid(uid));
+    let at = entries::find(words, used, id, uid);
     if used <= at {
         return outcomes::refused(Refusal::WrongUid, counts, s);
     }
@@ -87,17 +87,17 @@ pub fn arrive(
     k: usize,
     x: Mailbox,
     id: u64,
-    uid: u64,
+    uid: Uid,
     flags: u64,
     size: u64,
 ) -> Outcome
-    requires { ⌜ Ready (now words) counts s (now queue) × (length (now words) / 5 ≤ 1024) × (uid ≤ 4294967294) ⌝ }
-    ensures { λ r. ⌜ ((m : Memory) → Lends m (now (words .entry)) counts s (now (queue .entry)) → Law m → Placed m id k x → Comes m (ladder m (arrive id uid flags size)) r (now (words .entry)) (now (words .exit)) (now (queue .exit))) ⌝ }
+    requires { ⌜ Ready (now words) counts s (now queue) × (length (now words) / 5 ≤ 1024) × (uid .0 ≤ 4294967294) ⌝ }
+    ensures { λ r. ⌜ ((m : Memory) → Lends m (now (words .entry)) counts s (now (queue .entry)) → Law m → Placed m id k x → Comes m (ladder m (arrive id (uid .0) flags size)) r (now (words .entry)) (now (words .exit)) (now (queue .exit))) ⌝ }
 {
     if counts.mailboxes as usize <= k {
         return outcomes::refused(Refusal::WrongId, counts, s);
     }
-    if uid < x.uidnext as u64 {
+    if uid.0 < x.uidnext as u64 {
         return outcomes::refused(Refusal::WrongUid, counts, s);
     }
     let used = counts.messages as usize;
@@ -113,7 +113,7 @@ pub fn arrive(
         s,
         counts.filled as usize,
         x,
-        Uid(uid),
+        uid,
         flags,
         size,
     );

@@ -7,6 +7,7 @@ pub struct MessageNumber(pub u64);
 pub struct Uid(pub u64);
 
 // A row of the mailbox table. It is lent as it lies here: no octet is padding.
+#[repr(C)]
 pub struct Mailbox {
     pub id: u16,
     pub attributes: u8,
@@ -50,6 +51,7 @@ pub struct Group {
 }
 
 // A group as the host keeps it: plain numbers, since no enum may cross and a wrong selector must be refusable.
+#[repr(C)]
 pub struct LentGroup {
     pub selector: u8,
     pub first: u8,
@@ -59,12 +61,14 @@ pub struct LentGroup {
 }
 
 // A name of a group as the host keeps it.
+#[repr(C)]
 pub struct LentName {
     pub len: u8,
     pub octets: [u8; 64],
 }
 
 // The session as the host keeps it: 1,088 octets, none of them padding.
+#[repr(C)]
 pub struct Session {
     pub selected: u16,
     pub notified: u8,
@@ -76,6 +80,7 @@ pub struct Session {
 
 // How many rows, entries and octets of the queue are in use. They stand beside the session: a command that is not accepted
 // leaves the session as it was, and yet fills the queue.
+#[repr(C)]
 pub struct Counts {
     pub mailboxes: u64,
     pub messages: u64,

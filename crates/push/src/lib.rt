@@ -5,6 +5,7 @@ use model::Counts;
 use model::Mailbox;
 use model::Refusal;
 use model::Session;
+use model::Uid;
 use outcomes::Outcome;
 use records::Kind;
 use records::Received;
@@ -127,9 +128,9 @@ fn dispatch(
             c,
         ),
         Kind::Grant => mailbox_records::rights::grant(queue, counts, s, k, x, a, b),
-        Kind::Arrive => message_records::arrive(words, queue, counts, s, k, x, a, b, c, d),
-        Kind::Expunge => message_records::expunge(words, queue, counts, s, k, x, a, b),
-        Kind::Reflag => message_records::flag(words, queue, counts, s, k, x, a, b, c),
+        Kind::Arrive => message_records::arrive(words, queue, counts, s, k, x, a, Uid(b), c, d),
+        Kind::Expunge => message_records::expunge(words, queue, counts, s, k, x, a, Uid(b)),
+        Kind::Reflag => message_records::flag(words, queue, counts, s, k, x, a, Uid(b), c),
         Kind::Select => session_records::select(words, counts, s, k, x, a),
         Kind::Ended => session_records::end_command(words, queue, counts, s, x, a),
         Kind::Command => command_records::answer(

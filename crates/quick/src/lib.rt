@@ -1,5 +1,6 @@
 // Refusal 1, quickly: one pass over each table that says yes wherever ids, names and UIDs are seen to differ. A no says nothing.
 use model::Message;
+use model::Uid;
 ghost use mathlib.Core.Path.{_≡_};
 ghost use mathlib.Core.Bool.{true};
 ghost use mathlib.Core.List.{List};
@@ -79,13 +80,13 @@ pub fn guess(slots: &[u8; 1024], ids: &[u64; 64], id: u64) -> usize
 // ---- messages
 
 // The entry is in order, and above the last UID of its row.
-fn entry_fits(e: Message, id: u64, next: u64, low: u64, selected: u64, told: u64) -> bool
-    ensures { λ r. ⌜ (r ≡ true → Fits e id next low selected told) ⌝ }
+fn entry_fits(e: Message, id: u64, next: u64, low: Uid, selected: u64, told: Uid) -> bool
+    ensures { λ r. ⌜ (r ≡ true → Fits e id next (low .0) selected (told .0)) ⌝ }
 {
     if e.mailbox != id {
         return false;
     }
-    if e.uid.0 <= low {
+    if e.uid.0 <= low.0 {
         return false;
     }
     if next <= e.uid.0 {
@@ -106,10 +107,11 @@ fn entry_fits(e: Message, id: u64, next: u64, low: u64, selected: u64, told: u64
     if e.mailbox != selected {
         return false;
     }
-    e.uid.0 < told
+    e.uid.0 < told.0
 }
 
 // One pass: every entry is in order and rises above those of its mailbox before it. A no says nothing.
+// The last UIDs of the rows are an array of words, as those of `found` are; a single UID is a `Uid`.
 pub fn all_fit(
     words: &[u64],
     used: usize,
@@ -117,17 +119,18 @@ pub fn all_fit(
     nexts: &[u64; 64],
     slots: &[u8; 1024],
     selected: u64,
-    told: u64,
+    told: Uid,
 ) -> bool
     requires { ⌜ used * 5 ≤ length (now words) ⌝ }
-    ensures { λ r. ⌜ ((l : List Mailbox) → Owners l (now (ids .entry)) (now (nexts .entry)) → apart clash l ≡ true → r ≡ true → Good l selected told (take used (messages (now (words .entry))))) ⌝ }
+    ensures { λ r. ⌜ ((l : List Mailbox) → Owners l (now (ids .entry)) (now (nexts .entry)) → apart clash l ≡ true → r ≡ true → Good l selected (told .0) (take used (messages (now (words .entry))))) ⌝ }
 {
     let mut last = [0u64; 64];
     let mut i = 0;
     while i < used {
         let e = entries::get(words, i);
         let k = guess(slots, ids, e.mailbox);
-        if !entry_fits(e, ids[k], nexts[k], last[k], selected, told) {
+        let low = Uid(last[k]);
+        if !entry_fits(e, ids[k], nexts[k], low, selected, told) {
             return false;
         }
         last[k] = e.uid.0;
@@ -246,10 +249,10 @@ pub fn sure(
     words: &[u64],
     used: usize,
     selected: u64,
-    told: u64,
+    told: Uid,
 ) -> bool
     requires { ⌜ (n ≤ 64) × (used * 5 ≤ length (now words)) ⌝ }
-    ensures { λ r. ⌜ ((l : List Mailbox) → length l ≡ n → Owners l (now (ids .entry)) (now (nexts .entry)) → Column (λ (x : Mailbox). digest (nameOf x)) l (now (digests .entry)) → r ≡ true → every (tablesOk l (take used (messages (now (words .entry)))) selected told) ≡ true) ⌝ }
+    ensures { λ r. ⌜ ((l : List Mailbox) → length l ≡ n → Owners l (now (ids .entry)) (now (nexts .entry)) → Column (λ (x : Mailbox). digest (nameOf x)) l (now (digests .entry)) → r ≡ true → every (tablesOk l (take used (messages (now (words .entry)))) selected (told .0)) ≡ true) ⌝ }
 {
     let slots = guesses(ids, n);
     if !differ(ids, &slots, n) {

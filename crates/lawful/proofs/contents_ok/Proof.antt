@@ -21,8 +21,8 @@ returns c =
 cast-selected : tie.Need-cast-selected
 cast-selected c = search needs
 
-cast-told : tie.Need-cast-told
-cast-told c = search needs
+cast-t15 : tie.Need-cast-t15
+cast-t15 c = search needs
 
 view-ok-requires : tie.Need-view-ok-requires
 view-ok-requires c κs = search needs
@@ -64,7 +64,7 @@ contents-ok-spec =
     session-ok-requires
     returns
     cast-selected
-    cast-told
+    cast-t15
     view-ok-requires
     returns-2
     rows-ok-requires

@@ -15,7 +15,7 @@ use Rattle.quick.specs.Passing.{Owners, entryOk}
 use borrow.Author.Needs.{needs}
 
 abbrev Inv-loop : tie.InvT-loop
-Inv-loop ids nexts n words used selected told i₀ i = (i ≤ used) × ((l : List Mailbox) → length l ≡ n → Owners l ids nexts → allb (entryOk l selected told) (take used (messages words)) ≡ allb (entryOk l selected told) (drop i (take used (messages words))))
+Inv-loop ids nexts n words used selected told i₀ i = (i ≤ used) × ((l : List Mailbox) → length l ≡ n → Owners l ids nexts → allb (entryOk l selected (told .0)) (take used (messages words)) ≡ allb (entryOk l selected (told .0)) (drop i (take used (messages words))))
 
 abbrev μ-loop : tie.MeasureT-loop
 μ-loop ids nexts n words used selected told i₀ i = used - i
@@ -39,7 +39,7 @@ returns c =
     let turn = c .before .before .before .before .loop in
     λ l h w.
     let many = messages-length (args .used) (args .words .now) (c .before .before .before .before .before .before .pre .1) in
-    let p = entryOk l (args .selected) (args .told) in
+    let p = entryOk l (args .selected) (args .told .0) in
     sym (turn .inv .1 l h w ∙ all-here p (messages (args .words .now)) (args .used) (turn .i) many noMessage (omega arith) (sym (c .before .entry-ok .ensures l h w ∙ ap p (c .before .before .get .ensures)) ∙ not-true _ (c .if1 .taken)))
 
 -- src/lib.rt:279:9
@@ -58,7 +58,7 @@ loop-again c =
       search needs,
       λ l h w.
           let many = messages-length (args .used) (args .words .now) (c .before .before .before .before .before .before .pre .1) in
-          let p = entryOk l (args .selected) (args .told) in
+          let p = entryOk l (args .selected) (args .told .0) in
           turn .inv .1 l h w ∙ all-next p (messages (args .words .now)) (args .used) (turn .i) many noMessage (omega arith) (sym (c .before .entry-ok .ensures l h w ∙ ap p (c .before .before .get .ensures)) ∙ not-false _ (c .if1 .left)),
     )
 
@@ -69,7 +69,7 @@ returns-2 c =
     let turn = c .before .loop in
     λ l h w.
     let many = messages-length (args .used) (args .words .now) (c .before .before .before .pre .1) in
-    sym (turn .inv .1 l h w ∙ all-past (entryOk l (args .selected) (args .told)) (messages (args .words .now)) (args .used) (turn .i) many (omega arith))
+    sym (turn .inv .1 l h w ∙ all-past (entryOk l (args .selected) (args .told .0)) (messages (args .words .now)) (args .used) (turn .i) many (omega arith))
 
 pub mail-ok-spec : {M : Type 1} → statement M
 mail-ok-spec =

@@ -18,8 +18,8 @@ returns : tie.Need-returns
 returns c =
     let args = c .before .before .before .args in
     λ l h w v.
-    rw (slow-order l (take (args .used) (messages (args .words .now))) (args .selected) (args .told))
-    (first-no (apart clash l) (allb (entryOk l (args .selected) (args .told)) (take (args .used) (messages (args .words .now)))) (apart twin (take (args .used) (messages (args .words .now)))) (sym (c .before .rows-apart .ensures l h v) ∙ not-true _ (c .if1 .taken)))
+    rw (slow-order l (take (args .used) (messages (args .words .now))) (args .selected) (args .told .0))
+    (first-no (apart clash l) (allb (entryOk l (args .selected) (args .told .0)) (take (args .used) (messages (args .words .now)))) (apart twin (take (args .used) (messages (args .words .now)))) (sym (c .before .rows-apart .ensures l h v) ∙ not-true _ (c .if1 .taken)))
 
 mail-ok-requires : tie.Need-mail-ok-requires
 mail-ok-requires c κs = search needs
@@ -28,8 +28,8 @@ returns-2 : tie.Need-returns-2
 returns-2 c =
     let args = c .before .before .before .before .before .args in
     λ l h w v.
-    rw (slow-order l (take (args .used) (messages (args .words .now))) (args .selected) (args .told))
-    (second-no (apart clash l) (allb (entryOk l (args .selected) (args .told)) (take (args .used) (messages (args .words .now)))) (apart twin (take (args .used) (messages (args .words .now)))) (sym (c .before .before .before .rows-apart .ensures l h v) ∙ not-false _ (c .before .before .if1 .left))
+    rw (slow-order l (take (args .used) (messages (args .words .now))) (args .selected) (args .told .0))
+    (second-no (apart clash l) (allb (entryOk l (args .selected) (args .told .0)) (take (args .used) (messages (args .words .now)))) (apart twin (take (args .used) (messages (args .words .now)))) (sym (c .before .before .before .rows-apart .ensures l h v) ∙ not-false _ (c .before .before .if1 .left))
     (sym (c .before .mail-ok .ensures l h w) ∙ not-true _ (c .if2 .taken)))
 
 mail-apart-requires : tie.Need-mail-apart-requires
@@ -39,8 +39,8 @@ returns-3 : tie.Need-returns-3
 returns-3 c =
     let args = c .before .before .before .before .before .before .args in
     λ l h w v.
-    rw (slow-order l (take (args .used) (messages (args .words .now))) (args .selected) (args .told))
-    (third (apart clash l) (allb (entryOk l (args .selected) (args .told)) (take (args .used) (messages (args .words .now)))) (apart twin (take (args .used) (messages (args .words .now)))) _ (sym (c .before .before .before .before .rows-apart .ensures l h v) ∙ not-false _ (c .before .before .before .if1 .left))
+    rw (slow-order l (take (args .used) (messages (args .words .now))) (args .selected) (args .told .0))
+    (third (apart clash l) (allb (entryOk l (args .selected) (args .told .0)) (take (args .used) (messages (args .words .now)))) (apart twin (take (args .used) (messages (args .words .now)))) _ (sym (c .before .before .before .before .rows-apart .ensures l h v) ∙ not-false _ (c .before .before .before .if1 .left))
     (sym (c .before .before .mail-ok .ensures l h w) ∙ not-false _ (c .before .if2 .left)) (c .mail-apart .ensures))
 
 pub slowly-spec : {M : Type 1} → statement M

@@ -10,7 +10,7 @@ returns c = simp (eq-eqb _ _ (c .if1 .taken))
 
 -- src/lib.rt:402:9
 returns-2 : tie.Need-returns-2
-returns-2 c = simp (ne-eqb _ _ (c .before .before .before .if1 .left), eq-eqb _ _ (c .before .if2 .taken))
+returns-2 c = simp (ne-eqb _ _ (c .before .before .before .before .if1 .left), eq-eqb _ _ (c .before .before .if2 .taken))
 
 -- src/lib.rt:395:1
 returns-3 : tie.Need-returns-3

@@ -8,7 +8,7 @@ use Rattle.lawful.specs.Lent.{view-none, view-unknown, view-known}
 
 -- src/lib.rt:382:9
 returns : tie.Need-returns
-returns c = λ l h w. view-none l (c .before .args .selected) (c .before .args .told) (place (c .before .args .selected) l) 0 refl (c .if1 .taken)
+returns c = λ l h w. view-none l (c .before .before .args .selected) (c .before .before .args .told .0) (place (c .before .before .args .selected) l) 0 refl (c .before .if1 .taken)
 
 -- src/lib.rt:384:9
 find-requires : tie.Need-find-requires
@@ -18,7 +18,7 @@ find-requires c κs = search needs
 returns-2 : tie.Need-returns-2
 returns-2 c =
     let args = c .before .before .before .args in
-    λ l h w. view-unknown l (args .selected) (args .told) (c .before .find .result) 0 (c .before .find .ensures .0 l h (w .id)) (c .before .before .if1 .left) (omega arith)
+    λ l h w. view-unknown l (args .selected) (args .told .0) (c .before .find .result) 0 (c .before .find .ensures .0 l h (w .id)) (c .before .before .if1 .left) (omega arith)
 
 -- src/lib.rt:388:13
 mul-result : tie.Need-mul-result
@@ -31,8 +31,8 @@ element-copy-out-result c = search needs
 -- src/lib.rt:377:1
 returns-3 : tie.Need-returns-3
 returns-3 c =
-    let args = c .before .before .before .before .args in
-    λ l h w. view-known l (args .selected) (args .told) (c .before .before .find .result) _ (c .before .before .find .ensures .0 l h (w .id)) (c .before .before .before .if1 .left) (omega arith) (w .next (c .before .before .find .result) (omega arith))
+    let args = c .before .before .before .before .before .args in
+    λ l h w. view-known l (args .selected) (args .told .0) (c .before .before .before .find .result) _ (c .before .before .before .find .ensures .0 l h (w .id)) (c .before .before .before .before .if1 .left) (omega arith) (w .next (c .before .before .before .find .result) (omega arith))
 
 pub view-ok-spec : {M : Type 1} → statement M
 view-ok-spec =

@@ -13,7 +13,7 @@ refused-requires c κs = search needs
 
 returns : tie.Need-returns
 returns c = let a = c .before .before .before .before .args in
-    λ m lent law w. arrive-unknown m (a .words .now) (a .counts) (a .s) (a .queue .now) lent law (a .id) (a .k) (a .x) w (a .uid) (a .flags) (a .size) (c .refused .result) (c .before .if1 .taken) (c .refused .ensures)
+    λ m lent law w. arrive-unknown m (a .words .now) (a .counts) (a .s) (a .queue .now) lent law (a .id) (a .k) (a .x) w (a .uid .0) (a .flags) (a .size) (c .refused .result) (c .before .if1 .taken) (c .refused .ensures)
 
 cast-if2 : tie.Need-cast-if2
 cast-if2 c = search needs
@@ -22,22 +22,22 @@ refused-requires-2 : tie.Need-refused-requires-2
 refused-requires-2 c κs = search needs
 
 returns-2 : tie.Need-returns-2
-returns-2 c = let a = c .before .before .before .before .before .before .args in
-    λ m lent law w. arrive-used m (a .words .now) (a .counts) (a .s) (a .queue .now) lent law (a .id) (a .k) (a .x) w (a .uid) (a .flags) (a .size) (c .refused2 .result) (omega (arith, c .before .before .before .if1 .left)) (omega (arith, c .before .if2 .taken)) (c .refused2 .ensures)
+returns-2 c = let a = c .before .before .before .before .before .before .before .args in
+    λ m lent law w. arrive-used m (a .words .now) (a .counts) (a .s) (a .queue .now) lent law (a .id) (a .k) (a .x) w (a .uid .0) (a .flags) (a .size) (c .refused2 .result) (omega (arith, c .before .before .before .before .if1 .left)) (omega (arith, c .before .if2 .taken)) (c .refused2 .ensures)
 
 refused-requires-3 : tie.Need-refused-requires-3
 refused-requires-3 c κs = search needs
 
 returns-3 : tie.Need-returns-3
-returns-3 c = let a = c .before .before .before .before .before .before .before .args in
-    λ m lent law w. arrive-full m (a .words .now) (a .counts) (a .s) (a .queue .now) lent law (a .id) (a .k) (a .x) w (a .uid) (a .flags) (a .size) (c .refused3 .result) (omega (arith, c .before .before .before .before .if1 .left)) (omega (arith, c .before .before .if2 .left)) (omega (arith, c .before .if3 .taken)) (c .refused3 .ensures)
+returns-3 c = let a = c .before .before .before .before .before .before .before .before .args in
+    λ m lent law w. arrive-full m (a .words .now) (a .counts) (a .s) (a .queue .now) lent law (a .id) (a .k) (a .x) w (a .uid .0) (a .flags) (a .size) (c .refused3 .result) (omega (arith, c .before .before .before .before .before .if1 .left)) (omega (arith, c .before .before .if2 .left)) (omega (arith, c .before .if3 .taken)) (c .refused3 .ensures)
 
 slice-aggregate-receive : tie.Need-slice-aggregate-receive
 slice-aggregate-receive c = search needs
 
 receive-requires : tie.Need-receive-requires
-receive-requires c κs = let a = c .before .before .before .before .before .before .before .before .before .args in
-    let pre = c .before .before .before .before .before .before .before .before .before .pre in
+receive-requires c κs = let a = c .before .before .before .before .before .before .before .before .before .before .args in
+    let pre = c .before .before .before .before .before .before .before .before .before .before .pre in
     let z = sizes (length (a .queue .now)) (a .counts .filled) (a .s) (pre .0 .room) in
     let low = z .low in
     let high = z .high in
@@ -54,8 +54,8 @@ same-length-2 : tie.Need-same-length-2
 same-length-2 c = search needs
 
 returns-4 : tie.Need-returns-4
-returns-4 c = let a = c .before .before .before .before .before .before .before .before .before .before .before .before .before .before .before .before .before .before .args in
-    λ m lent law w. arrive-done m (a .words .now) (a .counts) (a .s) (a .queue .now) lent law (a .id) (a .k) (a .x) w (a .uid) (a .flags) (a .size) (c .put .result) (omega (arith, c .before .before .before .before .before .before .before .before .before .before .before .before .before .before .before .if1 .left)) (omega (arith, c .before .before .before .before .before .before .before .before .before .before .before .before .before .if2 .left)) _ (c .before .before .before .before .before .before .before .before .receive .result .used) _ (c .before .before .before .before .before .before .before .before .receive .result .session) (c .before .before .before .before .before .before .before .before .receive .result .filled) (c .before .before .before .before .before .before .before .before .receive .result .row) (omega (arith, c .before .before .before .before .before .before .before .before .before .before .before .before .if3 .left)) (c .before .before .before .before .before .before .before .before .receive .ensures .0) (c .before .before .before .before .before .before .before .before .receive .ensures .1) (c .put .ensures)
+returns-4 c = let a = c .before .before .before .before .before .before .before .before .before .before .before .before .before .before .before .before .before .before .before .args in
+    λ m lent law w. arrive-done m (a .words .now) (a .counts) (a .s) (a .queue .now) lent law (a .id) (a .k) (a .x) w (a .uid .0) (a .flags) (a .size) (c .put .result) (omega (arith, c .before .before .before .before .before .before .before .before .before .before .before .before .before .before .before .before .if1 .left)) (omega (arith, c .before .before .before .before .before .before .before .before .before .before .before .before .before .if2 .left)) _ (c .before .before .before .before .before .before .before .before .receive .result .used) _ (c .before .before .before .before .before .before .before .before .receive .result .session) (c .before .before .before .before .before .before .before .before .receive .result .filled) (c .before .before .before .before .before .before .before .before .receive .result .row) (omega (arith, c .before .before .before .before .before .before .before .before .before .before .before .before .if3 .left)) (c .before .before .before .before .before .before .before .before .receive .ensures .0) (c .before .before .before .before .before .before .before .before .receive .ensures .1) (c .put .ensures)
 
 pub arrive-spec : {M : Type 1} → statement M
 arrive-spec =

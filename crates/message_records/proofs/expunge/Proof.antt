@@ -15,7 +15,7 @@ refused-requires c κs = search needs
 
 returns : tie.Need-returns
 returns c = let a = c .before .before .before .before .args in
-    λ m lent law w. no-mailbox m (a .words .now) (a .counts) (a .s) (a .queue .now) lent law (a .id) (a .k) (a .x) w (a .uid) (accepted m (expunge (a .id) (a .uid))) (c .refused .result) (c .before .if1 .taken) (c .refused .ensures)
+    λ m lent law w. no-mailbox m (a .words .now) (a .counts) (a .s) (a .queue .now) lent law (a .id) (a .k) (a .x) w (a .uid .0) (accepted m (expunge (a .id) (a .uid .0))) (c .refused .result) (c .before .if1 .taken) (c .refused .ensures)
 
 find-requires : tie.Need-find-requires
 find-requires c κs = c .before .before .before .before .pre .words
@@ -28,7 +28,7 @@ same-length c = search needs
 
 returns-2 : tie.Need-returns-2
 returns-2 c = let a = c .before .before .before .before .before .before .before .args in
-    λ m lent law w. no-message m (a .words .now) (a .counts) (a .s) (a .queue .now) lent law (a .id) (a .k) (a .x) w (a .uid) (c .refused2 .result) (omega (arith, c .before .before .before .before .if1 .left)) (c .before .before .find .result) (c .before .before .find .ensures) (accepted m (expunge (a .id) (a .uid))) (c .before .if2 .taken) (c .refused2 .ensures)
+    λ m lent law w. no-message m (a .words .now) (a .counts) (a .s) (a .queue .now) lent law (a .id) (a .k) (a .x) w (a .uid .0) (c .refused2 .result) (omega (arith, c .before .before .before .before .if1 .left)) (c .before .before .find .result) (c .before .before .find .ensures) (accepted m (expunge (a .id) (a .uid .0))) (c .before .if2 .taken) (c .refused2 .ensures)
 
 expunge-requires : tie.Need-expunge-requires
 expunge-requires c κs = let a = c .before .before .before .before .before .before .before .before .args in
@@ -49,7 +49,7 @@ same-length-3 c = search needs
 
 returns-3 : tie.Need-returns-3
 returns-3 c = let a = c .before .before .before .before .before .before .before .before .before .before .before .before .before .before .before .args in
-    λ m lent law w. expunge-done m (a .words .now) (a .counts) (a .s) (a .queue .now) lent law (a .id) (a .k) (a .x) w (a .uid) (c .unmoved .result) (omega (arith, c .before .before .before .before .before .before .before .before .before .before .before .before .if1 .left)) (c .before .before .before .before .before .before .before .before .before .before .find .result) (c .before .before .before .before .before .before .before .before .before .before .find .ensures) _ (c .before .before .before .before .before .before .expunge .result .used) _ (c .before .before .before .before .before .before .expunge .result .session) (c .before .before .before .before .before .before .expunge .result .filled) (omega (arith, c .before .before .before .before .before .before .before .before .before .if2 .left)) (c .unmoved .ensures) (c .before .before .before .before .before .before .expunge .ensures)
+    λ m lent law w. expunge-done m (a .words .now) (a .counts) (a .s) (a .queue .now) lent law (a .id) (a .k) (a .x) w (a .uid .0) (c .unmoved .result) (omega (arith, c .before .before .before .before .before .before .before .before .before .before .before .before .if1 .left)) (c .before .before .before .before .before .before .before .before .before .before .find .result) (c .before .before .before .before .before .before .before .before .before .before .find .ensures) _ (c .before .before .before .before .before .before .expunge .result .used) _ (c .before .before .before .before .before .before .expunge .result .session) (c .before .before .before .before .before .before .expunge .result .filled) (omega (arith, c .before .before .before .before .before .before .before .before .before .if2 .left)) (c .unmoved .ensures) (c .before .before .before .before .before .before .expunge .ensures)
 
 pub expunge-spec : {M : Type 1} → statement M
 expunge-spec =

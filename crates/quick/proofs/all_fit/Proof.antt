@@ -19,7 +19,7 @@ use Rattle.quick.specs.Passing.{Owners, Going, going-start, going-next}
 use borrow.Author.Needs.{needs}
 
 abbrev Inv-loop : tie.InvT-loop
-Inv-loop words used ids nexts slots selected told last₀ i₀ last i = (i ≤ used) × (length last ≡ 64) × ((l : List Mailbox) → Owners l ids nexts → apart clash l ≡ true → Going l selected told last (take i (messages words)))
+Inv-loop words used ids nexts slots selected told last₀ i₀ last i = (i ≤ used) × (length last ≡ 64) × ((l : List Mailbox) → Owners l ids nexts → apart clash l ≡ true → Going l selected (told .0) last (take i (messages words)))
 
 abbrev μ-loop : tie.MeasureT-loop
 μ-loop words used ids nexts slots selected told last₀ i₀ last i = used - i
@@ -36,29 +36,29 @@ get-requires c κs = search needs
 guess-requires : tie.Need-guess-requires Inv-loop μ-loop
 guess-requires c κs = search needs
 
--- src/lib.rt:130:27
+-- src/lib.rt:131:23
 mul-entry-fits : tie.Need-mul-entry-fits Inv-loop μ-loop
 mul-entry-fits c = search needs
 
--- src/lib.rt:130:27
-element-copy-out-entry-fits : tie.Need-element-copy-out-entry-fits Inv-loop μ-loop
-element-copy-out-entry-fits c = search needs
+-- src/lib.rt:131:23
+array-read-entry-fits : tie.Need-array-read-entry-fits Inv-loop μ-loop
+array-read-entry-fits c = search needs
 
--- src/lib.rt:130:35
+-- src/lib.rt:132:27
 mul-entry-fits-2 : tie.Need-mul-entry-fits-2 Inv-loop μ-loop
 mul-entry-fits-2 c = search needs
 
--- src/lib.rt:130:35
-element-copy-out-entry-fits-2 : tie.Need-element-copy-out-entry-fits-2 Inv-loop μ-loop
-element-copy-out-entry-fits-2 c = search needs
+-- src/lib.rt:132:27
+element-copy-out-entry-fits : tie.Need-element-copy-out-entry-fits Inv-loop μ-loop
+element-copy-out-entry-fits c = search needs
 
--- src/lib.rt:130:45
+-- src/lib.rt:132:35
 mul-entry-fits-3 : tie.Need-mul-entry-fits-3 Inv-loop μ-loop
 mul-entry-fits-3 c = search needs
 
--- src/lib.rt:130:45
-array-read-entry-fits : tie.Need-array-read-entry-fits Inv-loop μ-loop
-array-read-entry-fits c = search needs
+-- src/lib.rt:132:35
+element-copy-out-entry-fits-2 : tie.Need-element-copy-out-entry-fits-2 Inv-loop μ-loop
+element-copy-out-entry-fits-2 c = search needs
 
 -- src/lib.rt:130:13
 entry-fits-requires : tie.Need-entry-fits-requires Inv-loop μ-loop
@@ -98,7 +98,7 @@ loop-again c =
           let h : i < length es = omega arith in
           let fits = c .before .entry-fits .ensures (not-false _ (c .if1 .left)) in
           rw (add-one, take-suc es i noMessage h, ← c .before .before .before .before .before .get .ensures)
-          (going-next l (args .ids .now) (args .nexts .now) w a (args .selected) (args .told) (turn .last) (take i es) (c .before .before .before .before .before .get .result) (c .before .before .before .before .guess .result) fits (omega arith) (turn .inv .2 l w a)),
+          (going-next l (args .ids .now) (args .nexts .now) w a (args .selected) (args .told .0) (turn .last) (take i es) (c .before .before .before .before .before .get .result) (c .before .before .before .before .guess .result) fits (omega arith) (turn .inv .2 l w a)),
     )
 
 -- src/lib.rt:113:1
@@ -115,11 +115,11 @@ all-fit-spec =
     get-requires
     guess-requires
     mul-entry-fits
-    element-copy-out-entry-fits
-    mul-entry-fits-2
-    element-copy-out-entry-fits-2
-    mul-entry-fits-3
     array-read-entry-fits
+    mul-entry-fits-2
+    element-copy-out-entry-fits
+    mul-entry-fits-3
+    element-copy-out-entry-fits-2
     entry-fits-requires
     returns
     mul-last

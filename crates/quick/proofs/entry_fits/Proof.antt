@@ -30,8 +30,8 @@ returns-5 c = λ z. tf false z refl
 -- src/lib.rt:45:9
 returns-6 : tie.Need-returns-6
 returns-6 c =
-    let args = c .before .before .before .before .before .before .before .before .before .before .before .before .args in
-    λ z. fits-in (args .e) (args .id) (args .next) (args .low) (args .selected) (args .told) (omega arith) (omega arith) (omega arith) (omega arith) (omega arith) (omega arith) (at-rest (args .e) (args .id) (args .next) (args .low) (args .selected) (args .told) (c .if6 .taken))
+    let args = c .before .before .before .before .before .before .before .before .before .before .before .before .before .args in
+    λ z. fits-in (args .e) (args .id) (args .next) (args .low .0) (args .selected) (args .told .0) (omega arith) (omega arith) (omega arith) (omega arith) (omega arith) (omega arith) (at-rest (args .e) (args .id) (args .next) (args .low .0) (args .selected) (args .told .0) (c .if6 .taken))
 
 -- src/lib.rt:48:9
 returns-7 : tie.Need-returns-7
@@ -44,8 +44,8 @@ returns-8 c = λ z. tf false z refl
 -- src/lib.rt:26:1
 returns-9 : tie.Need-returns-9
 returns-9 c =
-    let args = c .before .before .before .before .before .before .before .before .before .before .before .before .before .before .before .before .before .args in
-    λ z. fits-in (args .e) (args .id) (args .next) (args .low) (args .selected) (args .told) (omega arith) (omega arith) (omega arith) (omega arith) (omega arith) (omega arith) (in-view (args .e) (args .id) (args .next) (args .low) (args .selected) (args .told) (omega arith) z)
+    let args = c .before .before .before .before .before .before .before .before .before .before .before .before .before .before .before .before .before .before .before .args in
+    λ z. fits-in (args .e) (args .id) (args .next) (args .low .0) (args .selected) (args .told .0) (omega arith) (omega arith) (omega arith) (omega arith) (omega arith) (omega arith) (in-view (args .e) (args .id) (args .next) (args .low .0) (args .selected) (args .told .0) (omega arith) z)
 
 pub entry-fits-spec : {M : Type 1} → statement M
 entry-fits-spec =

@@ -47,7 +47,7 @@ returns-3 c =
     let p : Differ (args .ids .now) (length l) = rw h (c .before .before .before .before .before .before .before .differ .ensures (not-false _ (c .before .before .before .before .before .before .if1 .left))) in
     let q : Differ (args .digests .now) (length l) = rw h (c .before .before .before .differ2 .ensures (not-false _ (c .before .before .if2 .left))) in
     let a = digests-apart digest l (args .ids .now) (args .digests .now) (w .id) d p q in
-    tables-good l (take (args .used) (messages (args .words .now))) (args .selected) (args .told) a (c .all-fit .ensures l w a z)
+    tables-good l (take (args .used) (messages (args .words .now))) (args .selected) (args .told .0) a (c .all-fit .ensures l w a z)
 
 pub sure-spec : {M : Type 1} → statement M
 sure-spec =

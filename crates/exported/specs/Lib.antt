@@ -1,0 +1,7 @@
+pub mod Kept
+pub mod Numbers
+pub mod Written
+pub mod Called
+pub mod Hosts
+pub mod Accounted
+pub mod Isolated

@@ -1,0 +1,19 @@
+//! A client watches one folder, an alarm comes in there, and the notice goes out.
+use borjavid::records::{command, create, message, Notice, LOOKUP, READ, SELECTABLE};
+use borjavid::{Answer, Memory};
+
+fn main() -> std::io::Result<()> {
+    let mut session = Memory::new(65536);
+    let attributes = SELECTABLE | LOOKUP | READ;
+    let records = [
+        create(1, attributes, Notice::Quiet, 7, b"Ops/Alarms"),
+        command(b"a NOTIFY SET (mailboxes Ops/Alarms (MessageNew MessageExpunge))"),
+        message(1, 5, 0, 120),
+    ];
+    for record in records {
+        assert_eq!(session.step(&record), Answer::Done, "{record:?}");
+        // written out first, and drained by DR then
+        session.drain_to(&mut std::io::stdout())?;
+    }
+    Ok(())
+}

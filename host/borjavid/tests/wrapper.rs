@@ -1,0 +1,144 @@
+//! The wrapper itself: records, the queue, draining, the view.
+
+use borjavid::records::{self, Class, Notice};
+use borjavid::{Answer, Memory, Refusal};
+use std::io::{self, Write};
+
+#[test]
+fn records_lie_as_01_says() {
+    let wanted: [(Vec<u8>, &[u8]); 12] = [
+        (
+            records::create(0x0201, 0x37, Notice::Quiet, 7, b"INBOX"),
+            b"MB\x0d\0\x01\x02\x37\x01\x07\0\0\0INBOX",
+        ),
+        (records::delete(2, Notice::Owed), b"DL\x03\0\x02\0\0"),
+        (
+            records::rename(2, Notice::Quiet, b"a/b"),
+            b"RN\x06\0\x02\0\x01a/b",
+        ),
+        (
+            records::subscribe(2, true, Notice::Owed),
+            b"SB\x04\0\x02\0\x01\0",
+        ),
+        (
+            records::rights(2, records::LOOKUP | records::READ),
+            b"RT\x03\0\x02\0\x30",
+        ),
+        (
+            records::message(2, 5, records::SEEN, 0x01020304),
+            b"ME\x0b\0\x02\0\x05\0\0\0\x08\x04\x03\x02\x01",
+        ),
+        (records::expunge(2, 5), b"XP\x06\0\x02\0\x05\0\0\0"),
+        (
+            records::flags(2, 5, records::DRAFT),
+            b"FL\x07\0\x02\0\x05\0\0\0\x10",
+        ),
+        (records::select(0), b"SE\x02\0\0\0"),
+        (records::command_ended(Class::Rest), b"CE\x01\0\x01"),
+        (records::command(b"a X"), b"CM\x03\0a X"),
+        (records::drained(0x10000).to_vec(), b"DR\x04\0\0\0\x01\0"),
+    ];
+    for (octets, wanted) in wanted {
+        assert_eq!(octets, wanted);
+    }
+}
+
+#[test]
+fn a_name_that_no_record_can_hold_is_refused() {
+    for length in [0, 65, 65_527, 65_528, 65_536, 131_072] {
+        let mut memory = Memory::new(1024);
+        let record = records::create(1, 0x33, Notice::Owed, 1, &vec![b'a'; length]);
+        assert_eq!(
+            memory.step(&record),
+            Answer::Refused(Refusal::BadRecord),
+            "{length}"
+        );
+    }
+    assert_eq!(
+        Memory::new(1024).drain(usize::MAX),
+        Answer::Refused(Refusal::WrongState)
+    );
+}
+
+/// A session with one mailbox selected and everything at once.
+fn watching() -> Memory {
+    let mut memory = Memory::new(1024);
+    for record in [
+        records::create(1, 0x37, Notice::Quiet, 7, b"INBOX"),
+        records::select(1),
+        records::command(b"a NOTIFY SET (selected (MessageNew (UID) MessageExpunge))"),
+        records::message(1, 3, 0, 100),
+    ] {
+        assert_eq!(memory.step(&record), Answer::Done);
+    }
+    memory
+}
+
+/// Takes so many octets, then fails.
+struct Narrow {
+    left: usize,
+    taken: Vec<u8>,
+}
+
+impl Write for Narrow {
+    fn write(&mut self, octets: &[u8]) -> io::Result<usize> {
+        if self.left == 0 {
+            return Err(io::ErrorKind::BrokenPipe.into());
+        }
+        let count = octets.len().min(self.left).min(7);
+        self.left -= count;
+        self.taken.extend_from_slice(&octets[..count]);
+        Ok(count)
+    }
+
+    fn flush(&mut self) -> io::Result<()> {
+        Ok(())
+    }
+}
+
+#[test]
+fn what_is_written_out_is_drained() {
+    let mut memory = watching();
+    let all = memory.queue().to_vec();
+    assert_eq!(
+        all,
+        b"a OK NOTIFY done\r\n* 1 EXISTS\r\n* 1 FETCH (UID 3)\r\n"
+    );
+    let mut out = Narrow {
+        left: 20,
+        taken: Vec::new(),
+    };
+    assert!(memory.drain_to(&mut out).is_err());
+    assert_eq!((&out.taken[..], memory.queue()), all.split_at(20));
+    out.left = 1000;
+    assert_eq!(memory.drain_to(&mut out).unwrap(), all.len() - 20);
+    assert_eq!(out.taken, all);
+    assert!(memory.queue().is_empty());
+    assert_eq!(memory.drain(1), Answer::Refused(Refusal::WrongState));
+    assert_eq!(memory.drain(0), Answer::Done);
+}
+
+#[test]
+fn the_view_numbers_messages() {
+    let mut memory = watching();
+    for uid in [8, 5, 9] {
+        memory.step(&records::message(1, uid, 0, 1));
+    }
+    assert_eq!(memory.view(), [3, 8, 9]);
+    assert_eq!(memory.room(), (63, 1021));
+    memory.step(&records::expunge(1, 8));
+    assert_eq!(memory.view(), [3, 9]);
+    memory.step(&records::select(0));
+    assert_eq!(memory.view(), []);
+    assert_eq!(memory.mailboxes()[0].uidnext, 10);
+}
+
+#[test]
+fn a_count_is_told_from_done() {
+    let mut memory = Memory::new(1024);
+    assert_eq!(
+        memory.step(&records::command_ended(Class::Fetch)),
+        Answer::Counted(0)
+    );
+    assert_eq!(memory.step(&records::select(0)), Answer::Done);
+}

@@ -109,7 +109,9 @@ fn taken_of(out: Outcome, used: u64, lent: usize) -> usize
 
 // ---- the step
 
-// One record on the memory that a host lends.
+// One record on the memory that a host lends. The counts stand beside the session, each lent by `&mut`: a command that is not accepted
+// changes the one and not the other. Rows, words, counts and session fill the six registers of a call; queue and record lie behind them,
+// so that no slice is split, which Rust and Rattle do in different ways.
 #[no_mangle]
 pub extern "C" fn borjavid_step(
     rows: &mut [Mailbox],

@@ -159,64 +159,31 @@ module _ {M : Type 1} (𝓤 : URA M) (H : Heap 𝓤) (A : Atoms 𝓤) (W : Given
     walk =
         qed W ((‵ (flft κ q) ⊛ ‵ ftrue) ∷ ‵ (owns (ShrSlice (named 0) κ T.the-row ∷ usize ∷ u16 ∷ []) x at) ∷ []) ∵ enter ! C Λ code.function (s ∷ vint w64 k ∷ vint w16 j ∷ []) _ $
         alloc1 ! (λ l₀. alloc1 ! (λ l₁. alloc1 ! (λ l₂. alloc1 ! (λ l₃. alloc1 ! (λ l₄. alloc1 ! (λ l₅. alloc1 ! (λ l₆. alloc0 ! $ params1 ! $
-        pass1 ! (init ! 10 refl (tt, (tt, (record { fits = room .0 }, tt)))) $
-        pass1 ! (init ! 8 refl (tt, record { fits = k-fits })) $
-        pass1 ! (init ! 6 refl (tt, record { fits = j-fits })) $
-        pass0 ! $
-        move ! (15 ∷ []) $
-        fsplit ! $
-        use1 W (‵ Own ⊛ ‵ Own) (shr-slice-copy 𝓤 H A W (named 0) κ T.the-row .twice xs (s ∷ [])) $ split ! $
-        move ! (17 ∷ []) $
-        split ! $
+        pass1 ! (init ! 10 refl (tt, (tt, (record { fits = room .0 }, tt)))) $ pass1 ! (init ! 8 refl (tt, record { fits = k-fits })) $ pass1 ! (init ! 6 refl (tt, record { fits = j-fits })) $ pass0 ! $
+        move ! (15 ∷ []) $ fsplit ! $ use1 W (‵ Own ⊛ ‵ Own) (shr-slice-copy 𝓤 H A W (named 0) κ T.the-row .twice xs (s ∷ [])) $ split ! $ move ! (17 ∷ []) $ split ! $
         assigns ! (of-opd ! (load ! (from ! (fld ! refl (stop !))) (look-in ! 15 (sub ! 1 refl (whole !))))) (from ! (stop !)) (init ! 9 refl (tt, record { fits = room .0 })) $
         -- `reach`
         use0 W (raw (Reach 𝓤 H A at-mem run .pre to-reach)) goes-reach $
         calls-at ! fm (Reach 𝓤 H A at-mem run) k₁ to-reach (and-then ! (load ! (from ! (stop !)) (look ! 14 refl)) (and-then ! (load ! (from ! (stop !)) (look ! 10 refl)) (no-more !))) (λ w₁.
         use1 W (later (some (λ (m : ℕ). (‵ ftrue ⊛ ‵ (usize .own m (w₁ ∷ []))) ⊛ raw (ensured 𝓤 H A reach-fn.ended (reach-fn.clauses 𝓤 H A at-mem run) tt (k, (n, tt)) tt m)))) (id⊢ 𝓤 _) $ await ! tt $ pick ! (λ m.
-        split ! $
-        move ! (1 ∷ []) $
-        use1 W (raw (fact 𝓤 (m ≡ within k n))) (reach-of m) $ heard ! (m ≡ within k n) (λ e₁.
-        split ! $
-        move ! (0 ∷ []) $
-        drop ! $
-        move ! (0 ∷ []) $
-        peeks ! usize (Is usize) (shows 𝓤 H A usize) m (w₁ ∷ []) (λ is₁.
-        land ! (from ! (stop !)) (init ! 8 refl (uint-lawful 𝓤 H A W w64 .typed m _ is₁ .0)) $
-        rewrite ! 8 (λ (v : Val). ‵ (fat fullShare (tyInt w64) l₅ 0 v)) (ap only (is₁ .0)) refl $
-        move ! (0 ∷ []) $
-        drop ! $
+        split ! $ move ! (1 ∷ []) $ use1 W (raw (fact 𝓤 (m ≡ within k n))) (reach-of m) $ heard ! (m ≡ within k n) (λ e₁. split ! $ move ! (0 ∷ []) $ drop ! $ move ! (0 ∷ []) $
+        peeks ! usize (Is usize) (shows 𝓤 H A usize) m (w₁ ∷ []) (λ is₁. land ! (from ! (stop !)) (init ! 8 refl (uint-lawful 𝓤 H A W w64 .typed m _ is₁ .0)) $
+        rewrite ! 8 (λ (v : Val). ‵ (fat fullShare (tyInt w64) l₅ 0 v)) (ap only (is₁ .0)) refl $ move ! (0 ∷ []) $ drop ! $
         -- `load`
-        move ! (0 ∷ 3 ∷ []) $
-        use2 W (raw (Load 𝓤 H A at-mem run .pre to-load)) goes-load $
+        move ! (0 ∷ 3 ∷ []) $ use2 W (raw (Load 𝓤 H A at-mem run .pre to-load)) goes-load $
         calls-at ! fm (Load 𝓤 H A at-mem run) k₂ to-load (and-then ! (load ! (from ! (stop !)) (look ! 14 refl)) (no-more !)) (λ w₂.
         use1 W (later (some (λ (t : List Mailbox). ((‵ (flft κ q) ⊛ ‵ ftrue) ⊛ ‵ (Array T.the-row 64 .own t (w₂ ∷ []))) ⊛ raw (ensured 𝓤 H A load-fn.ended (load-fn.clauses 𝓤 H A at-mem run) (κ, tt) (xs, tt) tt t)))) (id⊢ 𝓤 _) $ await ! tt $ pick ! (λ t.
-        split ! $
-        move ! (1 ∷ []) $
-        use1 W (raw (fact 𝓤 (t ≡ loaded ys))) (load-of t) $ heard ! (t ≡ loaded ys) (λ e₂.
-        split ! $
-        move ! (1 ∷ []) $
+        split ! $ move ! (1 ∷ []) $ use1 W (raw (fact 𝓤 (t ≡ loaded ys))) (load-of t) $ heard ! (t ≡ loaded ys) (λ e₂. split ! $ move ! (1 ∷ []) $
         peeks ! (Array T.the-row 64) (Is (Array T.the-row 64)) (shows 𝓤 H A (Array T.the-row 64)) t (w₂ ∷ []) (λ is₂.
         land ! (from ! (stop !)) (init ! 5 refl (array-lawful 𝓤 H A W T.the-row (LL.lawful T.the-type T′.the-laws 𝓤 H A W) 64 .typed t _ is₂ .0)) $
-        rewrite ! 5 (λ (v : Val). ‵ (fat fullShare (tyArray T′.mir 64) l₆ 0 v)) (ap only (array-is t w₂ is₂)) refl $
-        move ! (0 ∷ []) $
-        drop ! $
-        move ! (0 ∷ []) $
-        split ! $
+        rewrite ! 5 (λ (v : Val). ‵ (fat fullShare (tyArray T′.mir 64) l₆ 0 v)) (ap only (array-is t w₂ is₂)) refl $ move ! (0 ∷ []) $ drop ! $ move ! (0 ∷ []) $ split ! $
         -- `find_id`
         use0 W (raw (Find 𝓤 H A at-mem run .pre (to-find t m))) (goes-find t m (subst (Is (Array T.the-row 64) t) (array-is t w₂ is₂) is₂) (is₁ .1) (few m e₁)) $
         calls-at ! fm (Find 𝓤 H A at-mem run) k₃ (to-find t m) (and-then ! (load ! (from ! (stop !)) (look ! 6 refl)) (and-then ! (load ! (from ! (stop !)) (look ! 8 refl)) (and-then ! (load ! (from ! (stop !)) (look ! 12 refl)) (no-more !)))) (λ w₃.
         use1 W (later (some (λ (r : ℕ). (‵ ftrue ⊛ ‵ (usize .own r (w₃ ∷ []))) ⊛ raw (ensured 𝓤 H A find-id-fn.ended (find-id-fn.clauses 𝓤 H A at-mem run) tt (t, (m, (j, tt))) tt r)))) (id⊢ 𝓤 _) $ await ! tt $ pick ! (λ r.
-        split ! $
-        move ! (1 ∷ []) $
-        use1 W (raw (fact 𝓤 (r ≡ place j (take m t)))) (find-of t m r) $ heard ! (r ≡ place j (take m t)) (λ e₃.
-        split ! $
-        move ! (1 ∷ []) $
-        peeks ! usize (Is usize) (shows 𝓤 H A usize) r (w₃ ∷ []) (λ is₃.
-        land ! (from ! (stop !)) (init ! 19 refl (uint-lawful 𝓤 H A W w64 .typed r _ is₃ .0)) $
-        rewrite ! 19 (λ (v : Val). ‵ (fat fullShare (tyInt w64) l₀ 0 v)) (ap only (is₃ .0)) refl $
-        move ! (0 ∷ []) $
-        drop ! $
-        returns ! (look ! 18 refl) $
+        split ! $ move ! (1 ∷ []) $ use1 W (raw (fact 𝓤 (r ≡ place j (take m t)))) (find-of t m r) $ heard ! (r ≡ place j (take m t)) (λ e₃. split ! $ move ! (1 ∷ []) $
+        peeks ! usize (Is usize) (shows 𝓤 H A usize) r (w₃ ∷ []) (λ is₃. land ! (from ! (stop !)) (init ! 19 refl (uint-lawful 𝓤 H A W w64 .typed r _ is₃ .0)) $
+        rewrite ! 19 (λ (v : Val). ‵ (fat fullShare (tyInt w64) l₀ 0 v)) (ap only (is₃ .0)) refl $ move ! (0 ∷ []) $ drop ! $ returns ! (look ! 18 refl) $
         forget ! 6 refl $ forget ! 8 refl $ forget ! 10 refl $ forget ! 12 refl $ forget ! 14 refl $ forget ! 16 refl $ forget ! 18 refl $
         move ! (18 ∷ 19 ∷ []) $ free1 ! $ move ! (16 ∷ 17 ∷ []) $ free1 ! $ move ! (14 ∷ 15 ∷ []) $ free1 ! $ move ! (12 ∷ 13 ∷ []) $ free1 ! $ move ! (10 ∷ 11 ∷ []) $ free1 ! $ move ! (8 ∷ 9 ∷ []) $ free1 ! $ move ! (6 ∷ 7 ∷ []) $ free1 ! $ free0 ! $
         keep ! (1 ∷ 4 ∷ 5 ∷ []) $

@@ -168,78 +168,32 @@ module _ {M : Type 1} (𝓤 : URA M) (H : Heap 𝓤) (A : Atoms 𝓤) (W : Given
     walk =
         qed W ((‵ (flft κ q) ⊛ ‵ (flft κ₁ q₁) ⊛ ‵ ftrue) ∷ ‵ (owns (ShrSlice (named 0) κ T.the-row ∷ usize ∷ ShrSlice (named 1) κ₁ u8 ∷ []) x at) ∷ []) ∵ enter ! C Λ code.function (s ∷ vint w64 k ∷ sr ∷ []) _ $
         alloc1 ! (λ l₀. alloc1 ! (λ l₁. alloc1 ! (λ l₂. alloc1 ! (λ l₃. alloc1 ! (λ l₄. alloc1 ! (λ l₅. alloc1 ! (λ l₆. alloc0 ! $ params1 ! $
-        pass1 ! (init ! 10 refl (tt, (tt, (record { fits = room .0 }, tt)))) $
-        pass1 ! (init ! 8 refl (tt, record { fits = k-fits })) $
-        pass1 ! (init ! 6 refl (tt, (tt, (record { fits = room₁ .0 }, tt)))) $
-        pass0 ! $
-        move ! (15 ∷ []) $
-        fsplit ! $
-        use1 W (‵ Own ⊛ ‵ Own) (shr-slice-copy 𝓤 H A W (named 0) κ T.the-row .twice xs (s ∷ [])) $ split ! $
-        move ! (2 ∷ []) $
-        fsplit ! $
-        move ! (1 ∷ []) $
-        fsplit ! $
-        use1 W (‵ OwnN ⊛ ‵ OwnN) (shr-slice-copy 𝓤 H A W (named 1) κ₁ u8 .twice xr (sr ∷ [])) $ split ! $
-        move ! (0 ∷ 2 ∷ []) $
-        fjoin ! $
-        move ! (2 ∷ 0 ∷ []) $
-        fjoin ! $
-        move ! (18 ∷ []) $
-        split ! $
-        move ! (1 ∷ []) $
-        split ! $
-        assigns ! (of-opd ! (load ! (from ! (fld ! refl (stop !))) (look-in ! 17 (sub ! 1 refl (whole !))))) (from ! (stop !)) (init ! 11 refl (tt, record { fits = room .0 })) $
+        pass1 ! (init ! 10 refl (tt, (tt, (record { fits = room .0 }, tt)))) $ pass1 ! (init ! 8 refl (tt, record { fits = k-fits })) $ pass1 ! (init ! 6 refl (tt, (tt, (record { fits = room₁ .0 }, tt)))) $
+        pass0 ! $ move ! (15 ∷ []) $ fsplit ! $ use1 W (‵ Own ⊛ ‵ Own) (shr-slice-copy 𝓤 H A W (named 0) κ T.the-row .twice xs (s ∷ [])) $ split ! $ move ! (2 ∷ []) $ fsplit ! $ move ! (1 ∷ []) $ fsplit ! $
+        use1 W (‵ OwnN ⊛ ‵ OwnN) (shr-slice-copy 𝓤 H A W (named 1) κ₁ u8 .twice xr (sr ∷ [])) $ split ! $ move ! (0 ∷ 2 ∷ []) $ fjoin ! $ move ! (2 ∷ 0 ∷ []) $ fjoin ! $ move ! (18 ∷ []) $ split ! $
+        move ! (1 ∷ []) $ split ! $ assigns ! (of-opd ! (load ! (from ! (fld ! refl (stop !))) (look-in ! 17 (sub ! 1 refl (whole !))))) (from ! (stop !)) (init ! 11 refl (tt, record { fits = room .0 })) $
         -- `reach`
         use0 W (raw (Reach 𝓤 H A at-mem run .pre to-reach)) goes-reach $
         calls-at ! fm (Reach 𝓤 H A at-mem run) k₁ to-reach (and-then ! (load ! (from ! (stop !)) (look ! 16 refl)) (and-then ! (load ! (from ! (stop !)) (look ! 12 refl)) (no-more !))) (λ w₁.
         use1 W (later (some (λ (m : ℕ). (‵ ftrue ⊛ ‵ (usize .own m (w₁ ∷ []))) ⊛ raw (ensured 𝓤 H A reach-fn.ended (reach-fn.clauses 𝓤 H A at-mem run) tt (k, (n, tt)) tt m)))) (id⊢ 𝓤 _) $ await ! tt $ pick ! (λ m.
-        split ! $
-        move ! (1 ∷ []) $
-        use1 W (raw (fact 𝓤 (m ≡ within k n))) (reach-of m) $ heard ! (m ≡ within k n) (λ e₁.
-        split ! $
-        move ! (0 ∷ []) $
-        drop ! $
-        move ! (0 ∷ []) $
-        peeks ! usize (Is usize) (shows 𝓤 H A usize) m (w₁ ∷ []) (λ is₁.
-        land ! (from ! (stop !)) (init ! 10 refl (uint-lawful 𝓤 H A W w64 .typed m _ is₁ .0)) $
-        rewrite ! 10 (λ (v : Val). ‵ (fat fullShare (tyInt w64) l₅ 0 v)) (ap only (is₁ .0)) refl $
-        move ! (0 ∷ []) $
-        drop ! $
+        split ! $ move ! (1 ∷ []) $ use1 W (raw (fact 𝓤 (m ≡ within k n))) (reach-of m) $ heard ! (m ≡ within k n) (λ e₁. split ! $ move ! (0 ∷ []) $ drop ! $ move ! (0 ∷ []) $
+        peeks ! usize (Is usize) (shows 𝓤 H A usize) m (w₁ ∷ []) (λ is₁. land ! (from ! (stop !)) (init ! 10 refl (uint-lawful 𝓤 H A W w64 .typed m _ is₁ .0)) $
+        rewrite ! 10 (λ (v : Val). ‵ (fat fullShare (tyInt w64) l₅ 0 v)) (ap only (is₁ .0)) refl $ move ! (0 ∷ []) $ drop ! $
         -- `load`
-        move ! (2 ∷ 6 ∷ []) $
-        use2 W (raw (Load 𝓤 H A at-mem run .pre to-load)) goes-load $
+        move ! (2 ∷ 6 ∷ []) $ use2 W (raw (Load 𝓤 H A at-mem run .pre to-load)) goes-load $
         calls-at ! fm (Load 𝓤 H A at-mem run) k₂ to-load (and-then ! (load ! (from ! (stop !)) (look ! 16 refl)) (no-more !)) (λ w₂.
         use1 W (later (some (λ (t : List Mailbox). ((‵ (flft κ q) ⊛ ‵ ftrue) ⊛ ‵ (Array T.the-row 64 .own t (w₂ ∷ []))) ⊛ raw (ensured 𝓤 H A load-fn.ended (load-fn.clauses 𝓤 H A at-mem run) (κ, tt) (xs, tt) tt t)))) (id⊢ 𝓤 _) $ await ! tt $ pick ! (λ t.
-        split ! $
-        move ! (1 ∷ []) $
-        use1 W (raw (fact 𝓤 (t ≡ loaded ys))) (load-of t) $ heard ! (t ≡ loaded ys) (λ e₂.
-        split ! $
-        move ! (1 ∷ []) $
+        split ! $ move ! (1 ∷ []) $ use1 W (raw (fact 𝓤 (t ≡ loaded ys))) (load-of t) $ heard ! (t ≡ loaded ys) (λ e₂. split ! $ move ! (1 ∷ []) $
         peeks ! (Array T.the-row 64) (Is (Array T.the-row 64)) (shows 𝓤 H A (Array T.the-row 64)) t (w₂ ∷ []) (λ is₂.
         land ! (from ! (stop !)) (init ! 7 refl (array-lawful 𝓤 H A W T.the-row (LL.lawful T.the-type T′.the-laws 𝓤 H A W) 64 .typed t _ is₂ .0)) $
-        rewrite ! 7 (λ (v : Val). ‵ (fat fullShare (tyArray T′.mir 64) l₆ 0 v)) (ap only (array-is t w₂ is₂)) refl $
-        move ! (0 ∷ []) $
-        drop ! $
-        move ! (0 ∷ []) $
-        split ! $
+        rewrite ! 7 (λ (v : Val). ‵ (fat fullShare (tyArray T′.mir 64) l₆ 0 v)) (ap only (array-is t w₂ is₂)) refl $ move ! (0 ∷ []) $ drop ! $ move ! (0 ∷ []) $ split ! $
         -- `find_name`
-        move ! (2 ∷ 5 ∷ []) $
-        use2 W (raw (Find 𝓤 H A at-mem run .pre (to-find t m))) (goes-find t m (subst (Is (Array T.the-row 64) t) (array-is t w₂ is₂) is₂) (is₁ .1) (few m e₁)) $
+        move ! (2 ∷ 5 ∷ []) $ use2 W (raw (Find 𝓤 H A at-mem run .pre (to-find t m))) (goes-find t m (subst (Is (Array T.the-row 64) t) (array-is t w₂ is₂) is₂) (is₁ .1) (few m e₁)) $
         calls-at ! fm (Find 𝓤 H A at-mem run) k₃ (to-find t m) (and-then ! (load ! (from ! (stop !)) (look ! 6 refl)) (and-then ! (load ! (from ! (stop !)) (look ! 8 refl)) (and-then ! (load ! (from ! (stop !)) (look ! 12 refl)) (no-more !)))) (λ w₃.
         use1 W (later (some (λ (r : ℕ). ((‵ (flft κ₁ q₁) ⊛ ‵ ftrue) ⊛ ‵ (usize .own r (w₃ ∷ []))) ⊛ raw (ensured 𝓤 H A find-name-fn.ended (find-name-fn.clauses 𝓤 H A at-mem run) (κ₁, tt) (t, (m, (xr, tt))) tt r)))) (id⊢ 𝓤 _) $ await ! tt $ pick ! (λ r.
-        split ! $
-        move ! (1 ∷ []) $
-        use1 W (raw (fact 𝓤 (r ≡ placeNamed us (take m t)))) (find-of t m r) $ heard ! (r ≡ placeNamed us (take m t)) (λ e₃.
-        split ! $
-        move ! (1 ∷ []) $
-        peeks ! usize (Is usize) (shows 𝓤 H A usize) r (w₃ ∷ []) (λ is₃.
-        land ! (from ! (stop !)) (init ! 19 refl (uint-lawful 𝓤 H A W w64 .typed r _ is₃ .0)) $
-        rewrite ! 19 (λ (v : Val). ‵ (fat fullShare (tyInt w64) l₀ 0 v)) (ap only (is₃ .0)) refl $
-        move ! (0 ∷ []) $
-        drop ! $
-        move ! (0 ∷ []) $
-        split ! $
-        returns ! (look ! 19 refl) $
+        split ! $ move ! (1 ∷ []) $ use1 W (raw (fact 𝓤 (r ≡ placeNamed us (take m t)))) (find-of t m r) $ heard ! (r ≡ placeNamed us (take m t)) (λ e₃. split ! $ move ! (1 ∷ []) $
+        peeks ! usize (Is usize) (shows 𝓤 H A usize) r (w₃ ∷ []) (λ is₃. land ! (from ! (stop !)) (init ! 19 refl (uint-lawful 𝓤 H A W w64 .typed r _ is₃ .0)) $
+        rewrite ! 19 (λ (v : Val). ‵ (fat fullShare (tyInt w64) l₀ 0 v)) (ap only (is₃ .0)) refl $ move ! (0 ∷ []) $ drop ! $ move ! (0 ∷ []) $ split ! $ returns ! (look ! 19 refl) $
         forget ! 7 refl $ forget ! 9 refl $ forget ! 11 refl $ forget ! 13 refl $ forget ! 15 refl $ forget ! 17 refl $ forget ! 19 refl $
         move ! (19 ∷ 20 ∷ []) $ free1 ! $ move ! (17 ∷ 18 ∷ []) $ free1 ! $ move ! (15 ∷ 16 ∷ []) $ free1 ! $ move ! (13 ∷ 14 ∷ []) $ free1 ! $ move ! (11 ∷ 12 ∷ []) $ free1 ! $ move ! (9 ∷ 10 ∷ []) $ free1 ! $ move ! (7 ∷ 8 ∷ []) $ free1 ! $ free0 ! $
         keep ! (2 ∷ 0 ∷ 6 ∷ 5 ∷ []) $

@@ -101,41 +101,18 @@ module _ {M : Type 1} (𝓤 : URA M) (H : Heap 𝓤) (A : Atoms 𝓤) (W : Given
     walk =
         qed W ((‵ (flft κ q) ⊛ ‵ ftrue) ∷ ‵ (owns (MutSlice (named 0) κ T.the-row ∷ usize ∷ T.the-row ∷ []) x at) ∷ []) ∵ enter ! C Λ code.function (s ∷ vint w64 k ∷ val d ∷ []) _ $
         alloc1 ! (λ l₀. alloc1 ! (λ l₁. alloc1 ! (λ l₂. alloc1 ! (λ l₃. alloc1 ! (λ l₄. alloc1 ! (λ l₅. alloc1 ! (λ l₆. alloc0 ! $ params1 ! $
-        pass1 ! (init ! 10 refl (tt, (tt, (record { fits = room .0 }, tt)))) $
-        pass1 ! (init ! 8 refl (tt, record { fits = k-fits })) $
-        pass1 ! (init ! 6 refl (LL.lawful T.the-type T′.the-laws 𝓤 H A W .typed d _ is-d .0)) $
-        pass0 ! $
-        move ! (15 ∷ []) $
-        fsplit ! $
-        move ! (16 ∷ []) $
-        split ! $
+        pass1 ! (init ! 10 refl (tt, (tt, (record { fits = room .0 }, tt)))) $ pass1 ! (init ! 8 refl (tt, record { fits = k-fits })) $
+        pass1 ! (init ! 6 refl (LL.lawful T.the-type T′.the-laws 𝓤 H A W .typed d _ is-d .0)) $ pass0 ! $ move ! (15 ∷ []) $ fsplit ! $ move ! (16 ∷ []) $ split ! $
         assigns ! (addr ! (from ! (fld ! refl (hop ! (look-in ! 14 (sub ! 0 refl (whole !))) (stop !))))) (from ! (stop !)) (init ! 6 refl (tt, tt)) $
         assigns ! (agg ! (and-then ! (load ! (from ! (stop !)) (look ! 6 refl)) (and-then ! (load ! (from ! (fld ! refl (stop !))) (look-in ! 14 (sub ! 1 refl (whole !)))) (no-more !)))) (from ! (stop !)) (init ! 4 refl (tt, (tt, (record { fits = room .0 }, tt)))) $
-        move ! (0 ∷ 2 ∷ []) $
-        use2 W (raw (SetRow 𝓤 H A at-mem run .pre to-set)) goes-set $
+        move ! (0 ∷ 2 ∷ []) $ use2 W (raw (SetRow 𝓤 H A at-mem run .pre to-set)) goes-set $
         calls-at ! fm (SetRow 𝓤 H A at-mem run) k₁ to-set (and-then ! (load ! (from ! (stop !)) (look ! 3 refl)) (and-then ! (load ! (from ! (stop !)) (look ! 11 refl)) (and-then ! (load ! (from ! (stop !)) (look ! 9 refl)) (no-more !)))) (λ w₁.
         use1 W (later (some (λ (u : Unit {0}). ((‵ (flft κ q) ⊛ ‵ ftrue) ⊛ ‵ (Nothing .own u (w₁ ∷ []))) ⊛ raw (ensured 𝓤 H A set-row-fn.ended (set-row-fn.clauses 𝓤 H A at-mem run) (κ, tt) (xs, (k, (d, tt))) tt u)))) (id⊢ 𝓤 _) $ await ! tt $ pick ! (λ u.
-        split ! $
-        move ! (1 ∷ []) $
+        split ! $ move ! (1 ∷ []) $
         use1 W (some (λ (zs : List Mailbox × (Unit {0} × (Unit {0} × Unit {0}))). ‵ (lasts set-row-fn.ended (κ, tt) (xs, (k, (d, tt))) zs) ⊛ raw (fact 𝓤 (zs .0 ≡ set ys k d)))) (id⊢ 𝓤 _) $ pick ! (λ zs.
-        split ! $
-        move ! (1 ∷ []) $
-        heard ! (zs .0 ≡ set ys k d) (λ e.
-        fsplit ! $
-        fsplit ! $
-        move ! (1 ∷ []) $
-        feqL ! (λ n.
-        move ! (2 ∷ []) $
-        split ! $
-        move ! (1 ∷ []) $
-        peeks ! Nothing (Is Nothing) (shows 𝓤 H A Nothing) u (w₁ ∷ []) (λ is₁.
-        land ! (from ! (stop !)) (init ! 10 refl (nothing-lawful 𝓤 H A W .typed u _ is₁ .0)) $
-        move ! (0 ∷ []) $
-        drop ! $
-        move ! (0 ∷ []) $
-        split ! $
-        assigns ! (of-opd ! (unit-lit !)) (from ! (stop !)) (init ! 18 refl (tt, tt)) $
-        returns ! (look ! 18 refl) $
+        split ! $ move ! (1 ∷ []) $ heard ! (zs .0 ≡ set ys k d) (λ e. fsplit ! $ fsplit ! $ move ! (1 ∷ []) $ feqL ! (λ n. move ! (2 ∷ []) $ split ! $ move ! (1 ∷ []) $
+        peeks ! Nothing (Is Nothing) (shows 𝓤 H A Nothing) u (w₁ ∷ []) (λ is₁. land ! (from ! (stop !)) (init ! 10 refl (nothing-lawful 𝓤 H A W .typed u _ is₁ .0)) $ move ! (0 ∷ []) $ drop ! $
+        move ! (0 ∷ []) $ split ! $ assigns ! (of-opd ! (unit-lit !)) (from ! (stop !)) (init ! 18 refl (tt, tt)) $ returns ! (look ! 18 refl) $
         forget ! 6 refl $ forget ! 8 refl $ forget ! 10 refl $ forget ! 12 refl $ forget ! 14 refl $ forget ! 16 refl $ forget ! 18 refl $
         move ! (18 ∷ 19 ∷ []) $ free1 ! $ move ! (16 ∷ 17 ∷ []) $ free1 ! $ move ! (14 ∷ 15 ∷ []) $ free1 ! $ move ! (12 ∷ 13 ∷ []) $ free1 ! $ move ! (10 ∷ 11 ∷ []) $ free1 ! $ move ! (8 ∷ 9 ∷ []) $ free1 ! $ move ! (6 ∷ 7 ∷ []) $ free1 ! $ free0 ! $
         keep ! (0 ∷ 2 ∷ 5 ∷ []) $

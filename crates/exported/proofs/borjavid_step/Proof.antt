@@ -287,89 +287,30 @@ module _ {M : Type 1} (𝓤 : URA M) (H : Heap 𝓤) (A : Atoms 𝓤) (W : Given
     walk =
         qed W ((‵ (flft κ q) ⊛ ‵ (flft κ₁ q₁) ⊛ ‵ (flft κ₂ q₂) ⊛ ‵ (flft κ₃ q₃) ⊛ ‵ (flft κ₄ q₄) ⊛ ‵ (flft κ₅ q₅) ⊛ ‵ ftrue) ∷ ‵ (owns (MutSlice (named 0) κ T.the-row ∷ MutSlice (named 1) κ₁ u64 ∷ MutRef (named 2) κ₂ N.the-row ∷ MutRef (named 3) κ₃ S.the-row ∷ MutSlice (named 4) κ₄ u8 ∷ ShrSlice (named 5) κ₅ u8 ∷ []) a at) ∷ []) ∵ enter ! C Λ code.function (s ∷ sw ∷ vptr b₂ o₂ ∷ vptr b₃ o₃ ∷ sq ∷ sr ∷ []) _ $
         alloc1 ! (λ l₀. alloc1 ! (λ l₁. alloc1 ! (λ l₂. alloc1 ! (λ l₃. alloc1 ! (λ l₄. alloc1 ! (λ l₅. alloc1 ! (λ l₆. alloc1 ! (λ l₇. alloc1 ! (λ l₈. alloc1 ! (λ l₉. alloc1 ! (λ l₁₀. alloc1 ! (λ l₁₁. alloc1 ! (λ l₁₂. alloc1 ! (λ l₁₃. alloc1 ! (λ l₁₄. alloc1 ! (λ l₁₅. alloc1 ! (λ l₁₆. alloc1 ! (λ l₁₇. alloc1 ! (λ l₁₈. alloc1 ! (λ l₁₉. alloc1 ! (λ l₂₀. alloc1 ! (λ l₂₁. alloc1 ! (λ l₂₂. alloc1 ! (λ l₂₃. alloc0 ! $ params1 ! $
-        pass1 ! (init ! 44 refl (tt, (tt, (record { fits = room .0 }, tt)))) $
-        pass1 ! (init ! 42 refl (tt, (tt, (record { fits = room₁ .0 }, tt)))) $
-        pass1 ! (init ! 40 refl (tt, tt)) $
-        pass1 ! (init ! 38 refl (tt, tt)) $
-        pass1 ! (init ! 36 refl (tt, (tt, (record { fits = room₄ .0 }, tt)))) $
-        pass1 ! (init ! 34 refl (tt, (tt, (record { fits = room₅ .0 }, tt)))) $
-        pass0 ! $
+        pass1 ! (init ! 44 refl (tt, (tt, (record { fits = room .0 }, tt)))) $ pass1 ! (init ! 42 refl (tt, (tt, (record { fits = room₁ .0 }, tt)))) $ pass1 ! (init ! 40 refl (tt, tt)) $
+        pass1 ! (init ! 38 refl (tt, tt)) $ pass1 ! (init ! 36 refl (tt, (tt, (record { fits = room₄ .0 }, tt)))) $ pass1 ! (init ! 34 refl (tt, (tt, (record { fits = room₅ .0 }, tt)))) $ pass0 ! $
         -- the rows, the counts and the session are opened; what the other slices own is kept whole, and the record's twice
-        move ! (49 ∷ []) $
-        fsplit ! $
-        fsplit ! $
-        move ! (1 ∷ []) $
-        fsplit ! $
-        move ! (3 ∷ []) $
-        fsplit ! $
-        move ! (1 ∷ []) $
-        fsplit ! $
-        fsplit3 ! $
-        move ! (3 ∷ []) $
-        fsplit ! $
-        fsplit3 ! $
-        move ! (3 ∷ []) $
-        fsplit ! $
-        move ! (1 ∷ []) $
-        fsplit ! $
-        use1 W (‵ OwnR ⊛ ‵ OwnR) (shr-slice-copy 𝓤 H A W (named 5) κ₅ u8 .twice xr (sr ∷ [])) $ split ! $
-        move ! (62 ∷ []) $
-        split ! $
-        move ! (1 ∷ []) $
-        split ! $
-        move ! (1 ∷ []) $
-        split ! $
-        move ! (1 ∷ []) $
-        split ! $
-        move ! (1 ∷ []) $
-        split ! $
-        move ! (1 ∷ []) $
-        split ! $
-        move ! (1 ∷ []) $
-        move ! (15 ∷ 16 ∷ 4 ∷ []) $
+        move ! (49 ∷ []) $ fsplit ! $ fsplit ! $ move ! (1 ∷ []) $ fsplit ! $ move ! (3 ∷ []) $ fsplit ! $ move ! (1 ∷ []) $ fsplit ! $ fsplit3 ! $ move ! (3 ∷ []) $ fsplit ! $ fsplit3 ! $ move ! (3 ∷ []) $
+        fsplit ! $ move ! (1 ∷ []) $ fsplit ! $ use1 W (‵ OwnR ⊛ ‵ OwnR) (shr-slice-copy 𝓤 H A W (named 5) κ₅ u8 .twice xr (sr ∷ [])) $ split ! $ move ! (62 ∷ []) $ split ! $ move ! (1 ∷ []) $ split ! $
+        move ! (1 ∷ []) $ split ! $ move ! (1 ∷ []) $ split ! $ move ! (1 ∷ []) $ split ! $ move ! (1 ∷ []) $ split ! $ move ! (1 ∷ []) $ move ! (15 ∷ 16 ∷ 4 ∷ []) $
         opens ! tt N.the-row {h = cs} b₂ o₂ (λ u₂. spelt ! N.the-row (Is N.the-row) (shows 𝓤 H A N.the-row) (LL.vals N.the-type N′.the-laws) (LL.tells N.the-type N′.the-laws) fullShare cs u₂ b₂ o₂ $
-        move ! (1 ∷ []) $
-        peeks ! N.the-row (Is N.the-row) (shows 𝓤 H A N.the-row) cs (valN cs ∷ []) (λ is-c.
-        move ! (0 ∷ []) $
-        drop ! $
-        move ! (15 ∷ 16 ∷ 7 ∷ []) $
+        move ! (1 ∷ []) $ peeks ! N.the-row (Is N.the-row) (shows 𝓤 H A N.the-row) cs (valN cs ∷ []) (λ is-c. move ! (0 ∷ []) $ drop ! $ move ! (15 ∷ 16 ∷ 7 ∷ []) $
         opens ! tt S.the-row {h = h} b₃ o₃ (λ u₃. spelt ! S.the-row (Is S.the-row) (shows 𝓤 H A S.the-row) (LL.vals S.the-type S′.the-laws) (LL.tells S.the-type S′.the-laws) fullShare h u₃ b₃ o₃ $
-        move ! (1 ∷ []) $
-        peeks ! S.the-row (Is S.the-row) (shows 𝓤 H A S.the-row) h (valS h ∷ []) (λ is-h.
-        move ! (0 ∷ []) $
-        drop ! $
-        move ! (20 ∷ 21 ∷ 12 ∷ []) $
-        opens-slice ! tt T.the-row ys b o $
+        move ! (1 ∷ []) $ peeks ! S.the-row (Is S.the-row) (shows 𝓤 H A S.the-row) h (valS h ∷ []) (λ is-h. move ! (0 ∷ []) $ drop ! $ move ! (20 ∷ 21 ∷ 12 ∷ []) $ opens-slice ! tt T.the-row ys b o $
         assigns ! (of-opd ! (load ! (from ! (fld ! refl (stop !))) (look-in ! 68 (sub ! 1 refl (whole !))))) (from ! (stop !)) (init ! 56 refl (tt, record { fits = room .0 })) $
         assigns ! (addr ! (from ! (fld ! refl (hop ! (look-in ! 68 (sub ! 0 refl (whole !))) (stop !))))) (from ! (stop !)) (init ! 42 refl (tt, tt)) $
         assigns ! (agg ! (and-then ! (load ! (from ! (stop !)) (look ! 42 refl)) (and-then ! (load ! (from ! (fld ! refl (stop !))) (look-in ! 68 (sub ! 1 refl (whole !)))) (no-more !)))) (from ! (stop !)) (init ! 40 refl (tt, (tt, (record { fits = room .0 }, tt)))) $
         -- `load`: the rows are lent for a lifetime of the call
-        lft-new ! tt (λ ν.
-        move ! (1 ∷ []) $
+        lft-new ! tt (λ ν. move ! (1 ∷ []) $
         use1 W (later (some (λ (δ : GName). ‵ (ShrSlice (named 0) (ν ∷ []) T.the-row .own (x δ) (s ∷ [])) ⊛ ‵ (LentShared T.the-row (ν ∷ []) ys b o)))) (lends-shared T.the-row (ν ∷ []) ys b o 𝓤 H A W (named 0) room) $ await ! tt $ pick ! (λ δ.
-        split ! $
-        move ! (2 ∷ 0 ∷ []) $
-        use2 W (raw (Load 𝓤 H A at-mem run .pre (to-load ν δ))) (goes-load ν δ) $
+        split ! $ move ! (2 ∷ 0 ∷ []) $ use2 W (raw (Load 𝓤 H A at-mem run .pre (to-load ν δ))) (goes-load ν δ) $
         calls-at ! fm (Load 𝓤 H A at-mem run) k₁ (to-load ν δ) (and-then ! (load ! (from ! (stop !)) (look ! 41 refl)) (no-more !)) (λ w₁.
         use1 W (later (some (λ (t : List Mailbox). ((‵ (flft (ν ∷ []) fullShare) ⊛ ‵ ftrue) ⊛ ‵ (Array T.the-row 64 .own t (w₁ ∷ []))) ⊛ raw (ensured 𝓤 H A load-fn.ended (load-fn.clauses 𝓤 H A at-mem run) (ν ∷ [], tt) (x δ, tt) tt t)))) (id⊢ 𝓤 _) $ await ! tt $ pick ! (λ t.
-        split ! $
-        move ! (1 ∷ []) $
-        use1 W (raw (fact 𝓤 (t ≡ loaded ys))) (load-of ν δ t) $ heard ! (t ≡ loaded ys) (λ e₁.
-        split ! $
-        move ! (1 ∷ []) $
+        split ! $ move ! (1 ∷ []) $ use1 W (raw (fact 𝓤 (t ≡ loaded ys))) (load-of ν δ t) $ heard ! (t ≡ loaded ys) (λ e₁. split ! $ move ! (1 ∷ []) $
         peeks ! (Array T.the-row 64) (Is (Array T.the-row 64)) (shows 𝓤 H A (Array T.the-row 64)) t (w₁ ∷ []) (λ is₁.
         land ! (from ! (stop !)) (init ! 56 refl (array-lawful 𝓤 H A W T.the-row (LL.lawful T.the-type T′.the-laws 𝓤 H A W) 64 .typed t _ is₁ .0)) $
-        rewrite ! 56 (λ (v : Val). ‵ (fat fullShare (tyArray T′.mir 64) l₈ 0 v)) (ap only (array-is t w₁ is₁)) refl $
-        move ! (0 ∷ []) $
-        drop ! $
-        move ! (0 ∷ []) $
-        split ! $
-        move ! (1 ∷ []) $
-        drop ! $
-        move ! (0 ∷ []) $
-        lft-end ! tt $
-        move ! (0 ∷ 1 ∷ []) $
-        use2 W (later (‵ (row T.the-row fullShare ys b o))) (shared-back T.the-row (ν ∷ []) ys b o 𝓤 H A W) $ await ! tt $
+        rewrite ! 56 (λ (v : Val). ‵ (fat fullShare (tyArray T′.mir 64) l₈ 0 v)) (ap only (array-is t w₁ is₁)) refl $ move ! (0 ∷ []) $ drop ! $ move ! (0 ∷ []) $ split ! $ move ! (1 ∷ []) $ drop ! $
+        move ! (0 ∷ []) $ lft-end ! tt $ move ! (0 ∷ 1 ∷ []) $ use2 W (later (‵ (row T.the-row fullShare ys b o))) (shared-back T.the-row (ν ∷ []) ys b o 𝓤 H A W) $ await ! tt $
         -- `push::step`: the words and the queue go to it for good
         assigns ! (of-opd ! (load ! (from ! (hop ! (look ! 64 refl) (stop !))) (look-raw ! 8 refl))) (from ! (stop !)) (init ! 52 refl (LL.lawful N.the-type N′.the-laws 𝓤 H A W .typed cs _ is-c .0)) $
         assigns ! (addr ! (from ! (fld ! refl (hop ! (look-in ! 66 (sub ! 0 refl (whole !))) (stop !))))) (from ! (stop !)) (init ! 38 refl (tt, tt)) $
@@ -377,155 +318,64 @@ module _ {M : Type 1} (𝓤 : URA M) (H : Heap 𝓤) (A : Atoms 𝓤) (W : Given
         assigns ! (of-opd ! (load ! (from ! (hop ! (look ! 62 refl) (stop !))) (look-raw ! 4 refl))) (from ! (stop !)) (init ! 34 refl (LL.lawful S.the-type S′.the-laws 𝓤 H A W .typed h _ is-h .0)) $
         assigns ! (addr ! (from ! (fld ! refl (hop ! (look-in ! 60 (sub ! 0 refl (whole !))) (stop !))))) (from ! (stop !)) (init ! 32 refl (tt, tt)) $
         assigns ! (agg ! (and-then ! (load ! (from ! (stop !)) (look ! 32 refl)) (and-then ! (load ! (from ! (fld ! refl (stop !))) (look-in ! 60 (sub ! 1 refl (whole !)))) (no-more !)))) (from ! (stop !)) (init ! 30 refl (tt, (tt, (record { fits = room₄ .0 }, tt)))) $
-        move ! (19 ∷ 17 ∷ []) $
-        join ! $
-        move ! (21 ∷ 0 ∷ []) $
-        join ! $
-        move ! (14 ∷ 0 ∷ []) $
-        join ! $
-        move ! (14 ∷ 0 ∷ []) $
-        join ! $
-        move ! (14 ∷ 0 ∷ []) $
-        join ! $
+        move ! (19 ∷ 17 ∷ []) $ join ! $ move ! (21 ∷ 0 ∷ []) $ join ! $ move ! (14 ∷ 0 ∷ []) $ join ! $ move ! (14 ∷ 0 ∷ []) $ join ! $ move ! (14 ∷ 0 ∷ []) $ join ! $
         use1 W (raw (Step 𝓤 H A at-mem run .pre (to-step t))) (goes-step t (subst (Is (Array T.the-row 64) t) (array-is t w₁ is₁) is₁) is-c is-h) $
         calls-at ! fm (Step 𝓤 H A at-mem run) k₂ (to-step t) (and-then ! (load ! (from ! (stop !)) (look ! 49 refl)) (and-then ! (load ! (from ! (stop !)) (look ! 51 refl)) (and-then ! (load ! (from ! (stop !)) (look ! 31 refl)) (and-then ! (load ! (from ! (stop !)) (look ! 47 refl)) (and-then ! (load ! (from ! (stop !)) (look ! 29 refl)) (and-then ! (load ! (from ! (stop !)) (look ! 25 refl)) (and-then ! (load ! (from ! (stop !)) (look ! 53 refl)) (no-more !)))))))) (λ w₂.
         use1 W (later (some (λ (r : Came). ((‵ (flft κ₁ q₁) ⊛ ‵ (flft κ₄ q₄) ⊛ ‵ (flft κ₅ q₅) ⊛ ‵ ftrue) ⊛ ‵ (O.the-row .own r (w₂ ∷ []))) ⊛ raw (ensured 𝓤 H A step-fn.ended (step-fn.clauses 𝓤 H A at-mem run) (κ₁, (κ₄, (κ₅, tt))) (t, (n, (xw, (cs, (h, (xq, (xr, tt))))))) tt r)))) (id⊢ 𝓤 _) $ await ! tt $ pick ! (λ r.
-        split ! $
-        move ! (1 ∷ []) $
+        split ! $ move ! (1 ∷ []) $
         use1 W (some (λ (ls : Unit {0} × (Unit {0} × (List ℕ × (Unit {0} × (Unit {0} × (List ℕ × (Unit {0} × Unit {0}))))))). ‵ (lasts step-fn.ended (κ₁, (κ₄, (κ₅, tt))) (t, (n, (xw, (cs, (h, (xq, (xr, tt))))))) ls) ⊛ raw (fact 𝓤 (StepSays t r (ls .1 .1 .0) (ls .1 .1 .1 .1 .1 .0))))) (id⊢ 𝓤 _) $ pick ! (λ ls.
-        split ! $
-        move ! (1 ∷ []) $
-        heard ! (StepSays t r (ls .1 .1 .0) (ls .1 .1 .1 .1 .1 .0)) (λ e₂.
-        fsplit ! $ drop ! $ fsplit ! $ drop ! $
-        fsplit ! $
-        fsplit ! $
-        move ! (1 ∷ []) $
-        feqL ! (λ lw.
-        move ! (1 ∷ []) $
-        fsplit ! $ drop ! $ fsplit ! $ drop ! $
-        fsplit ! $
-        fsplit ! $
-        move ! (1 ∷ []) $
-        feqL ! (λ lq.
-        move ! (3 ∷ []) $
-        split ! $
-        move ! (1 ∷ []) $
+        split ! $ move ! (1 ∷ []) $ heard ! (StepSays t r (ls .1 .1 .0) (ls .1 .1 .1 .1 .1 .0)) (λ e₂. fsplit ! $ drop ! $ fsplit ! $ drop ! $ fsplit ! $ fsplit ! $ move ! (1 ∷ []) $ feqL ! (λ lw.
+        move ! (1 ∷ []) $ fsplit ! $ drop ! $ fsplit ! $ drop ! $ fsplit ! $ fsplit ! $ move ! (1 ∷ []) $ feqL ! (λ lq. move ! (3 ∷ []) $ split ! $ move ! (1 ∷ []) $
         peeks ! O.the-row (Is O.the-row) (shows 𝓤 H A O.the-row) r (w₂ ∷ []) (λ is₂. let is-r = of-outcome r w₂ is₂ in let fields = LL.owed O.the-type O′.the-laws r _ is₂ in
         land ! (from ! (stop !)) (init ! 49 refl (LL.lawful O.the-type O′.the-laws 𝓤 H A W .typed r _ is₂ .0)) $
-        rewrite ! 49 (λ (v : Val). ‵ (fat fullShare O′.mir l₁₀ 0 v)) (ap only (LL.tells O.the-type O′.the-laws r _ is₂)) refl $
-        move ! (0 ∷ []) $
-        drop ! $
-        move ! (0 ∷ []) $
-        split ! $
-        move ! (1 ∷ []) $
-        split ! $
-        move ! (1 ∷ []) $
-        split ! $
-        move ! (1 ∷ []) $
-        move ! (0 ∷ []) $
-        drop ! $
+        rewrite ! 49 (λ (v : Val). ‵ (fat fullShare O′.mir l₁₀ 0 v)) (ap only (LL.tells O.the-type O′.the-laws r _ is₂)) refl $ move ! (0 ∷ []) $ drop ! $ move ! (0 ∷ []) $ split ! $ move ! (1 ∷ []) $
+        split ! $ move ! (1 ∷ []) $ split ! $ move ! (1 ∷ []) $ move ! (0 ∷ []) $ drop ! $
         -- the counts and the session are written, and their borrows closed
         assigns ! (of-opd ! (load ! (from ! (fld ! refl (stop !))) (look-in ! 50 (sub ! 4 refl (whole !))))) (from ! (hop ! (look ! 64 refl) (stop !))) (store-raw ! 14 refl (LL.lawful N.the-type N′.the-laws 𝓤 H A W .typed (r .counts) _ (fields .1 .1 .1 .1 .0) .0)) $
-        owned ! N.the-row (Is N.the-row) (LL.makes N.the-type N′.the-plain 𝓤 H A) (r .counts) _ (fields .1 .1 .1 .1 .0) $
-        move ! (15 ∷ 0 ∷ 16 ∷ 17 ∷ 18 ∷ []) $
+        owned ! N.the-row (Is N.the-row) (LL.makes N.the-type N′.the-plain 𝓤 H A) (r .counts) _ (fields .1 .1 .1 .1 .0) $ move ! (15 ∷ 0 ∷ 16 ∷ 17 ∷ 18 ∷ []) $
         closes ! tt N.the-row (r .counts) (valN (r .counts) ∷ []) b₂ o₂ $
         assigns ! (of-opd ! (load ! (from ! (fld ! refl (stop !))) (look-in ! 49 (sub ! 5 refl (whole !))))) (from ! (hop ! (look ! 61 refl) (stop !))) (store-raw ! 13 refl (LL.lawful S.the-type S′.the-laws 𝓤 H A W .typed (r .session) _ (fields .1 .1 .1 .1 .1 .0) .0)) $
-        owned ! S.the-row (Is S.the-row) (LL.makes S.the-type S′.the-plain 𝓤 H A) (r .session) _ (fields .1 .1 .1 .1 .1 .0) $
-        move ! (14 ∷ 0 ∷ 15 ∷ 16 ∷ 17 ∷ []) $
+        owned ! S.the-row (Is S.the-row) (LL.makes S.the-type S′.the-plain 𝓤 H A) (r .session) _ (fields .1 .1 .1 .1 .1 .0) $ move ! (14 ∷ 0 ∷ 15 ∷ 16 ∷ 17 ∷ []) $
         closes ! tt S.the-row (r .session) (valS (r .session) ∷ []) b₃ o₃ $
         -- `applied`, `put_at`, `taken_of`
         use0 W (raw (Apply 𝓤 H A at-mem run .pre (to-apply t r))) (goes-apply t r (subst (Is (Array T.the-row 64) t) (array-is t w₁ is₁) is₁) is-c is-r) $
         calls-at ! fm (Apply 𝓤 H A at-mem run) k₃ (to-apply t r) (and-then ! (load ! (from ! (stop !)) (look ! 53 refl)) (and-then ! (load ! (from ! (fld ! refl (stop !))) (look-in ! 51 (sub ! 0 refl (whole !)))) (and-then ! (load ! (from ! (stop !)) (look ! 49 refl)) (no-more !)))) (λ w₃.
         use1 W (later (some (λ (after : List Mailbox). (‵ ftrue ⊛ ‵ (Array T.the-row 64 .own after (w₃ ∷ []))) ⊛ raw (ensured 𝓤 H A streams·applied-fn.ended (streams·applied-fn.clauses 𝓤 H A at-mem run) tt (t, (cs .mailboxes, (r, tt))) tt after)))) (id⊢ 𝓤 _) $ await ! tt $ pick ! (λ after.
-        split ! $
-        move ! (1 ∷ []) $
-        use1 W (raw (fact 𝓤 (Applies t (cs .mailboxes) r after))) (apply-of t r after) $ heard ! (Applies t (cs .mailboxes) r after) (λ e₃.
-        split ! $
-        move ! (0 ∷ []) $
-        drop ! $
-        move ! (0 ∷ []) $
-        peeks ! (Array T.the-row 64) (Is (Array T.the-row 64)) (shows 𝓤 H A (Array T.the-row 64)) after (w₃ ∷ []) (λ is₃.
+        split ! $ move ! (1 ∷ []) $ use1 W (raw (fact 𝓤 (Applies t (cs .mailboxes) r after))) (apply-of t r after) $ heard ! (Applies t (cs .mailboxes) r after) (λ e₃. split ! $ move ! (0 ∷ []) $ drop ! $
+        move ! (0 ∷ []) $ peeks ! (Array T.the-row 64) (Is (Array T.the-row 64)) (shows 𝓤 H A (Array T.the-row 64)) after (w₃ ∷ []) (λ is₃.
         land ! (from ! (stop !)) (init ! 47 refl (array-lawful 𝓤 H A W T.the-row (LL.lawful T.the-type T′.the-laws 𝓤 H A W) 64 .typed after _ is₃ .0)) $
-        rewrite ! 47 (λ (v : Val). ‵ (fat fullShare (tyArray T′.mir 64) l₁₁ 0 v)) (ap only (array-is after w₃ is₃)) refl $
-        move ! (0 ∷ []) $
-        drop ! $
+        rewrite ! 47 (λ (v : Val). ‵ (fat fullShare (tyArray T′.mir 64) l₁₁ 0 v)) (ap only (array-is after w₃ is₃)) refl $ move ! (0 ∷ []) $ drop ! $
         use0 W (raw (PutAt 𝓤 H A at-mem run .pre (to-put r))) (goes-put r is-r) $
         calls-at ! fm (PutAt 𝓤 H A at-mem run) k₄ (to-put r) (and-then ! (load ! (from ! (stop !)) (look ! 49 refl)) (and-then ! (load ! (from ! (stop !)) (look ! 55 refl)) (no-more !))) (λ w₄.
         use1 W (later (some (λ (i : ℕ). (‵ ftrue ⊛ ‵ (usize .own i (w₄ ∷ []))) ⊛ raw (ensured 𝓤 H A put-at-fn.ended (put-at-fn.clauses 𝓤 H A at-mem run) tt (r, (n, tt)) tt i)))) (id⊢ 𝓤 _) $ await ! tt $ pick ! (λ i.
-        split ! $
-        move ! (1 ∷ []) $
-        use1 W (raw (fact 𝓤 (i ≡ putAt r n))) (put-of r i) $ heard ! (i ≡ putAt r n) (λ e₄.
-        split ! $
-        move ! (0 ∷ []) $
-        drop ! $
-        move ! (0 ∷ []) $
-        peeks ! usize (Is usize) (shows 𝓤 H A usize) i (w₄ ∷ []) (λ is₄.
-        land ! (from ! (stop !)) (init ! 45 refl (uint-lawful 𝓤 H A W w64 .typed i _ is₄ .0)) $
-        rewrite ! 45 (λ (v : Val). ‵ (fat fullShare (tyInt w64) l₁₂ 0 v)) (ap only (is₄ .0)) refl $
-        move ! (0 ∷ []) $
-        drop ! $
+        split ! $ move ! (1 ∷ []) $ use1 W (raw (fact 𝓤 (i ≡ putAt r n))) (put-of r i) $ heard ! (i ≡ putAt r n) (λ e₄. split ! $ move ! (0 ∷ []) $ drop ! $ move ! (0 ∷ []) $
+        peeks ! usize (Is usize) (shows 𝓤 H A usize) i (w₄ ∷ []) (λ is₄. land ! (from ! (stop !)) (init ! 45 refl (uint-lawful 𝓤 H A W w64 .typed i _ is₄ .0)) $
+        rewrite ! 45 (λ (v : Val). ‵ (fat fullShare (tyInt w64) l₁₂ 0 v)) (ap only (is₄ .0)) refl $ move ! (0 ∷ []) $ drop ! $
         use0 W (raw (TakenOf 𝓤 H A at-mem run .pre (to-taken r))) (goes-taken r is-c is-r) $
         calls-at ! fm (TakenOf 𝓤 H A at-mem run) k₅ (to-taken r) (and-then ! (load ! (from ! (stop !)) (look ! 49 refl)) (and-then ! (load ! (from ! (fld ! refl (stop !))) (look-in ! 51 (sub ! 0 refl (whole !)))) (and-then ! (load ! (from ! (stop !)) (look ! 55 refl)) (no-more !)))) (λ w₅.
         use1 W (later (some (λ (m : ℕ). (‵ ftrue ⊛ ‵ (usize .own m (w₅ ∷ []))) ⊛ raw (ensured 𝓤 H A taken-of-fn.ended (taken-of-fn.clauses 𝓤 H A at-mem run) tt (r, (cs .mailboxes, (n, tt))) tt m)))) (id⊢ 𝓤 _) $ await ! tt $ pick ! (λ m.
-        split ! $
-        move ! (1 ∷ []) $
-        use1 W (raw (fact 𝓤 (m ≡ takenOf r (cs .mailboxes) n))) (taken-of r m) $ heard ! (m ≡ takenOf r (cs .mailboxes) n) (λ e₅.
-        split ! $
-        move ! (0 ∷ []) $
-        drop ! $
-        move ! (0 ∷ []) $
-        peeks ! usize (Is usize) (shows 𝓤 H A usize) m (w₅ ∷ []) (λ is₅.
-        land ! (from ! (stop !)) (init ! 43 refl (uint-lawful 𝓤 H A W w64 .typed m _ is₅ .0)) $
-        rewrite ! 43 (λ (v : Val). ‵ (fat fullShare (tyInt w64) l₁₃ 0 v)) (ap only (is₅ .0)) refl $
-        move ! (0 ∷ []) $
-        drop ! $
+        split ! $ move ! (1 ∷ []) $ use1 W (raw (fact 𝓤 (m ≡ takenOf r (cs .mailboxes) n))) (taken-of r m) $ heard ! (m ≡ takenOf r (cs .mailboxes) n) (λ e₅. split ! $ move ! (0 ∷ []) $ drop ! $
+        move ! (0 ∷ []) $ peeks ! usize (Is usize) (shows 𝓤 H A usize) m (w₅ ∷ []) (λ is₅. land ! (from ! (stop !)) (init ! 43 refl (uint-lawful 𝓤 H A W w64 .typed m _ is₅ .0)) $
+        rewrite ! 43 (λ (v : Val). ‵ (fat fullShare (tyInt w64) l₁₃ 0 v)) (ap only (is₅ .0)) refl $ move ! (0 ∷ []) $ drop ! $
         -- `write_back`: the rows go to it for good
         assigns ! (addr ! (from ! (fld ! refl (hop ! (look-in ! 66 (sub ! 0 refl (whole !))) (stop !))))) (from ! (stop !)) (init ! 24 refl (tt, tt)) $
         assigns ! (agg ! (and-then ! (load ! (from ! (stop !)) (look ! 24 refl)) (and-then ! (load ! (from ! (fld ! refl (stop !))) (look-in ! 66 (sub ! 1 refl (whole !)))) (no-more !)))) (from ! (stop !)) (init ! 22 refl (tt, (tt, (record { fits = room .0 }, tt)))) $
-        move ! (12 ∷ 13 ∷ 14 ∷ 15 ∷ []) $
-        closes-slice ! tt T.the-row ys ys refl b o $
-        fjoin ! $
-        pureI ! (at-slice T.the-row (x γ) (s ∷ [])) (tt, (tt, tt)) (refl, room) $
-        fjoin ! $
-        move ! (1 ∷ 0 ∷ []) $
+        move ! (12 ∷ 13 ∷ 14 ∷ 15 ∷ []) $ closes-slice ! tt T.the-row ys ys refl b o $ fjoin ! $ pureI ! (at-slice T.the-row (x γ) (s ∷ [])) (tt, (tt, tt)) (refl, room) $ fjoin ! $ move ! (1 ∷ 0 ∷ []) $
         use2 W (raw (WriteBack 𝓤 H A at-mem run .pre (to-back r after i m))) (goes-back r after i m (fields .1 .1 .1 .0) (subst (Is (Array T.the-row 64) after) (array-is after w₃ is₃) is₃) (is₄ .1) (is₅ .1)) $
         calls-at ! fm (WriteBack 𝓤 H A at-mem run) k₆ (to-back r after i m) (and-then ! (load ! (from ! (stop !)) (look ! 19 refl)) (and-then ! (load ! (from ! (stop !)) (look ! 41 refl)) (and-then ! (load ! (from ! (fld ! refl (stop !))) (look-in ! 45 (sub ! 3 refl (whole !)))) (and-then ! (load ! (from ! (stop !)) (look ! 43 refl)) (and-then ! (load ! (from ! (stop !)) (look ! 39 refl)) (no-more !)))))) (λ w₆.
         use1 W (later (some (λ (u : Unit {0}). ((‵ (flft κ q) ⊛ ‵ ftrue) ⊛ ‵ (Nothing .own u (w₆ ∷ []))) ⊛ raw (ensured 𝓤 H A write-back-fn.ended (write-back-fn.clauses 𝓤 H A at-mem run) (κ, tt) (x γ, (i, (r .row, (after, (m, tt))))) tt u)))) (id⊢ 𝓤 _) $ await ! tt $ pick ! (λ u.
-        split ! $
-        move ! (1 ∷ []) $
+        split ! $ move ! (1 ∷ []) $
         use1 W (some (λ (zs : List Mailbox × (Unit {0} × (Unit {0} × (Unit {0} × (Unit {0} × Unit {0}))))). ‵ (lasts write-back-fn.ended (κ, tt) (x γ, (i, (r .row, (after, (m, tt))))) zs) ⊛ raw (fact 𝓤 (zs .0 ≡ over after (set ys i (r .row)) (within m n))))) (id⊢ 𝓤 _) $ pick ! (λ zs.
-        split ! $
-        move ! (1 ∷ []) $
-        heard ! (zs .0 ≡ over after (set ys i (r .row)) (within m n)) (λ e₆.
-        fsplit ! $
-        fsplit ! $
-        move ! (1 ∷ []) $
-        feqL ! (λ lz.
-        move ! (2 ∷ []) $
-        split ! $
-        move ! (1 ∷ []) $
-        peeks ! Nothing (Is Nothing) (shows 𝓤 H A Nothing) u (w₆ ∷ []) (λ is₆.
-        land ! (from ! (stop !)) (init ! 26 refl (nothing-lawful 𝓤 H A W .typed u _ is₆ .0)) $
-        move ! (0 ∷ []) $
-        drop ! $
-        move ! (0 ∷ []) $
-        split ! $
+        split ! $ move ! (1 ∷ []) $ heard ! (zs .0 ≡ over after (set ys i (r .row)) (within m n)) (λ e₆. fsplit ! $ fsplit ! $ move ! (1 ∷ []) $ feqL ! (λ lz. move ! (2 ∷ []) $ split ! $ move ! (1 ∷ []) $
+        peeks ! Nothing (Is Nothing) (shows 𝓤 H A Nothing) u (w₆ ∷ []) (λ is₆. land ! (from ! (stop !)) (init ! 26 refl (nothing-lawful 𝓤 H A W .typed u _ is₆ .0)) $ move ! (0 ∷ []) $ drop ! $
+        move ! (0 ∷ []) $ split ! $
         -- `numbers`
         use0 W (raw (Numbers 𝓤 H A at-mem run .pre (to-numbers r))) (goes-numbers r is-r) $
         calls-at ! fm (Numbers 𝓤 H A at-mem run) k₇ (to-numbers r) (and-then ! (load ! (from ! (stop !)) (look ! 49 refl)) (no-more !)) (λ w₇.
         use1 W (later (some (λ (d : Answered). (‵ ftrue ⊛ ‵ (D.the-row .own d (w₇ ∷ []))) ⊛ raw (ensured 𝓤 H A numbers-fn.ended (numbers-fn.clauses 𝓤 H A at-mem run) tt (r, tt) tt d)))) (id⊢ 𝓤 _) $ await ! tt $ pick ! (λ d.
-        split ! $
-        move ! (1 ∷ []) $
-        use1 W (raw (fact 𝓤 (d ≡ numbersOf (r .answer)))) (numbers-of r d) $ heard ! (d ≡ numbersOf (r .answer)) (λ e₇.
-        split ! $
-        move ! (0 ∷ []) $
-        drop ! $
-        move ! (0 ∷ []) $
-        peeks ! D.the-row (Is D.the-row) (shows 𝓤 H A D.the-row) d (w₇ ∷ []) (λ is₇.
-        land ! (from ! (stop !)) (init ! 69 refl (LL.lawful D.the-type D′.the-laws 𝓤 H A W .typed d _ is₇ .0)) $
-        rewrite ! 69 (λ (v : Val). ‵ (fat fullShare D′.mir l₀ 0 v)) (ap only (LL.tells D.the-type D′.the-laws d _ is₇)) refl $
-        move ! (0 ∷ []) $
-        drop ! $
+        split ! $ move ! (1 ∷ []) $ use1 W (raw (fact 𝓤 (d ≡ numbersOf (r .answer)))) (numbers-of r d) $ heard ! (d ≡ numbersOf (r .answer)) (λ e₇. split ! $ move ! (0 ∷ []) $ drop ! $ move ! (0 ∷ []) $
+        peeks ! D.the-row (Is D.the-row) (shows 𝓤 H A D.the-row) d (w₇ ∷ []) (λ is₇. land ! (from ! (stop !)) (init ! 69 refl (LL.lawful D.the-type D′.the-laws 𝓤 H A W .typed d _ is₇ .0)) $
+        rewrite ! 69 (λ (v : Val). ‵ (fat fullShare D′.mir l₀ 0 v)) (ap only (LL.tells D.the-type D′.the-laws d _ is₇)) refl $ move ! (0 ∷ []) $ drop ! $
         -- [lft0; true″; fin; lrest; obs3; bor3; lft3; obs2; bor2; lft2; lft5; lft4; lft1; finq; last; finw; tok; ownr; rest; fact3; fact2; fact1; _23; _22; _21; _20; _19; _18; _17; _16; _15; _14; _13; _12; _11; _10; _9; _8; _7; _6; _5; _4; _3; _2; _1; _0]
         returns ! (look ! 68 refl) $
         forget ! 22 refl $ forget ! 24 refl $ forget ! 26 refl $ forget ! 28 refl $ forget ! 30 refl $ forget ! 32 refl $ forget ! 34 refl $ forget ! 36 refl $ forget ! 38 refl $ forget ! 40 refl $ forget ! 42 refl $ forget ! 44 refl $ forget ! 46 refl $ forget ! 48 refl $ forget ! 50 refl $ forget ! 52 refl $ forget ! 54 refl $ forget ! 56 refl $ forget ! 58 refl $ forget ! 60 refl $ forget ! 62 refl $ forget ! 64 refl $ forget ! 66 refl $ forget ! 68 refl $

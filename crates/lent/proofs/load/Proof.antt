@@ -230,22 +230,17 @@ module _ {M : Type 1} (𝓤 : URA M) (H : Heap 𝓤) (A : Atoms 𝓤) (W : Given
           rewrite ! 17 (λ (t : Bool). ‵ (fat fullShare tyBool l₇ 0 (vbool t))) e refl $ stays ! (load ! (from ! (stop !)) (look ! 17 refl)) $
           assigns ! (bin ! (load ! (from ! (stop !)) (look ! 21 refl)) (lit ! tt) (record { fits = bytes i l })) (from ! (stop !)) (init ! 15 refl (tt, record { fits = bytes i l })) $
           assigns ! (bin ! (load ! (from ! (fld ! refl (stop !))) (look-in ! 28 (sub ! 0 refl (whole !)))) (load ! (from ! (stop !)) (look ! 15 refl)) tt) (from ! (stop !)) (init ! 13 refl (tt, tt)) $
-          rewrite ! 13 (λ (p : ℕ). ‵ (fat fullShare tyPtr l₉ 0 (vptr b p))) (sym (place-is 76 o (i .0))) refl $
-          move ! (0 ∷ []) $
+          rewrite ! 13 (λ (p : ℕ). ‵ (fat fullShare tyPtr l₉ 0 (vptr b p))) (sym (place-is 76 o (i .0))) refl $ move ! (0 ∷ []) $
           elem-out ! T.the-row (Is T.the-row) (shows 𝓤 H A T.the-row) (LL.vals T.the-type T′.the-laws) (LL.tells T.the-type T′.the-laws) q′ ys (i .0) noMailbox b o (in-ys i l) (λ is.
           assigns ! (of-opd ! (load ! (from ! (hop ! (look ! 15 refl) (stop !))) (look-raw ! 0 refl))) (from ! (stop !)) (init ! 13 refl (LL.lawful T.the-type T′.the-laws 𝓤 H A W .typed (getD ys (i .0) noMailbox) _ is .0)) $
           elem-back ! T.the-row q′ ys (i .0) noMailbox (val (getD ys (i .0) noMailbox) ∷ []) b o (in-ys i l) $
           assigns ! (bin ! (load ! (from ! (stop !)) (look ! 21 refl)) (lit ! tt) (record { fits = bytes i l })) (from ! (stop !)) (init ! 9 refl (tt, record { fits = bytes i l })) $
           assigns ! (addr ! (from ! (stop !))) (from ! (stop !)) (init ! 7 refl (tt, tt)) $
           assigns ! (bin ! (load ! (from ! (stop !)) (look ! 7 refl)) (load ! (from ! (stop !)) (look ! 9 refl)) tt) (from ! (stop !)) (init ! 5 refl (tt, tt)) $
-          rewrite ! 5 (λ (p : ℕ). ‵ (fat fullShare tyPtr l₁₃ 0 (vptr l₄ p))) (sym (place-is 76 0 (i .0))) refl $
-          move ! (2 ∷ []) $
+          rewrite ! 5 (λ (p : ℕ). ‵ (fat fullShare tyPtr l₁₃ 0 (vptr l₄ p))) (sym (place-is 76 0 (i .0))) refl $ move ! (2 ∷ []) $
           elem-out ! T.the-row (Is T.the-row) (shows 𝓤 H A T.the-row) (LL.vals T.the-type T′.the-laws) (LL.tells T.the-type T′.the-laws) fullShare (over ys ts (i .0)) (i .0) noMailbox l₄ 0 (in-over i l) (λ _.
           assigns ! (of-opd ! (load ! (from ! (stop !)) (look ! 13 refl))) (from ! (hop ! (look ! 7 refl) (stop !))) (store-raw ! 0 refl (LL.lawful T.the-type T′.the-laws 𝓤 H A W .typed (getD ys (i .0) noMailbox) _ is .0)) $
-          move ! (1 ∷ []) $
-          drop ! $
-          owned ! T.the-row (Is T.the-row) (LL.makes T.the-type T′.the-plain 𝓤 H A) (getD ys (i .0) noMailbox) _ is $
-          move ! (1 ∷ 0 ∷ 2 ∷ []) $
+          move ! (1 ∷ []) $ drop ! $ owned ! T.the-row (Is T.the-row) (LL.makes T.the-type T′.the-plain 𝓤 H A) (getD ys (i .0) noMailbox) _ is $ move ! (1 ∷ 0 ∷ 2 ∷ []) $
           elem-put ! T.the-row fullShare (over ys ts (i .0)) (i .0) (getD ys (i .0) noMailbox) (val (getD ys (i .0) noMailbox) ∷ []) l₄ 0 (in-over i l) $
           rewrite ! 0 (λ (us : List Mailbox). ‵ (row T.the-row fullShare us l₄ 0)) (onward i l) refl $
           assigns-last ! (bin ! (load ! (from ! (stop !)) (look ! 21 refl)) (lit ! tt) (record { fits = fits (next i l) })) (from ! (stop !)) (store ! 21 refl (tt, record { fits = fits (next i l) })) $
@@ -255,12 +250,10 @@ module _ {M : Type 1} (𝓤 : URA M) (H : Heap 𝓤) (A : Atoms 𝓤) (W : Given
       turn i false e =
           assigns ! (bin ! (load ! (from ! (stop !)) (look ! 21 refl)) (load ! (from ! (stop !)) (look ! 24 refl)) tt) (from ! (stop !)) (init ! 17 refl (tt, tt)) $
           rewrite ! 17 (λ (t : Bool). ‵ (fat fullShare tyBool l₇ 0 (vbool t))) e refl $ leaves-loop ! (load ! (from ! (stop !)) (look ! 17 refl)) $ exec ! C Λ E body.t-7 (atRet E Post) $
-          shuts-slice ! tt T.the-row q′ ys b o $
-          move ! (1 ∷ []) $
+          shuts-slice ! tt T.the-row q′ ys b o $ move ! (1 ∷ []) $
           use1 W (given (Is (Array T.the-row 64) (over ys ts (i .0)) (valA (over ys ts (i .0)) ∷ [])) (‵ (fat fullShare (tyArray T′.mir 64) l₄ 0 (valA (over ys ts (i .0)))))) (local-whole 𝓤 H A W T.the-row 64 (over ys ts (i .0)) l₄ 0 (LL.vals T.the-type T′.the-laws) (LL.tells T.the-type T′.the-laws) (over-64 i)) $ learn ! (λ is.
           assigns ! (of-opd ! (load ! (from ! (stop !)) (look ! 0 refl))) (from ! (stop !)) (init ! 29 refl (array-lawful 𝓤 H A W T.the-row (LL.lawful T.the-type T′.the-laws 𝓤 H A W) 64 .typed (over ys ts (i .0)) _ is .0)) $
-          returns ! (look ! 29 refl) $
-          forget ! 16 refl $ forget ! 18 refl $ forget ! 20 refl $ forget ! 0 refl $ forget ! 23 refl $ forget ! 25 refl $ forget ! 27 refl $ forget ! 29 refl $
+          returns ! (look ! 29 refl) $ forget ! 16 refl $ forget ! 18 refl $ forget ! 20 refl $ forget ! 0 refl $ forget ! 23 refl $ forget ! 25 refl $ forget ! 27 refl $ forget ! 29 refl $
           move ! (29 ∷ 30 ∷ []) $ free1 ! $ move ! (27 ∷ 28 ∷ []) $ free1 ! $ move ! (25 ∷ 26 ∷ []) $ free1 ! $ move ! (23 ∷ 24 ∷ []) $ free1 ! $ move ! (0 ∷ 22 ∷ []) $ free1 ! $ move ! (19 ∷ 20 ∷ []) $ free1 ! $ move ! (17 ∷ 18 ∷ []) $ free1 ! $ move ! (15 ∷ 16 ∷ []) $ free1 ! $ move ! (13 ∷ 14 ∷ []) $ free1 ! $ move ! (11 ∷ 12 ∷ []) $ free1 ! $ move ! (9 ∷ 10 ∷ []) $ free1 ! $ move ! (7 ∷ 8 ∷ []) $ free1 ! $ move ! (5 ∷ 6 ∷ []) $ free1 ! $ move ! (3 ∷ 4 ∷ []) $ free1 ! $ free0 ! $
           keep ! (0 ∷ 1 ∷ 2 ∷ []) $
           by ! (exits (over ys ts (i .0)) (ap (over ys ts) (le-antisymm (i .1) (nltb→le (i .0) m (holds-as true (not (ltb (i .0) m)) (sym (ap not e)) tt))) ∙ all) is))
@@ -269,41 +262,22 @@ module _ {M : Type 1} (𝓤 : URA M) (H : Heap 𝓤) (A : Atoms 𝓤) (W : Given
     walk =
         qed W ((‵ (flft κ q) ⊛ ‵ ftrue) ∷ ‵ (owns (ShrSlice (named 0) κ T.the-row ∷ []) (x, tt) (s ∷ [], tt)) ∷ []) ∵ enter ! C Λ code.function (s ∷ []) _ $
         alloc1 ! (λ l₀. alloc1 ! (λ l₁. alloc1 ! (λ l₂. alloc1 ! (λ l₃. alloc1 ! (λ l₄. alloc1 ! (λ l₅. alloc1 ! (λ l₆. alloc1 ! (λ l₇. alloc1 ! (λ l₈. alloc1 ! (λ l₉. alloc1 ! (λ l₁₀. alloc1 ! (λ l₁₁. alloc1 ! (λ l₁₂. alloc1 ! (λ l₁₃. alloc0 ! $ params1 ! $
-        pass1 ! (init ! 24 refl (tt, (tt, (record { fits = room .0 }, tt)))) $
-        pass0 ! $
+        pass1 ! (init ! 24 refl (tt, (tt, (record { fits = room .0 }, tt)))) $ pass0 ! $
         assigns ! (of-opd ! (load ! (from ! (fld ! refl (stop !))) (look-in ! 24 (sub ! 1 refl (whole !))))) (from ! (stop !)) (init ! 22 refl (tt, record { fits = room .0 })) $
         -- `reach`
         use0 W (raw (Reach 𝓤 H A at-mem run .pre to-reach)) goes-reach $
         calls-at ! fm (Reach 𝓤 H A at-mem run) k₁ to-reach (and-then ! (lit ! tt) (and-then ! (load ! (from ! (stop !)) (look ! 23 refl)) (no-more !))) (λ w₁.
         use1 W (later (some (λ (m : ℕ). (‵ ftrue ⊛ ‵ (usize .own m (w₁ ∷ []))) ⊛ raw (ensured 𝓤 H A reach-fn.ended (reach-fn.clauses 𝓤 H A at-mem run) tt (64, (length ys, tt)) tt m)))) (id⊢ 𝓤 _) $ await ! tt $ pick ! (λ m.
-        split ! $
-        move ! (1 ∷ []) $
-        use1 W (raw (fact 𝓤 (m ≡ within 64 (length ys)))) (reach-of m) $ heard ! (m ≡ within 64 (length ys)) (λ e₁.
-        split ! $
-        move ! (0 ∷ []) $
-        drop ! $
-        move ! (0 ∷ []) $
-        peeks ! usize (Is usize) (shows 𝓤 H A usize) m (w₁ ∷ []) (λ is₁.
-        land ! (from ! (stop !)) (init ! 21 refl (uint-lawful 𝓤 H A W w64 .typed m _ is₁ .0)) $
-        rewrite ! 21 (λ (v : Val). ‵ (fat fullShare (tyInt w64) l₃ 0 v)) (ap only (is₁ .0)) refl $
-        move ! (0 ∷ []) $
-        drop ! $
+        split ! $ move ! (1 ∷ []) $ use1 W (raw (fact 𝓤 (m ≡ within 64 (length ys)))) (reach-of m) $ heard ! (m ≡ within 64 (length ys)) (λ e₁. split ! $ move ! (0 ∷ []) $ drop ! $ move ! (0 ∷ []) $
+        peeks ! usize (Is usize) (shows 𝓤 H A usize) m (w₁ ∷ []) (λ is₁. land ! (from ! (stop !)) (init ! 21 refl (uint-lawful 𝓤 H A W w64 .typed m _ is₁ .0)) $
+        rewrite ! 21 (λ (v : Val). ‵ (fat fullShare (tyInt w64) l₃ 0 v)) (ap only (is₁ .0)) refl $ move ! (0 ∷ []) $ drop ! $
         -- `blank`
-        use0 W (raw (Blank 𝓤 H A at-mem run .pre to-blank)) goes-blank $
-        calls-at ! fm (Blank 𝓤 H A at-mem run) k₂ to-blank (no-more !) (λ w₂.
+        use0 W (raw (Blank 𝓤 H A at-mem run .pre to-blank)) goes-blank $ calls-at ! fm (Blank 𝓤 H A at-mem run) k₂ to-blank (no-more !) (λ w₂.
         use1 W (later (some (λ (ts : List Mailbox). (‵ ftrue ⊛ ‵ (Array T.the-row 64 .own ts (w₂ ∷ []))) ⊛ raw (ensured 𝓤 H A blank-fn.ended (blank-fn.clauses 𝓤 H A at-mem run) tt tt tt ts)))) (id⊢ 𝓤 _) $ await ! tt $ pick ! (λ ts.
-        split ! $
-        move ! (1 ∷ []) $
-        use1 W (raw (fact 𝓤 (ts ≡ replicate 64 noMailbox))) (blank-of ts) $ heard ! (ts ≡ replicate 64 noMailbox) (λ e₂.
-        split ! $
-        move ! (0 ∷ []) $
-        drop ! $
-        move ! (0 ∷ []) $
+        split ! $ move ! (1 ∷ []) $ use1 W (raw (fact 𝓤 (ts ≡ replicate 64 noMailbox))) (blank-of ts) $ heard ! (ts ≡ replicate 64 noMailbox) (λ e₂. split ! $ move ! (0 ∷ []) $ drop ! $ move ! (0 ∷ []) $
         peeks ! (Array T.the-row 64) (Is (Array T.the-row 64)) (shows 𝓤 H A (Array T.the-row 64)) ts (w₂ ∷ []) (λ is₂.
         land ! (from ! (stop !)) (init ! 15 refl (array-lawful 𝓤 H A W T.the-row (LL.lawful T.the-type T′.the-laws 𝓤 H A W) 64 .typed ts _ is₂ .0)) $
-        rewrite ! 15 (λ (v : Val). ‵ (fat fullShare (tyArray T′.mir 64) l₆ 0 v)) (ap only (array-is ts w₂ is₂)) refl $
-        move ! (0 ∷ []) $
-        drop ! $
+        rewrite ! 15 (λ (v : Val). ‵ (fat fullShare (tyArray T′.mir 64) l₆ 0 v)) (ap only (array-is ts w₂ is₂)) refl $ move ! (0 ∷ []) $ drop ! $
         assigns ! (of-opd ! (load ! (from ! (stop !)) (look ! 14 refl))) (from ! (stop !)) (init ! 18 refl (array-lawful 𝓤 H A W T.the-row (LL.lawful T.the-type T′.the-laws 𝓤 H A W) 64 .typed ts _ (subst (Is (Array T.the-row 64) ts) (array-is ts w₂ is₂) is₂) .0)) $
         assigns ! (of-opd ! (lit ! tt)) (from ! (stop !)) (init ! 16 refl (tt, record { fits = lit< tt })) $
         -- the local array, as a row of its elements
@@ -311,12 +285,7 @@ module _ {M : Type 1} (𝓤 : URA M) (H : Heap 𝓤) (A : Atoms 𝓤) (W : Given
         use1 W (‵ (row T.the-row fullShare ts l₄ 0)) (local-apart 𝓤 H A W T.the-row 64 ts l₄ 0 tt (LL.makes T.the-type T′.the-plain 𝓤 H A) (valA ts) (subst (Is (Array T.the-row 64) ts) (array-is ts w₂ is₂) is₂)) $
         rewrite ! 0 (λ (us : List Mailbox). ‵ (row T.the-row fullShare us l₄ 0)) (over-none ys ts) refl $
         -- one copy of what the slice owns is kept, and of the other the fractured borrow, which is looked into for the whole loop
-        move ! (29 ∷ []) $
-        fsplit ! $
-        use1 W (‵ Own ⊛ ‵ Own) (shr-slice-copy 𝓤 H A W (named 0) κ T.the-row .twice x (s ∷ [])) $ split ! $
-        fsplit ! $ drop ! $ fsplit ! $ drop ! $
-        move ! (31 ∷ []) $
-        split ! $
+        move ! (29 ∷ []) $ fsplit ! $ use1 W (‵ Own ⊛ ‵ Own) (shr-slice-copy 𝓤 H A W (named 0) κ T.the-row .twice x (s ∷ [])) $ split ! $ fsplit ! $ drop ! $ fsplit ! $ drop ! $ move ! (31 ∷ []) $ split ! $
         move ! (2 ∷ 0 ∷ []) $
         looks-slice ! tt T.the-row (Is T.the-row) (shows 𝓤 H A T.the-row) (LL.vals T.the-type T′.the-laws) (LL.tells T.the-type T′.the-laws) (LL.copy T.the-type T′.the-copy 𝓤 H A W) ys b o (λ q′.
         keep ! (0 ∷ 1 ∷ 6 ∷ 4 ∷ 5 ∷ 7 ∷ 8 ∷ 9 ∷ 10 ∷ 11 ∷ 12 ∷ 13 ∷ 14 ∷ 15 ∷ 16 ∷ 17 ∷ 18 ∷ 19 ∷ 20 ∷ 21 ∷ 22 ∷ 23 ∷ 24 ∷ 25 ∷ 26 ∷ 27 ∷ 28 ∷ 29 ∷ 30 ∷ 31 ∷ 32 ∷ 33 ∷ []) $

@@ -222,21 +222,16 @@ module _ {M : Type 1} (𝓤 : URA M) (H : Heap 𝓤) (A : Atoms 𝓤) (W : Given
           assigns ! (bin ! (load ! (from ! (stop !)) (look ! 20 refl)) (lit ! tt) (record { fits = bytes i l })) (from ! (stop !)) (init ! 16 refl (tt, record { fits = bytes i l })) $
           assigns ! (addr ! (from ! (stop !))) (from ! (stop !)) (init ! 14 refl (tt, tt)) $
           assigns ! (bin ! (load ! (from ! (stop !)) (look ! 14 refl)) (load ! (from ! (stop !)) (look ! 16 refl)) tt) (from ! (stop !)) (init ! 12 refl (tt, tt)) $
-          rewrite ! 12 (λ (p : ℕ). ‵ (fat fullShare tyPtr l₁₁ 0 (vptr l₄ p))) (sym (place-is 76 0 (i .0))) refl $
-          move ! (4 ∷ []) $
+          rewrite ! 12 (λ (p : ℕ). ‵ (fat fullShare tyPtr l₁₁ 0 (vptr l₄ p))) (sym (place-is 76 0 (i .0))) refl $ move ! (4 ∷ []) $
           elem-out ! T.the-row (Is T.the-row) (shows 𝓤 H A T.the-row) (LL.vals T.the-type T′.the-laws) (LL.tells T.the-type T′.the-laws) fullShare ts (i .0) noMailbox l₄ 0 (in-ts i l) (λ is.
           assigns ! (of-opd ! (load ! (from ! (hop ! (look ! 14 refl) (stop !))) (look-raw ! 0 refl))) (from ! (stop !)) (init ! 12 refl (LL.lawful T.the-type T′.the-laws 𝓤 H A W .typed (getD ts (i .0) noMailbox) _ is .0)) $
           elem-back ! T.the-row fullShare ts (i .0) noMailbox (val (getD ts (i .0) noMailbox) ∷ []) l₄ 0 (in-ts i l) $
           assigns ! (bin ! (load ! (from ! (stop !)) (look ! 20 refl)) (lit ! tt) (record { fits = bytes i l })) (from ! (stop !)) (init ! 8 refl (tt, record { fits = bytes i l })) $
           assigns ! (bin ! (load ! (from ! (fld ! refl (stop !))) (look-in ! 31 (sub ! 0 refl (whole !)))) (load ! (from ! (stop !)) (look ! 8 refl)) tt) (from ! (stop !)) (init ! 6 refl (tt, tt)) $
-          rewrite ! 6 (λ (p : ℕ). ‵ (fat fullShare tyPtr l₁₄ 0 (vptr b p))) (sym (place-is 76 o (i .0))) refl $
-          move ! (1 ∷ []) $
+          rewrite ! 6 (λ (p : ℕ). ‵ (fat fullShare tyPtr l₁₄ 0 (vptr b p))) (sym (place-is 76 o (i .0))) refl $ move ! (1 ∷ []) $
           elem-out ! T.the-row (Is T.the-row) (shows 𝓤 H A T.the-row) (LL.vals T.the-type T′.the-laws) (LL.tells T.the-type T′.the-laws) fullShare (over ts ys (i .0)) (i .0) noMailbox b o (in-over i l) (λ _.
           assigns ! (of-opd ! (load ! (from ! (stop !)) (look ! 12 refl))) (from ! (hop ! (look ! 8 refl) (stop !))) (store-raw ! 0 refl (LL.lawful T.the-type T′.the-laws 𝓤 H A W .typed (getD ts (i .0) noMailbox) _ is .0)) $
-          move ! (1 ∷ []) $
-          drop ! $
-          owned ! T.the-row (Is T.the-row) (LL.makes T.the-type T′.the-plain 𝓤 H A) (getD ts (i .0) noMailbox) _ is $
-          move ! (1 ∷ 0 ∷ 2 ∷ []) $
+          move ! (1 ∷ []) $ drop ! $ owned ! T.the-row (Is T.the-row) (LL.makes T.the-type T′.the-plain 𝓤 H A) (getD ts (i .0) noMailbox) _ is $ move ! (1 ∷ 0 ∷ 2 ∷ []) $
           elem-put ! T.the-row fullShare (over ts ys (i .0)) (i .0) (getD ts (i .0) noMailbox) (val (getD ts (i .0) noMailbox) ∷ []) b o (in-over i l) $
           rewrite ! 0 (λ (us : List Mailbox). ‵ (row T.the-row fullShare us b o)) (onward i l) refl $
           assigns-last ! (bin ! (load ! (from ! (stop !)) (look ! 20 refl)) (lit ! tt) (record { fits = fits (next i l) })) (from ! (stop !)) (store ! 20 refl (tt, record { fits = fits (next i l) })) $
@@ -246,12 +241,9 @@ module _ {M : Type 1} (𝓤 : URA M) (H : Heap 𝓤) (A : Atoms 𝓤) (W : Given
       turn i false e =
           assigns ! (bin ! (load ! (from ! (stop !)) (look ! 20 refl)) (load ! (from ! (stop !)) (look ! 22 refl)) tt) (from ! (stop !)) (init ! 18 refl (tt, tt)) $
           rewrite ! 18 (λ (t : Bool). ‵ (fat fullShare tyBool l₈ 0 (vbool t))) e refl $ leaves-loop ! (load ! (from ! (stop !)) (look ! 18 refl)) $ exec ! C Λ E body.t-6 (atRet E Post) $
-          move ! (0 ∷ 1 ∷ 2 ∷ 3 ∷ []) $
-          closes-slice ! tt T.the-row ys (over ts ys (i .0)) (as-long i) b o $
-          move ! (3 ∷ []) $
+          move ! (0 ∷ 1 ∷ 2 ∷ 3 ∷ []) $ closes-slice ! tt T.the-row ys (over ts ys (i .0)) (as-long i) b o $ move ! (3 ∷ []) $
           use1 W (given (Is (Array T.the-row 64) ts (valA ts ∷ [])) (‵ (fat fullShare (tyArray T′.mir 64) l₄ 0 (valA ts)))) (local-whole 𝓤 H A W T.the-row 64 ts l₄ 0 (LL.vals T.the-type T′.the-laws) (LL.tells T.the-type T′.the-laws) is-64) $ learn ! (λ _.
-          assigns ! (of-opd ! (unit-lit !)) (from ! (stop !)) (init ! 32 refl (tt, tt)) $
-          returns ! (look ! 32 refl) $
+          assigns ! (of-opd ! (unit-lit !)) (from ! (stop !)) (init ! 32 refl (tt, tt)) $ returns ! (look ! 32 refl) $
           forget ! 17 refl $ forget ! 19 refl $ forget ! 21 refl $ forget ! 23 refl $ forget ! 0 refl $ forget ! 26 refl $ forget ! 28 refl $ forget ! 30 refl $ forget ! 32 refl $
           move ! (32 ∷ 33 ∷ []) $ free1 ! $ move ! (30 ∷ 31 ∷ []) $ free1 ! $ move ! (28 ∷ 29 ∷ []) $ free1 ! $ move ! (26 ∷ 27 ∷ []) $ free1 ! $ move ! (0 ∷ 25 ∷ []) $ free1 ! $ move ! (22 ∷ 23 ∷ []) $ free1 ! $ move ! (20 ∷ 21 ∷ []) $ free1 ! $ move ! (18 ∷ 19 ∷ []) $ free1 ! $ move ! (16 ∷ 17 ∷ []) $ free1 ! $ move ! (14 ∷ 15 ∷ []) $ free1 ! $ move ! (12 ∷ 13 ∷ []) $ free1 ! $ move ! (10 ∷ 11 ∷ []) $ free1 ! $ move ! (8 ∷ 9 ∷ []) $ free1 ! $ move ! (6 ∷ 7 ∷ []) $ free1 ! $ move ! (4 ∷ 5 ∷ []) $ free1 ! $ free0 ! $
           keep ! (0 ∷ 1 ∷ 2 ∷ 3 ∷ []) $
@@ -261,41 +253,21 @@ module _ {M : Type 1} (𝓤 : URA M) (H : Heap 𝓤) (A : Atoms 𝓤) (W : Given
     walk =
         qed W ((‵ (flft κ q) ⊛ ‵ ftrue) ∷ ‵ (owns (MutSlice (named 0) κ T.the-row ∷ Array T.the-row 64 ∷ usize ∷ []) x at) ∷ []) ∵ enter ! C Λ code.function (s ∷ valA ts ∷ vint w64 k ∷ []) _ $
         alloc1 ! (λ l₀. alloc1 ! (λ l₁. alloc1 ! (λ l₂. alloc1 ! (λ l₃. alloc1 ! (λ l₄. alloc1 ! (λ l₅. alloc1 ! (λ l₆. alloc1 ! (λ l₇. alloc1 ! (λ l₈. alloc1 ! (λ l₉. alloc1 ! (λ l₁₀. alloc1 ! (λ l₁₁. alloc1 ! (λ l₁₂. alloc1 ! (λ l₁₃. alloc1 ! (λ l₁₄. alloc0 ! $ params1 ! $
-        pass1 ! (init ! 26 refl (tt, (tt, (record { fits = room .0 }, tt)))) $
-        pass1 ! (init ! 24 refl (array-lawful 𝓤 H A W T.the-row (LL.lawful T.the-type T′.the-laws 𝓤 H A W) 64 .typed ts _ is-t .0)) $
-        pass1 ! (init ! 22 refl (tt, record { fits = k-fits })) $
-        pass0 ! $
+        pass1 ! (init ! 26 refl (tt, (tt, (record { fits = room .0 }, tt)))) $ pass1 ! (init ! 24 refl (array-lawful 𝓤 H A W T.the-row (LL.lawful T.the-type T′.the-laws 𝓤 H A W) 64 .typed ts _ is-t .0)) $
+        pass1 ! (init ! 22 refl (tt, record { fits = k-fits })) $ pass0 ! $
         assigns ! (of-opd ! (load ! (from ! (stop !)) (look ! 24 refl))) (from ! (stop !)) (init ! 20 refl (array-lawful 𝓤 H A W T.the-row (LL.lawful T.the-type T′.the-laws 𝓤 H A W) 64 .typed ts _ is-t .0)) $
         assigns ! (of-opd ! (load ! (from ! (fld ! refl (stop !))) (look-in ! 26 (sub ! 1 refl (whole !))))) (from ! (stop !)) (init ! 18 refl (tt, record { fits = room .0 })) $
         -- `reach`
         use0 W (raw (Reach 𝓤 H A at-mem run .pre to-reach)) goes-reach $
         calls-at ! fm (Reach 𝓤 H A at-mem run) k₁ to-reach (and-then ! (load ! (from ! (stop !)) (look ! 23 refl)) (and-then ! (load ! (from ! (stop !)) (look ! 19 refl)) (no-more !))) (λ w₁.
         use1 W (later (some (λ (m : ℕ). (‵ ftrue ⊛ ‵ (usize .own m (w₁ ∷ []))) ⊛ raw (ensured 𝓤 H A reach-fn.ended (reach-fn.clauses 𝓤 H A at-mem run) tt (k, (length ys, tt)) tt m)))) (id⊢ 𝓤 _) $ await ! tt $ pick ! (λ m.
-        split ! $
-        move ! (1 ∷ []) $
-        use1 W (raw (fact 𝓤 (m ≡ within k (length ys)))) (reach-of m) $ heard ! (m ≡ within k (length ys)) (λ e₁.
-        split ! $
-        move ! (0 ∷ []) $
-        drop ! $
-        move ! (0 ∷ []) $
-        peeks ! usize (Is usize) (shows 𝓤 H A usize) m (w₁ ∷ []) (λ is₁.
-        land ! (from ! (stop !)) (init ! 17 refl (uint-lawful 𝓤 H A W w64 .typed m _ is₁ .0)) $
-        rewrite ! 17 (λ (v : Val). ‵ (fat fullShare (tyInt w64) l₆ 0 v)) (ap only (is₁ .0)) refl $
-        move ! (0 ∷ []) $
-        drop ! $
+        split ! $ move ! (1 ∷ []) $ use1 W (raw (fact 𝓤 (m ≡ within k (length ys)))) (reach-of m) $ heard ! (m ≡ within k (length ys)) (λ e₁. split ! $ move ! (0 ∷ []) $ drop ! $ move ! (0 ∷ []) $
+        peeks ! usize (Is usize) (shows 𝓤 H A usize) m (w₁ ∷ []) (λ is₁. land ! (from ! (stop !)) (init ! 17 refl (uint-lawful 𝓤 H A W w64 .typed m _ is₁ .0)) $
+        rewrite ! 17 (λ (v : Val). ‵ (fat fullShare (tyInt w64) l₆ 0 v)) (ap only (is₁ .0)) refl $ move ! (0 ∷ []) $ drop ! $
         assigns ! (of-opd ! (lit ! tt)) (from ! (stop !)) (init ! 14 refl (tt, record { fits = lit< tt })) $
         -- the local array, as a row of its elements; and the rows, opened for the whole loop
-        move ! (20 ∷ []) $
-        use1 W (‵ (row T.the-row fullShare ts l₄ 0)) (local-apart 𝓤 H A W T.the-row 64 ts l₄ 0 tt (LL.makes T.the-type T′.the-plain 𝓤 H A) (valA ts) is-t) $
-        move ! (31 ∷ []) $
-        fsplit ! $
-        fsplit ! $
-        move ! (1 ∷ []) $
-        fsplit ! $
-        move ! (34 ∷ []) $
-        split ! $
-        move ! (2 ∷ 3 ∷ 0 ∷ []) $
-        opens-slice ! tt T.the-row ys b o $
+        move ! (20 ∷ []) $ use1 W (‵ (row T.the-row fullShare ts l₄ 0)) (local-apart 𝓤 H A W T.the-row 64 ts l₄ 0 tt (LL.makes T.the-type T′.the-plain 𝓤 H A) (valA ts) is-t) $ move ! (31 ∷ []) $ fsplit ! $
+        fsplit ! $ move ! (1 ∷ []) $ fsplit ! $ move ! (34 ∷ []) $ split ! $ move ! (2 ∷ 3 ∷ 0 ∷ []) $ opens-slice ! tt T.the-row ys b o $
         rewrite ! 0 (λ (us : List Mailbox). ‵ (row T.the-row fullShare us b o)) (over-none ts ys) refl $
         keep ! (0 ∷ 1 ∷ 2 ∷ 3 ∷ 7 ∷ 6 ∷ 8 ∷ 9 ∷ 10 ∷ 11 ∷ 12 ∷ 13 ∷ 14 ∷ 15 ∷ 16 ∷ 17 ∷ 18 ∷ 19 ∷ 20 ∷ 21 ∷ 22 ∷ 23 ∷ 24 ∷ 25 ∷ 26 ∷ 27 ∷ 28 ∷ 29 ∷ 30 ∷ 31 ∷ 32 ∷ 33 ∷ 34 ∷ 35 ∷ 36 ∷ []) $
         first ! $ blocks ! $ loops ! 𝓣 (Nearer l₀ l₁ l₂ l₃ l₄ l₅ l₆ l₇ l₈ l₉ l₁₀ l₁₁ l₁₂ l₁₃ l₁₄ m (is₁ .1) e₁) (Nearer-wf l₀ l₁ l₂ l₃ l₄ l₅ l₆ l₇ l₈ l₉ l₁₀ l₁₁ l₁₂ l₁₃ l₁₄ m (is₁ .1) e₁) (At l₀ l₁ l₂ l₃ l₄ l₅ l₆ l₇ l₈ l₉ l₁₀ l₁₁ l₁₂ l₁₃ l₁₄ m (is₁ .1) e₁) (λ i. turn l₀ l₁ l₂ l₃ l₄ l₅ l₆ l₇ l₈ l₉ l₁₀ l₁₁ l₁₂ l₁₃ l₁₄ m (is₁ .1) e₁ i (ltb (i .0) m) refl) (0, zero-le))))))))))))))))))))

@@ -133,89 +133,37 @@ module _ {M : Type 1} (𝓤 : URA M) (H : Heap 𝓤) (A : Atoms 𝓤) (W : Given
     walk =
         qed W ((‵ (flft κ q) ⊛ ‵ ftrue) ∷ ‵ (owns (MutSlice (named 0) κ T.the-row ∷ usize ∷ T.the-row ∷ Array T.the-row 64 ∷ usize ∷ []) x at) ∷ []) ∵ enter ! C Λ code.function (s ∷ vint w64 k ∷ val d ∷ valA ts ∷ vint w64 m ∷ []) _ $
         alloc1 ! (λ l₀. alloc1 ! (λ l₁. alloc1 ! (λ l₂. alloc1 ! (λ l₃. alloc1 ! (λ l₄. alloc1 ! (λ l₅. alloc1 ! (λ l₆. alloc1 ! (λ l₇. alloc1 ! (λ l₈. alloc1 ! (λ l₉. alloc1 ! (λ l₁₀. alloc0 ! $ params1 ! $
-        pass1 ! (init ! 18 refl (tt, (tt, (record { fits = room .0 }, tt)))) $
-        pass1 ! (init ! 16 refl (tt, record { fits = k-fits })) $
+        pass1 ! (init ! 18 refl (tt, (tt, (record { fits = room .0 }, tt)))) $ pass1 ! (init ! 16 refl (tt, record { fits = k-fits })) $
         pass1 ! (init ! 14 refl (LL.lawful T.the-type T′.the-laws 𝓤 H A W .typed d _ is-d .0)) $
-        pass1 ! (init ! 12 refl (array-lawful 𝓤 H A W T.the-row (LL.lawful T.the-type T′.the-laws 𝓤 H A W) 64 .typed ts _ is-t .0)) $
-        pass1 ! (init ! 10 refl (tt, record { fits = m-fits })) $
-        pass0 ! $
-        move ! (23 ∷ []) $
-        fsplit ! $
-        fsplit ! $
-        move ! (1 ∷ []) $
-        fsplit ! $
-        move ! (26 ∷ []) $
-        split ! $
-        move ! (2 ∷ 3 ∷ 0 ∷ []) $
-        opens-slice ! tt T.the-row ys b o $
+        pass1 ! (init ! 12 refl (array-lawful 𝓤 H A W T.the-row (LL.lawful T.the-type T′.the-laws 𝓤 H A W) 64 .typed ts _ is-t .0)) $ pass1 ! (init ! 10 refl (tt, record { fits = m-fits })) $ pass0 ! $
+        move ! (23 ∷ []) $ fsplit ! $ fsplit ! $ move ! (1 ∷ []) $ fsplit ! $ move ! (26 ∷ []) $ split ! $ move ! (2 ∷ 3 ∷ 0 ∷ []) $ opens-slice ! tt T.the-row ys b o $
         assigns ! (addr ! (from ! (fld ! refl (hop ! (look-in ! 25 (sub ! 0 refl (whole !))) (stop !))))) (from ! (stop !)) (init ! 13 refl (tt, tt)) $
         assigns ! (agg ! (and-then ! (load ! (from ! (stop !)) (look ! 13 refl)) (and-then ! (load ! (from ! (fld ! refl (stop !))) (look-in ! 25 (sub ! 1 refl (whole !)))) (no-more !)))) (from ! (stop !)) (init ! 11 refl (tt, (tt, (record { fits = room .0 }, tt)))) $
         -- `set_row`: the rows are lent for a lifetime of the call
-        move ! (0 ∷ []) $
-        use1 W (‵ (cells (mem T.the-row) ys b o)) (whole-in 𝓤 H A W T.the-row ys b o) $
-        lft-new ! tt (λ ν.
-        move ! (1 ∷ []) $
+        move ! (0 ∷ []) $ use1 W (‵ (cells (mem T.the-row) ys b o)) (whole-in 𝓤 H A W T.the-row ys b o) $ lft-new ! tt (λ ν. move ! (1 ∷ []) $
         use1 W (later (some (λ (δ : GName). ‵ (MutSlice (named 0) (ν ∷ []) T.the-row .own (xl δ ys) (s ∷ [])) ⊛ ‵ (flent (ν ∷ []) (Held T.the-row (length ys) b o δ))))) (lends-slice 𝓤 H A W T.the-row (named 0) (ν ∷ []) ys b o room) $ await ! tt $ pick ! (λ δ.
-        split ! $
-        move ! (2 ∷ 0 ∷ []) $
-        use2 W (raw (SetRow 𝓤 H A at-mem run .pre (to-set ν δ))) (goes-set ν δ) $
+        split ! $ move ! (2 ∷ 0 ∷ []) $ use2 W (raw (SetRow 𝓤 H A at-mem run .pre (to-set ν δ))) (goes-set ν δ) $
         calls-at ! fm (SetRow 𝓤 H A at-mem run) k₁ (to-set ν δ) (and-then ! (load ! (from ! (stop !)) (look ! 12 refl)) (and-then ! (load ! (from ! (stop !)) (look ! 24 refl)) (and-then ! (load ! (from ! (stop !)) (look ! 22 refl)) (no-more !)))) (λ w₁.
         use1 W (later (some (λ (u : Unit {0}). ((‵ (flft (ν ∷ []) fullShare) ⊛ ‵ ftrue) ⊛ ‵ (Nothing .own u (w₁ ∷ []))) ⊛ raw (ensured 𝓤 H A set-row-fn.ended (set-row-fn.clauses 𝓤 H A at-mem run) (ν ∷ [], tt) (xl δ ys, (k, (d, tt))) tt u)))) (id⊢ 𝓤 _) $ await ! tt $ pick ! (λ u.
-        split ! $
-        move ! (1 ∷ []) $
+        split ! $ move ! (1 ∷ []) $
         use1 W (some (λ (zs : List Mailbox × (Unit {0} × (Unit {0} × Unit {0}))). ‵ (lasts set-row-fn.ended (ν ∷ [], tt) (xl δ ys, (k, (d, tt))) zs) ⊛ raw (fact 𝓤 (zs .0 ≡ set ys k d)))) (id⊢ 𝓤 _) $ pick ! (λ zs. let us = zs .0 in
-        split ! $
-        move ! (1 ∷ []) $
-        heard ! (us ≡ set ys k d) (λ e₁.
-        fsplit ! $
-        fsplit ! $
-        move ! (1 ∷ []) $
-        feqL ! (λ l₀₁.
-        move ! (2 ∷ []) $
-        split ! $
-        move ! (1 ∷ []) $
-        peeks ! Nothing (Is Nothing) (shows 𝓤 H A Nothing) u (w₁ ∷ []) (λ is₁.
-        land ! (from ! (stop !)) (init ! 19 refl (nothing-lawful 𝓤 H A W .typed u _ is₁ .0)) $
-        move ! (0 ∷ []) $
-        drop ! $
-        move ! (0 ∷ []) $
-        split ! $
-        lft-end ! tt $
-        move ! (0 ∷ 4 ∷ 2 ∷ []) $
+        split ! $ move ! (1 ∷ []) $ heard ! (us ≡ set ys k d) (λ e₁. fsplit ! $ fsplit ! $ move ! (1 ∷ []) $ feqL ! (λ l₀₁. move ! (2 ∷ []) $ split ! $ move ! (1 ∷ []) $
+        peeks ! Nothing (Is Nothing) (shows 𝓤 H A Nothing) u (w₁ ∷ []) (λ is₁. land ! (from ! (stop !)) (init ! 19 refl (nothing-lawful 𝓤 H A W .typed u _ is₁ .0)) $ move ! (0 ∷ []) $ drop ! $
+        move ! (0 ∷ []) $ split ! $ lft-end ! tt $ move ! (0 ∷ 4 ∷ 2 ∷ []) $
         use3 W (later (‵ (Arr (mem T.the-row) (length ys) .lies us b o))) (slice-back 𝓤 H A W T.the-row (ν ∷ []) δ us (length ys) b o) $ await ! tt $ fsplit ! $ drop ! $ use1 W (‵ (row T.the-row fullShare us b o)) (whole-out 𝓤 H A W T.the-row us b o) $
         -- `save`: they go to it for good
         assigns ! (addr ! (from ! (fld ! refl (hop ! (look-in ! 27 (sub ! 0 refl (whole !))) (stop !))))) (from ! (stop !)) (init ! 11 refl (tt, tt)) $
         assigns ! (agg ! (and-then ! (load ! (from ! (stop !)) (look ! 11 refl)) (and-then ! (load ! (from ! (fld ! refl (stop !))) (look-in ! 27 (sub ! 1 refl (whole !)))) (no-more !)))) (from ! (stop !)) (init ! 9 refl (tt, (tt, (record { fits = room .0 }, tt)))) $
-        move ! (0 ∷ 3 ∷ 4 ∷ 5 ∷ []) $
-        closes-slice ! tt T.the-row ys us l₀₁ b o $
-        fjoin ! $
-        pureI ! (at-slice T.the-row (xl γ us) (s ∷ [])) (tt, (tt, tt)) (ap (λ (n : ℕ). sliceVal (b, o) n ∷ []) (sym l₀₁), subst (Room T.the-row) (sym l₀₁) room) $
-        fjoin ! $
-        move ! (1 ∷ 0 ∷ []) $
+        move ! (0 ∷ 3 ∷ 4 ∷ 5 ∷ []) $ closes-slice ! tt T.the-row ys us l₀₁ b o $ fjoin ! $
+        pureI ! (at-slice T.the-row (xl γ us) (s ∷ [])) (tt, (tt, tt)) (ap (λ (n : ℕ). sliceVal (b, o) n ∷ []) (sym l₀₁), subst (Room T.the-row) (sym l₀₁) room) $ fjoin ! $ move ! (1 ∷ 0 ∷ []) $
         use2 W (raw (Save 𝓤 H A at-mem run .pre (to-save us))) (goes-save us) $
         calls-at ! fm (Save 𝓤 H A at-mem run) k₂ (to-save us) (and-then ! (load ! (from ! (stop !)) (look ! 6 refl)) (and-then ! (load ! (from ! (stop !)) (look ! 18 refl)) (and-then ! (load ! (from ! (stop !)) (look ! 16 refl)) (no-more !)))) (λ w₂.
         use1 W (later (some (λ (u′ : Unit {0}). ((‵ (flft κ q) ⊛ ‵ ftrue) ⊛ ‵ (Nothing .own u′ (w₂ ∷ []))) ⊛ raw (ensured 𝓤 H A save-fn.ended (save-fn.clauses 𝓤 H A at-mem run) (κ, tt) (xl γ us, (ts, (m, tt))) tt u′)))) (id⊢ 𝓤 _) $ await ! tt $ pick ! (λ u′.
-        split ! $
-        move ! (1 ∷ []) $
+        split ! $ move ! (1 ∷ []) $
         use1 W (some (λ (vs : List Mailbox × (Unit {0} × (Unit {0} × Unit {0}))). ‵ (lasts save-fn.ended (κ, tt) (xl γ us, (ts, (m, tt))) vs) ⊛ raw (fact 𝓤 (vs .0 ≡ over ts us (within m (length us)))))) (id⊢ 𝓤 _) $ pick ! (λ vs.
-        split ! $
-        move ! (1 ∷ []) $
-        heard ! (vs .0 ≡ over ts us (within m (length us))) (λ e₂.
-        fsplit ! $
-        fsplit ! $
-        move ! (1 ∷ []) $
-        feqL ! (λ l₀₂.
-        move ! (2 ∷ []) $
-        split ! $
-        move ! (1 ∷ []) $
-        peeks ! Nothing (Is Nothing) (shows 𝓤 H A Nothing) u′ (w₂ ∷ []) (λ is₂.
-        land ! (from ! (stop !)) (store ! 17 refl (nothing-lawful 𝓤 H A W .typed u′ _ is₂ .0)) $
-        move ! (0 ∷ []) $
-        drop ! $
-        move ! (0 ∷ []) $
-        split ! $
-        assigns ! (of-opd ! (unit-lit !)) (from ! (stop !)) (init ! 29 refl (tt, tt)) $
-        returns ! (look ! 29 refl) $
+        split ! $ move ! (1 ∷ []) $ heard ! (vs .0 ≡ over ts us (within m (length us))) (λ e₂. fsplit ! $ fsplit ! $ move ! (1 ∷ []) $ feqL ! (λ l₀₂. move ! (2 ∷ []) $ split ! $ move ! (1 ∷ []) $
+        peeks ! Nothing (Is Nothing) (shows 𝓤 H A Nothing) u′ (w₂ ∷ []) (λ is₂. land ! (from ! (stop !)) (store ! 17 refl (nothing-lawful 𝓤 H A W .typed u′ _ is₂ .0)) $ move ! (0 ∷ []) $ drop ! $
+        move ! (0 ∷ []) $ split ! $ assigns ! (of-opd ! (unit-lit !)) (from ! (stop !)) (init ! 29 refl (tt, tt)) $ returns ! (look ! 29 refl) $
         forget ! 9 refl $ forget ! 11 refl $ forget ! 13 refl $ forget ! 15 refl $ forget ! 17 refl $ forget ! 19 refl $ forget ! 21 refl $ forget ! 23 refl $ forget ! 25 refl $ forget ! 27 refl $ forget ! 29 refl $
         move ! (29 ∷ 30 ∷ []) $ free1 ! $ move ! (27 ∷ 28 ∷ []) $ free1 ! $ move ! (25 ∷ 26 ∷ []) $ free1 ! $ move ! (23 ∷ 24 ∷ []) $ free1 ! $ move ! (21 ∷ 22 ∷ []) $ free1 ! $ move ! (19 ∷ 20 ∷ []) $ free1 ! $ move ! (17 ∷ 18 ∷ []) $ free1 ! $ move ! (15 ∷ 16 ∷ []) $ free1 ! $ move ! (13 ∷ 14 ∷ []) $ free1 ! $ move ! (11 ∷ 12 ∷ []) $ free1 ! $ move ! (9 ∷ 10 ∷ []) $ free1 ! $ free0 ! $
         keep ! (0 ∷ 2 ∷ 8 ∷ []) $

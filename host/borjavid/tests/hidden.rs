@@ -4,7 +4,7 @@
 use borjavid::{Answer, Memory};
 use reference::generate::pairs::{pair, Pair, Step};
 
-const PAIRS: u64 = 2000;
+const PAIRS: u64 = 5000;
 const RECORDS: usize = 70;
 
 type Seen = (Answer, Vec<u8>);

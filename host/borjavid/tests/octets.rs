@@ -9,7 +9,7 @@ use reference::random::Random;
 use support::{image, Pieces};
 
 const FILLING: u8 = 0xAA;
-const RECORDS: usize = 60_000;
+const RECORDS: usize = 300_000;
 
 /// What the streams must show, or they prove little.
 #[derive(Default, Debug)]

@@ -1,6 +1,7 @@
 //! Refusal 1: may lent memory be worked on at all?
 
 use crate::memory::*;
+use crate::places::Places;
 
 /// Lengths of queue and tables.
 pub fn lengths_lawful(memory: &Memory) -> bool {
@@ -9,14 +10,15 @@ pub fn lengths_lawful(memory: &Memory) -> bool {
         && memory.messages.len() <= MESSAGES
 }
 
-/// All of it. What lies behind the three counts is not looked at.
+/// All of it. What lies behind the three counts is not looked at. Each table is gone over once, as long as the UIDs of a
+/// mailbox come in rising order.
 pub fn lawful(memory: &Memory) -> bool {
     lengths_lawful(memory)
         && counts_lawful(memory)
-        && mailboxes_lawful(memory.rows())
         && groups_lawful(&memory.session)
-        && view_lawful(memory)
-        && messages_lawful(memory)
+        && memory.rows().iter().all(row_lawful)
+        && Places::of(memory.rows())
+            .is_some_and(|places| view_lawful(memory, &places) && messages_lawful(memory, &places))
 }
 
 fn counts_lawful(memory: &Memory) -> bool {
@@ -30,21 +32,12 @@ fn counts_lawful(memory: &Memory) -> bool {
         && memory.filled <= memory.queue.len() - free
 }
 
-fn mailboxes_lawful(rows: &[Mailbox]) -> bool {
-    let fields = |row: &Mailbox| {
-        row.id != 0
-            && row.attributes <= 0x3F
-            && row.uid_validity != 0
-            && row.uid_next != 0
-            && row.name.is_lawful()
-    };
-    let apart = |place: usize| {
-        let row = &rows[place];
-        rows[..place]
-            .iter()
-            .all(|other| other.id != row.id && other.name != row.name)
-    };
-    rows.iter().all(fields) && (0..rows.len()).all(apart)
+fn row_lawful(row: &Mailbox) -> bool {
+    row.id != 0
+        && row.attributes <= 0x3F
+        && row.uid_validity != 0
+        && row.uid_next != 0
+        && row.name.is_lawful()
 }
 
 /// Groups that some accepted NOTIFY makes, and zero where no group or name stands.
@@ -102,33 +95,47 @@ pub fn paired(events: u8) -> bool {
 }
 
 /// With none selected the view is nothing; else it reaches no further than UIDs ever used.
-fn view_lawful(memory: &Memory) -> bool {
+fn view_lawful(memory: &Memory, places: &Places) -> bool {
     let session = &memory.session;
     match session.selected {
         0 => session.told == 0,
-        id => memory
-            .mailbox(id)
-            .is_some_and(|row| session.told <= row.uid_next),
+        id => places
+            .find(id)
+            .is_some_and(|place| session.told <= memory.mailboxes[place].uid_next),
     }
 }
 
-fn messages_lawful(memory: &Memory) -> bool {
+/// The fields of every entry, and no UID twice in a mailbox: seen on the way where UIDs rise, else by sorting.
+fn messages_lawful(memory: &Memory, places: &Places) -> bool {
     let session = &memory.session;
-    let fields = |entry: &Message| {
+    let rows = memory.rows();
+    let mut last = [0; MAILBOXES];
+    let mut rising = true;
+    for entry in memory.entries() {
+        // no row has id 0
+        let Some(place) = places.find(entry.mailbox) else {
+            return false;
+        };
         let in_view = entry.mailbox == session.selected && entry.uid < session.told;
-        entry.mailbox != 0
-            && entry.uid != 0
-            && entry.flags <= FLAG_BITS
-            && (entry.state == 0 || (entry.state == EXPUNGED || entry.state == MARKED) && in_view)
-            && memory
-                .mailbox(entry.mailbox)
-                .is_some_and(|row| entry.uid < row.uid_next)
-    };
-    if !memory.entries().iter().all(fields) {
-        return false;
+        let state =
+            entry.state == 0 || (entry.state == EXPUNGED || entry.state == MARKED) && in_view;
+        let uid = entry.uid != 0 && entry.uid < rows[place].uid_next;
+        if !(state && uid && entry.flags <= FLAG_BITS) {
+            return false;
+        }
+        rising &= last[place] < entry.uid;
+        last[place] = entry.uid;
     }
-    let key = |entry: &Message| u64::from(entry.mailbox) << 32 | u64::from(entry.uid);
-    let mut keys: Vec<u64> = memory.entries().iter().map(key).collect();
+    rising || apart(memory.entries())
+}
+
+/// No two entries have mailbox and UID in common.
+fn apart(entries: &[Message]) -> bool {
+    let mut keys = [0; MESSAGES];
+    let keys = &mut keys[..entries.len()];
+    for (key, entry) in keys.iter_mut().zip(entries) {
+        *key = u64::from(entry.mailbox) << 32 | u64::from(entry.uid);
+    }
     keys.sort_unstable();
     keys.windows(2).all(|pair| pair[0] != pair[1])
 }

@@ -17,6 +17,7 @@ pub mod messages;
 pub mod names;
 pub mod notation;
 pub mod octets;
+pub mod places;
 pub mod random;
 pub mod records;
 pub mod selected;

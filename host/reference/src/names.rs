@@ -51,9 +51,26 @@ impl Name {
         &self.octets[..(self.len as usize).min(NAME_OCTETS)]
     }
 
-    /// Valid, folded, and zero behind its length.
+    /// Valid, folded, and zero behind its length. All 64 octets are looked at, without a branch, which is quicker than to
+    /// stop at the name's end.
     pub fn is_lawful(&self) -> bool {
-        Name::read(self.as_octets()).is_some_and(|again| again == *self)
+        let len = usize::from(self.len);
+        if !(1..=NAME_OCTETS).contains(&len) {
+            return false;
+        }
+        let mut wrong = false;
+        for (place, &octet) in self.octets.iter().enumerate() {
+            let own = (place as u8) < self.len;
+            wrong |= own & !octets::name(octet) | !own & (octet != 0);
+        }
+        for (&octet, &next) in self.octets.iter().zip(&self.octets[1..]) {
+            wrong |= (octet == b'/') & (next == b'/');
+        }
+        let own = &self.octets[..len];
+        !wrong
+            && own[0] != b'/'
+            && own[len - 1] != b'/'
+            && (!own.eq_ignore_ascii_case(b"INBOX") || own == b"INBOX")
     }
 }
 

@@ -449,3 +449,111 @@ fn damage(random: &mut Random, memory: &mut Memory) {
         _ => memory.mailbox_count = small,
     }
 }
+
+/// Full tables with ids drawn at random, entries in order or shuffled, and one id, name or UID that may be another's: as
+/// found by trying each pair.
+#[test]
+fn pairs_of_full_tables() {
+    let (mut kept, mut broken) = (0, 0);
+    for seed in 0..2_000 {
+        let mut random = Random::new(seed);
+        let mut memory = full(&mut random);
+        if random.chance(50) {
+            for place in (1..MESSAGES).rev() {
+                let other = random.below(place + 1);
+                memory.messages.swap(place, other);
+            }
+        }
+        let (one, other) = (random.below(MAILBOXES), random.below(MAILBOXES));
+        let (entry, twin) = (random.below(MESSAGES), random.below(MESSAGES));
+        match random.below(5) {
+            0 => memory.mailboxes[one].name = memory.mailboxes[other].name,
+            1 => {
+                let id = memory.mailboxes[other].id;
+                let held = memory.mailboxes[one].id;
+                memory.mailboxes[one].id = id;
+                for entry in memory.entries_mut() {
+                    if entry.mailbox == held {
+                        entry.mailbox = id;
+                    }
+                }
+            }
+            2 => memory.messages[entry] = memory.messages[twin],
+            3 => memory.messages.swap(entry, twin),
+            _ => memory.messages[entry].uid = random.between(1, 1500) as u32,
+        }
+        let rows = memory.rows();
+        let entries = memory.entries();
+        let apart = (0..rows.len()).all(|place| {
+            let row = &rows[place];
+            rows[..place]
+                .iter()
+                .all(|other| other.id != row.id && other.name != row.name)
+        }) && (0..entries.len()).all(|place| {
+            let entry = &entries[place];
+            entries[..place]
+                .iter()
+                .all(|other| (other.mailbox, other.uid) != (entry.mailbox, entry.uid))
+        });
+        assert_eq!(lawful(&memory), apart, "seed {seed}");
+        kept += usize::from(apart);
+        broken += usize::from(!apart);
+    }
+    assert!(kept > 300 && broken > 300, "kept {kept}, broken {broken}");
+}
+
+/// 64 mailboxes and 1,024 messages, the UIDs of each mailbox rising.
+fn full(random: &mut Random) -> Memory {
+    let mut memory = Memory::new(1024, MAILBOXES, MESSAGES);
+    for place in 0..MAILBOXES {
+        let mut id = 0;
+        while id == 0 || memory.mailbox(id).is_some() {
+            id = random.number() as u16;
+        }
+        memory.mailboxes[place] = Mailbox {
+            id,
+            attributes: 0x3F,
+            uid_validity: 1,
+            uid_next: 2_000,
+            name: name(&format!("box/{place}")),
+        };
+        memory.mailbox_count = place + 1;
+    }
+    for place in 0..MESSAGES {
+        memory.messages[place] = Message {
+            mailbox: memory.mailboxes[random.below(MAILBOXES)].id,
+            uid: place as u32 + 1,
+            ..Message::default()
+        };
+    }
+    memory.message_count = MESSAGES;
+    memory
+}
+
+/// A name is lawful if reading its octets gives the same again.
+#[test]
+fn names_as_read() {
+    let mut random = Random::new(5);
+    let mut kept = 0;
+    for _ in 0..200_000 {
+        let mut tried = Name::EMPTY;
+        let len = random.pick(&[0, 1, 2, 3, 5, 5, 63, 64]);
+        for octet in &mut tried.octets[..len] {
+            *octet = random.pick(b"abc/~ ");
+        }
+        if len == 5 && random.chance(50) {
+            tried = name(random.pick(&["INBOX", "inbox", "INBOx", "INBO/"]));
+        }
+        tried.len = len as u8;
+        if random.chance(20) {
+            tried.octets[random.below(64)] = random.octet();
+        }
+        if random.chance(10) {
+            tried.len = random.octet();
+        }
+        let again = Name::read(tried.as_octets());
+        assert_eq!(tried.is_lawful(), again == Some(tried), "{tried:?}");
+        kept += usize::from(tried.is_lawful());
+    }
+    assert!((20_000..180_000).contains(&kept), "kept {kept}");
+}

@@ -1,0 +1,111 @@
+//! Ids and names of mailboxes, plain ones and such as make a table of guesses useless.
+
+use reference::names::Name;
+use reference::random::Random;
+
+/// One more than a table takes, for the records that bring a new one.
+pub const COUNT: usize = 65;
+
+#[derive(Clone, Copy, PartialEq, Eq, Debug)]
+pub enum Ids {
+    Drawn,
+    Falling,
+    /// All in one of 1,024 slots, where the slot is the head of a product of 32 bits.
+    Slot32,
+    /// The same with a product of 16 bits.
+    Slot16,
+    /// The same with the number's own low bits.
+    LowBits,
+}
+
+impl Ids {
+    pub fn make(self) -> Vec<u16> {
+        match self {
+            Ids::Drawn => drawn(),
+            Ids::Falling => (1..=COUNT as u16).rev().collect(),
+            Ids::Slot32 => sharing(|id| u32::from(id).wrapping_mul(0x9E37_79B9) >> 22),
+            Ids::Slot16 => sharing(|id| u32::from(id.wrapping_mul(0x9E37) >> 6)),
+            Ids::LowBits => sharing(|id| u32::from(id % 1024)),
+        }
+    }
+}
+
+fn drawn() -> Vec<u16> {
+    let mut random = Random::new(64);
+    let mut ids = Vec::new();
+    while ids.len() < COUNT {
+        let id = random.number() as u16;
+        if id != 0 && !ids.contains(&id) {
+            ids.push(id);
+        }
+    }
+    ids
+}
+
+/// Ids of the slot that has the most; a few of the next where it has too few.
+fn sharing(slot: impl Fn(u16) -> u32) -> Vec<u16> {
+    let mut slots = vec![Vec::new(); 1024];
+    for id in 1..=u16::MAX {
+        slots[slot(id) as usize].push(id);
+    }
+    slots.sort_by_key(|ids| std::cmp::Reverse(ids.len()));
+    slots.into_iter().flatten().take(COUNT).collect()
+}
+
+#[derive(Clone, Copy, PartialEq, Eq, Debug)]
+pub enum Names {
+    Short,
+    /// 64 octets, the same up to the last two.
+    Alike,
+    /// 64 octets, all of which are written with a `\` before them.
+    Quoted,
+    /// 64 octets, the same up to the last five, with one digest wherever the weights of a digest grow evenly.
+    Digest,
+    /// 64 octets, a part every two.
+    Deep,
+}
+
+impl Names {
+    pub fn make(self, number: usize) -> Name {
+        let octets = match self {
+            Names::Short => short(number),
+            Names::Alike => format!("Plant/{:-<56}{number:02}", "Feeder").into_bytes(),
+            Names::Quoted => quoted(number),
+            Names::Digest => one_digest(number),
+            Names::Deep => format!("{}{number:02}", "a/".repeat(31)).into_bytes(),
+        };
+        Name::read(&octets).expect("a valid name")
+    }
+}
+
+fn short(number: usize) -> Vec<u8> {
+    match number % 3 {
+        0 => format!("Ops/Site-{number}"),
+        1 => format!("Reports/Week {number}"),
+        _ => format!("Plant/Hall {}/Feeder-{number}", number % 9),
+    }
+    .into_bytes()
+}
+
+/// The number in quotes and backslashes.
+fn quoted(number: usize) -> Vec<u8> {
+    let octet = |place: usize| b"\"\\"[number >> (place % 7) & 1];
+    (0..64).map(octet).collect()
+}
+
+/// Evenly growing weights have no third differences, so 1, -3, 3, -1 weighs nothing wherever it stands.
+fn one_digest(number: usize) -> Vec<u8> {
+    let (one, other) = ((number / 8) as i32, (number % 8) as i32);
+    let moved = [
+        -one,
+        3 * one - other,
+        3 * other - 3 * one,
+        one - 3 * other,
+        other,
+    ];
+    let mut octets = vec![b'P'; 64];
+    for (octet, by) in octets[59..].iter_mut().zip(moved) {
+        *octet = (i32::from(*octet) + by) as u8;
+    }
+    octets
+}

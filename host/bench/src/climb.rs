@@ -3,14 +3,17 @@
 
 use crate::choices::{hostile, near, words};
 use crate::scene::Scene;
-use crate::shape::{Order, Shape};
+use crate::shape::{Order, Shape, QUEUE};
 use crate::tries::{is_of, plain, tries};
+use reference::memory::RESERVE;
 
 /// A gain below this part is noise.
-const GAIN: f64 = 1.04;
+const GAIN: f64 = 1.08;
+/// What is left at least for a plainer call.
+const LOSS: f64 = 0.95;
 const RUNS: usize = 3;
-/// How often a call that seems slower is timed again, by turns with the one it is to beat: others use the machine too.
-const TURNS: usize = 4;
+/// How often two calls are timed by turns: others use the machine too, and slow both down alike.
+const TURNS: usize = 3;
 
 /// A call that is tried: a shape, and the place of a record among those of the kind.
 #[derive(Clone, Copy)]
@@ -20,6 +23,22 @@ pub struct Call {
 }
 
 impl Call {
+    pub fn plain(kind: &str) -> Call {
+        Call {
+            shape: plain(kind),
+            record: 0,
+        }
+    }
+
+    /// Bad in many ways at once. The longest refusal is that of a command's answer, which needs a full queue.
+    pub fn hostile(kind: &str) -> Call {
+        let mut shape = hostile(plain(kind));
+        if kind == "refused" {
+            shape.held = QUEUE - RESERVE;
+        }
+        Call { shape, record: 0 }
+    }
+
     /// Its scene, and what the record is; none where it is not of the kind.
     pub fn scene(&self, kind: &str) -> Option<(Scene, &'static str)> {
         let memory = self.shape.memory();
@@ -35,46 +54,44 @@ struct Climb<'a> {
     kind: &'a str,
     by_calls: bool,
     at: Call,
+    scene: Scene,
     time: u64,
 }
 
 impl Climb<'_> {
-    fn begin(kind: &str, by_calls: bool, at: Call) -> Climb<'_> {
-        let time = at.scene(kind).map_or(0, |(scene, _)| scene.library(RUNS));
-        Climb {
+    /// None where the call is not of the kind.
+    fn begin(kind: &str, by_calls: bool, at: Call) -> Option<Climb<'_>> {
+        let (scene, _) = at.scene(kind)?;
+        let time = scene.library(TURNS * RUNS);
+        Some(Climb {
             kind,
             by_calls,
             at,
+            scene,
             time,
-        }
+        })
     }
 
-    /// The call's time, if it is of the kind, and that of the call stood at, both by turns.
-    fn compared(&mut self, call: Call) -> Option<u64> {
-        let (scene, _) = call.scene(self.kind)?;
-        let mut time = scene.library(RUNS);
-        if time <= self.time {
-            return Some(time);
-        }
-        for _ in 0..TURNS {
-            time = time.min(scene.library(RUNS));
-            if let Some((stood, _)) = self.at.scene(self.kind) {
-                self.time = self.time.min(stood.library(RUNS));
-            }
-        }
-        Some(time)
-    }
-
-    /// Takes the call if it is slower.
-    fn consider(&mut self, call: Call) -> bool {
-        let Some(time) = self.compared(call) else {
+    /// Goes to the call if it takes so many times as long as the one stood at. Runs can only be too slow, so that a single
+    /// quick one is enough to turn it down.
+    fn goes(&mut self, call: Call, times: f64) -> bool {
+        let Some((scene, _)) = call.scene(self.kind) else {
             return false;
         };
-        let slower = time as f64 > self.time as f64 * GAIN;
-        if slower {
-            (self.at, self.time) = (call, time);
+        if (scene.library(1) as f64) < self.time as f64 * times {
+            return false;
         }
-        slower
+        let (mut stood, mut time) = (u64::MAX, u64::MAX);
+        for _ in 0..TURNS {
+            stood = stood.min(self.scene.library(RUNS));
+            time = time.min(scene.library(RUNS));
+        }
+        self.time = self.time.min(stood);
+        let goes = time as f64 >= stood as f64 * times;
+        if goes {
+            (self.at, self.scene, self.time) = (call, scene, time);
+        }
+        goes
     }
 
     fn consider_records(&mut self) -> bool {
@@ -82,7 +99,7 @@ impl Climb<'_> {
         let count = tries(self.kind, &shape, &shape.memory()).len();
         let mut gained = false;
         for record in 0..count {
-            gained |= self.consider(Call { shape, record });
+            gained |= self.goes(Call { shape, record }, GAIN);
         }
         gained
     }
@@ -94,7 +111,7 @@ impl Climb<'_> {
             let shape = self.near()[place];
             let record = self.at.record;
             if shape != self.at.shape {
-                gained |= self.consider(Call { shape, record });
+                gained |= self.goes(Call { shape, record }, GAIN);
             }
         }
         gained
@@ -113,39 +130,27 @@ impl Climb<'_> {
         self
     }
 
-    /// What can be plain without loss becomes so.
+    /// What can be plain with little loss becomes so.
     fn plainer(mut self) -> Self {
         let record = self.at.record;
+        let least = self.time as f64 * LOSS;
         for place in 0..self.near().len() {
             let shape = self.near()[place];
             if words(&shape).len() < words(&self.at.shape).len() {
-                let call = Call { shape, record };
-                if let Some(time) = self.compared(call) {
-                    if time as f64 * GAIN > self.time as f64 {
-                        self.at = call;
-                    }
-                }
+                let times = least / self.time as f64;
+                self.goes(Call { shape, record }, times);
             }
         }
         self
     }
 }
 
-/// From several starts, the slowest: a plain shape, a hostile one, and what else is known to be bad.
-pub fn worst(kind: &str, by_calls: bool, known: Option<Call>) -> Call {
-    let start = |shape: Shape| Call { shape, record: 0 };
-    let starts = [
-        Some(start(plain(kind))),
-        Some(start(hostile(plain(kind)))),
-        known,
-    ];
-    let climbs = starts.into_iter().flatten();
-    let mut climbs = climbs.map(|call| Climb::begin(kind, by_calls, call).up());
-    let mut slowest = climbs.next().expect("a start");
-    for climb in climbs {
-        if climb.time > slowest.time {
-            slowest = climb;
-        }
-    }
-    slowest.plainer().at
+/// From several starts, the slowest: a plain shape, and one that is known to be bad.
+pub fn worst(kind: &str, by_calls: bool, known: Call) -> Call {
+    let climbs = [Call::plain(kind), known]
+        .into_iter()
+        .filter_map(|call| Climb::begin(kind, by_calls, call))
+        .map(Climb::up);
+    let slowest = climbs.max_by_key(|climb| climb.time);
+    slowest.map_or(known, |climb| climb.plainer().at)
 }

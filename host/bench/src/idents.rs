@@ -42,14 +42,17 @@ fn drawn() -> Vec<u16> {
     ids
 }
 
-/// Ids of the slot that has the most; a few of the next where it has too few.
+/// Ids of the slot that has the most; a few others where it has too few.
 fn sharing(slot: impl Fn(u16) -> u32) -> Vec<u16> {
-    let mut slots = vec![Vec::new(); 1024];
+    let mut counts = [0; 1024];
     for id in 1..=u16::MAX {
-        slots[slot(id) as usize].push(id);
+        counts[slot(id) as usize] += 1;
     }
-    slots.sort_by_key(|ids| std::cmp::Reverse(ids.len()));
-    slots.into_iter().flatten().take(COUNT).collect()
+    let fullest = (0..1024).max_by_key(|&slot| counts[slot as usize]);
+    let inside = |id: &u16| Some(slot(*id)) == fullest;
+    let ids = (1..=u16::MAX).filter(inside);
+    let others = (1..=u16::MAX).filter(|id| !inside(id));
+    ids.chain(others).take(COUNT).collect()
 }
 
 #[derive(Clone, Copy, PartialEq, Eq, Debug)]

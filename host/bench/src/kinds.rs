@@ -13,12 +13,15 @@ use std::time::Instant;
 type Library = borjavid::Memory;
 type Independent = reference::Memory;
 
+/// So many records are also timed by one clock: if reading it for each distorted the mean, this would show.
+const SLICE: usize = 50;
+
 /// What each of the three takes: the library, the independent program with its full test and trusting its memory.
 struct Times {
     /// For each record the best of all runs.
     records: [Vec<u64>; 3],
-    /// For the whole trace by one clock, the best run.
-    whole: [u64; 3],
+    /// For each slice of the trace by one clock, the best of all runs.
+    slices: [Vec<u64>; 3],
 }
 
 pub fn measure(seed: u64, length: usize, runs: usize) {
@@ -27,12 +30,11 @@ pub fn measure(seed: u64, length: usize, runs: usize) {
     same(&trace, library.clone(), independent.clone());
     let mut times = Times {
         records: [(); 3].map(|()| vec![u64::MAX; trace.records.len()]),
-        whole: [u64::MAX; 3],
+        slices: [(); 3].map(|()| vec![u64::MAX; trace.records.len().div_ceil(SLICE)]),
     };
     for _ in 0..runs {
-        for clocked in [true, false] {
-            round(&trace, &library, &independent, &mut times, clocked);
-        }
+        round(&trace, &library, &independent, &mut times.records, 1);
+        round(&trace, &library, &independent, &mut times.slices, SLICE);
     }
     print_kinds(seed, runs, &trace, &times);
     print_refusal_1(&independent);
@@ -63,42 +65,35 @@ fn same(trace: &Trace, mut library: Library, mut full: Independent) {
     }
 }
 
-/// The trace once by each of the three, with a clock for each record or one for all.
+/// The trace once by each of the three, timed in slices of so many records.
 fn round(
     trace: &Trace,
     library: &Library,
     independent: &Independent,
-    times: &mut Times,
-    clocked: bool,
+    best: &mut [Vec<u64>; 3],
+    slice: usize,
 ) {
     let mut lent = library.clone();
-    run(trace, times, 0, clocked, |octets| {
+    run(trace, &mut best[0], slice, |octets| {
         black_box(lent.step(octets));
     });
     let mut memory = independent.clone();
-    run(trace, times, 1, clocked, |octets| {
+    run(trace, &mut best[1], slice, |octets| {
         black_box(call(&mut memory, octets));
     });
     let mut memory = independent.clone();
-    run(trace, times, 2, clocked, |octets| {
+    run(trace, &mut best[2], slice, |octets| {
         black_box(call_trusting(&mut memory, octets));
     });
 }
 
-fn run(trace: &Trace, times: &mut Times, who: usize, clocked: bool, mut step: impl FnMut(&[u8])) {
-    if !clocked {
+fn run(trace: &Trace, best: &mut [u64], slice: usize, mut step: impl FnMut(&[u8])) {
+    let clock = clock();
+    for (records, best) in trace.records.chunks(slice).zip(best) {
         let begin = Instant::now();
-        for (_, octets) in &trace.records {
+        for (_, octets) in records {
             step(black_box(octets));
         }
-        let took = begin.elapsed().as_nanos() as u64;
-        times.whole[who] = times.whole[who].min(took);
-        return;
-    }
-    let clock = clock();
-    for ((_, octets), best) in trace.records.iter().zip(&mut times.records[who]) {
-        let begin = Instant::now();
-        step(black_box(octets));
         let took = begin.elapsed().as_nanos() as u64;
         *best = (*best).min(took.saturating_sub(clock));
     }
@@ -115,7 +110,7 @@ fn print_kinds(seed: u64, runs: usize, trace: &Trace, times: &Times) {
     );
     let notes = [
         sizes.as_str(),
-        "Nanoseconds a record: for each record the best of all runs, of these the mean. 'one clock' is the best whole run, without a clock between records.",
+        "Nanoseconds a record: for each record the best of all runs, of these the mean. 'In slices' is the same with one clock for 50 records.",
     ];
     let heads = [
         "kind",
@@ -132,8 +127,12 @@ fn print_kinds(seed: u64, runs: usize, trace: &Trace, times: &Times) {
         print_row(&mut table, name, times, of_kind);
     }
     print_row(&mut table, "all", times, |_| true);
-    let whole = times.whole.map(|took| mean(took as usize));
-    table.row(cells("one clock", records, whole));
+    let sums = times.slices.each_ref().map(|slices| slices.iter().sum());
+    table.row(cells(
+        "in slices",
+        records,
+        sums.map(|sum: u64| mean(sum as usize)),
+    ));
     table.print();
 }
 

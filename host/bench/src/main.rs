@@ -9,6 +9,7 @@ mod idents;
 mod image;
 mod kinds;
 mod lines;
+mod records;
 mod scene;
 mod shape;
 mod stack;
@@ -18,7 +19,7 @@ mod trace;
 mod tries;
 mod worst;
 
-const USAGE: &str = "bench [kinds] [growth] [worst] [stack] [RUNS [RECORDS [SEED]]]";
+const USAGE: &str = "bench [kinds] [records] [growth] [worst] [stack] [RUNS [RECORDS [SEED]]]";
 
 fn main() {
     let (numbers, parts): (Vec<String>, Vec<String>) = std::env::args()
@@ -37,6 +38,7 @@ fn main() {
     for part in &parts {
         match part.as_str() {
             "kinds" => kinds::measure(seed, records, runs),
+            "records" => records::measure(),
             "growth" => growth::measure(),
             "worst" => worst::measure(),
             "stack" => stack::measure(),

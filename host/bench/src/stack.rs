@@ -3,6 +3,7 @@
 
 use crate::choices::{hostile, near, words};
 use crate::scene::Scene;
+use crate::shape::Shape;
 use crate::table::Table;
 use crate::tries::{is_of, plain, tries, KINDS};
 use reference::call;
@@ -33,45 +34,39 @@ fn depth(call: impl FnOnce()) -> usize {
     FRAME + top - places().find(written).unwrap_or(top)
 }
 
-/// The deepest call of a kind by one program, and what it is.
-#[derive(Default)]
-struct Deepest {
-    depth: usize,
-    what: String,
+/// A call, and how deep it goes: by the library, and by the independent program.
+struct Deep {
+    shape: Shape,
+    record: &'static str,
+    depths: [usize; 2],
 }
 
-impl Deepest {
-    fn consider(&mut self, depth: usize, what: impl FnOnce() -> String) {
-        if depth > self.depth {
-            *self = Deepest {
-                depth,
-                what: what(),
-            };
-        }
+impl Deep {
+    fn what(&self) -> String {
+        let words = words(&self.shape);
+        [&[self.record], words.as_slice()].concat().join("; ")
     }
 }
 
-/// Every record of the kind, on shapes that are plain or hostile or differ from these in one part.
-fn deepest(kind: &str) -> [Deepest; 2] {
-    let mut deepest = [Deepest::default(), Deepest::default()];
-    let plain = plain(kind);
-    let shapes = near(&plain).into_iter().chain(near(&hostile(plain)));
-    for shape in shapes {
-        let memory = shape.memory();
-        for (word, record) in tries(kind, &shape, &memory) {
-            let memory = memory.clone();
-            let scene = Scene { memory, record };
+/// Every record of the kind on the shape.
+fn calls(kind: &str, shape: Shape) -> Vec<Deep> {
+    let memory = shape.memory();
+    let scene = |(word, record)| {
+        let memory = memory.clone();
+        (word, Scene { memory, record })
+    };
+    let tries = tries(kind, &shape, &memory).into_iter().map(scene);
+    tries
+        .filter(|(_, scene)| {
             let (answer, left) = scene.served();
-            if !is_of(kind, answer.refusal, &left) {
-                continue;
-            }
-            let what = || [&[word], words(&shape).as_slice()].concat().join("; ");
-            let [library, independent] = depths(&scene);
-            deepest[0].consider(library, what);
-            deepest[1].consider(independent, what);
-        }
-    }
-    deepest
+            is_of(kind, answer.refusal, &left)
+        })
+        .map(|(record, scene)| Deep {
+            shape,
+            record,
+            depths: depths(&scene),
+        })
+        .collect()
 }
 
 fn depths(scene: &Scene) -> [usize; 2] {
@@ -86,6 +81,36 @@ fn depths(scene: &Scene) -> [usize; 2] {
     [library, independent]
 }
 
+/// The library's deepest call of the kind and the independent program's depth, on shapes that are plain or hostile or differ
+/// from these in one part; then on plainer ones as long as that is as deep.
+fn deepest(kind: &str) -> (Deep, usize) {
+    let plain = plain(kind);
+    let shapes = near(&plain).into_iter().chain(near(&hostile(plain)));
+    let all: Vec<Deep> = shapes.flat_map(|shape| calls(kind, shape)).collect();
+    let independent = all.iter().map(|deep| deep.depths[1]).max();
+    let mut deepest = all
+        .into_iter()
+        .reduce(|one, other| {
+            if other.depths[0] > one.depths[0] {
+                other
+            } else {
+                one
+            }
+        })
+        .expect("a record of its kind");
+    while let Some(plainer) = as_deep(kind, &deepest) {
+        deepest = plainer;
+    }
+    (deepest, independent.unwrap_or(0))
+}
+
+fn as_deep(kind: &str, deep: &Deep) -> Option<Deep> {
+    let mut shapes = near(&deep.shape);
+    shapes.retain(|shape| words(shape).len() < words(&deep.shape).len());
+    let mut all = shapes.into_iter().flat_map(|shape| calls(kind, shape));
+    all.find(|other| other.depths[0] >= deep.depths[0])
+}
+
 pub fn measure() {
     let thread = thread::Builder::new().stack_size(STACK).spawn(print_stack);
     thread.expect("a thread").join().expect("its end");
@@ -97,12 +122,12 @@ fn print_stack() {
     let heads = ["kind", "library", "full", "the library's deepest"];
     let mut table = Table::new("stack", &notes, &heads);
     for kind in KINDS {
-        let [library, independent] = deepest(kind);
+        let (deepest, independent) = deepest(kind);
         table.row(vec![
             kind.to_string(),
-            library.depth.to_string(),
-            independent.depth.to_string(),
-            library.what,
+            deepest.depths[0].to_string(),
+            independent.to_string(),
+            deepest.what(),
         ]);
     }
     table.print();

@@ -12,10 +12,10 @@ const RUNS: usize = 10;
 const TURNS: usize = 6;
 
 pub fn measure() {
-    let by_calls = KINDS.map(|kind| worst(kind, true, None));
+    let by_calls = KINDS.map(|kind| worst(kind, true, Call::hostile(kind)));
     let mut any = by_calls;
     for (call, kind) in any.iter_mut().zip(KINDS) {
-        *call = worst(kind, false, Some(*call));
+        *call = worst(kind, false, *call);
     }
     print(
         "worst by calls",

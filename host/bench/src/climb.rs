@@ -132,16 +132,19 @@ impl Climb<'_> {
 
     /// What can be plain with little loss becomes so.
     fn plainer(mut self) -> Self {
-        let record = self.at.record;
         let least = self.time as f64 * LOSS;
-        for place in 0..self.near().len() {
-            let shape = self.near()[place];
-            if words(&shape).len() < words(&self.at.shape).len() {
-                let times = least / self.time as f64;
-                self.goes(Call { shape, record }, times);
-            }
-        }
+        while self.goes_plainer(least) {}
         self
+    }
+
+    fn goes_plainer(&mut self, least: f64) -> bool {
+        let record = self.at.record;
+        let mut shapes = self.near();
+        shapes.retain(|shape| words(shape).len() < words(&self.at.shape).len());
+        shapes.into_iter().any(|shape| {
+            let times = least / self.time as f64;
+            self.goes(Call { shape, record }, times)
+        })
     }
 }
 

@@ -1,7 +1,9 @@
 //! How a time grows with a size, named.
 
+type Term = fn(f64) -> f64;
+
 /// The kinds of growth that are told apart, the plainest first.
-const GROWTHS: [(&str, &str, fn(f64) -> f64); 3] = [
+const GROWTHS: [(&str, &str, Term); 3] = [
     ("linear", "n", |size| size),
     ("n log n", "n log n", |size| size * size.log2()),
     ("quadratic", "n^2", |size| size * size),
@@ -39,7 +41,7 @@ pub fn growth(sizes: &[usize], times: &[u64]) -> String {
 }
 
 /// Least squares of the misses as parts of the times, so that small sizes count as much as large ones.
-fn fit(sizes: &[usize], times: &[u64], grown: fn(f64) -> f64) -> Fit {
+fn fit(sizes: &[usize], times: &[u64], grown: Term) -> Fit {
     let points: Vec<(f64, f64)> = sizes
         .iter()
         .zip(times)

@@ -10,8 +10,12 @@ use borjavid::records::{self, Class};
 const RUNS: usize = 8;
 const TURNS: usize = 8;
 
-/// What grows, its five sizes, and the shape of a size.
-const AXES: [(&str, [usize; 5], fn(Shape, usize) -> Shape); 4] = [
+/// The shape of a size, and the call on a shape.
+type Grown = fn(Shape, usize) -> Shape;
+type Made = fn(Shape) -> Scene;
+
+/// What grows, and its five sizes.
+const AXES: [(&str, [usize; 5], Grown); 4] = [
     ("mailboxes", [4, 8, 16, 32, 64], |shape, size| Shape {
         mailboxes: size,
         ..shape
@@ -35,7 +39,7 @@ const AXES: [(&str, [usize; 5], fn(Shape, usize) -> Shape); 4] = [
 ];
 
 /// Typical calls. Half of the messages are in the selected mailbox.
-const CALLS: [(&str, fn(Shape) -> Scene); 8] = [
+const CALLS: [(&str, Made); 8] = [
     ("DR of one octet", |shape| {
         let memory = Shape {
             held: shape.held.max(100),

@@ -3,6 +3,7 @@ pub mod Saying
 pub mod Coded
 pub mod After
 pub mod Ending
+pub mod Quiet
 pub mod Sunk
 pub mod Runs
 pub mod Cut

@@ -6,7 +6,7 @@ use model::Uid;
 ghost use mathlib.Core.Path.{_≡_};
 ghost use mathlib.Core.Bool.{true, false, not, cond, _&&_, _||_};
 ghost use mathlib.Core.List.{List, [], _∷_, _++_};
-ghost use Prim.Native.Nat.{_+_, _*_, _-_, _≤_, _<_};
+ghost use Prim.Native.Nat.{ℕ, _+_, _*_, _-_, _≤_, _<_};
 ghost use lib.Dec.{eqb, ltb};
 ghost use lib.ListN.{length, take, drop, getD, replicate};
 ghost use Rattle.model.specs.Lists.{filterb};
@@ -22,6 +22,7 @@ ghost use Rattle.order.specs.Counts.{stays, fresh};
 ghost use Rattle.ending.specs.Saying.{State, say, more, part, stepE, runE, stepM, runM, sayExists, firstPart};
 ghost use Rattle.ending.specs.Coded.{stateOf};
 ghost use Rattle.ending.specs.Ending.{endAfter, endRest, Speaks, Leaves};
+ghost use Rattle.ending.specs.Quiet.{owes};
 ghost use Rattle.ending.specs.After.{rests, selectEntries};
 
 // ---- `DR`
@@ -375,6 +376,36 @@ fn speak(
         news: b.bound.0 == 1,
         shown,
     }
+}
+
+// Whether entry i is of the mailbox, and new to the client, expunged or marked.
+fn owes_one(words: &[u64], i: usize, id: u64, told: Uid) -> bool
+    requires { ⌜ (i + 1) * 5 ≤ length (now words) ⌝ }
+    ensures { λ r. ⌜ r ≡ owes id (told .0) (getD (messages (now (words .entry))) i noMessage) ⌝ }
+{
+    let e = entries::get(words, i);
+    if e.mailbox != id {
+        return false;
+    }
+    if told.0 <= e.uid.0 {
+        return true;
+    }
+    e.states != 0
+}
+
+// Whether a line may be owed of the mailbox: no means that there is none.
+pub fn is_owed(words: &[u64], used: usize, id: u64, told: Uid) -> bool
+    requires { ⌜ used * 5 ≤ length (now words) ⌝ }
+    ensures { λ r. ⌜ (r ≡ false → (i : ℕ) → i < used → owes id (told .0) (getD (messages (now (words .entry))) i noMessage) ≡ false) ⌝ }
+{
+    let mut i = 0;
+    while i < used {
+        if owes_one(words, i, id, told) {
+            return true;
+        }
+        i += 1;
+    }
+    false
 }
 
 // The view, if EXISTS was written.

@@ -5,14 +5,15 @@ use mathlib.Core.List.{List, [], _∷_, _++_, map, append-assoc, append-nil}
 use Prim.Native.Nat.{ℕ, zero, suc, _+_, _*_, _-_, _<_, _≤_, max}
 use native.Mathlib.Omega.{arith}
 use native.Mathlib.Numerals.{add-one}
-use lib.Dec.{ltb}
+use lib.Dec.{eqb, ltb}
+use borrow.Author.Tests.{eqb-true, le-ltb}
 use lib.ListN.{length, take, drop, getD, set, replicate, take-append-drop, length-append, length-map, length-replicate}
-use lib.Seq.{take-suc, drop-cons, set-append-seam, getD-append-add, getD-drop, take-at, length-take-le, drop-append-add, drop-drop}
+use lib.Seq.{take-suc, drop-cons, set-append-seam, set-getD, getD-append-add, getD-drop, take-at, length-take-le, drop-append-add, drop-drop}
 use Rattle.model.specs.Lists.{filterb, keep}
-use Rattle.model.specs.Laws.{filter-append, filter-length}
+use Rattle.model.specs.Laws.{tf, and-l, and-r, and-false, filter-append, filter-length}
 use Rattle.model.specs.Memory.{noMessage, uidOf, inMailbox, expunged, marked, withStates, refill}
 use Rattle.model.specs.declared.Message.{Message}
-use Rattle.entries.specs.Words.{messages, stored}
+use Rattle.entries.specs.Words.{messages, messages-length, stored}
 use Rattle.entries.specs.Laid.{laid, laid-own, laid-entries, laid-then, laid-put}
 use Rattle.entries.specs.declared.Sweep.{Sweep}
 use Rattle.entries.specs.declared.Sweep.the-variants.{Rested, Told, Deleted}
@@ -28,6 +29,12 @@ abbrev pub calm : Sweep → Message → Message
 calm Rested e = withStates e 0
 calm (Told id gone shown) e = cond (marked e && (inMailbox id e && ltb (uidOf e) (shown .0))) (withStates e 0) e
 calm (Deleted id) e = e
+
+-- no line was told of any entry
+abbrev pub idle : Sweep → Bool
+idle Rested = false
+idle (Told id gone shown) = eqb (gone .0) 0 && eqb (shown .0) 0
+idle (Deleted id) = false
 
 -- what stays of a list
 unfoldable pub kept : Sweep → List Message → List Message
@@ -51,9 +58,40 @@ module _ {A : Type 0} (z : A) where
   replicate-more zero = refl
   replicate-more (suc n) = let e : suc n + 1 ≡ suc (n + 1) = omega arith in rw e (ap (λ (l : List A). z ∷ l) (replicate-more n))
 
+-- ---- an entry that is as it was
+calm-same : (sweep : Sweep) (e : Message) → calm sweep e .states ≡ e .states → calm sweep e ≡ e
+calm-same Rested e h = ap (withStates e) h
+calm-same (Told id gone shown) e h = go (marked e && (inMailbox id e && ltb (uidOf e) (shown .0))) h
+  where
+    go : (b : Bool) → (cond b (withStates e 0) e) .states ≡ e .states → cond b (withStates e 0) e ≡ e
+    go true h = ap (withStates e) h
+    go false h = refl
+calm-same (Deleted id) e h = refl
+
+stored-same : (ws : List ℕ) (i : ℕ) (e : Message) → e ≡ getD (messages ws) i noMessage → (i + 1) * 5 ≤ length ws → stored ws i e ≡ ws
+stored-same ws i e h w = laid-put ws ws (messages ws) i e (laid-own ws) w ∙ (ap (laid ws) (ap (set (messages ws) i) h ∙ set-getD (messages ws) i noMessage) ∙ sym (laid-own ws))
+
 map-append : (f : Message → Message) (l r : List Message) → map f (l ++ r) ≡ map f l ++ map f r
 map-append f [] r = refl
 map-append f (x ∷ l) r = ap (λ (t : List Message). f x ∷ t) (map-append f l r)
+
+-- nothing below 0 is told
+below-none : (a b : Bool) (u n : ℕ) → n ≡ 0 → (a && (b && ltb u n)) ≡ false
+below-none a b u n z = ap (λ (c : Bool). a && (b && c)) (le-ltb u n (omega arith)) ∙ (ap (λ (c : Bool). a && c) (and-false b) ∙ and-false a)
+
+-- a pass that is idle leaves all
+kept-idle : (sweep : Sweep) (l : List Message) → idle sweep ≡ true → kept sweep l ≡ l
+unfolding kept
+kept-idle Rested l h = tf false h refl
+kept-idle (Told id gone shown) l h = same l
+  where
+    same : (l : List Message) → map (calm (Told id gone shown)) (filterb (λ (e : Message). not (goes (Told id gone shown) e)) l) ≡ l
+    same [] = refl
+    same (e ∷ l) =
+        let a : goes (Told id gone shown) e ≡ false = below-none (expunged e) (inMailbox id e) (uidOf e) (gone .0) (eqb-true (gone .0) 0 (and-l (eqb (gone .0) 0) (eqb (shown .0) 0) h)) in
+        let b : (marked e && (inMailbox id e && ltb (uidOf e) (shown .0))) ≡ false = below-none (marked e) (inMailbox id e) (uidOf e) (shown .0) (eqb-true (shown .0) 0 (and-r (eqb (gone .0) 0) (eqb (shown .0) 0) h)) in
+        rw (a, b) (ap (λ (t : List Message). e ∷ t) (same l))
+kept-idle (Deleted id) l h = tf false h refl
 
 module _ (sweep : Sweep) where
   pub kept-none : kept sweep [] ≡ []
@@ -123,6 +161,12 @@ module _ (sweep : Sweep) where
           most = omega arith;
         }
 
+    -- an entry that becomes what it is needs no writing where it stands
+    pub passing-rest : (x : Message) → x ≡ calm sweep e → goes sweep e ≡ false → o ≡ i → x .states ≡ e .states → (o + 1) * 5 ≤ length ws → Passing vs ws (i + 1) (o + 1)
+    passing-rest x y z a b w =
+        let f : x ≡ getD (messages ws) o noMessage = (y ∙ (calm-same sweep e (sym (ap (λ (m : Message). m .states) y) ∙ b) ∙ q)) ∙ ap (λ (j : ℕ). getD (messages ws) j noMessage) (sym a) in
+        rw (stored-same ws o x f w) at (passing-stay x y z w)
+
 -- one entry is passed, whatever the words were before the pass
 pub record Moves (sweep : Sweep) (ws : List ℕ) (i o : ℕ) (ws′ : List ℕ) (r : ℕ) : Type 0 where
   pub moved : (vs : List ℕ) → i < length (messages vs) → Passing sweep vs ws i o → Passing sweep vs ws′ (i + 1) r
@@ -173,6 +217,16 @@ pub settled : (vs us ws : List ℕ) (k : List Message) (o used : ℕ) → o ≡ 
 settled vs us ws k o used e h p q =
     laid-then vs us ws (k ++ drop o (messages vs)) (take o (messages us) ++ (replicate (used - o) noMessage ++ drop used (messages us))) p q
     ∙ ap (laid vs) (refilled (messages vs) (messages us) (take o (messages us) ++ (replicate (used - o) noMessage ++ drop used (messages us))) k o used e h (laid-entries vs us (k ++ drop o (messages vs)) p) refl)
+
+-- nothing goes and nothing changes
+pub unsettled : (sweep : Sweep) (vs : List ℕ) (used : ℕ) → used * 5 ≤ length vs → idle sweep ≡ true
+    → (vs ≡ laid vs (refill noMessage (messages vs) used (kept sweep (take used (messages vs))))) × (used ≡ length (kept sweep (take used (messages vs)))) × (used ≤ used)
+unsettled sweep vs used h i =
+    let e = kept-idle sweep (take used (messages vs)) i in
+    let n : length (kept sweep (take used (messages vs))) ≡ used = ap length e ∙ length-take-le used (messages vs) (messages-length used vs h) in
+    let a : used - length (kept sweep (take used (messages vs))) ≡ 0 = omega arith in
+    let b : max used (length (kept sweep (take used (messages vs)))) ≡ used = omega arith in
+    (rw (a, b, e) (laid-own vs ∙ ap (laid vs) (sym (take-append-drop used (messages vs)))), sym n, omega arith)
 
 -- a mailbox's entries go, and no other is changed
 pub kept-deleted : (id : ℕ) (l : List Message) → kept (Deleted id) l ≡ filterb (λ (e : Message). not (inMailbox id e)) l

@@ -16,7 +16,7 @@ ghost use Rattle.entries.specs.Laid.{laid};
 ghost use Rattle.entries.specs.Taken.{shut};
 ghost use Rattle.entries.specs.Found.{stands, first};
 ghost use Rattle.entries.specs.Counted.{lives, before};
-ghost use Rattle.entries.specs.Swept.{goes, calm, kept, Moves};
+ghost use Rattle.entries.specs.Swept.{goes, calm, idle, kept, Moves};
 
 // ---- one entry
 // Entry i.
@@ -268,7 +268,7 @@ fn calmed(e: Message, sweep: Sweep) -> Message
     }
 }
 
-// Entry i goes, or moves up to o.
+// Entry i goes, or moves up to o; one that stays as it is where it is is not written.
 fn move_one(words: &mut [u64], i: usize, o: usize, sweep: Sweep) -> usize
     requires { ⌜ (o ≤ i) × ((i + 1) * 5 ≤ length (now words)) ⌝ }
     ensures { λ r. ⌜ Moves sweep (now (words .entry)) i o (now (words .exit)) r ⌝ }
@@ -277,7 +277,11 @@ fn move_one(words: &mut [u64], i: usize, o: usize, sweep: Sweep) -> usize
     if is_gone(e, sweep) {
         return o;
     }
-    put(words, o, calmed(e, sweep));
+    let c = calmed(e, sweep);
+    if both(o == i, c.states == e.states) {
+        return o + 1;
+    }
+    put(words, o, c);
     o + 1
 }
 
@@ -293,6 +297,17 @@ fn compact(words: &mut [u64], used: usize, sweep: Sweep) -> usize
         i += 1;
     }
     o
+}
+
+// Whether no line was told: nothing goes, and nothing changes.
+fn is_idle(sweep: Sweep) -> bool
+    ensures { λ r. ⌜ r ≡ idle sweep ⌝ }
+{
+    match sweep {
+        Sweep::Rested => false,
+        Sweep::Told(_, gone, shown) => both(gone.0 == 0, shown.0 == 0),
+        Sweep::Deleted(_) => false,
+    }
 }
 
 // Entries become nothing.
@@ -312,6 +327,9 @@ pub fn settle(words: &mut [u64], used: usize, sweep: Sweep) -> usize
     requires { ⌜ used * 5 ≤ length (now words) ⌝ }
     ensures { λ r. ⌜ (now (words .exit) ≡ laid (now (words .entry)) (refill noMessage (messages (now (words .entry))) used (kept sweep (take used (messages (now (words .entry))))))) × (r ≡ length (kept sweep (take used (messages (now (words .entry)))))) × (r ≤ used) ⌝ }
 {
+    if is_idle(sweep) {
+        return used;
+    }
     let o = compact(words, used, sweep);
     wipe(words, o, used);
     o

@@ -86,11 +86,9 @@ module _ (es : List Message) (used : ℕ) (q : List ℕ) (s : Session) (at k : �
     heard = hears-said q s at (countText n expungeWord) q′ fits end f s′ x h g;
   }
 
-  pub drop-leaves : (x : Mailbox) (on : Bool) (n : ℕ) (ws ws′ q′ : List ℕ) (s′ : Session) (f : ℕ) → ws′ ≡ laid ws (shut k used es) → n ≡ length (existing (x .id) (take (used - 1) (messages ws′)))
-      → Hears (heard q s at on (render (status (nameOf x) (x .uidnext) n))) q′ s′ f → Leaves (dropAfter x on) ws ws′ (used - 1) q′ s′ f
-  drop-leaves x on n ws ws′ q′ s′ f e p h =
-      let z : n ≡ length (existing (x .id) (take (used - 1) (shut k used es))) = p ∙ ap (λ (l : List Message). length (existing (x .id) (take (used - 1) l))) (laid-entries ws ws′ (shut k used es) e) in
-      record { words = e; used = refl; heard = rw (← z) h }
+  pub drop-leaves : (x : Mailbox) (on : Bool) (ws ws′ q′ : List ℕ) (s′ : Session) (f : ℕ) → ws′ ≡ laid ws (shut k used es)
+      → Hears (heard q s at on (statusText x (take (used - 1) (messages ws′)))) q′ s′ f → Leaves (dropAfter x on) ws ws′ (used - 1) q′ s′ f
+  drop-leaves x on ws ws′ q′ s′ f e h = record { words = e; used = refl; heard = rw (laid-entries ws ws′ (shut k used es) e) at h }
 
   pub wait-leaves : (ws ws′ : List ℕ) (n : ℕ) → ws′ ≡ laid ws (set es k (withStates the 1)) → n ≡ used → Leaves waitAfter ws ws′ n q s at
   wait-leaves ws ws′ n e u = record { words = e; used = u; heard = record { queue = refl; session = refl; filled = refl } }
@@ -144,12 +142,10 @@ module _ (es : List Message) (used : ℕ) (q : List ℕ) (s : Session) (at : ℕ
   unfoldable pub arriveAfter : Bool → Bool → Shows → After
   arriveAfter soon on w = cond soon (newsAfter w) (statusAfter on)
 
-  pub status-leaves : (y₀ : Mailbox) (soon on : Bool) (w : Shows) (n : ℕ) (ws ws′ q′ : List ℕ) (s′ : Session) (f : ℕ) → soon ≡ false → y₀ ≡ y → ws′ ≡ laid ws grown → n ≡ length (existing (y₀ .id) (take (used + 1) (messages ws′)))
-      → Hears (heard q s at on (render (status (nameOf y₀) (y₀ .uidnext) n))) q′ s′ f → Leaves (arriveAfter soon on w) ws ws′ (used + 1) q′ s′ f
+  pub status-leaves : (y₀ : Mailbox) (soon on : Bool) (w : Shows) (ws ws′ q′ : List ℕ) (s′ : Session) (f : ℕ) → soon ≡ false → y₀ ≡ y → ws′ ≡ laid ws grown
+      → Hears (heard q s at on (statusText y₀ (take (used + 1) (messages ws′)))) q′ s′ f → Leaves (arriveAfter soon on w) ws ws′ (used + 1) q′ s′ f
   unfolding arriveAfter
-  status-leaves y₀ soon on w n ws ws′ q′ s′ f b r c p h =
-      let z : n ≡ length (existing (y₀ .id) (take (used + 1) grown)) = p ∙ ap (λ (l : List Message). length (existing (y₀ .id) (take (used + 1) l))) (laid-entries ws ws′ grown c) in
-      rw (b, ← r) (record { words = c; used = refl; heard = rw (← z) h })
+  status-leaves y₀ soon on w ws ws′ q′ s′ f b r c h = rw (b, ← r) (record { words = c; used = refl; heard = rw (laid-entries ws ws′ grown c) at h })
 
   pub news-leaves : (soon on : Bool) (w : Shows) (ws ws′ q′ : List ℕ) (s′ : Session) (f : ℕ) → soon ≡ true → ws′ ≡ laid ws grown
       → Announces q s at (y .uidnext) (newsText (s .told) w (messagesOf (s .selected) (take (used + 1) (messages ws′)))) q′ s′ f → Leaves (arriveAfter soon on w) ws ws′ (used + 1) q′ s′ f

@@ -24,8 +24,8 @@ use Rattle.model.specs.declared.Session.{Session}
 use Rattle.laws.specs.Counting.{countb}
 use Rattle.entries.specs.Counted.{before}
 use Rattle.told.specs.Asking.{asksBit}
-use Rattle.mail.specs.After.{After, waitAfter, onceAfter, removeAfter}
-use Rattle.mail.specs.Flagged.{flagAfter}
+use Rattle.mail.specs.After.{After, Leaves, waitAfter, onceAfter, dropAfter, removeAfter, is-once, is-wait, is-drop}
+use Rattle.mail.specs.Flagged.{flagAfter, flag-once}
 use Rattle.mail.specs.Accepted.{left, goneTold, remove-accepted}
 use Rattle.mail.specs.Flagging.{reflag-accepted}
 use Rattle.mail.specs.Free.{soon-free, gone-free, flags-free, place-is}
@@ -57,9 +57,6 @@ module _ (es : List Message) (used : ℕ) (q : List ℕ) (s : Session) (at k : �
 -- ---- whoever is told has a group
 pub asks-some : (s : Session) (p : Group → Bool) → anyb p (groupsOf s) ≡ true → s .groupcount ≡ 0 → ⊥
 asks-some s p h z = tf (anyb p (groupsOf s)) h (ap (λ (n : ℕ). anyb p (map groupOf (take n (s .groups)))) z)
-
-pub once-some : (s : Session) (seen once b r : Bool) (p : Group → Bool) → once ≡ (b && r) → r ≡ anyb p (groupsOf s) → (seen && once) ≡ true → s .groupcount ≡ 0 → ⊥
-once-some s seen once b r p e f h = asks-some s p (sym f ∙ and-r b r (sym e ∙ and-r seen once h))
 
 pub told-some : (s : Session) (on c b : Bool) (p : Group → Bool) → on ≡ (c && (b && anyb p (groupsOf s))) → on ≡ true → s .groupcount ≡ 0 → ⊥
 told-some s on c b p e h = asks-some s p (and-r b (anyb p (groupsOf s)) (and-r c (b && anyb p (groupsOf s)) (sym e ∙ h)))
@@ -125,20 +122,50 @@ module _ (m : Memory) (law : Law m) (i u k : ℕ) (h : k < m .counts .messages) 
       (ap (λ (v : Bool). v && (bothRights x && eqb (m .session .notified) 0)) seen)))
 
 -- ---- as the code puts it together
-module _ (es : List Message) (used : ℕ) (q : List ℕ) (s : Session) (at k : ℕ) (x : Mailbox) (e : Message) (p : e ≡ getD es k noMessage) (n : ℕ) (place : n ≡ placeIn s (uidOf e) (take used es))
+module _ (es : List Message) (used : ℕ) (q : List ℕ) (s : Session) (at k : ℕ) (x : Mailbox) (e : Message) (p : e ≡ getD es k noMessage)
     (c v : Bool) (i : c ≡ isChosen s x) (j : v ≡ (c && ltb (uidOf e) (s .told))) where
-  here : n ≡ placeIn s (uidOf (getD es k noMessage)) (take used es)
-  here = place ∙ ap (λ (d : Message). placeIn s (uidOf d) (take used es)) p
+  abbrev here : ℕ
+  here = placeIn s (uidOf e) (take used es)
+
+  here-is : (n : ℕ) → n ≡ here → n ≡ placeIn s (uidOf (getD es k noMessage)) (take used es)
+  here-is n place = place ∙ ap (λ (d : Message). placeIn s (uidOf d) (take used es)) p
 
   known-now : v ≡ hasSeen s x (uidOf (getD es k noMessage))
   known-now = j ∙ ap₂ (λ (b : Bool) (d : Message). b && ltb (uidOf d) (s .told)) i p
 
-  pub expunge-as : (a o : Bool) → a ≡ (bothRights x && immediateAsks s (asksBit 1)) → o ≡ (not c && (bothRights x && askedOf s x (asksBit 1)))
-      → removeAfter es used q s at k x n v a o ≡ expungeAfter es used q s at k x
-  unfolding expungeAfter
-  expunge-as a o l w = each (removeAfter es used q s at k x) here known-now l (w ∙ ap (λ (b : Bool). not b && (bothRights x && askedOf s x (asksBit 1))) i)
+  module _ (ws ws′ : List ℕ) (n′ : ℕ) (q′ : List ℕ) (s′ : Session) (f′ : ℕ) where
+    expunged-as : (n : ℕ) (a o : Bool) → n ≡ here → a ≡ (bothRights x && immediateAsks s (asksBit 1)) → o ≡ (not c && (bothRights x && askedOf s x (asksBit 1)))
+        → Leaves (removeAfter es used q s at k x n v a o) ws ws′ n′ q′ s′ f′ → Leaves (expungeAfter es used q s at k x) ws ws′ n′ q′ s′ f′
+    unfolding expungeAfter
+    expunged-as n a o g l w y = rw (each (removeAfter es used q s at k x) (here-is n g) known-now l (w ∙ ap (λ (b : Bool). not b && (bothRights x && askedOf s x (asksBit 1))) i)) at y
 
-  pub reflag-as : (f : ℕ) (g w : Bool) → g ≡ (v && (bothRights x && selectedAsks s (asksBit 2))) → w ≡ (v && (bothRights x && eqb (s .notified) 0))
-      → flagAfter es used q s at k f n g w ≡ reflagAfter es used q s at k x f
-  unfolding reflagAfter
-  reflag-as f g w y z = three (flagAfter es used q s at k f) here (y ∙ ap (λ (b : Bool). b && (bothRights x && selectedAsks s (asksBit 2))) known-now) (z ∙ ap (λ (b : Bool). b && (bothRights x && eqb (s .notified) 0)) known-now)
+    -- the client does not have it
+    pub expunge-drops : (o : Bool) → o ≡ (not c && (bothRights x && askedOf s x (asksBit 1))) → v ≡ false → Leaves (dropAfter es used q s at k x o) ws ws′ n′ q′ s′ f′
+        → Leaves (expungeAfter es used q s at k x) ws ws′ n′ q′ s′ f′
+    expunge-drops o w z y = expunged-as here (bothRights x && immediateAsks s (asksBit 1)) o refl refl w (is-drop es used q s at k x here v (bothRights x && immediateAsks s (asksBit 1)) o ws ws′ n′ q′ s′ f′ z y)
+
+    module _ (a : Bool) (l : a ≡ (bothRights x && immediateAsks s (asksBit 1))) (z : v ≡ true) where
+      abbrev elsewhere : Bool
+      elsewhere = not c && (bothRights x && askedOf s x (asksBit 1))
+
+      -- it is told at once
+      pub expunge-tells : (n : ℕ) → n ≡ here → a ≡ true → Leaves (onceAfter es used q s at k n) ws ws′ n′ q′ s′ f′ → Leaves (expungeAfter es used q s at k x) ws ws′ n′ q′ s′ f′
+      expunge-tells n g t y = expunged-as n a elsewhere g l refl (is-once es used q s at k x n v a elsewhere ws ws′ n′ q′ s′ f′ z t y)
+
+      -- it waits
+      pub expunge-waits : a ≡ false → Leaves (waitAfter es used q s at k) ws ws′ n′ q′ s′ f′ → Leaves (expungeAfter es used q s at k x) ws ws′ n′ q′ s′ f′
+      expunge-waits t y = expunged-as here a elsewhere refl l refl (is-wait es used q s at k x here v a elsewhere ws ws′ n′ q′ s′ f′ z t y)
+
+    module _ (f : ℕ) (g : Bool) (y : g ≡ (v && (bothRights x && selectedAsks s (asksBit 2)))) where
+      reflagged-as : (n : ℕ) (w : Bool) → n ≡ here → w ≡ (v && (bothRights x && eqb (s .notified) 0))
+          → Leaves (flagAfter es used q s at k f n g w) ws ws′ n′ q′ s′ f′ → Leaves (reflagAfter es used q s at k x f) ws ws′ n′ q′ s′ f′
+      unfolding reflagAfter
+      reflagged-as n w h z l = rw (three (flagAfter es used q s at k f) (here-is n h) (y ∙ ap (λ (b : Bool). b && (bothRights x && selectedAsks s (asksBit 2))) known-now) (z ∙ ap (λ (b : Bool). b && (bothRights x && eqb (s .notified) 0)) known-now)) at l
+
+      -- the change is told at once
+      pub reflag-tells : (n : ℕ) → n ≡ here → g ≡ true → Leaves (flagAfter es used q s at k f n true false) ws ws′ n′ q′ s′ f′ → Leaves (reflagAfter es used q s at k x f) ws ws′ n′ q′ s′ f′
+      reflag-tells n h t l = reflagged-as n (v && (bothRights x && eqb (s .notified) 0)) h refl (flag-once es used q s at k f n g (v && (bothRights x && eqb (s .notified) 0)) ws ws′ n′ q′ s′ f′ t l)
+
+      -- it is kept as a mark, or not
+      pub reflag-waits : (w : Bool) → w ≡ (v && (bothRights x && eqb (s .notified) 0)) → Leaves (flagAfter es used q s at k f here g w) ws ws′ n′ q′ s′ f′ → Leaves (reflagAfter es used q s at k x f) ws ws′ n′ q′ s′ f′
+      reflag-waits w z l = reflagged-as here w refl z l

@@ -1,8 +1,6 @@
 // `ME`: a message arrives. It is stored, and announced at once, or it waits, or its mailbox's STATUS is told.
 use crate::Arrived;
-use fetches::Shows;
 use model::Mailbox;
-use model::Message;
 use model::Session;
 use model::Uid;
 use out::Kept;
@@ -15,7 +13,8 @@ ghost use Rattle.model.specs.Groups.{selectedAsks};
 ghost use Rattle.entries.specs.Words.{messages};
 ghost use Rattle.fetches.specs.Whole.{newsText};
 ghost use Rattle.told.specs.Asking.{asksBit};
-ghost use Rattle.mail.specs.After.{Leaves, arriveAfter, Announces};
+ghost use Rattle.mail.specs.After.{Leaves, Announces};
+ghost use Rattle.mail.specs.Shown.{showsOf};
 ghost use Rattle.mail.specs.Receiving.{receiveAfter};
 
 // The row with its new UIDNEXT.
@@ -52,88 +51,32 @@ fn announced(s: Session, next: u32, fits: bool) -> Session
     }
 }
 
-// All that is new in the selected mailbox is announced, or else the overflow line is written. `order` is scratch.
+// All that is new in the selected mailbox is announced, or else the overflow line is written.
 fn announce(
     words: &[u64],
     used: usize,
-    order: &mut [usize],
     queue: &mut [u8],
     s: Session,
     filled: usize,
     next: u32,
-    w: Shows,
 ) -> Kept
-    requires { ⌜ (used * 5 ≤ length (now words)) × (used ≤ 1024) × (used ≤ length (now order)) × (64 ≤ length (now queue)) × (length (now queue) ≤ 65536) × (filled ≤ length (now queue) - 64) ⌝ }
-    ensures { λ r. ⌜ Announces (now (queue .entry)) s filled next (newsText (s .told) w (messagesOf (s .selected) (take used (messages (now (words .entry)))))) (now (queue .exit)) (r .session) (r .filled) ⌝ }
+    requires { ⌜ (used * 5 ≤ length (now words)) × (used ≤ 1024) × (64 ≤ length (now queue)) × (length (now queue) ≤ 65536) × (filled ≤ length (now queue) - 64) ⌝ }
+    ensures { λ r. ⌜ Announces (now (queue .entry)) s filled next (newsText (s .told) (showsOf s) (messagesOf (s .selected) (take used (messages (now (words .entry)))))) (now (queue .exit)) (r .session) (r .filled) ⌝ }
 {
-    let n = order::by_uid(words, used, s.selected as u64, order);
-    let said = fetches::say_news(words, order, n, queue, filled, Uid(s.told as u64), w);
+    let mut order = [0usize; 1024];
+    let w = crate::showing::shows(s);
+    let n = order::by_uid(words, used, s.selected as u64, &mut order);
+    let said = fetches::say_news(words, &order, n, queue, filled, Uid(s.told as u64), w);
     Kept {
         session: announced(s, next, said.fits),
         filled: said.end as u64,
     }
 }
 
-// `ME` of message e in mailbox x: it stands behind the last entry; all that is new is announced, or STATUS is told, or neither.
-pub fn arrive(
-    words: &mut [u64],
-    used: usize,
-    order: &mut [usize],
-    queue: &mut [u8],
-    s: Session,
-    filled: usize,
-    x: Mailbox,
-    next: u32,
-    e: Message,
-    soon: bool,
-    on: bool,
-    w: Shows,
-) -> Arrived
-    requires { ⌜ ((used + 1) * 5 ≤ length (now words)) × (used + 1 ≤ 1024) × (used + 1 ≤ length (now order)) × (64 ≤ length (now queue)) × (length (now queue) ≤ 65536) × (filled ≤ 65536) × (soon ≡ true → filled ≤ length (now queue) - 64) × (on ≡ true → filled ≤ length (now queue) - 64) ⌝ }
-    ensures { λ r. ⌜ (r .row ≡ withNext x next) × Leaves (arriveAfter (messages (now (words .entry))) used (now (queue .entry)) s filled (withNext x next) e soon on w) (now (words .entry)) (now (words .exit)) (r .used) (now (queue .exit)) (r .session) (r .filled) ⌝ }
-{
-    entries::put(words, used, e);
-    let more = used + 1;
-    let row = with_next(x, next);
-    if soon {
-        let kept = announce(words, more, order, queue, s, filled, next, w);
-        let session = kept.session;
-        return Arrived {
-            row,
-            used: more,
-            session,
-            filled: kept.filled,
-        };
-    }
-    let n = entries::count(words, more, row.id as u64);
-    let kept = crate::tell_row(queue, s, filled, on, row, n);
-    let session = kept.session;
-    Arrived {
-        row,
-        used: more,
-        session,
-        filled: kept.filled,
-    }
-}
-
-// Whether a new message of mailbox x is announced at once.
-fn is_soon(s: Session, x: Mailbox, selected: bool) -> bool
-    ensures { λ r. ⌜ r ≡ (selected && (bothRights x && selectedAsks s (asksBit 0))) ⌝ }
-{
-    if !selected {
-        return false;
-    }
-    if !mailboxes::both(x.attributes) {
-        return false;
-    }
-    told::selected_asks(s, 0)
-}
-
 // `ME` of a message of mailbox x, with a UID above all that were used there.
 pub fn receive(
     words: &mut [u64],
     used: usize,
-    order: &mut [usize],
     queue: &mut [u8],
     s: Session,
     filled: usize,
@@ -142,27 +85,41 @@ pub fn receive(
     flags: u64,
     size: u64,
 ) -> Arrived
-    requires { ⌜ ((used + 1) * 5 ≤ length (now words)) × (used + 1 ≤ 1024) × (used + 1 ≤ length (now order)) × (64 ≤ length (now queue)) × (length (now queue) ≤ 65536) × (filled ≤ 65536) × ((s .groupcount ≡ 0 → ⊥) → filled ≤ length (now queue) - 64) × (uid .0 ≤ 4294967294) ⌝ }
+    requires { ⌜ ((used + 1) * 5 ≤ length (now words)) × (used + 1 ≤ 1024) × (64 ≤ length (now queue)) × (length (now queue) ≤ 65536) × (filled ≤ 65536) × ((s .groupcount ≡ 0 → ⊥) → filled ≤ length (now queue) - 64) × (uid .0 ≤ 4294967294) ⌝ }
     ensures { λ r. ⌜ (r .row ≡ withNext x (uid .0 + 1)) × Leaves (receiveAfter (messages (now (words .entry))) used (now (queue .entry)) s filled x (uid .0) flags size) (now (words .entry)) (now (words .exit)) (r .used) (now (queue .exit)) (r .session) (r .filled) ⌝ }
 {
     let e = entries::fresh(x.id as u64, uid, flags, size);
     let next = uid.0 as u32 + 1;
+    entries::put(words, used, e);
+    let more = used + 1;
+    let row = with_next(x, next);
     let chosen = crate::is_chosen(s, x);
-    let soon = is_soon(s, x, chosen);
+    if crate::is_soon(s, x, chosen, 0) {
+        let kept = announce(words, more, queue, s, filled, next);
+        let session = kept.session;
+        return Arrived {
+            row,
+            used: more,
+            session,
+            filled: kept.filled,
+        };
+    }
     let on = crate::is_told(s, x, chosen, 0);
-    let w = crate::showing::shows(s);
-    arrive(
-        words,
-        used,
-        order,
-        queue,
-        s,
-        filled,
-        x,
-        next,
-        e,
-        soon,
-        on,
-        w,
-    )
+    if !on {
+        return Arrived {
+            row,
+            used: more,
+            session: s,
+            filled: filled as u64,
+        };
+    }
+    let said = crate::say_row(words, more, queue, filled, row);
+    let kept = out::hear(s, said);
+    let session = kept.session;
+    Arrived {
+        row,
+        used: more,
+        session,
+        filled: kept.filled,
+    }
 }

@@ -10,7 +10,7 @@ ghost use Prim.Native.Nat.{_*_, _-_, _≤_, _<_};
 ghost use lib.ListN.{length};
 ghost use Rattle.entries.specs.Words.{messages};
 ghost use Rattle.entries.specs.Laid.{laid};
-ghost use Rattle.mail.specs.After.{Leaves, takenOut, dropAfter, onceAfter, removeAfter};
+ghost use Rattle.mail.specs.After.{Leaves, takenOut, dropAfter, onceAfter};
 ghost use Rattle.mail.specs.Deciding.{expungeAfter};
 
 // Entry k is gone where its line was written, and else it waits.
@@ -43,8 +43,15 @@ fn drop_one(
 {
     entries::remove(words, used, k);
     let rest = used - 1;
-    let n = entries::count(words, rest, x.id as u64);
-    let kept = crate::tell_row(queue, s, filled, on, x, n);
+    if !on {
+        return Left {
+            used: rest,
+            session: s,
+            filled: filled as u64,
+        };
+    }
+    let said = crate::say_row(words, rest, queue, filled, x);
+    let kept = out::hear(s, said);
     let session = kept.session;
     Left {
         used: rest,
@@ -77,37 +84,6 @@ fn drop_now(
     }
 }
 
-// `XP` of entry k, of mailbox x, whose place in the view is n.
-pub fn remove(
-    words: &mut [u64],
-    used: usize,
-    queue: &mut [u8],
-    s: Session,
-    filled: usize,
-    k: usize,
-    x: Mailbox,
-    n: MessageNumber,
-    seen: bool,
-    once: bool,
-    on: bool,
-) -> Left
-    requires { ⌜ (k < used) × (used * 5 ≤ length (now words)) × (64 ≤ length (now queue)) × (length (now queue) ≤ 65536) × (filled ≤ 65536) × ((seen && once) ≡ true → filled ≤ length (now queue) - 64) × (on ≡ true → filled ≤ length (now queue) - 64) ⌝ }
-    ensures { λ r. ⌜ Leaves (removeAfter (messages (now (words .entry))) used (now (queue .entry)) s filled k x (n .0) seen once on) (now (words .entry)) (now (words .exit)) (r .used) (now (queue .exit)) (r .session) (r .filled) ⌝ }
-{
-    if !seen {
-        return drop_one(words, used, queue, s, filled, k, x, on);
-    }
-    if once {
-        return drop_now(words, used, queue, s, filled, k, n);
-    }
-    let rest = take_out(words, used, k, false);
-    Left {
-        used: rest,
-        session: s,
-        filled: filled as u64,
-    }
-}
-
 // `XP` of entry k, which is a message of mailbox x.
 pub fn expunge(
     words: &mut [u64],
@@ -125,11 +101,20 @@ pub fn expunge(
     let uid = e.uid;
     let below = Uid(s.told as u64);
     let chosen = crate::is_chosen(s, x);
-    let n = entries::place_of(words, used, s.selected as u64, below, uid);
-    let seen = crate::both(chosen, uid.0 < below.0);
+    if !crate::both(chosen, uid.0 < below.0) {
+        let on = crate::is_told(s, x, chosen, 1);
+        return drop_one(words, used, queue, s, filled, k, x, on);
+    }
     let rights = mailboxes::both(x.attributes);
     let asked = told::immediate_asks(s, 1);
-    let once = crate::both(rights, asked);
-    let on = crate::is_told(s, x, chosen, 1);
-    remove(words, used, queue, s, filled, k, x, n, seen, once, on)
+    if crate::both(rights, asked) {
+        let n = entries::place_of(words, used, s.selected as u64, below, uid);
+        return drop_now(words, used, queue, s, filled, k, n);
+    }
+    let rest = take_out(words, used, k, false);
+    Left {
+        used: rest,
+        session: s,
+        filled: filled as u64,
+    }
 }

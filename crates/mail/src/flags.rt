@@ -51,35 +51,6 @@ fn flag_now(
     }
 }
 
-// `FL` of entry k, whose place in the view is n: told at once, or kept as a mark, or told to nobody.
-pub fn reflag(
-    words: &mut [u64],
-    used: usize,
-    queue: &mut [u8],
-    s: Session,
-    filled: usize,
-    k: usize,
-    flags: u64,
-    n: MessageNumber,
-    once: bool,
-    waits: bool,
-) -> Left
-    requires { ⌜ ((k + 1) * 5 ≤ length (now words)) × (64 ≤ length (now queue)) × (length (now queue) ≤ 65536) × (filled ≤ 65536) × (once ≡ true → filled ≤ length (now queue) - 64) ⌝ }
-    ensures { λ r. ⌜ Leaves (flagAfter (messages (now (words .entry))) used (now (queue .entry)) s filled k flags (n .0) once waits) (now (words .entry)) (now (words .exit)) (r .used) (now (queue .exit)) (r .session) (r .filled) ⌝ }
-{
-    if once {
-        return flag_now(words, used, queue, s, filled, k, flags, n);
-    }
-    let e = entries::get(words, k);
-    let states = pick(waits, 2, e.states);
-    entries::put(words, k, entries::changed(e, flags, states));
-    Left {
-        used,
-        session: s,
-        filled: filled as u64,
-    }
-}
-
 // `FL` of entry k, which is a message of mailbox x.
 pub fn flag(
     words: &mut [u64],
@@ -98,11 +69,18 @@ pub fn flag(
     let uid = e.uid;
     let below = Uid(s.told as u64);
     let chosen = crate::is_chosen(s, x);
-    let n = entries::place_of(words, used, s.selected as u64, below, uid);
     let seen = crate::both(chosen, uid.0 < below.0);
+    if crate::is_soon(s, x, seen, 2) {
+        let n = entries::place_of(words, used, s.selected as u64, below, uid);
+        return flag_now(words, used, queue, s, filled, k, flags, n);
+    }
     let rights = mailboxes::both(x.attributes);
-    let asked = told::selected_asks(s, 2);
-    let once = crate::both(seen, crate::both(rights, asked));
     let waits = crate::both(seen, crate::both(rights, s.notified == 0));
-    reflag(words, used, queue, s, filled, k, flags, n, once, waits)
+    let states = pick(waits, 2, e.states);
+    entries::put(words, k, entries::changed(e, flags, states));
+    Left {
+        used,
+        session: s,
+        filled: filled as u64,
+    }
 }

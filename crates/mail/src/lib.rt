@@ -7,18 +7,18 @@ pub mod showing;
 
 use model::Mailbox;
 use model::Session;
-use out::Kept;
 use out::Said;
 ghost use mathlib.Core.Path.{_≡_};
 ghost use mathlib.Core.Bool.{true, false, not, _&&_};
-ghost use Prim.Native.Nat.{_-_, _≤_};
-ghost use lib.ListN.{length};
+ghost use Prim.Native.Nat.{_*_, _-_, _≤_};
+ghost use lib.ListN.{length, take};
 ghost use Rattle.model.specs.Memory.{nameOf, bothRights};
-ghost use Rattle.model.specs.Groups.{askedOf};
+ghost use Rattle.model.specs.Groups.{askedOf, selectedAsks};
 ghost use Rattle.model.specs.Lines.{status, render};
 ghost use Rattle.out.specs.Says.{Says};
 ghost use Rattle.told.specs.Asking.{asksBit};
-ghost use Rattle.mailboxes.specs.Heard.{Hears, heard};
+ghost use Rattle.entries.specs.Words.{messages};
+ghost use Rattle.mail.specs.After.{statusText};
 ghost use Rattle.mail.specs.Deciding.{isChosen};
 
 // What a record leaves besides the words and the queue's octets.
@@ -70,38 +70,16 @@ fn say_status(queue: &mut [u8], at: usize, name: &[u8], next: u64, messages: u64
     out::overflow(queue, at)
 }
 
-// The STATUS line, if somebody is told.
-fn tell_status(
-    queue: &mut [u8],
-    s: Session,
-    filled: usize,
-    on: bool,
-    name: &[u8],
-    next: u64,
-    messages: u64,
-) -> Kept
-    requires { ⌜ (64 ≤ length (now queue)) × (length (now queue) ≤ 65536) × (filled ≤ 65536) × (on ≡ true → filled ≤ length (now queue) - 64) × (length (now name) ≤ 64) ⌝ }
-    ensures { λ r. ⌜ Hears (heard (now (queue .entry)) s filled on (render (status (now (name .entry)) next messages))) (now (queue .exit)) (r .session) (r .filled) ⌝ }
+// The STATUS line of row x with its messages among the first used, or else the overflow line.
+fn say_row(words: &[u64], used: usize, queue: &mut [u8], at: usize, x: Mailbox) -> Said
+    requires { ⌜ (used * 5 ≤ length (now words)) × (64 ≤ length (now queue)) × (length (now queue) ≤ 65536) × (at ≤ length (now queue) - 64) ⌝ }
+    ensures { λ r. ⌜ Says (now (queue .entry)) at (statusText x (take used (messages (now (words .entry))))) (now (queue .exit)) (r .fits) (r .end) ⌝ }
 {
-    if !on {
-        return Kept {
-            session: s,
-            filled: filled as u64,
-        };
-    }
-    let said = say_status(queue, filled, name, next, messages);
-    out::hear(s, said)
-}
-
-// The STATUS of row x with so many messages, if somebody is told.
-pub fn tell_row(queue: &mut [u8], s: Session, filled: usize, on: bool, x: Mailbox, n: u64) -> Kept
-    requires { ⌜ (64 ≤ length (now queue)) × (length (now queue) ≤ 65536) × (filled ≤ 65536) × (on ≡ true → filled ≤ length (now queue) - 64) ⌝ }
-    ensures { λ r. ⌜ Hears (heard (now (queue .entry)) s filled on (render (status (nameOf x) (x .uidnext) n))) (now (queue .exit)) (r .session) (r .filled) ⌝ }
-{
+    let n = entries::count(words, used, x.id as u64);
     let o = x.name;
     let next = x.uidnext as u64;
     let end = mailboxes::name_end(x);
-    tell_status(queue, s, filled, on, &o[..end], next, n)
+    say_status(queue, at, &o[..end], next, n)
 }
 
 // Who is told of event k of a message in mailbox x: nobody where x is selected, or without both rights.
@@ -115,4 +93,17 @@ pub fn is_told(s: Session, x: Mailbox, selected: bool, k: u8) -> bool
         return false;
     }
     told::is_asked_of(s, x, k)
+}
+
+// Whether event k of a message of mailbox x is told at once, where the client sees it.
+pub fn is_soon(s: Session, x: Mailbox, seen: bool, k: u8) -> bool
+    ensures { λ r. ⌜ r ≡ (seen && (bothRights x && selectedAsks s (asksBit k))) ⌝ }
+{
+    if !seen {
+        return false;
+    }
+    if !mailboxes::both(x.attributes) {
+        return false;
+    }
+    told::selected_asks(s, k)
 }

@@ -104,11 +104,9 @@ pub fn arrive(
     if words.len() / 5 <= used {
         return outcomes::refused(Refusal::TableFull, counts, s);
     }
-    let mut order = [0usize; 1024];
     let came = mail::arrivals::receive(
         words,
         used,
-        &mut order,
         queue,
         s,
         counts.filled as usize,

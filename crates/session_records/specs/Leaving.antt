@@ -2,11 +2,11 @@
 use mathlib.Core.Path.{_≡_, refl, ap, ap₂, sym, _∙_}
 use mathlib.Core.Bool.{Bool, true, false, not, _&&_}
 use mathlib.Core.List.{List}
-use Prim.Native.Nat.{ℕ, _-_, _<_, _≤_}
+use Prim.Native.Nat.{ℕ, _*_, _-_, _<_, _≤_}
 use lib.Dec.{eqb, ltb}
-use lib.ListN.{length, take}
+use lib.ListN.{length, take, getD}
 use borrow.Author.Tests.{lt-ltb, le-ltb}
-use Rattle.model.specs.Memory.{Memory, boxes, filled, known, theMailbox, selectedBox, bothRights, withView}
+use Rattle.model.specs.Memory.{Memory, boxes, filled, noMessage, known, theMailbox, selectedBox, bothRights, withView}
 use Rattle.model.specs.Queue.{shifted}
 use Rattle.model.specs.Records.{select, ended, drained}
 use Rattle.model.specs.Refusals.{unfit}
@@ -23,6 +23,7 @@ use Rattle.entries.specs.Words.{messages}
 use Rattle.entries.specs.Laid.{laid, laid-own}
 use Rattle.ending.specs.After.{After, left, drainAfter, selectAfter, selectEntries, rests, drain-accepted, drain-answer, select-accepted, select-answer}
 use Rattle.ending.specs.Ending.{endAfter, endRest, Leaves}
+use Rattle.ending.specs.Quiet.{owes, leaves-all}
 use Rattle.ending.specs.Accepted.{end-answer}
 use Rattle.ending.specs.Closing.{end-accepted}
 use Rattle.ending.specs.declared.Closed.{Closed}
@@ -90,6 +91,12 @@ module _ (m : Memory) (ws : List ℕ) (k : Counts) (s : Session) (q : List ℕ) 
         ∙ (ap (endRest (messages ws) (k .messages) q s (k .filled) (eqb c 1)) (sym j) ∙ sym (y .rest)))))
         (end-accepted m law c ∙ ap₂ (λ (v : Bool) (z : Mailbox). left m (endAfter (m .entries) (m .counts .messages) (m .queue) (m .session) (filled m) (eqb c 1) v (z .uidnext))) (sym j) (sym is))
         (y .words) (y .used) (y .queue) (y .session) (y .filled) e
+
+    -- no line is owed: nothing changes
+    pub end-unowed : k .messages * 5 ≤ length ws → ((i : ℕ) → i < k .messages → owes (s .selected) (s .told) (getD (messages ws) i noMessage) ≡ false) → r ≡ quiet (Counted 0) k s → Comes m (ladder m (ended c)) r ws ws q
+    end-unowed h none e =
+        end-comes (bothRights x) refl (record { session = s; used = k .messages; filled = k .filled; rest = 0 })
+        (leaves-all ws (k .messages) q s (k .filled) (eqb c 1) (x .uidnext) h none (bothRights x)) e
 
   -- ---- `SE`
   module _ (law : Law m) (i at : ℕ) (x : Mailbox) (w : Placed m i at x) (r : Came) where

@@ -4,6 +4,7 @@ use model::Counts;
 use model::Mailbox;
 use model::Refusal;
 use model::Session;
+use model::Uid;
 use outcomes::Outcome;
 ghost use mathlib.Core.Path.{_≡_};
 ghost use mathlib.Core.Bool.{not, _&&_};
@@ -92,11 +93,15 @@ pub fn end_command(
     requires { ⌜ Ready (now words) counts s (now queue) ⌝ }
     ensures { λ r. ⌜ ((m : Memory) → Lends m (now (words .entry)) counts s (now (queue .entry)) → Law m → x ≡ selectedBox m → Comes m (ladder m (ended class)) r (now (words .entry)) (now (words .exit)) (now (queue .exit))) ⌝ }
 {
+    let used = counts.messages as usize;
+    if !ending::is_owed(words, used, s.selected as u64, Uid(s.told as u64)) {
+        return outcomes::unmoved(Answer::Counted(0), counts, s);
+    }
     let mut order = [0usize; 1024];
     let rights = mailboxes::both(x.attributes);
     let closed = ending::end_command(
         words,
-        counts.messages as usize,
+        used,
         queue,
         &mut order,
         s,

@@ -1,33 +1,33 @@
+-- `settle`: an idle pass leaves all; else those that stay move up, and what was freed is wiped. Assumes nothing.
 use borrow.Author.Needs.{needs}
 use Rattle.entries.proofs.settle.Statement.{statement}
 use Rattle.entries.proofs.settle.Tie as tie
-use Rattle.entries.proofs.settle.Reads as reads
-use Rattle.entries.proofs.settle.Lts as lts
-use Rattle.entries.proofs.compact.Reads as compact-reads
-use Rattle.entries.proofs.wipe.Reads as wipe-reads
-use mathlib.Core.Path.{_≡_, refl, sym, _∙_, ap}
-use native.Mathlib.Omega.{arith}
+use mathlib.Core.Path.{sym, _∙_}
 use lib.ListN.{take}
 use Rattle.entries.specs.Words.{messages}
-use Rattle.entries.specs.Swept.{kept, settled}
+use Rattle.entries.specs.Swept.{kept, settled, unsettled}
 
--- src/lib.rt:156:9
+is-idle-requires : tie.Need-is-idle-requires
+is-idle-requires c κs = search needs
+
+returns : tie.Need-returns
+returns c = unsettled (c .before .before .before .args .sweep) (c .before .before .before .args .words .now) (c .before .before .before .args .used) (c .before .before .before .pre) (sym (c .before .is-idle .ensures) ∙ c .if1 .taken)
+
 compact-requires : tie.Need-compact-requires
 compact-requires c κs = search needs
 
--- src/lib.rt:157:5
 wipe-requires : tie.Need-wipe-requires
 wipe-requires c κs = search needs
 
--- src/lib.rt:152:1
 same-length : tie.Need-same-length
 same-length c = search needs
 
--- src/lib.rt:152:1
-returns : tie.Need-returns
-returns c = let a = c .before .before .before .before .before .before .before .before .before .args in
+returns-2 : tie.Need-returns-2
+returns-2 c = let a = c .before .before .before .before .before .before .before .before .before .before .before .args in
     let o = c .before .before .before .before .before .before .compact in
     (settled (a .words .now) _ _ (kept (a .sweep) (take (a .used) (messages (a .words .now)))) (o .result) (a .used) (o .ensures .1) (o .ensures .2) (o .ensures .0) (c .before .before .wipe .ensures), o .ensures .1, o .ensures .2)
 
 pub settle-spec : {M : Type 1} → statement M
-settle-spec = tie.close (tie.spec compact-requires wipe-requires same-length returns)
+settle-spec =
+    tie.close
+    (tie.spec is-idle-requires returns compact-requires wipe-requires same-length returns-2)

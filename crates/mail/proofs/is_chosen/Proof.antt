@@ -10,7 +10,7 @@ use native.Mathlib.Omega.{arith}
 use borrow.Author.Tests.{not-true, not-false, eq-eqb, ne-eqb}
 use Rattle.model.specs.Memory.{bothRights}
 use Rattle.entries.specs.Words.{messages}
-use Rattle.mail.specs.Deciding.{expungeAfter, reflagAfter, once-some, told-some, expunge-as, reflag-as}
+use Rattle.mail.specs.Deciding.{isChosen}
 
 returns : tie.Need-returns
 returns c = rw (eq-eqb (c .before .before .args .x .id) 0 (c .if1 .taken))

@@ -32,17 +32,14 @@ returns-3 : tie.Need-returns-3
 returns-3 c = let a = c .before .before .before .before .before .before .before .before .args in
     λ m lent law w. arrive-full m (a .words .now) (a .counts) (a .s) (a .queue .now) lent law (a .id) (a .k) (a .x) w (a .uid .0) (a .flags) (a .size) (c .refused3 .result) (omega (arith, c .before .before .before .before .before .if1 .left)) (omega (arith, c .before .before .if2 .left)) (omega (arith, c .before .if3 .taken)) (c .refused3 .ensures)
 
-slice-aggregate-receive : tie.Need-slice-aggregate-receive
-slice-aggregate-receive c = search needs
-
 receive-requires : tie.Need-receive-requires
-receive-requires c κs = let a = c .before .before .before .before .before .before .before .before .before .before .args in
-    let pre = c .before .before .before .before .before .before .before .before .before .before .pre in
+receive-requires c κs = let a = c .before .before .before .before .before .before .before .before .before .args in
+    let pre = c .before .before .before .before .before .before .before .before .before .pre in
     let z = sizes (length (a .queue .now)) (a .counts .filled) (a .s) (pre .0 .room) in
     let low = z .low in
     let high = z .high in
     let most = z .filled in
-    (omega (arith, c .before .before .before .if3 .left), omega (arith, c .before .before .before .if3 .left, pre .1), search needs, omega (arith, low), omega (arith, high), omega (arith, high, most), some-free (length (a .queue .now)) (a .counts .filled) (a .s) (pre .0 .room), pre .2)
+    (omega (arith, c .before .before .if3 .left), omega (arith, c .before .before .if3 .left, pre .1), omega (arith, low), omega (arith, high), omega (arith, high, most), some-free (length (a .queue .now)) (a .counts .filled) (a .s) (pre .0 .room), pre .2)
 
 put-requires : tie.Need-put-requires
 put-requires c κs = search needs
@@ -54,8 +51,9 @@ same-length-2 : tie.Need-same-length-2
 same-length-2 c = search needs
 
 returns-4 : tie.Need-returns-4
-returns-4 c = let a = c .before .before .before .before .before .before .before .before .before .before .before .before .before .before .before .before .before .before .before .args in
-    λ m lent law w. arrive-done m (a .words .now) (a .counts) (a .s) (a .queue .now) lent law (a .id) (a .k) (a .x) w (a .uid .0) (a .flags) (a .size) (c .put .result) (omega (arith, c .before .before .before .before .before .before .before .before .before .before .before .before .before .before .before .before .if1 .left)) (omega (arith, c .before .before .before .before .before .before .before .before .before .before .before .before .before .if2 .left)) _ (c .before .before .before .before .before .before .before .before .receive .result .used) _ (c .before .before .before .before .before .before .before .before .receive .result .session) (c .before .before .before .before .before .before .before .before .receive .result .filled) (c .before .before .before .before .before .before .before .before .receive .result .row) (omega (arith, c .before .before .before .before .before .before .before .before .before .before .before .before .if3 .left)) (c .before .before .before .before .before .before .before .before .receive .ensures .0) (c .before .before .before .before .before .before .before .before .receive .ensures .1) (c .put .ensures)
+returns-4 c = let a = c .before .before .before .before .before .before .before .before .before .before .before .before .before .before .before .before .before .args in
+    let came = c .before .before .before .before .before .before .before .receive in
+    λ m lent law w. arrive-done m (a .words .now) (a .counts) (a .s) (a .queue .now) lent law (a .id) (a .k) (a .x) w (a .uid .0) (a .flags) (a .size) (c .put .result) (omega (arith, c .before .before .before .before .before .before .before .before .before .before .before .before .before .before .if1 .left)) (omega (arith, c .before .before .before .before .before .before .before .before .before .before .before .if2 .left)) _ (came .result .used) _ (came .result .session) (came .result .filled) (came .result .row) (omega (arith, c .before .before .before .before .before .before .before .before .before .before .if3 .left)) (came .ensures .0) (came .ensures .1) (c .put .ensures)
 
 pub arrive-spec : {M : Type 1} → statement M
 arrive-spec =
@@ -68,7 +66,6 @@ arrive-spec =
     returns-2
     refused-requires-3
     returns-3
-    slice-aggregate-receive
     receive-requires
     put-requires
     same-length

@@ -1,12 +1,18 @@
--- `receive`: `ME` with all that code finds by itself. Assumes nothing.
+-- `receive`: the message is stored; all that is new is announced, or STATUS is told, or neither. Assumes nothing.
 use borrow.Author.Needs.{needs}
 use mathlib.Core.Path.{refl, sym}
-use mathlib.Core.Bool.{not}
+use mathlib.Core.Bool.{not, _&&_}
 use Prim.Native.Nat.{_+_}
-use Rattle.model.specs.Memory.{bothRights}
+use borrow.Author.Tests.{not-true, not-false}
+use Rattle.model.specs.Memory.{bothRights, withNext}
+use Rattle.model.specs.Groups.{askedOf}
 use Rattle.entries.specs.Words.{messages}
+use Rattle.told.specs.Asking.{asksBit}
+use Rattle.mailboxes.specs.Heard.{hears-none}
+use Rattle.mail.specs.After.{put-one, hears-said, status-leaves, news-leaves}
 use Rattle.mail.specs.Deciding.{told-some}
 use Rattle.mail.specs.Receiving.{soon-some, receive-as}
+use Rattle.mail.specs.Shown.{showsOf}
 use Rattle.mail.proofs.arrivals.receive.Statement.{statement}
 use Rattle.mail.proofs.arrivals.receive.Tie as tie
 
@@ -22,30 +28,25 @@ cast-next c = search needs
 add-next : tie.Need-add-next
 add-next c = search needs
 
+put-requires : tie.Need-put-requires
+put-requires c κs = search needs
+
+add-more : tie.Need-add-more
+add-more c = search needs
+
+with-next-requires : tie.Need-with-next-requires
+with-next-requires c κs = search needs
+
 is-chosen-requires : tie.Need-is-chosen-requires
 is-chosen-requires c κs = search needs
 
 is-soon-requires : tie.Need-is-soon-requires
 is-soon-requires c κs = search needs
 
-is-told-requires : tie.Need-is-told-requires
-is-told-requires c κs = search needs
-
-shows-requires : tie.Need-shows-requires
-shows-requires c κs = search needs
-
-arrive-requires : tie.Need-arrive-requires
-arrive-requires c κs = let a = c .before .before .before .before .before .before .before .before .before .before .before .before .before .args in
-    let pre = c .before .before .before .before .before .before .before .before .before .before .before .before .before .pre in (
-      pre .0,
-      pre .1,
-      pre .2,
-      pre .3,
-      pre .4,
-      pre .5,
-      λ z. pre .6 (soon-some (a .s) (c .before .before .before .before .before .is-soon .result) (c .before .before .before .before .before .before .is-chosen .result) (bothRights (a .x)) (c .before .before .before .before .before .is-soon .ensures) z),
-      λ z. pre .6 (told-some (a .s) (c .before .before .before .before .is-told .result) (not (c .before .before .before .before .before .before .is-chosen .result)) (bothRights (a .x)) _ (c .before .before .before .before .is-told .ensures) z),
-    )
+announce-requires : tie.Need-announce-requires
+announce-requires c κs = let a = c .before .before .before .before .before .before .before .before .before .before .before .before .before .before .before .args in
+    let pre = c .before .before .before .before .before .before .before .before .before .before .before .before .before .before .before .pre in
+    (search needs, pre .1, pre .2, pre .3, pre .5 (soon-some (a .s) (c .before .before .before .is-soon .result) (c .before .before .before .before .is-chosen .result) (bothRights (a .x)) (c .before .before .before .is-soon .ensures) (c .before .before .if1 .taken)))
 
 same-length : tie.Need-same-length
 same-length c = search needs
@@ -53,15 +54,53 @@ same-length c = search needs
 same-length-2 : tie.Need-same-length-2
 same-length-2 c = search needs
 
+returns : tie.Need-returns
+returns c = let a = c .before .before .before .before .before .before .before .before .before .before .before .before .before .before .before .before .before .before .before .args in (
+  c .before .before .before .before .before .before .before .before .before .with-next .ensures,
+  rw (sym (receive-as (messages (a .words .now)) (a .used) (a .queue .now) (a .s) (a .filled) (a .x) (a .uid .0) (a .flags) (a .size) (a .uid .0 + 1) (c .before .before .before .before .before .before .before .before .before .before .before .before .before .before .before .fresh .result) (c .before .before .before .before .before .before .before .before .is-chosen .result) (c .before .before .before .before .before .before .before .is-soon .result) (not (c .before .before .before .before .before .before .before .before .is-chosen .result) && (bothRights (a .x) && askedOf (a .s) (a .x) (asksBit 0))) (showsOf (a .s))
+      refl (c .before .before .before .before .before .before .before .before .before .before .before .before .before .before .before .fresh .ensures) (c .before .before .before .before .before .before .before .before .is-chosen .ensures) (c .before .before .before .before .before .before .before .is-soon .ensures) refl refl))
+      (news-leaves (messages (a .words .now)) (a .used) (a .queue .now) (a .s) (a .filled) (withNext (a .x) (a .uid .0 + 1)) (c .before .before .before .before .before .before .before .before .before .before .before .before .before .before .before .fresh .result) (c .before .before .before .before .before .before .before .is-soon .result) (not (c .before .before .before .before .before .before .before .before .is-chosen .result) && (bothRights (a .x) && askedOf (a .s) (a .x) (asksBit 0))) (showsOf (a .s)) (a .words .now) _ _ _ _ (c .before .before .before .before .before .before .if1 .taken)
+      (put-one (a .words .now) _ (a .used) (c .before .before .before .before .before .before .before .before .before .before .before .before .before .before .before .fresh .result) (c .before .before .before .before .before .before .before .before .before .before .before .before .put .ensures) (c .before .before .before .before .before .before .before .before .before .before .before .before .before .before .before .before .before .before .before .pre .0)) (c .before .before .before .announce .ensures)),
+)
+
+is-told-requires : tie.Need-is-told-requires
+is-told-requires c κs = search needs
+
 same-length-3 : tie.Need-same-length-3
 same-length-3 c = search needs
 
-returns : tie.Need-returns
-returns c = let a = c .before .before .before .before .before .before .before .before .before .before .before .before .before .before .before .before .before .before .before .before .args in (
-  c .before .before .before .before .before .before .arrive .ensures .0,
-  rw (sym (receive-as (messages (a .words .now)) (a .used) (a .queue .now) (a .s) (a .filled) (a .x) (a .uid .0) (a .flags) (a .size) (a .uid .0 + 1) (c .before .before .before .before .before .before .before .before .before .before .before .before .before .before .before .fresh .result) (c .before .before .before .before .before .before .before .before .before .before .before .before .before .is-chosen .result) (c .before .before .before .before .before .before .before .before .before .before .before .before .is-soon .result) (c .before .before .before .before .before .before .before .before .before .before .before .is-told .result) (c .before .before .before .before .before .before .before .before .before .before .shows .result)
-      refl (c .before .before .before .before .before .before .before .before .before .before .before .before .before .before .before .fresh .ensures) (c .before .before .before .before .before .before .before .before .before .before .before .before .before .is-chosen .ensures) (c .before .before .before .before .before .before .before .before .before .before .before .before .is-soon .ensures) (c .before .before .before .before .before .before .before .before .before .before .before .is-told .ensures) (c .before .before .before .before .before .before .before .before .before .before .shows .ensures)))
-      (c .before .before .before .before .before .before .arrive .ensures .1),
+returns-2 : tie.Need-returns-2
+returns-2 c = let a = c .before .before .before .before .before .before .before .before .before .before .before .before .before .before .before .args in (
+  c .before .before .before .before .before .with-next .ensures,
+  rw (sym (receive-as (messages (a .words .now)) (a .used) (a .queue .now) (a .s) (a .filled) (a .x) (a .uid .0) (a .flags) (a .size) (a .uid .0 + 1) (c .before .before .before .before .before .before .before .before .before .before .before .fresh .result) (c .before .before .before .before .is-chosen .result) (c .before .before .before .is-soon .result) (c .before .is-told .result) (showsOf (a .s))
+      refl (c .before .before .before .before .before .before .before .before .before .before .before .fresh .ensures) (c .before .before .before .before .is-chosen .ensures) (c .before .before .before .is-soon .ensures) (c .before .is-told .ensures) refl))
+      (status-leaves (messages (a .words .now)) (a .used) (a .queue .now) (a .s) (a .filled) (withNext (a .x) (a .uid .0 + 1)) (c .before .before .before .before .before .before .before .before .before .before .before .fresh .result) (c .before .before .before .before .before .with-next .result) (c .before .before .before .is-soon .result) (c .before .is-told .result) (showsOf (a .s)) (a .words .now) _ _ _ _ (c .before .before .if1 .left) (c .before .before .before .before .before .with-next .ensures)
+      (put-one (a .words .now) _ (a .used) (c .before .before .before .before .before .before .before .before .before .before .before .fresh .result) (c .before .before .before .before .before .before .before .before .put .ensures) (c .before .before .before .before .before .before .before .before .before .before .before .before .before .before .before .pre .0))
+      (hears-none _ _ _ (c .before .is-told .result) _ (not-true (c .before .is-told .result) (c .if2 .taken)))),
+)
+
+say-row-requires : tie.Need-say-row-requires
+say-row-requires c κs = let a = c .before .before .before .before .before .before .before .before .before .before .before .before .before .before .before .before .before .args in
+    let pre = c .before .before .before .before .before .before .before .before .before .before .before .before .before .before .before .before .before .pre in
+    (search needs, pre .2, pre .3, pre .5 (told-some (a .s) (c .before .before .before .is-told .result) (not (c .before .before .before .before .before .before .is-chosen .result)) (bothRights (a .x)) _ (c .before .before .before .is-told .ensures) (not-false (c .before .before .before .is-told .result) (c .before .before .if2 .left))))
+
+hear-requires : tie.Need-hear-requires
+hear-requires c κs = search needs
+
+same-length-4 : tie.Need-same-length-4
+same-length-4 c = search needs
+
+same-length-5 : tie.Need-same-length-5
+same-length-5 c = search needs
+
+returns-3 : tie.Need-returns-3
+returns-3 c = let a = c .before .before .before .before .before .before .before .before .before .before .before .before .before .before .before .before .before .before .before .before .before .before .args in (
+  c .before .before .before .before .before .before .before .before .before .before .before .before .with-next .ensures,
+  rw (sym (receive-as (messages (a .words .now)) (a .used) (a .queue .now) (a .s) (a .filled) (a .x) (a .uid .0) (a .flags) (a .size) (a .uid .0 + 1) (c .before .before .before .before .before .before .before .before .before .before .before .before .before .before .before .before .before .before .fresh .result) (c .before .before .before .before .before .before .before .before .before .before .before .is-chosen .result) (c .before .before .before .before .before .before .before .before .before .before .is-soon .result) (c .before .before .before .before .before .before .before .before .is-told .result) (showsOf (a .s))
+      refl (c .before .before .before .before .before .before .before .before .before .before .before .before .before .before .before .before .before .before .fresh .ensures) (c .before .before .before .before .before .before .before .before .before .before .before .is-chosen .ensures) (c .before .before .before .before .before .before .before .before .before .before .is-soon .ensures) (c .before .before .before .before .before .before .before .before .is-told .ensures) refl))
+      (status-leaves (messages (a .words .now)) (a .used) (a .queue .now) (a .s) (a .filled) (withNext (a .x) (a .uid .0 + 1)) (c .before .before .before .before .before .before .before .before .before .before .before .before .before .before .before .before .before .before .fresh .result) (c .before .before .before .before .before .before .before .before .before .before .before .before .with-next .result) (c .before .before .before .before .before .before .before .before .before .before .is-soon .result) (c .before .before .before .before .before .before .before .before .is-told .result) (showsOf (a .s)) (a .words .now) _ _ _ _ (c .before .before .before .before .before .before .before .before .before .if1 .left) (c .before .before .before .before .before .before .before .before .before .before .before .before .with-next .ensures)
+      (put-one (a .words .now) _ (a .used) (c .before .before .before .before .before .before .before .before .before .before .before .before .before .before .before .before .before .before .fresh .result) (c .before .before .before .before .before .before .before .before .before .before .before .before .before .before .before .put .ensures) (c .before .before .before .before .before .before .before .before .before .before .before .before .before .before .before .before .before .before .before .before .before .before .pre .0))
+      (rw (not-false (c .before .before .before .before .before .before .before .before .is-told .result) (c .before .before .before .before .before .before .before .if2 .left)) (hears-said _ _ _ _ _ _ _ _ _ (c .before .before .before .before .say-row .ensures) (c .before .hear .ensures .0) (c .before .hear .ensures .1)))),
 )
 
 pub receive-spec : {M : Type 1} → statement M
@@ -72,12 +111,20 @@ receive-spec =
     fresh-requires
     cast-next
     add-next
+    put-requires
+    add-more
+    with-next-requires
     is-chosen-requires
     is-soon-requires
-    is-told-requires
-    shows-requires
-    arrive-requires
+    announce-requires
     same-length
     same-length-2
+    returns
+    is-told-requires
     same-length-3
-    returns)
+    returns-2
+    say-row-requires
+    hear-requires
+    same-length-4
+    same-length-5
+    returns-3)

@@ -1,57 +1,40 @@
+-- `flag`: who is told is found, and the place in the view where a line needs it. Assumes nothing.
 use borrow.Author.Needs.{needs}
-use Rattle.mail.proofs.flags.flag.Statement.{statement}
-use Rattle.mail.proofs.flags.flag.Tie as tie
-use Rattle.mail.proofs.flags.flag.Reads as reads
-use Rattle.mail.proofs.flags.flag.Lts as lts
-use mathlib.Core.Path.{_≡_, refl, sym, _∙_, ap, ap₂}
-use mathlib.Core.Bool.{Bool, true, false, not, cond, _&&_}
-use Prim.Native.Nat.{_+_}
-use lib.Dec.{eqb}
+use mathlib.Core.Path.{_∙_, sym, ap}
+use mathlib.Core.Bool.{Bool, _&&_}
 use native.Mathlib.Omega.{arith}
-use borrow.Author.Tests.{not-true, not-false, eq-eqb, ne-eqb}
+use lib.Dec.{eqb}
 use Rattle.model.specs.Memory.{bothRights}
 use Rattle.entries.specs.Words.{messages}
-use Rattle.mail.specs.Deciding.{expungeAfter, reflagAfter, once-some, told-some, expunge-as, reflag-as}
+use Rattle.mail.specs.Flagged.{flag-quiet}
+use Rattle.mail.specs.Deciding.{told-some, reflag-tells, reflag-waits}
+use Rattle.mail.proofs.flags.flag.Statement.{statement}
+use Rattle.mail.proofs.flags.flag.Tie as tie
 
 get-requires : tie.Need-get-requires
 get-requires c κs = search needs
 
-cast-place-of : tie.Need-cast-place-of
-cast-place-of c = search needs
+cast-t20 : tie.Need-cast-t20
+cast-t20 c = search needs
 
 is-chosen-requires : tie.Need-is-chosen-requires
 is-chosen-requires c κs = search needs
 
-cast-place-of-2 : tie.Need-cast-place-of-2
-cast-place-of-2 c = search needs
+both-requires : tie.Need-both-requires
+both-requires c κs = search needs
+
+is-soon-requires : tie.Need-is-soon-requires
+is-soon-requires c κs = search needs
+
+cast-place-of : tie.Need-cast-place-of
+cast-place-of c = search needs
 
 place-of-requires : tie.Need-place-of-requires
 place-of-requires c κs = search needs
 
-both-requires : tie.Need-both-requires
-both-requires c κs = search needs
-
-both-requires-2 : tie.Need-both-requires-2
-both-requires-2 c κs = search needs
-
-selected-asks-requires : tie.Need-selected-asks-requires
-selected-asks-requires c κs = search needs
-
-both-requires-3 : tie.Need-both-requires-3
-both-requires-3 c κs = search needs
-
-both-requires-4 : tie.Need-both-requires-4
-both-requires-4 c κs = search needs
-
-both-requires-5 : tie.Need-both-requires-5
-both-requires-5 c κs = search needs
-
-both-requires-6 : tie.Need-both-requires-6
-both-requires-6 c κs = search needs
-
-reflag-requires : tie.Need-reflag-requires
-reflag-requires c κs = let a = c .before .before .before .before .before .before .before .before .before .before .before .before .before .before .before .before .before .before .before .before .before .before .args in
-    (omega (arith, c .before .before .before .before .before .before .before .before .before .before .before .before .before .before .before .before .before .before .before .before .before .before .pre .0, c .before .before .before .before .before .before .before .before .before .before .before .before .before .before .before .before .before .before .before .before .before .before .pre .1), c .before .before .before .before .before .before .before .before .before .before .before .before .before .before .before .before .before .before .before .before .before .before .pre .2, c .before .before .before .before .before .before .before .before .before .before .before .before .before .before .before .before .before .before .before .before .before .before .pre .3, c .before .before .before .before .before .before .before .before .before .before .before .before .before .before .before .before .before .before .before .before .before .before .pre .4, λ z. c .before .before .before .before .before .before .before .before .before .before .before .before .before .before .before .before .before .before .before .before .before .before .pre .5 (once-some (a .s) (c .before .before .before .before .before .before .before .before .before .both .result) (c .before .before .before .before .before .before .both3 .result) (c .before .before .before .before .before .before .before .before .both2 .result) (c .before .before .before .before .before .before .before .selected-asks .result) _ (c .before .before .before .before .before .before .both3 .ensures) (c .before .before .before .before .before .before .before .selected-asks .ensures) (sym (c .before .before .before .before .before .both4 .ensures) ∙ z)))
+flag-now-requires : tie.Need-flag-now-requires
+flag-now-requires c κs = let pre = c .before .before .before .before .before .before .before .before .before .before .before .before .before .before .before .before .before .pre in
+    (omega (arith, pre .0, pre .1), pre .2, pre .3, pre .5 (told-some (c .before .before .before .before .before .before .before .before .before .before .before .before .before .before .before .before .before .args .s) (c .before .before .before .before .before .before .is-soon .result) (c .before .before .before .before .before .before .before .both .result) (bothRights (c .before .before .before .before .before .before .before .before .before .before .before .before .before .before .before .before .before .args .x)) _ (c .before .before .before .before .before .before .is-soon .ensures) (c .before .before .before .before .before .if1 .taken)))
 
 same-length : tie.Need-same-length
 same-length c = search needs
@@ -60,29 +43,58 @@ same-length-2 : tie.Need-same-length-2
 same-length-2 c = search needs
 
 returns : tie.Need-returns
-returns c = let a = c .before .before .before .before .before .before .before .before .before .before .before .before .before .before .before .before .before .before .before .before .before .before .before .before .before .before .before .args in
-    rw (sym (reflag-as (messages (a .words .now)) (a .used) (a .queue .now) (a .s) (a .filled) (a .k) (a .x) (c .before .before .before .before .before .before .before .before .before .before .before .before .before .before .before .before .before .before .before .before .before .before .before .get .result) (c .before .before .before .before .before .before .before .before .before .before .before .before .before .before .before .before .before .before .before .before .before .before .before .get .ensures) (c .before .before .before .before .before .before .before .before .before .before .before .before .before .before .before .before .before .place-of .result .0) (c .before .before .before .before .before .before .before .before .before .before .before .before .before .before .before .before .before .place-of .ensures) (c .before .before .before .before .before .before .before .before .before .before .before .before .before .before .before .before .before .before .before .before .is-chosen .result) (c .before .before .before .before .before .before .before .before .before .before .before .before .before .before .both .result) (c .before .before .before .before .before .before .before .before .before .before .before .before .before .before .before .before .before .before .before .before .is-chosen .ensures) (c .before .before .before .before .before .before .before .before .before .before .before .before .before .before .both .ensures) (a .flags) (c .before .before .before .before .before .before .before .before .before .before .both4 .result) (c .before .before .before .before .before .before .before .both6 .result)
-    (c .before .before .before .before .before .before .before .before .before .before .both4 .ensures ∙ ap (λ (b : Bool). c .before .before .before .before .before .before .before .before .before .before .before .before .before .before .both .result && b) (c .before .before .before .before .before .before .before .before .before .before .before .both3 .ensures ∙ ap₂ _&&_ (c .before .before .before .before .before .before .before .before .before .before .before .before .before .both2 .ensures) (c .before .before .before .before .before .before .before .before .before .before .before .before .selected-asks .ensures)))
-    (c .before .before .before .before .before .before .before .both6 .ensures ∙ ap (λ (b : Bool). c .before .before .before .before .before .before .before .before .before .before .before .before .before .before .both .result && b) (c .before .before .before .before .before .before .before .before .both5 .ensures ∙ ap (λ (b : Bool). b && eqb (a .s .notified) 0) (c .before .before .before .before .before .before .before .before .before .before .before .before .before .both2 .ensures)))))
-    (c .before .before .before .before .reflag .ensures)
+returns c = let a = c .before .before .before .before .before .before .before .before .before .before .before .before .before .before .before .before .before .before .before .before .before .before .args in
+    reflag-tells (messages (a .words .now)) (a .used) (a .queue .now) (a .s) (a .filled) (a .k) (a .x) (c .before .before .before .before .before .before .before .before .before .before .before .before .before .before .before .before .before .before .get .result) (c .before .before .before .before .before .before .before .before .before .before .before .before .before .before .before .before .before .before .get .ensures) (c .before .before .before .before .before .before .before .before .before .before .before .before .before .before .before .is-chosen .result) (c .before .before .before .before .before .before .before .before .before .before .before .before .both .result) (c .before .before .before .before .before .before .before .before .before .before .before .before .before .before .before .is-chosen .ensures) (c .before .before .before .before .before .before .before .before .before .before .before .before .both .ensures) (a .words .now) _ _ _ _ _
+    (a .flags) (c .before .before .before .before .before .before .before .before .before .before .before .is-soon .result) (c .before .before .before .before .before .before .before .before .before .before .before .is-soon .ensures) (c .before .before .before .before .before .before .before .place-of .result .0) (c .before .before .before .before .before .before .before .place-of .ensures) (c .before .before .before .before .before .before .before .before .before .before .if1 .taken) (c .before .before .before .before .flag-now .ensures)
+
+both-requires-2 : tie.Need-both-requires-2
+both-requires-2 c κs = search needs
+
+both-requires-3 : tie.Need-both-requires-3
+both-requires-3 c κs = search needs
+
+both-requires-4 : tie.Need-both-requires-4
+both-requires-4 c κs = search needs
+
+pick-requires : tie.Need-pick-requires
+pick-requires c κs = search needs
+
+changed-requires : tie.Need-changed-requires
+changed-requires c κs = search needs
+
+put-requires : tie.Need-put-requires
+put-requires c κs = omega (arith, c .before .before .before .before .before .before .before .before .before .before .before .before .before .before .before .before .before .before .before .pre .0, c .before .before .before .before .before .before .before .before .before .before .before .before .before .before .before .before .before .before .before .pre .1)
+
+same-length-3 : tie.Need-same-length-3
+same-length-3 c = search needs
+
+returns-2 : tie.Need-returns-2
+returns-2 c = let a = c .before .before .before .before .before .before .before .before .before .before .before .before .before .before .before .before .before .before .before .before .before .before .args in
+    reflag-waits (messages (a .words .now)) (a .used) (a .queue .now) (a .s) (a .filled) (a .k) (a .x) (c .before .before .before .before .before .before .before .before .before .before .before .before .before .before .before .before .before .before .get .result) (c .before .before .before .before .before .before .before .before .before .before .before .before .before .before .before .before .before .before .get .ensures) (c .before .before .before .before .before .before .before .before .before .before .before .before .before .before .before .is-chosen .result) (c .before .before .before .before .before .before .before .before .before .before .before .before .both .result) (c .before .before .before .before .before .before .before .before .before .before .before .before .before .before .before .is-chosen .ensures) (c .before .before .before .before .before .before .before .before .before .before .before .before .both .ensures) (a .words .now) _ _ _ _ _
+    (a .flags) (c .before .before .before .before .before .before .before .before .before .before .before .is-soon .result) (c .before .before .before .before .before .before .before .before .before .before .before .is-soon .ensures) (c .before .before .before .before .before .before .both4 .result)
+    (c .before .before .before .before .before .before .both4 .ensures ∙ ap (λ (b : Bool). c .before .before .before .before .before .before .before .before .before .before .before .before .both .result && b) (c .before .before .before .before .before .before .before .both3 .ensures ∙ ap (λ (b : Bool). b && eqb (a .s .notified) 0) (c .before .before .before .before .before .before .before .before .before .both2 .ensures)))
+    (flag-quiet (a .words .now) _ (a .used) (a .queue .now) (a .s) (a .filled) (a .k) (a .flags) _ (c .before .before .before .before .before .before .before .before .before .before .before .before .before .before .before .before .before .before .get .result) (c .before .before .before .changed .result) (c .before .before .before .before .before .pick .result) (c .before .before .before .before .before .before .before .before .before .before .before .before .before .before .before .before .before .before .get .ensures) (c .before .before .before .changed .ensures) (c .before .before .put .ensures) (omega (arith, c .before .before .before .before .before .before .before .before .before .before .before .before .before .before .before .before .before .before .before .before .before .before .pre .0, c .before .before .before .before .before .before .before .before .before .before .before .before .before .before .before .before .before .before .before .before .before .before .pre .1)) (c .before .before .before .before .before .before .before .before .before .before .before .is-soon .result) (c .before .before .before .before .before .before .both4 .result) (c .before .before .before .before .before .before .before .before .before .before .if1 .left) (c .before .before .before .before .before .pick .ensures))
 
 pub flag-spec : {M : Type 1} → statement M
 flag-spec =
     tie.close
     (tie.spec
     get-requires
-    cast-place-of
+    cast-t20
     is-chosen-requires
-    cast-place-of-2
-    place-of-requires
     both-requires
-    both-requires-2
-    selected-asks-requires
-    both-requires-3
-    both-requires-4
-    both-requires-5
-    both-requires-6
-    reflag-requires
+    is-soon-requires
+    cast-place-of
+    place-of-requires
+    flag-now-requires
     same-length
     same-length-2
-    returns)
+    returns
+    both-requires-2
+    both-requires-3
+    both-requires-4
+    pick-requires
+    changed-requires
+    put-requires
+    same-length-3
+    returns-2)

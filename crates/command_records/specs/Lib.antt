@@ -3,5 +3,5 @@ pub mod Sized
 pub mod Listed
 pub mod Owing
 pub mod Setting
-pub mod Verbs
 pub mod Worded
+pub mod Verbs

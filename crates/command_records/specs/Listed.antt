@@ -1,8 +1,8 @@
--- What is noted of every row before NOTIFY SET's listing is written: who is told of, how many messages exist, whose STATUS is told. Assumes nothing.
+-- What is noted of the rows before NOTIFY SET's listing is written: who is told of, by name, how many messages exist, whose STATUS is told. Assumes nothing.
 use mathlib.Core.Path.{_≡_, ap, sym, _∙_}
 use mathlib.Core.Bool.{Bool, true, not, _&&_}
 use mathlib.Core.List.{List}
-use Prim.Native.Nat.{ℕ, _<_}
+use Prim.Native.Nat.{ℕ, _<_, _≤_}
 use native.Mathlib.Omega.{arith}
 use lib.Dec.{eqb}
 use lib.ListN.{length, take, getD}
@@ -22,15 +22,15 @@ use Rattle.rows.specs.Columns.{Column, Names, Laid}
 use Rattle.rows.specs.Rows.{boxes-long}
 use Rattle.told.specs.Picked.{picked-is}
 use Rattle.told.specs.Notes.{NotesAll}
-use Rattle.byname.specs.Named.{Picks}
+use Rattle.byname.specs.Named.{Picks, Ordered}
 use Rattle.listing.specs.Telling.{Shown, Tells, tells-listing}
 use Rattle.outcomes.specs.Coming.{Lends}
 
--- the columns and the notes beside them are those that the listing of session s shows
-pub record Noted (m : Memory) (s : Session) (wanted : Bool) (n : ℕ) (attributes lens validities nexts names picked tally asks : List ℕ) : Type 0 where
-  pub long : length (boxes m) ≡ n
+-- the columns, the order of the rows and the notes beside them are those that the listing of session s shows
+pub record Noted (m : Memory) (s : Session) (wanted : Bool) (attributes lens validities nexts names listed : List ℕ) (n : ℕ) (tally asks : List ℕ) : Type 0 where
+  pub long : length (boxes m) ≤ 64
   pub shown : Shown (boxes m) attributes lens validities nexts names
-  pub picks : Picks (λ (x : Mailbox). mayList x && concerns m s x) (boxes m) n picked
+  pub ordered : Ordered (λ (x : Mailbox). mayList x && concerns m s x) (boxes m) listed n
   pub tells : Tells (listingLine m s wanted) (boxes m) tally asks
 
 module _ (m : Memory) (ws : List ℕ) (k : Counts) (s : Session) (q : List ℕ) (lent : Lends m ws k s q) (law : Law m)
@@ -41,21 +41,23 @@ module _ (m : Memory) (ws : List ℕ) (k : Counts) (s : Session) (q : List ℕ) 
   mails-are : take (k .messages) (messages ws) ≡ mails m
   mails-are = sym (ap (λ (c : Counts). take (c .messages) (m .entries)) (lent .counts) ∙ ap (take (k .messages)) (lent .entries))
 
-  pub noted-rows : (t : Session) → t .selected ≡ s .selected → (wanted : Bool) (picked tally asks : List ℕ)
+  pub noted-rows : (t : Session) → t .selected ≡ s .selected → (wanted : Bool) (picked listed tally asks : List ℕ) (n : ℕ) → k .mailboxes ≤ 64
       → ((l : List Mailbox) → length l ≡ k .mailboxes → Column (λ (x : Mailbox). x .id) l ids → Column (λ (x : Mailbox). x .attributes) l attributes
       → Column (λ (x : Mailbox). x .namelen) l lens → Names l names → NotesAll t wanted l picked asks)
-      → ((l : List Mailbox) → length l ≡ k .mailboxes → Column (λ (x : Mailbox). x .id) l ids → apart clash l ≡ true → (i : ℕ) → i < k .mailboxes
+      → ((p : Mailbox → Bool) (l : List Mailbox) → length l ≡ k .mailboxes → Column (λ (x : Mailbox). x .namelen) l lens → Names l names → Picks p l (k .mailboxes) picked → Ordered p l listed n)
+      → (wanted ≡ true → (l : List Mailbox) → length l ≡ k .mailboxes → Column (λ (x : Mailbox). x .id) l ids → apart clash l ≡ true → (i : ℕ) → i < k .mailboxes
       → getD tally i 0 ≡ length (existing (getD l i noMailbox .id) (take (k .messages) (messages ws))))
-      → Noted m t wanted (k .mailboxes) attributes lens validities nexts names picked tally asks
-  noted-rows t same wanted picked tally asks notes counts =
-      let n = rows-long in
-      let all = notes (boxes m) n (laid .id) (laid .attribute) (laid .len) (laid .name) in
+      → Noted m t wanted attributes lens validities nexts names listed n tally asks
+  noted-rows t same wanted picked listed tally asks n most notes order counts =
+      let long = rows-long in
+      let all = notes (boxes m) long (laid .id) (laid .attribute) (laid .len) (laid .name) in
       let same′ : t .selected ≡ m .session .selected = same ∙ ap (λ (o : Session). o .selected) (sym (lent .session)) in
       record {
-        long = n;
+        long = omega arith;
         shown = record { attribute = laid .attribute; len = laid .len; validity = laid .validity; next = laid .next; name = laid .name };
-        picks = λ i h. all .told i (omega arith) ∙ picked-is m t (getD (boxes m) i noMailbox) same′;
+        ordered = order (λ (x : Mailbox). mayList x && concerns m t x) (boxes m) long (laid .len) (laid .name)
+            (λ i h. all .told i (omega arith) ∙ picked-is m t (getD (boxes m) i noMailbox) same′);
         tells = tells-listing m t wanted (boxes m) tally asks
-            (λ i h. counts (boxes m) n (laid .id) (law .apartness) i (omega arith) ∙ ap (λ (l : List Message). length (existing (getD (boxes m) i noMailbox .id) l)) mails-are)
+            (λ w i h. counts w (boxes m) long (laid .id) (law .apartness) i (omega arith) ∙ ap (λ (l : List Message). length (existing (getD (boxes m) i noMailbox .id) l)) mails-are)
             (λ i h. all .status i h ∙ ap (λ (j : ℕ). wanted && (not (not (eqb (getD (boxes m) i noMailbox .id) 0) && eqb (getD (boxes m) i noMailbox .id) j) && askedOf t (getD (boxes m) i noMailbox) asksMessages)) same′);
       }

@@ -9,7 +9,7 @@ use borrow.Author.Tests.{le-leb}
 use Rattle.model.specs.Requests.{Command, notifySet, notify, Asked}
 use Rattle.model.specs.Reading.{Parsed, ok}
 use Rattle.model.specs.Commands.{tagOf, commandOf}
-use Rattle.model.specs.Memory.{Memory, filled, selectedBox, bothRights}
+use Rattle.model.specs.Memory.{withView, Memory, filled, selectedBox, bothRights}
 use Rattle.model.specs.Lines.{Line, answer, render, renderAll}
 use Rattle.model.specs.View.{owed}
 use Rattle.model.specs.Listing.{listing, watching}
@@ -25,8 +25,6 @@ use Rattle.fetches.specs.Whole.{render-both}
 use Rattle.ending.specs.After.{After}
 use Rattle.ending.specs.Ending.{Leaves, endAfter}
 use Rattle.ending.specs.declared.Closed.{Closed}
-use Rattle.read_notify.specs.Watched.{watchedBy}
-use Rattle.read_notify.specs.Ladder.{watched-accepted}
 use Rattle.answers.specs.Sizes.{Whole}
 use Rattle.answers.specs.Tagged.{some-octets}
 use Rattle.answers.specs.Answered.{leftAs, wholeText, no-room-is, text-accepted, set-left}
@@ -72,10 +70,6 @@ module _ (m : Memory) (t : List ℕ) (p : ℕ) (wanted : Bool) (gs : List Asked)
       let b = some-octets (answer (tagOf t) notify Accepted) in
       omega arith
 
-  -- the session that the code reads
-  pub set-session : (s : Session) → watchedBy (commandOf t) s ≡ watching s gs
-  set-session s = watched-accepted (someSelected m) (commandOf t) s first ∙ ap (λ (x : Parsed Command). sessionBy x s) c
-
   pub set-verb : notify ≡ verb (commandOf t)
   set-verb = sym (ap verb c)
 
@@ -109,25 +103,27 @@ module _ (m : Memory) (t : List ℕ) (p : ℕ) (wanted : Bool) (gs : List Asked)
       pub set-comes : (rights : Bool) (next rest : ℕ) → rights ≡ bothRights (selectedBox m) → next ≡ selectedBox m .uidnext
           → {ws′ q₁ q₂ : List ℕ} {e at : ℕ} (d : Closed) → Leaves (endAfter (messages ws) (k .messages) q s (k .filled) true rights next) rest ws ws′ q₁ d
           → at ≡ k .filled + length O → Put q₁ at (length q - 64) W q₂ e
-          → (s′ : Session) → s′ ≡ watchedBy (commandOf t) (d .session) → (r : Came) → r ≡ quiet Done (upto k (d .used) e) s′ → Comes m (ladder m (command t)) r ws ws′ q₂
+          → (s′ : Session) → s′ ≡ watching (d .session) gs → (r : Came) → r ≡ quiet Done (upto k (d .used) e) s′ → Comes m (ladder m (command t)) r ws ws′ q₂
       set-comes rights next rest right uid {ws′} {q₁} {q₂} {e} {at} d x begins y s′ sets r is =
           let v : Leaves (ended m law) rest ws ws′ q₁ d = subst (λ (a : After). Leaves a rest ws ws′ q₁ d) (ended-as m law ws k s q lent rights next right uid) x in
           let z : Put (ended m law .queue) (filled m + length O) (length (m .queue) - 64) W q₂ e =
           put-from (v .queue) (begins ∙ ap (λ (i : Counts). i .filled + length O) (sym (lent .counts))) (ap (λ (l : List ℕ). length l - 64) (sym (lent .queue))) y in
           let text = text-accepted m t set-accepted in
           let w = set-whole z in
-          let o : s′ ≡ watching (ended m law .session) gs = sets ∙ (ap (watchedBy (commandOf t)) (v .session) ∙ set-session (ended m law .session)) in
+          let o : s′ ≡ watching (ended m law .session) gs = sets ∙ ap (λ (x : Session). watching x gs) (v .session) in
           comes-left m ws k s q t lent (no-room-is m t text w) (ended m law .entries) (d .used) s′ ws′ q₂ e
           (set-left m t text w refl set-accepted p wanted gs c (ended m law .entries) (ended m law .used) (ended m law .session) (owed-ends m law fit)
           ∙ ap₂ (λ (n : ℕ) (j : Session). leftAs m (ended m law .entries) n j q₂ e) (sym (v .used)) (sym o))
           (v .words) r is
 
--- the notes are made for the session that the code reads
-pub noted-set : (m : Memory) (ws : List ℕ) (k : Counts) (s : Session) (q t : List ℕ) (lent : Lends m ws k s q) (p : ℕ) (wanted : Bool) (gs : List Asked)
-    → commandOf t ≡ ok p (notifySet wanted gs) → firstReply m t ≡ Accepted → (s′ : Session) → s′ ≡ watchedBy (commandOf t) s
-    → {n : ℕ} {attributes lens validities nexts names picked tally asks : List ℕ} → (s′ .selected ≡ s .selected → Noted m s′ wanted n attributes lens validities nexts names picked tally asks)
-    → Noted m (watching (m .session) gs) wanted n attributes lens validities nexts names picked tally asks
-noted-set m ws k s q t lent p wanted gs c first s′ e {n} {attributes} {lens} {validities} {nexts} {names} {picked} {tally} {asks} f =
-    let d : s′ ≡ watching s gs = e ∙ set-session m t p wanted gs c first s in
-    subst (λ (o : Session). Noted m o wanted n attributes lens validities nexts names picked tally asks)
+-- the groups of a session that was asked for, in another view
+pub asked-view : (s s′ v : Session) (gs : List Asked) → s′ ≡ watching s gs → withView s′ (v .selected) (v .told) ≡ watching v gs
+asked-view s s′ v gs e = ap (λ (o : Session). withView o (v .selected) (v .told)) e
+
+-- the notes are made for the session that is asked for
+pub noted-set : (m : Memory) (ws : List ℕ) (k : Counts) (s : Session) (q : List ℕ) (lent : Lends m ws k s q) (wanted : Bool) (gs : List Asked) (s′ : Session) → s′ ≡ watching s gs
+    → {attributes lens validities nexts names listed : List ℕ} {n : ℕ} {tally asks : List ℕ} → (s′ .selected ≡ s .selected → Noted m s′ wanted attributes lens validities nexts names listed n tally asks)
+    → Noted m (watching (m .session) gs) wanted attributes lens validities nexts names listed n tally asks
+noted-set m ws k s q lent wanted gs s′ d {attributes} {lens} {validities} {nexts} {names} {listed} {n} {tally} {asks} f =
+    subst (λ (o : Session). Noted m o wanted attributes lens validities nexts names listed n tally asks)
     (d ∙ ap (λ (o : Session). watching o gs) (sym (lent .session))) (f (ap (λ (o : Session). o .selected) d))

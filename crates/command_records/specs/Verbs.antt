@@ -2,28 +2,34 @@
 use mathlib.Core.Path.{_≡_, refl, ap, sym, _∙_}
 use mathlib.Core.Bool.{Bool, true, false, not}
 use mathlib.Core.List.{List}
-use Prim.Native.Nat.{ℕ}
+use Prim.Native.Nat.{ℕ, _≤_}
 use native.Mathlib.Omega.{arith}
 use lib.Dec.{eqb}
-use Rattle.model.specs.Requests.{notify, esearch, otherVerb, Command, notifyNone, notifySet, search, Asked, Search}
+use lib.ListN.{length}
+use Rattle.model.specs.Requests.{esearch, Command, notifyNone, notifySet, search, Asked, Search}
 use Rattle.model.specs.Reading.{Parsed, bad, ok}
 use Rattle.model.specs.Commands.{commandOf}
-use Rattle.model.specs.Limits.{limits}
+use Rattle.model.specs.Limits.{limits, nameCount}
 use Rattle.model.specs.Replies.{replyOf}
 use Rattle.model.specs.Memory.{Memory}
 use Rattle.model.specs.Answering.{someSelected, verb, isAccepted, firstReply, reply}
 use Rattle.model.specs.declared.Counts.{Counts}
+use Rattle.model.specs.declared.Limits.{Limits}
 use Rattle.model.specs.declared.Session.{Session}
 use Rattle.model.specs.declared.Reply.{Reply}
 use Rattle.model.specs.declared.Reply.the-variants.{Bad, BadEvent, Unsupported, BadCharset, TooLarge, Accepted}
 use Rattle.model.specs.Laws.{tf}
+use Rattle.read_notify.specs.Tallies.{filtersOf}
 use Rattle.read_notify.specs.Readings.{readNotify}
+use Rattle.read_notify.specs.Ladder.{accepted-few}
 use Rattle.read_notify.specs.declared.Tally.{Tally}
+use Rattle.read_notify.specs.declared.NotifyRead.{NotifyRead}
 use Rattle.read_notify.specs.declared.NotifyRead.the-variants.{Nothing, Groups, Bad as Unread}
-use Rattle.read_commands.specs.Judging.{wordOf, judgedOf}
+use Rattle.read_commands.specs.Judging.{wordOf, judgedOf, wholeBy, notified}
 use Rattle.read_commands.specs.declared.Judged.{Judged}
 use Rattle.answers.specs.Answered.{judged-verb, judged-reply, reply-first}
 use Rattle.outcomes.specs.Coming.{Lends}
+use Rattle.command_records.specs.Worded.{Else, else-esearch}
 
 -- ---- NOTIFY, as it is read
 pub nothing-is : (x : Parsed Command) {p : ℕ} → Nothing p ≡ readNotify x → x ≡ ok p notifyNone
@@ -42,29 +48,23 @@ groups-are (ok q (notifySet wanted gs)) {status} {t} {p} e P f =
     f gs (rw (a, b))
 groups-are (ok q (search a)) e P f = absurd (let z : _≡_ {A = ℕ} 0 1 = cc in omega arith)
 
--- what was not read is no NOTIFY
-pub unread-none : (x : Parsed Command) → Unread ≡ readNotify x → verb x ≡ notify → ⊥
-unread-none bad e f = let z : _≡_ {A = ℕ} 0 1 = cc in omega arith
-unread-none (ok q notifyNone) e f = let z : _≡_ {A = ℕ} 0 1 = cc in omega arith
-unread-none (ok q (notifySet status gs)) e f = let z : _≡_ {A = ℕ} 0 1 = cc in omega arith
-unread-none (ok q (search a)) e f = let z : _≡_ {A = ℕ} 0 1 = cc in omega arith
+-- groups that are accepted fit into a session
+pub set-few : (m : Memory) (t : List ℕ) (p : ℕ) (status : Bool) (gs : List Asked) → commandOf t ≡ ok p (notifySet status gs) → firstReply m t ≡ Accepted → (length gs ≤ 8) × (nameCount (filtersOf gs) ≤ 16)
+set-few m t p status gs c first = accepted-few (someSelected m) p status gs (ap (replyOf limits (someSelected m)) (sym c) ∙ first)
 
--- ---- by the verb
-pub search-are : (x : Parsed Command) → verb x ≡ esearch → (P : Type 0) → ((p : ℕ) (a : Search) → x ≡ ok p (search a) → P) → P
-search-are bad e P f = absurd (let z : _≡_ {A = ℕ} 0 1 = cc in omega arith)
-search-are (ok q notifyNone) e P f = absurd (let z : _≡_ {A = ℕ} 0 1 = cc in omega arith)
-search-are (ok q (notifySet status gs)) e P f = absurd (let z : _≡_ {A = ℕ} 0 1 = cc in omega arith)
-search-are (ok q (search a)) e P f = f q a refl
+-- what was not read is not accepted
+pub unread-refused : (l : Limits) {r : NotifyRead} → r ≡ Unread → isAccepted (notified l r .reply) ≡ false
+unread-refused l e = rw e
 
--- a line of no verb is refused
-pub other-refused : (m : Memory) (t : List ℕ) → verb (commandOf t) ≡ otherVerb → isAccepted (firstReply m t) ≡ false
-other-refused m t e = go (commandOf t) e
+-- ---- ESEARCH, by its word
+pub search-are : (m : Memory) (t : List ℕ) (at : ℕ) → wholeBy esearch t at ≡ commandOf t → firstReply m t ≡ Accepted → (P : Type 0) → ((p : ℕ) (a : Search) → commandOf t ≡ ok p (search a) → P) → P
+search-are m t at h first P = go (commandOf t) (λ e. else-esearch t at (ap verb h ∙ e)) (ap isAccepted first)
   where
-    go : (x : Parsed Command) → verb x ≡ otherVerb → isAccepted (replyOf limits (someSelected m) x) ≡ false
-    go bad f = refl
-    go (ok q notifyNone) f = absurd (let z : _≡_ {A = ℕ} 0 1 = cc in omega arith)
-    go (ok q (notifySet status gs)) f = absurd (let z : _≡_ {A = ℕ} 0 1 = cc in omega arith)
-    go (ok q (search a)) f = absurd (let z : _≡_ {A = ℕ} 0 1 = cc in omega arith)
+    go : (x : Parsed Command) → Else x → isAccepted (replyOf limits (someSelected m) x) ≡ true → ((p : ℕ) (a : Search) → x ≡ ok p (search a) → P) → P
+    go bad e f g = tf false f refl
+    go (ok q notifyNone) e f g = absurd (e refl)
+    go (ok q (notifySet status gs)) e f g = absurd (e refl)
+    go (ok q (search a)) e f g = g q a refl
 
 -- ---- as it is judged
 module _ (m : Memory) (ws : List ℕ) (k : Counts) (s : Session) (q t : List ℕ) (lent : Lends m ws k s q) (j : Judged) (e : j ≡ judgedOf limits (not (eqb (s .selected) 0)) (commandOf t)) where

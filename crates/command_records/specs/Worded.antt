@@ -1,29 +1,21 @@
--- The position behind the word of a line that is a NOTIFY: behind ESEARCH stands none. Assumes nothing.
-use mathlib.Core.Path.{_≡_, refl, ap, sym, _∙_}
+-- Behind ESEARCH stands no NOTIFY. Assumes nothing.
+use mathlib.Core.Path.{_≡_}
 use mathlib.Core.Bool.{Bool, true, false, cond}
 use mathlib.Core.List.{List, []}
 use Prim.Native.Nat.{ℕ, _+_}
 use native.Mathlib.Omega.{arith}
 use lib.Dec.{eqb}
 use lib.ListN.{length}
-use Rattle.model.specs.Requests.{Verb as Word, notify, esearch, otherVerb, none, Command}
-use Rattle.model.specs.Reading.{Parsed, bad, ok, andThen, afterBy, stands, atomAt, listAt}
+use Rattle.model.specs.Requests.{notify, esearch, none, Command}
+use Rattle.model.specs.Reading.{Parsed, bad, ok, andThen, afterBy, stands, listAt}
 use Rattle.model.specs.NotifyGrammar.{filterAt}
 use Rattle.model.specs.SearchGrammar.{returnsAt, charsetAt, optionAt, programAt, searchAt}
-use Rattle.model.specs.Commands.{tagEnd, tagged, verbAt, commandBy, commandOf}
+use Rattle.model.specs.Commands.{commandBy}
 use Rattle.model.specs.Answering.{verb}
-use Rattle.read_options.specs.Heads.{readVerb}
-use Rattle.read_options.specs.declared.Verb.{Verb}
-use Rattle.read_options.specs.declared.VerbRead.{VerbRead}
-use Rattle.read_options.specs.declared.VerbRead.the-variants.{Is, Bad as Verbless}
 use Rattle.read_commands.specs.Judging.{whole, wholeBy}
 
--- r is the position behind the word, in a line that is a NOTIFY
-abbrev pub Behind : List ℕ → ℕ → Type 0
-Behind s r = verb (commandOf s) ≡ notify → wholeBy notify s r ≡ commandOf s
-
 -- ---- what is no NOTIFY
-abbrev Else : Parsed Command → Type 0
+abbrev pub Else : Parsed Command → Type 0
 Else x = verb x ≡ notify → ⊥
 
 else-bad : Else bad
@@ -54,37 +46,5 @@ module _ (s : List ℕ) where
   else-whole bad h e = else-bad e
   else-whole (ok p c) h e = else-cond (eqb p (length s)) (ok p c) h e
 
-  -- ---- by the word that was read
-  by-word : (w : Word) (at : ℕ) → verb (wholeBy w s at) ≡ notify → wholeBy notify s at ≡ wholeBy w s at
-  by-word notify at e = refl
-  by-word esearch at e = absurd (else-whole (commandBy esearch s at) (else-after (stands s at " ") (at + 1) (λ q. searchAt s q) (else-search (at + 1))) e)
-  by-word otherVerb at e = absurd (else-bad e)
-
-  abbrev ByAtom : Parsed (List ℕ) → Parsed Command
-  ByAtom x = whole s (andThen x (λ q w. commandBy (verbAt w) s q))
-
-  by-atom : (x : Parsed (List ℕ)) → verb (ByAtom x) ≡ notify → {v : Verb} {at : ℕ} → Is v at ≡ readVerb x → wholeBy notify s at ≡ ByAtom x
-  by-atom bad e f = absurd (else-bad e)
-  by-atom (ok r w) e {v} {at} f = let z : at ≡ r = cc in ap (wholeBy notify s) z ∙ by-word (verbAt w) r e
-
-  no-atom : (x : Parsed (List ℕ)) → verb (ByAtom x) ≡ notify → Verbless ≡ readVerb x → ⊥
-  no-atom bad e f = else-bad e
-  no-atom (ok r w) e f = let z : _≡_ {A = ℕ} 0 1 = cc in omega arith
-
-  behind-tag : verb (commandOf s) ≡ notify → ByAtom (atomAt s (tagEnd s + 1)) ≡ commandOf s
-  unfolding commandOf
-  behind-tag e = go (tagged s) refl e
-    where
-      go : (b : Bool) → tagged s ≡ b → verb (cond b (ByAtom (atomAt s (tagEnd s + 1))) bad) ≡ notify → ByAtom (atomAt s (tagEnd s + 1)) ≡ cond (tagged s) (ByAtom (atomAt s (tagEnd s + 1))) bad
-      go true t f = ap (λ (b : Bool). cond b (ByAtom (atomAt s (tagEnd s + 1))) bad) (sym t)
-      go false t f = absurd (else-bad f)
-
-  module _ (end : ℕ) (is : end ≡ tagEnd s) where
-    from-end : verb (commandOf s) ≡ notify → ByAtom (atomAt s (end + 1)) ≡ commandOf s
-    from-end e = ap (λ (n : ℕ). ByAtom (atomAt s (n + 1))) is ∙ behind-tag e
-
-    pub behind-found : {r : VerbRead} {v : Verb} {at : ℕ} → r ≡ readVerb (atomAt s (end + 1)) → r ≡ Is v at → Behind s at
-    behind-found x f e = by-atom (atomAt s (end + 1)) (ap verb (from-end e) ∙ e) (sym f ∙ x) ∙ from-end e
-
-    pub behind-none : {r : VerbRead} → r ≡ readVerb (atomAt s (end + 1)) → r ≡ Verbless → (at : ℕ) → Behind s at
-    behind-none x f at e = absurd (no-atom (atomAt s (end + 1)) (ap verb (from-end e) ∙ e) (sym f ∙ x))
+  pub else-esearch : (at : ℕ) → Else (wholeBy esearch s at)
+  else-esearch at = else-whole (commandBy esearch s at) (else-after (stands s at " ") (at + 1) (λ q. searchAt s q) (else-search (at + 1)))

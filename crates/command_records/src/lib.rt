@@ -9,22 +9,21 @@ use model::Refusal;
 use model::Reply;
 use model::Session;
 use outcomes::Outcome;
-use read_commands::Judged;
 use read_options::Verb;
+use read_options::VerbRead;
 ghost use mathlib.Core.Path.{_≡_};
-ghost use mathlib.Core.Bool.{false, not};
+ghost use mathlib.Core.Bool.{false};
 ghost use mathlib.Core.List.{List};
 ghost use Prim.Native.Nat.{ℕ, _≤_};
-ghost use lib.Dec.{eqb};
 ghost use lib.ListN.{length};
 ghost use Rattle.model.specs.Memory.{Memory, boxes, selectedBox};
 ghost use Rattle.model.specs.Commands.{commandOf};
-ghost use Rattle.model.specs.Limits.{limits};
 ghost use Rattle.model.specs.Records.{command};
 ghost use Rattle.model.specs.Answering.{verb as verbOf, isAccepted, reply as replyOf};
 ghost use Rattle.demands.specs.Lasting.Law.{Law};
 ghost use Rattle.rows.specs.Columns.{Laid};
-ghost use Rattle.read_commands.specs.Judging.{wordOf, judgedOf};
+ghost use Rattle.model.specs.Requests.{esearch};
+ghost use Rattle.read_commands.specs.Judging.{wordOf, wholeBy, judgedBy};
 ghost use Rattle.outcomes.specs.Coming.{Lends, Ready, Comes, ladder};
 ghost use Rattle.command_records.specs.Left.{upto};
 
@@ -74,13 +73,102 @@ pub fn refuse(
 
 // ---- the whole command
 
-// Whose answer it is, and the reply before sizes. No key is kept: one cell is as good as many.
-fn judged(text: &[u8], s: Session) -> Judged
-    requires { ⌜ length (now text) ≤ 1024 ⌝ }
-    ensures { λ r. ⌜ r ≡ judgedOf limits (not (eqb (s .selected) 0)) (commandOf (now (text .entry))) ⌝ }
+// A search from the position behind its word on: whose answer it is and the reply before sizes, then what it finds. No key is kept in judging it: one
+// cell is as good as many.
+fn search(
+    words: &[u64],
+    queue: &mut [u8],
+    counts: Counts,
+    s: Session,
+    ids: &[u64; 64],
+    attributes: &[u8; 64],
+    lens: &[u8; 64],
+    validities: &[u64; 64],
+    names: &[u8; 4096],
+    text: &[u8],
+    at: usize,
+) -> Outcome
+    requires { ⌜ (Ready (now words) counts s (now queue)) × (length (now text) ≤ 1024) ⌝ }
+    ensures { λ r. ⌜ ((m : Memory) (nexts : List ℕ) → Lends m (now (words .entry)) counts s (now (queue .entry)) → Law m → Laid (boxes m) (now (ids .entry)) (now (attributes .entry)) (now (lens .entry)) (now (validities .entry)) nexts (now (names .entry)) → wholeBy esearch (now (text .entry)) at ≡ commandOf (now (text .entry)) → Comes m (ladder m (command (now (text .entry)))) r (now (words .entry)) (now (words .entry)) (now (queue .exit))) ⌝ }
 {
     let mut cells = [0u64; 1];
-    read_commands::judge(text, s.selected != 0, read_commands::limits(), &mut cells)
+    let first = read_commands::judge_search(
+        text,
+        at,
+        s.selected != 0,
+        read_commands::limits(),
+        &mut cells,
+    );
+    let verb = first.verb;
+    let reply = first.reply;
+    if !answers::is_accepted(reply) {
+        return refuse(queue, counts, s, text, verb, reply);
+    }
+    searching::answer(
+        words,
+        queue,
+        counts,
+        s,
+        ids,
+        attributes,
+        lens,
+        validities,
+        names,
+        text,
+    )
+}
+
+// The command of a verb, from the position behind its word on; x is the selected mailbox's row.
+fn answer_by(
+    words: &mut [u64],
+    queue: &mut [u8],
+    counts: Counts,
+    s: Session,
+    ids: &[u64; 64],
+    attributes: &[u8; 64],
+    lens: &[u8; 64],
+    validities: &[u64; 64],
+    nexts: &[u64; 64],
+    names: &[u8; 4096],
+    x: Mailbox,
+    text: &[u8],
+    verb: Verb,
+    at: usize,
+) -> Outcome
+    requires { ⌜ (Ready (now words) counts s (now queue)) × (length (now text) ≤ 1024) ⌝ }
+    ensures { λ r. ⌜ ((m : Memory) → Lends m (now (words .entry)) counts s (now (queue .entry)) → Law m → Laid (boxes m) (now (ids .entry)) (now (attributes .entry)) (now (lens .entry)) (now (validities .entry)) (now (nexts .entry)) (now (names .entry)) → x ≡ selectedBox m → judgedBy verb (now (text .entry)) at ≡ commandOf (now (text .entry)) → Comes m (ladder m (command (now (text .entry)))) r (now (words .entry)) (now (words .exit)) (now (queue .exit))) ⌝ }
+{
+    match verb {
+        Verb::Notify => notifying::notify(
+            words,
+            queue,
+            counts,
+            s,
+            ids,
+            attributes,
+            lens,
+            validities,
+            nexts,
+            names,
+            x,
+            text,
+            at,
+        ),
+        Verb::Esearch => search(
+            words,
+            queue,
+            counts,
+            s,
+            ids,
+            attributes,
+            lens,
+            validities,
+            names,
+            text,
+            at,
+        ),
+        Verb::Other => refuse(queue, counts, s, text, Verb::Other, Reply::Bad),
+    }
 }
 
 // A command from its text on; x is the selected mailbox's row. A verb that is none was refused before.
@@ -101,14 +189,8 @@ pub fn answer(
     requires { ⌜ (Ready (now words) counts s (now queue)) × (length (now text) ≤ 1024) ⌝ }
     ensures { λ r. ⌜ ((m : Memory) → Lends m (now (words .entry)) counts s (now (queue .entry)) → Law m → Laid (boxes m) (now (ids .entry)) (now (attributes .entry)) (now (lens .entry)) (now (validities .entry)) (now (nexts .entry)) (now (names .entry)) → x ≡ selectedBox m → Comes m (ladder m (command (now (text .entry)))) r (now (words .entry)) (now (words .exit)) (now (queue .exit))) ⌝ }
 {
-    let first = judged(text, s);
-    let verb = first.verb;
-    let reply = first.reply;
-    if !answers::is_accepted(reply) {
-        return refuse(queue, counts, s, text, verb, reply);
-    }
-    match verb {
-        Verb::Notify => notifying::notify(
+    match read_commands::head(text) {
+        VerbRead::Is(verb, at) => answer_by(
             words,
             queue,
             counts,
@@ -121,19 +203,9 @@ pub fn answer(
             names,
             x,
             text,
+            verb,
+            at,
         ),
-        Verb::Esearch => searching::answer(
-            words,
-            queue,
-            counts,
-            s,
-            ids,
-            attributes,
-            lens,
-            validities,
-            names,
-            text,
-        ),
-        Verb::Other => outcomes::refused(Refusal::NoRoom, counts, s),
+        VerbRead::Bad => refuse(queue, counts, s, text, Verb::Other, Reply::Bad),
     }
 }

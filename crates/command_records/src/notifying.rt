@@ -8,7 +8,6 @@ use model::Session;
 use outcomes::Outcome;
 use read_notify::NotifyRead;
 use read_options::Verb;
-use read_options::VerbRead;
 ghost use mathlib.Core.Path.{_≡_};
 ghost use mathlib.Core.List.{List};
 ghost use Prim.Native.Nat.{ℕ};
@@ -18,13 +17,11 @@ ghost use Rattle.model.specs.Reading.{ok};
 ghost use Rattle.model.specs.Commands.{commandOf};
 ghost use Rattle.model.specs.Records.{command};
 ghost use Rattle.model.specs.Memory.{Memory, boxes, selectedBox};
-ghost use Rattle.model.specs.Answering.{verb as verbOf, firstReply};
-ghost use Rattle.model.specs.declared.Reply.the-variants.{Accepted};
 ghost use Rattle.demands.specs.Lasting.Law.{Law};
 ghost use Rattle.rows.specs.Columns.{Laid};
 ghost use Rattle.mailboxes.specs.Free.{Room};
 ghost use Rattle.outcomes.specs.Coming.{Lends, Ready, Comes, ladder};
-ghost use Rattle.command_records.specs.Worded.{Behind};
+ghost use Rattle.read_commands.specs.Judging.{wholeBy};
 
 // ---- NOTIFY NONE
 
@@ -47,18 +44,7 @@ pub fn none(queue: &mut [u8], counts: Counts, s: Session, text: &[u8]) -> Outcom
 
 // ---- NONE or SET
 
-// The position behind the word of a line that is a NOTIFY.
-fn behind_word(text: &[u8]) -> usize
-    ensures { λ r. ⌜ Behind (now (text .entry)) r ⌝ }
-{
-    let end = read_options::tag_end(text);
-    match read_options::verb_at(text, end + 1) {
-        VerbRead::Is(_, at) => at,
-        VerbRead::Bad => 0,
-    }
-}
-
-// An accepted NOTIFY; x is the selected mailbox's row.
+// A NOTIFY, from the position behind its word on; x is the selected mailbox's row.
 pub fn notify(
     words: &mut [u64],
     queue: &mut [u8],
@@ -72,28 +58,41 @@ pub fn notify(
     names: &[u8; 4096],
     x: Mailbox,
     text: &[u8],
+    at: usize,
 ) -> Outcome
     requires { ⌜ Ready (now words) counts s (now queue) ⌝ }
-    ensures { λ r. ⌜ ((m : Memory) → Lends m (now (words .entry)) counts s (now (queue .entry)) → Law m → Laid (boxes m) (now (ids .entry)) (now (attributes .entry)) (now (lens .entry)) (now (validities .entry)) (now (nexts .entry)) (now (names .entry)) → x ≡ selectedBox m → verbOf (commandOf (now (text .entry))) ≡ notifyWord → firstReply m (now (text .entry)) ≡ Accepted → Comes m (ladder m (command (now (text .entry)))) r (now (words .entry)) (now (words .exit)) (now (queue .exit))) ⌝ }
+    ensures { λ r. ⌜ ((m : Memory) → Lends m (now (words .entry)) counts s (now (queue .entry)) → Law m → Laid (boxes m) (now (ids .entry)) (now (attributes .entry)) (now (lens .entry)) (now (validities .entry)) (now (nexts .entry)) (now (names .entry)) → x ≡ selectedBox m → wholeBy notifyWord (now (text .entry)) at ≡ commandOf (now (text .entry)) → Comes m (ladder m (command (now (text .entry)))) r (now (words .entry)) (now (words .exit)) (now (queue .exit))) ⌝ }
 {
-    let at = behind_word(text);
-    match read_commands::notify_at(text, at) {
+    let kept = read_commands::keep_notify(text, at);
+    let read = kept.read;
+    let first = read_commands::notify_reply(read, read_commands::limits());
+    let verb = first.verb;
+    let reply = first.reply;
+    if !answers::is_accepted(reply) {
+        return crate::refuse(queue, counts, s, text, verb, reply);
+    }
+    match read {
         NotifyRead::Nothing(_) => none(queue, counts, s, text),
-        NotifyRead::Groups(status, _, _) => crate::sets::set(
-            words,
-            queue,
-            counts,
-            s,
-            ids,
-            attributes,
-            lens,
-            validities,
-            nexts,
-            names,
-            x,
-            status,
-            text,
-        ),
+        NotifyRead::Groups(status, _, _) => {
+            let watch = kept.watch;
+            let held = kept.kept;
+            crate::sets::set(
+                words,
+                queue,
+                counts,
+                s,
+                ids,
+                attributes,
+                lens,
+                validities,
+                nexts,
+                names,
+                x,
+                status,
+                read_notify::settled(s, watch, held),
+                text,
+            )
+        }
         NotifyRead::Bad => outcomes::refused(Refusal::NoRoom, counts, s),
     }
 }

@@ -9,23 +9,27 @@ use model::Uid;
 use outcomes::Outcome;
 use read_options::Verb;
 ghost use mathlib.Core.Path.{_≡_};
-ghost use mathlib.Core.Bool.{Bool};
+ghost use mathlib.Core.Bool.{Bool, true};
 ghost use mathlib.Core.List.{List};
-ghost use Prim.Native.Nat.{ℕ, _+_, _-_, _*_, _≤_};
-ghost use lib.ListN.{length};
+ghost use Prim.Native.Nat.{ℕ, _+_, _-_, _*_, _≤_, _<_};
+ghost use lib.ListN.{length, take, getD};
 ghost use Rattle.model.specs.Requests.{notifySet, Asked};
 ghost use Rattle.model.specs.Reading.{ok};
 ghost use Rattle.model.specs.Commands.{commandOf};
 ghost use Rattle.model.specs.Records.{command};
-ghost use Rattle.model.specs.Memory.{Memory, boxes, selectedBox, bothRights};
+ghost use Rattle.model.specs.Lists.{apart};
+ghost use Rattle.model.specs.Lawful.{clash};
+ghost use Rattle.model.specs.Memory.{Memory, boxes, selectedBox, bothRights, noMailbox, existing as existingOf};
 ghost use Rattle.model.specs.Lines.{renderAll};
 ghost use Rattle.model.specs.View.{owed};
 ghost use Rattle.model.specs.Listing.{watching};
 ghost use Rattle.model.specs.Answering.{firstReply};
+ghost use Rattle.model.specs.declared.Mailbox.{Mailbox};
 ghost use Rattle.model.specs.declared.Reply.the-variants.{Accepted};
 ghost use Rattle.demands.specs.Lasting.Law.{Law};
 ghost use Rattle.out.specs.Put.{Put};
-ghost use Rattle.rows.specs.Columns.{Laid};
+ghost use Rattle.entries.specs.Words.{messages};
+ghost use Rattle.rows.specs.Columns.{Column, Laid};
 ghost use Rattle.answers.specs.Answered.{wholeText};
 ghost use Rattle.outcomes.specs.Coming.{Lends, Ready, Comes, ladder};
 ghost use Rattle.command_records.specs.Listed.{Noted};
@@ -57,16 +61,15 @@ fn put_work(
     validities: &[u64; 64],
     nexts: &[u64; 64],
     names: &[u8; 4096],
+    listed: &[usize; 64],
     n: usize,
-    picked: &[u8],
     tally: &[u64; 64],
     asks: &[u8; 64],
     text: &[u8],
 ) -> usize
-    requires { ⌜ (limit ≤ length (now queue)) × (at ≤ 65536) × (n ≤ 64) × (n ≤ length (now picked)) ⌝ }
-    ensures { λ r. ⌜ ((m : Memory) (s : Session) (wanted : Bool) → Noted m s wanted n (now (attributes .entry)) (now (lens .entry)) (now (validities .entry)) (now (nexts .entry)) (now (names .entry)) (now (picked .entry)) (now (tally .entry)) (now (asks .entry)) → Put (now (queue .entry)) at limit (workText m s wanted (now (text .entry))) (now (queue .exit)) r) × (r ≤ at + 19330) ⌝ }
+    requires { ⌜ (limit ≤ length (now queue)) × (at ≤ 65536) × (n ≤ 64) ⌝ }
+    ensures { λ r. ⌜ ((m : Memory) (s : Session) (wanted : Bool) → Noted m s wanted (now (attributes .entry)) (now (lens .entry)) (now (validities .entry)) (now (nexts .entry)) (now (names .entry)) (now (listed .entry)) n (now (tally .entry)) (now (asks .entry)) → Put (now (queue .entry)) at limit (workText m s wanted (now (text .entry))) (now (queue .exit)) r) × (r ≤ at + 19330) ⌝ }
 {
-    let mut order = [0usize; 64];
     let a = listing::put_listing(
         queue,
         at,
@@ -76,11 +79,10 @@ fn put_work(
         validities,
         nexts,
         names,
+        listed,
         n,
-        picked,
         tally,
         asks,
-        &mut order,
     );
     answers::put_reply(queue, a, limit, text, Verb::Notify, Reply::Accepted)
 }
@@ -96,16 +98,18 @@ fn write_set(
     validities: &[u64; 64],
     nexts: &[u64; 64],
     names: &[u8; 4096],
-    picked: &[u8],
+    listed: &[usize; 64],
+    n: usize,
     tally: &[u64; 64],
     asks: &[u8; 64],
     rights: bool,
     next: u32,
+    asked: Session,
     text: &[u8],
     at: usize,
 ) -> Outcome
-    requires { ⌜ (64 ≤ length (now queue)) × (length (now queue) ≤ 65536) × (counts .filled ≤ 65536) × (counts .mailboxes ≤ 64) × (counts .messages ≤ 1024) × (counts .messages * 5 ≤ length (now words)) × (at ≤ 65536) × (counts .mailboxes ≤ length (now picked)) ⌝ }
-    ensures { λ r. ⌜ ((m : Memory) (p : ℕ) (wanted : Bool) (gs : List Asked) → Lends m (now (words .entry)) counts s (now (queue .entry)) → Law m → commandOf (now (text .entry)) ≡ ok p (notifySet wanted gs) → firstReply m (now (text .entry)) ≡ Accepted → Noted m (watching (m .session) gs) wanted (counts .mailboxes) (now (attributes .entry)) (now (lens .entry)) (now (validities .entry)) (now (nexts .entry)) (now (names .entry)) (now (picked .entry)) (now (tally .entry)) (now (asks .entry)) → rights ≡ bothRights (selectedBox m) → next ≡ selectedBox m .uidnext → at ≡ counts .filled + length (renderAll (owed m 1)) → counts .filled + length (wholeText m (now (text .entry))) ≤ length (now (queue .entry)) - 64 → Comes m (ladder m (command (now (text .entry)))) r (now (words .entry)) (now (words .exit)) (now (queue .exit))) ⌝ }
+    requires { ⌜ (64 ≤ length (now queue)) × (length (now queue) ≤ 65536) × (counts .filled ≤ 65536) × (counts .messages ≤ 1024) × (counts .messages * 5 ≤ length (now words)) × (at ≤ 65536) × (n ≤ 64) ⌝ }
+    ensures { λ r. ⌜ ((m : Memory) (p : ℕ) (wanted : Bool) (gs : List Asked) → Lends m (now (words .entry)) counts s (now (queue .entry)) → Law m → commandOf (now (text .entry)) ≡ ok p (notifySet wanted gs) → firstReply m (now (text .entry)) ≡ Accepted → asked ≡ watching s gs → Noted m (watching (m .session) gs) wanted (now (attributes .entry)) (now (lens .entry)) (now (validities .entry)) (now (nexts .entry)) (now (names .entry)) (now (listed .entry)) n (now (tally .entry)) (now (asks .entry)) → rights ≡ bothRights (selectedBox m) → next ≡ selectedBox m .uidnext → at ≡ counts .filled + length (renderAll (owed m 1)) → counts .filled + length (wholeText m (now (text .entry))) ≤ length (now (queue .entry)) - 64 → Comes m (ladder m (command (now (text .entry)))) r (now (words .entry)) (now (words .exit)) (now (queue .exit))) ⌝ }
 {
     let used = counts.messages as usize;
     let filled = counts.filled as usize;
@@ -122,7 +126,6 @@ fn write_set(
         rights,
         next,
     );
-    let n = counts.mailboxes as usize;
     let end = put_work(
         queue,
         at,
@@ -132,8 +135,8 @@ fn write_set(
         validities,
         nexts,
         names,
+        listed,
         n,
-        picked,
         tally,
         asks,
         text,
@@ -142,7 +145,7 @@ fn write_set(
     outcomes::unmoved(
         Answer::Done,
         crate::with_counts(counts, left.used, end),
-        read_commands::watched(text, view),
+        ending::viewed(asked, view.selected, view.told),
     )
 }
 
@@ -157,18 +160,19 @@ fn set_noted(
     validities: &[u64; 64],
     nexts: &[u64; 64],
     names: &[u8; 4096],
-    picked: &[u8],
+    listed: &[usize; 64],
+    n: usize,
     tally: &[u64; 64],
     asks: &[u8; 64],
     rights: bool,
     next: u32,
+    asked: Session,
     text: &[u8],
 ) -> Outcome
-    requires { ⌜ (64 ≤ length (now queue)) × (length (now queue) ≤ 65536) × (counts .filled ≤ 65536) × (counts .mailboxes ≤ 64) × (counts .messages ≤ 1024) × (counts .messages * 5 ≤ length (now words)) × (counts .mailboxes ≤ length (now picked)) ⌝ }
-    ensures { λ r. ⌜ ((m : Memory) (p : ℕ) (wanted : Bool) (gs : List Asked) → Lends m (now (words .entry)) counts s (now (queue .entry)) → Law m → commandOf (now (text .entry)) ≡ ok p (notifySet wanted gs) → firstReply m (now (text .entry)) ≡ Accepted → Noted m (watching (m .session) gs) wanted (counts .mailboxes) (now (attributes .entry)) (now (lens .entry)) (now (validities .entry)) (now (nexts .entry)) (now (names .entry)) (now (picked .entry)) (now (tally .entry)) (now (asks .entry)) → rights ≡ bothRights (selectedBox m) → next ≡ selectedBox m .uidnext → Comes m (ladder m (command (now (text .entry)))) r (now (words .entry)) (now (words .exit)) (now (queue .exit))) ⌝ }
+    requires { ⌜ (64 ≤ length (now queue)) × (length (now queue) ≤ 65536) × (counts .filled ≤ 65536) × (counts .messages ≤ 1024) × (counts .messages * 5 ≤ length (now words)) × (n ≤ 64) ⌝ }
+    ensures { λ r. ⌜ ((m : Memory) (p : ℕ) (wanted : Bool) (gs : List Asked) → Lends m (now (words .entry)) counts s (now (queue .entry)) → Law m → commandOf (now (text .entry)) ≡ ok p (notifySet wanted gs) → firstReply m (now (text .entry)) ≡ Accepted → asked ≡ watching s gs → Noted m (watching (m .session) gs) wanted (now (attributes .entry)) (now (lens .entry)) (now (validities .entry)) (now (nexts .entry)) (now (names .entry)) (now (listed .entry)) n (now (tally .entry)) (now (asks .entry)) → rights ≡ bothRights (selectedBox m) → next ≡ selectedBox m .uidnext → Comes m (ladder m (command (now (text .entry)))) r (now (words .entry)) (now (words .exit)) (now (queue .exit))) ⌝ }
 {
     let filled = counts.filled as usize;
-    let n = counts.mailboxes as usize;
     let limit = queue.len() - 64;
     let a = owed_size(words, queue, counts, s, rights);
     let b = put_work(
@@ -180,8 +184,8 @@ fn set_noted(
         validities,
         nexts,
         names,
+        listed,
         n,
-        picked,
         tally,
         asks,
         text,
@@ -202,17 +206,30 @@ fn set_noted(
         validities,
         nexts,
         names,
-        picked,
+        listed,
+        n,
         tally,
         asks,
         rights,
         next,
+        asked,
         text,
         filled + a,
     )
 }
 
-// NOTIFY SET, with STATUS or without; x is the selected mailbox's row. Who is told of and how many messages exist is noted before anything changes.
+// How many messages of each row exist: counted only where a STATUS is to say so.
+fn existing(words: &[u64], used: usize, ids: &[u64; 64], n: usize, status: bool) -> [u64; 64]
+    requires { ⌜ (used * 5 ≤ length (now words)) × (used ≤ 1048576) × (n ≤ 64) ⌝ }
+    ensures { λ r. ⌜ (status ≡ true → (l : List Mailbox) → length l ≡ n → Column (λ (x : Mailbox). x .id) l (now (ids .entry)) → apart clash l ≡ true → (k : ℕ) → k < n → getD r k 0 ≡ length (existingOf (getD l k noMailbox .id) (take used (messages (now (words .entry)))))) ⌝ }
+{
+    if status {
+        return counting::count(words, used, ids, n);
+    }
+    [0u64; 64]
+}
+
+// NOTIFY SET, with STATUS or without, and the session that it asks for; x is the selected mailbox's row. Who is told of and how many messages exist is noted before anything changes.
 pub fn set(
     words: &mut [u64],
     queue: &mut [u8],
@@ -226,14 +243,14 @@ pub fn set(
     names: &[u8; 4096],
     x: Mailbox,
     status: bool,
+    asked: Session,
     text: &[u8],
 ) -> Outcome
     requires { ⌜ Ready (now words) counts s (now queue) ⌝ }
-    ensures { λ r. ⌜ ((m : Memory) (p : ℕ) (gs : List Asked) → Lends m (now (words .entry)) counts s (now (queue .entry)) → Law m → Laid (boxes m) (now (ids .entry)) (now (attributes .entry)) (now (lens .entry)) (now (validities .entry)) (now (nexts .entry)) (now (names .entry)) → x ≡ selectedBox m → commandOf (now (text .entry)) ≡ ok p (notifySet status gs) → firstReply m (now (text .entry)) ≡ Accepted → Comes m (ladder m (command (now (text .entry)))) r (now (words .entry)) (now (words .exit)) (now (queue .exit))) ⌝ }
+    ensures { λ r. ⌜ ((m : Memory) (p : ℕ) (gs : List Asked) → Lends m (now (words .entry)) counts s (now (queue .entry)) → Law m → Laid (boxes m) (now (ids .entry)) (now (attributes .entry)) (now (lens .entry)) (now (validities .entry)) (now (nexts .entry)) (now (names .entry)) → x ≡ selectedBox m → commandOf (now (text .entry)) ≡ ok p (notifySet status gs) → firstReply m (now (text .entry)) ≡ Accepted → asked ≡ watching s gs → Comes m (ladder m (command (now (text .entry)))) r (now (words .entry)) (now (words .exit)) (now (queue .exit))) ⌝ }
 {
     let n = counts.mailboxes as usize;
     let used = counts.messages as usize;
-    let asked = read_commands::watched(text, s);
     let mut picked = [0u8; 64];
     let mut asks = [0u8; 64];
     told::picking::note_rows(
@@ -247,7 +264,9 @@ pub fn set(
         &mut picked,
         &mut asks,
     );
-    let tally = counting::count(words, used, ids, n);
+    let mut listed = [0usize; 64];
+    let r = byname::by_name(lens, names, n, &picked, &mut listed);
+    let tally = existing(words, used, ids, n, status);
     let rights = mailboxes::both(x.attributes);
     set_noted(
         words,
@@ -259,11 +278,13 @@ pub fn set(
         validities,
         nexts,
         names,
-        &picked,
+        &listed,
+        r,
         &tally,
         &asks,
         rights,
         x.uidnext,
+        asked,
         text,
     )
 }

@@ -47,9 +47,12 @@ line-is m s wanted x = go (mayRead x) (tellsStatus m s wanted x) (statusAtSet (n
 abbrev pub Tells : (Mailbox → List Line) → List Mailbox → List ℕ → List ℕ → Type 0
 Tells f l counts asks = (k : ℕ) → k < length l → lineText (getD l k noMailbox) (getD counts k 0) (noted (getD asks k 0)) ≡ renderAll (f (getD l k noMailbox))
 
--- from the rules: counts of messages that exist, and whether a STATUS is told
-pub tells-listing : (m : Memory) (s : Session) (wanted : Bool) (l : List Mailbox) (counts asks : List ℕ) → ((k : ℕ) → k < length l → getD counts k 0 ≡ length (existing (getD l k noMailbox .id) (mails m))) → ((k : ℕ) → k < length l → noted (getD asks k 0) ≡ tellsStatus m s wanted (getD l k noMailbox)) → Tells (listingLine m s wanted) l counts asks
-tells-listing m s wanted l counts asks p q k h = ap₂ (λ (c : ℕ) (b : Bool). lineText (getD l k noMailbox) c b) (p k h) (q k h) ∙ line-is m s wanted (getD l k noMailbox)
+-- from the rules: counts of messages that exist, where STATUS is wanted, and whether a STATUS is told
+pub tells-listing : (m : Memory) (s : Session) (wanted : Bool) (l : List Mailbox) (counts asks : List ℕ)
+    → (wanted ≡ true → (k : ℕ) → k < length l → getD counts k 0 ≡ length (existing (getD l k noMailbox .id) (mails m)))
+    → ((k : ℕ) → k < length l → noted (getD asks k 0) ≡ tellsStatus m s wanted (getD l k noMailbox)) → Tells (listingLine m s wanted) l counts asks
+tells-listing m s true l counts asks p q k h = ap₂ (λ (c : ℕ) (b : Bool). lineText (getD l k noMailbox) c b) (p refl k h) (q k h) ∙ line-is m s true (getD l k noMailbox)
+tells-listing m s false l counts asks p q k h = ap (λ (b : Bool). lineText (getD l k noMailbox) (getD counts k 0) b) (q k h) ∙ line-is m s false (getD l k noMailbox)
 
 -- the columns that lines show
 pub record Shown (l : List Mailbox) (attributes lens validities nexts names : List ℕ) : Type 0 where

@@ -13,7 +13,7 @@ ghost use Rattle.model.specs.declared.Mailbox.{Mailbox};
 ghost use Rattle.model.specs.declared.Session.{Session};
 ghost use Rattle.out.specs.Put.{Put};
 ghost use Rattle.rows.specs.Columns.{nameAt};
-ghost use Rattle.byname.specs.Named.{chosen, Picks, Below};
+ghost use Rattle.byname.specs.Named.{chosen, Ordered, Below};
 ghost use Rattle.listing.specs.Telling.{lineBy, lineAt, Shown, Tells};
 
 // The line of a row by its attributes, name, UIDNEXT and UIDVALIDITY: no access; or the STATUS, where it is told; or none.
@@ -117,7 +117,7 @@ pub fn put_lines(
     end
 }
 
-// The whole listing: of n rows those that are picked, by name, each with its count and with whether its STATUS is told.
+// The whole listing, from the places of the rows that are told of, by name: each with its count and with whether its STATUS is told.
 pub fn put_listing(
     queue: &mut [u8],
     at: usize,
@@ -127,16 +127,14 @@ pub fn put_listing(
     validities: &[u64; 64],
     nexts: &[u64; 64],
     names: &[u8; 4096],
+    order: &[usize],
     n: usize,
-    picked: &[u8],
     counts: &[u64; 64],
     asks: &[u8; 64],
-    order: &mut [usize],
 ) -> usize
-    requires { ⌜ (limit ≤ length (now queue)) × (at ≤ 65536) × (n ≤ 64) × (n ≤ length (now picked)) × (n ≤ length (now order)) ⌝ }
-    ensures { λ r. ⌜ ((m : Memory) (s : Session) (wanted : Bool) → length (boxes m) ≡ n → Shown (boxes m) (now (attributes .entry)) (now (lens .entry)) (now (validities .entry)) (now (nexts .entry)) (now (names .entry)) → Picks (λ (x : Mailbox). mayList x && concerns m s x) (boxes m) n (now (picked .entry)) → Tells (listingLine m s wanted) (boxes m) (now (counts .entry)) (now (asks .entry)) → Put (now (queue .entry)) at limit (renderAll (listing m s wanted)) (now (queue .exit)) r) × (r ≤ at + 19200) ⌝ }
+    requires { ⌜ (limit ≤ length (now queue)) × (at ≤ 65536) × (n ≤ 64) × (n ≤ length (now order)) ⌝ }
+    ensures { λ r. ⌜ ((m : Memory) (s : Session) (wanted : Bool) → length (boxes m) ≤ 64 → Shown (boxes m) (now (attributes .entry)) (now (lens .entry)) (now (validities .entry)) (now (nexts .entry)) (now (names .entry)) → Ordered (λ (x : Mailbox). mayList x && concerns m s x) (boxes m) (now (order .entry)) n → Tells (listingLine m s wanted) (boxes m) (now (counts .entry)) (now (asks .entry)) → Put (now (queue .entry)) at limit (renderAll (listing m s wanted)) (now (queue .exit)) r) × (r ≤ at + 19200) ⌝ }
 {
-    let r = byname::by_name(lens, names, n, picked, order);
     put_lines(
         queue,
         at,
@@ -147,7 +145,7 @@ pub fn put_listing(
         nexts,
         names,
         order,
-        r,
+        n,
         counts,
         asks,
     )

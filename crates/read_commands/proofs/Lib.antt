@@ -1,3 +1,3 @@
--- Lemmas on plain values, for the proofs of this crate.
+-- Lemmas on plain values, for the proofs of this crate and of those that answer commands.
 mod Behind
-mod Wholes
+pub mod Wholes

@@ -17,18 +17,18 @@ use Rattle.model.specs.declared.Session.{Session}
 use Rattle.read_options.specs.Heads.{verbOf, readVerb}
 use Rattle.read_options.specs.declared.Verb.{Verb}
 use Rattle.read_options.specs.declared.Verb.the-variants.{Notify, Esearch}
+use Rattle.read_options.specs.declared.VerbRead.{VerbRead}
 use Rattle.read_options.specs.declared.VerbRead.the-variants.{Is as Verbed, Bad as Verbless}
-use Rattle.read_notify.specs.Readings.{readNotify}
+use Rattle.read_notify.specs.Readings.{readNotify, bareOf, Keeps}
 use Rattle.read_notify.specs.Ladder.{reply-by-tally}
 use Rattle.read_notify.specs.Watched.{watchedBy}
-use Rattle.read_notify.specs.declared.Tally.{Tally}
-use Rattle.read_notify.specs.declared.NotifyRead.{NotifyRead}
-use Rattle.read_notify.specs.declared.NotifyRead.the-variants.{Nothing, Groups, Bad as NoNotify}
+use Rattle.read_notify.specs.declared.NotifyRead.the-variants.{Bad as NoNotify}
+use Rattle.read_notify.specs.declared.NotifyKept.{NotifyKept}
 use Rattle.read_search.specs.Searched.{readSearch, Cells}
 use Rattle.read_search.specs.declared.SearchRead.{SearchRead}
 use Rattle.read_search.specs.declared.SearchRead.the-variants.{Bad as NoSearch}
 use Rattle.read_search.proofs.Replying.{reply-same}
-use Rattle.read_commands.specs.Judging.{answerOf, judgedOf, unread, whole, wholeBy, wordOf, judgedBy, notifyUpto, searchUpto, notified, searched, ReadsSearch, Judges}
+use Rattle.read_commands.specs.Judging.{answerOf, judgedOf, unread, whole, wholeBy, wordOf, judgedBy, notifyUpto, searchUpto, notified, searched, Heads, ReadsSearch, Judges}
 use Rattle.read_commands.specs.declared.Judged.{Judged}
 use Rattle.read_commands.proofs.Behind.{NotSearch, not-search, OnlySearch, only-search}
 
@@ -168,12 +168,17 @@ module _ (s : List ℕ) where
   tag-is e = ap (λ (b : Bool). cond b (whole s (commandAt s (tagEnd s + 1))) bad) (sym e)
 
   module _ {at : ℕ} (end : ℕ) (e : end ≡ tagEnd s) (t : tagged s ≡ true) where
-    pub verb-is : {v : Verb} → Verbed v at ≡ readVerb (atomAt s (end + 1)) → judgedBy v s at ≡ commandOf s
+    verb-is : {v : Verb} → Verbed v at ≡ readVerb (atomAt s (end + 1)) → judgedBy v s at ≡ commandOf s
     verb-is f = verb-by s (atomAt s (end + 1)) f ∙ ap (λ (p : ℕ). ByAtom s (atomAt s (p + 1))) e ∙ tag-is t
 
   module _ (end : ℕ) (e : end ≡ tagEnd s) (t : tagged s ≡ true) where
-    pub verb-missing : Verbless ≡ readVerb (atomAt s (end + 1)) → bad ≡ commandOf s
+    verb-missing : Verbless ≡ readVerb (atomAt s (end + 1)) → bad ≡ commandOf s
     verb-missing f = verb-none s (atomAt s (end + 1)) f ∙ ap (λ (p : ℕ). ByAtom s (atomAt s (p + 1))) e ∙ tag-is t
+
+  -- by the verb that was read
+  pub heads-by : (end : ℕ) → end ≡ tagEnd s → tagged s ≡ true → (r : VerbRead) → r ≡ readVerb (atomAt s (end + 1)) → Heads s r
+  heads-by end e t (Verbed v at) f = verb-is end e t f
+  heads-by end e t Verbless f = verb-missing end e t f
 
   pub tag-there : tagged s ≡ true → tagEnd s ≡ cond (tagged s) (tagEnd s) 0
   tag-there e = ap (λ (b : Bool). cond b (tagEnd s) 0) (sym e)
@@ -208,27 +213,33 @@ module _ {b b′ : List ℕ} where
     pub judges-none : {y : Parsed Command} → bad ≡ y → Judges l sel y b b′ unread
     judges-none e = judges-same e (record { exact = refl; cells = tt })
 
+-- ---- what is kept of a NOTIFY
+whole-found : (s : List ℕ) (x : Parsed Command) {q : ℕ} {c : Command} → whole s x ≡ ok q c → x ≡ ok q c
+whole-found s bad h = absurd (let z : _≡_ {A = ℕ} 0 1 = cc in omega arith)
+whole-found s (ok p d) {q} {c} h = go (eqb p (length s)) h
+  where
+    go : (b : Bool) → cond b (ok p d) bad ≡ ok q c → ok p d ≡ ok q c
+    go true e = e
+    go false e = absurd (let z : _≡_ {A = ℕ} 0 1 = cc in omega arith)
+
+keeps-same : {x y : Parsed Command} {r : NotifyKept} → x ≡ y → Keeps x r → Keeps y r
+keeps-same e k = rw e at k
+
+module _ (s : List ℕ) (at : ℕ) where
+  pub keeps-blank : (getD s at 0 ≡ 32 → ⊥) → {r : NotifyKept} → r ≡ bareOf NoNotify → Keeps (wholeBy notify s at) r
+  keeps-blank h e =
+      keeps-same (notify-blank s at h)
+      (rw e (record { exact = refl; keeps = λ q status gs f. absurd (let z : _≡_ {A = ℕ} 0 1 = cc in omega arith) }))
+
+  pub keeps-whole : getD s at 0 ≡ 32 → (r : NotifyKept) → Keeps (notifyAt s (at + 1)) r → Keeps (wholeBy notify s at) (record { read = notifyUpto (length s) (r .read); watch = r .watch; kept = r .kept })
+  keeps-whole h r k =
+      keeps-same (notify-behind s at h)
+      (record {
+        exact = ap (notifyUpto (length s)) (k .exact) ∙ notify-upto s (notifyAt s (at + 1));
+        keeps = λ q status gs e. k .keeps q status gs (whole-found s (notifyAt s (at + 1)) e);
+      })
+
 -- ---- the session
-watched-by : (z : Session) (p : ℕ) (c : Command) (t : Bool) → (readNotify (cond t (ok p c) bad) ≡ NoNotify → ⊥) → watchedBy (ok p c) z ≡ watchedBy (cond t (ok p c) bad) z
-watched-by z p c true h = refl
-watched-by z p c false h = absurd (h refl)
-
-watched-whole : (z : Session) (s : List ℕ) (x : Parsed Command) → (readNotify (whole s x) ≡ NoNotify → ⊥) → watchedBy x z ≡ watchedBy (whole s x) z
-watched-whole z s bad h = refl
-watched-whole z s (ok p c) h = watched-by z p c (eqb p (length s)) h
-
-module _ (z : Session) (s : List ℕ) (at : ℕ) where
-  pub notify-watched : getD s at 0 ≡ 32 → (readNotify (wholeBy notify s at) ≡ NoNotify → ⊥) → watchedBy (notifyAt s (at + 1)) z ≡ watchedBy (wholeBy notify s at) z
-  notify-watched e h =
-      watched-whole z s (notifyAt s (at + 1)) (λ f. h (ap readNotify (sym (notify-behind s at e)) ∙ f))
-      ∙ ap (λ (x : Parsed Command). watchedBy x z) (notify-behind s at e)
-
-nothing-watched : (z : Session) (x : Parsed Command) → NoNotify ≡ readNotify x → z ≡ watchedBy x z
-nothing-watched z bad e = refl
-nothing-watched z (ok p notifyNone) e = absurd (let n : _≡_ {A = ℕ} 0 1 = cc in omega arith)
-nothing-watched z (ok p (notifySet status gs)) e = absurd (let n : _≡_ {A = ℕ} 0 1 = cc in omega arith)
-nothing-watched z (ok p (search q)) e = refl
-
 search-watched : (z : Session) (x : Parsed Command) → OnlySearch x → z ≡ watchedBy x z
 search-watched z bad h = refl
 search-watched z (ok p notifyNone) h = absurd h
@@ -242,14 +253,5 @@ module _ (z : Session) where
   pub same-watched : {x y : Parsed Command} {r : Session} → r ≡ watchedBy x z → x ≡ y → r ≡ watchedBy y z
   same-watched e f = e ∙ ap (λ (x : Parsed Command). watchedBy x z) f
 
-  pub missing-watched : (s : List ℕ) (at : ℕ) {r : NotifyRead} → r ≡ readNotify (wholeBy notify s at) → r ≡ NoNotify → z ≡ watchedBy (wholeBy notify s at) z
-  missing-watched s at e f = nothing-watched z (wholeBy notify s at) (sym f ∙ e)
-
   pub esearch-watched : (s : List ℕ) (at : ℕ) → z ≡ watchedBy (wholeBy esearch s at) z
   esearch-watched s at = search-watched z (wholeBy esearch s at) (only-spaced s at (stands s at " "))
-
-pub not-nothing : {r q : NotifyRead} {p : ℕ} → r ≡ q → r ≡ Nothing p → q ≡ NoNotify → ⊥
-not-nothing e f g = let n : _≡_ {A = ℕ} 0 1 = cc in omega arith
-
-pub not-groups : {r q : NotifyRead} {status : Bool} {t : Tally} {p : ℕ} → r ≡ q → r ≡ Groups status t p → q ≡ NoNotify → ⊥
-not-groups e f g = let n : _≡_ {A = ℕ} 0 1 = cc in omega arith

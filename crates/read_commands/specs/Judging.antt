@@ -5,8 +5,8 @@ use mathlib.Core.List.{List}
 use Prim.Native.Nat.{ℕ}
 use lib.Dec.{eqb}
 use Rattle.model.specs.Requests.{Verb as Word, notify, esearch, otherVerb, Command}
-use Rattle.model.specs.Reading.{Parsed, andThen}
-use Rattle.model.specs.Commands.{commandBy, wholeLine}
+use Rattle.model.specs.Reading.{Parsed, bad, andThen}
+use Rattle.model.specs.Commands.{commandBy, wholeLine, commandOf}
 use Rattle.model.specs.Replies.{replyOf}
 use Rattle.model.specs.Answering.{verb}
 use Rattle.model.specs.declared.Limits.{Limits}
@@ -15,6 +15,8 @@ use Rattle.model.specs.declared.Reply.the-variants.{Bad, Accepted}
 use Rattle.read_options.specs.Heads.{verbOf}
 use Rattle.read_options.specs.declared.Verb.{Verb}
 use Rattle.read_options.specs.declared.Verb.the-variants.{Notify, Esearch, Other}
+use Rattle.read_options.specs.declared.VerbRead.{VerbRead}
+use Rattle.read_options.specs.declared.VerbRead.the-variants.{Is as Headed, Bad as Headless}
 use Rattle.read_notify.specs.Tallies.{replyByTally}
 use Rattle.read_notify.specs.declared.NotifyRead.{NotifyRead}
 use Rattle.read_notify.specs.declared.NotifyRead.the-variants.{Nothing, Groups, Bad as NoNotify}
@@ -72,6 +74,11 @@ searched l hasSelected (Is a p) = answerOf Esearch (replyByAsked l hasSelected a
 searched l hasSelected NoSearch = unread
 
 -- ---- contracts
+-- r is the verb of the line and the position behind it, or the line is no command
+abbrev pub Heads : List ℕ → VerbRead → Type 0
+Heads s (Headed v at) = judgedBy v s at ≡ commandOf s
+Heads s Headless = bad ≡ commandOf s
+
 -- r is the search x, and its keys stand in the cells b′ that were b
 pub record ReadsSearch (x : Parsed Command) (b b′ : List ℕ) (r : SearchRead) : Type 0 where
   pub exact : r ≡ readSearch x

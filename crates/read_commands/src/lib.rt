@@ -6,12 +6,13 @@ ghost use lib.ListN.{length};
 ghost use Rattle.model.specs.Requests.{notify as notifyWord, esearch};
 ghost use Rattle.model.specs.Commands.{tagEnd, tagged, commandOf};
 ghost use Rattle.model.specs.Limits.{limits as most};
-ghost use Rattle.read_notify.specs.Readings.{readNotify};
+ghost use Rattle.read_notify.specs.Readings.{readNotify, Keeps};
 ghost use Rattle.read_notify.specs.Watched.{watchedBy};
-ghost use Rattle.read_commands.specs.Judging.{answerOf, unread as nothing, judgedOf, wholeBy, judgedBy, notifyUpto, searchUpto, notified, searched, ReadsSearch, Judges};
+ghost use Rattle.read_commands.specs.Judging.{answerOf, unread as nothing, judgedOf, wholeBy, judgedBy, notifyUpto, searchUpto, notified, searched, Heads, ReadsSearch, Judges};
 use model::Limits;
 use model::Reply;
 use model::Session;
+use read_notify::NotifyKept;
 use read_notify::NotifyRead;
 use read_options::Verb;
 use read_options::VerbRead;
@@ -84,18 +85,34 @@ fn notify_upto(r: NotifyRead, end: usize) -> NotifyRead
     }
 }
 
-// NOTIFY, from the position behind its word up to the end of the line.
+// NOTIFY, from the position behind its word up to the end of the line, and what is kept of it.
+pub fn keep_notify(text: &[u8], at: usize) -> NotifyKept
+    ensures { λ r. ⌜ Keeps (wholeBy notifyWord (now (text .entry)) at) r ⌝ }
+{
+    if octets::octet_at(text, at) != b' ' {
+        return read_notify::unkept();
+    }
+    let r = read_notify::keep_at(text, at + 1);
+    let watch = r.watch;
+    let kept = r.kept;
+    let read = r.read;
+    NotifyKept {
+        read: notify_upto(read, text.len()),
+        watch,
+        kept,
+    }
+}
+
+// What was read of it.
 pub fn notify_at(text: &[u8], at: usize) -> NotifyRead
     ensures { λ r. ⌜ r ≡ readNotify (wholeBy notifyWord (now (text .entry)) at) ⌝ }
 {
-    if octets::octet_at(text, at) != b' ' {
-        return NotifyRead::Bad;
-    }
-    notify_upto(read_notify::notify_at(text, at + 1), text.len())
+    let r = keep_notify(text, at);
+    r.read
 }
 
 // How it is answered.
-fn notify_reply(r: NotifyRead, l: Limits) -> Judged
+pub fn notify_reply(r: NotifyRead, l: Limits) -> Judged
     ensures { λ q. ⌜ q ≡ notified l r ⌝ }
 {
     match r {
@@ -162,6 +179,17 @@ pub fn judge_search(text: &[u8], at: usize, selected: bool, l: Limits, cells: &m
 
 // ---- the line
 
+// The verb of a line that has a tag, and the position behind it.
+pub fn head(text: &[u8]) -> VerbRead
+    ensures { λ r. ⌜ Heads (now (text .entry)) r ⌝ }
+{
+    if !read_options::is_tagged(text) {
+        return VerbRead::Bad;
+    }
+    let end = read_options::tag_end(text);
+    read_options::verb_at(text, end + 1)
+}
+
 // The command of a verb, from the position behind its word on.
 fn judge_by(
     verb: Verb,
@@ -186,11 +214,7 @@ pub fn judge(text: &[u8], selected: bool, l: Limits, cells: &mut [u64]) -> Judge
     requires { ⌜ length (now text) < 4294967296 ⌝ }
     ensures { λ r. ⌜ Judges l selected (commandOf (now (text .entry))) (now (cells .entry)) (now (cells .exit)) r ⌝ }
 {
-    if !read_options::is_tagged(text) {
-        return unread();
-    }
-    let end = read_options::tag_end(text);
-    match read_options::verb_at(text, end + 1) {
+    match head(text) {
         VerbRead::Is(verb, at) => judge_by(verb, text, at, selected, l, cells),
         VerbRead::Bad => unread(),
     }
@@ -202,14 +226,7 @@ pub fn judge(text: &[u8], selected: bool, l: Limits, cells: &mut [u64]) -> Judge
 pub fn watch_notify(text: &[u8], at: usize, session: Session) -> Session
     ensures { λ r. ⌜ r ≡ watchedBy (wholeBy notifyWord (now (text .entry)) at) session ⌝ }
 {
-    if octets::octet_at(text, at) != b' ' {
-        return session;
-    }
-    match notify_at(text, at) {
-        NotifyRead::Nothing(_) => read_notify::watch_at(text, at + 1, session),
-        NotifyRead::Groups(_, _, _) => read_notify::watch_at(text, at + 1, session),
-        NotifyRead::Bad => session,
-    }
+    read_notify::watch_by(keep_notify(text, at), session)
 }
 
 // The session that the command of a verb sets.
@@ -227,11 +244,7 @@ fn watch_by(verb: Verb, text: &[u8], at: usize, session: Session) -> Session
 pub fn watched(text: &[u8], session: Session) -> Session
     ensures { λ r. ⌜ r ≡ watchedBy (commandOf (now (text .entry))) session ⌝ }
 {
-    if !read_options::is_tagged(text) {
-        return session;
-    }
-    let end = read_options::tag_end(text);
-    match read_options::verb_at(text, end + 1) {
+    match head(text) {
         VerbRead::Is(verb, at) => watch_by(verb, text, at, session),
         VerbRead::Bad => session,
     }

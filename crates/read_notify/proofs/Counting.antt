@@ -13,7 +13,7 @@ use Rattle.model.specs.Requests.{Event, messageNew, messageExpunge, flagChange,
 use Rattle.model.specs.Replies.{selectedGroup, messageEvent, misplacedEvent, hasAttributes, misplacedAttributes, unpaired, unsupportedEvent, unsupportedAttribute, asksUnsupported}
 use Rattle.read_filters.specs.Scopes.{scopeFor}
 use Rattle.read_events.specs.Gathered.{gatherEvents, isAnnotationChange, isOther}
-use Rattle.read_notify.specs.Tallies.{tallyOf, aboutSelected, asksMessages, asksOthers, tallyBy, add}
+use Rattle.read_notify.specs.Tallies.{noTally, tallyOf, aboutSelected, asksMessages, asksOthers, tallyBy, add}
 use Rattle.read_notify.specs.declared.Tally.{Tally}
 
 -- ---- tests
@@ -149,3 +149,14 @@ tally-more g gs = tally-eq
     (amiss-more (misplacedEvent g) (misplacedAttributes g) (unpaired g) (anyb misplacedEvent gs) (anyb misplacedAttributes gs) (anyb unpaired gs))
     (ap (λ b. b || anyb (λ (h : Asked). anyb unsupportedEvent (h .events)) gs) (or-false (anyb unsupportedEvent (g .events))))
     (ap (λ b. b || anyb (λ (h : Asked). anyb asksUnsupported (h .events)) gs) (or-false (anyb asksUnsupported (g .events))))
+
+-- ---- tallies put together
+pub add-none : (t : Tally) → add noTally t ≡ t
+add-none t = tally-eq (omega arith) (omega arith) (omega arith) refl refl refl
+
+right : (a b c : Bool) → ((a || b) || c) ≡ (a || (b || c))
+right true b c = refl
+right false b c = refl
+
+pub add-right : (a b c : Tally) → add (add a b) c ≡ add a (add b c)
+add-right a b c = tally-eq (omega arith) (omega arith) (omega arith) (right (a .amiss) (b .amiss) (c .amiss)) (right (a .badevent) (b .badevent) (c .badevent)) (right (a .unsupported) (b .unsupported) (c .unsupported))

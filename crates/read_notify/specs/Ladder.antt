@@ -29,11 +29,17 @@ reply-by-tally l selected p status gs =
     rw (regroup (selectedTwice gs) (anyb misplacedEvent gs) (anyb misplacedAttributes gs) (anyb unpaired gs), length-map gs (λ (g : Asked). g .filter))
 
 -- groups that are not too large fit into a session
+not-large : (status : Bool) (gs : List Asked) → tooLarge limits (notifySet status gs) ≡ false → (length gs ≤ 8) × (nameCount (filtersOf gs) ≤ 16)
+not-large status gs h = (
+  rw (length-map gs (λ (g : Asked). g .filter)) at (ltb-false 8 (length (filtersOf gs)) (or-l (ltb 8 (length (filtersOf gs))) (ltb 16 (nameCount (filtersOf gs))) h)),
+  ltb-false 16 (nameCount (filtersOf gs)) (or-r (ltb 8 (length (filtersOf gs))) (ltb 16 (nameCount (filtersOf gs))) h),
+)
+
 few-enough : (status : Bool) (gs : List Asked) → tooLarge limits (notifySet status gs) ≡ false → few gs ≡ true
-few-enough status gs h =
-    let a : length gs ≤ 8 = rw (length-map gs (λ (g : Asked). g .filter)) at (ltb-false 8 (length (filtersOf gs)) (or-l (ltb 8 (length (filtersOf gs))) (ltb 16 (nameCount (filtersOf gs))) h)) in
-    let b : nameCount (filtersOf gs) ≤ 16 = ltb-false 16 (nameCount (filtersOf gs)) (or-r (ltb 8 (length (filtersOf gs))) (ltb 16 (nameCount (filtersOf gs))) h) in
-    rw (le-leb (length gs) 8 a) (le-leb (nameCount (filtersOf gs)) 16 b)
+few-enough status gs h = let l = not-large status gs h in rw (le-leb (length gs) 8 (l .0)) (le-leb (nameCount (filtersOf gs)) 16 (l .1))
+
+pub accepted-few : (selected : Bool) (p : ℕ) (status : Bool) (gs : List Asked) → replyOf limits selected (ok p (notifySet status gs)) ≡ Accepted → (length gs ≤ 8) × (nameCount (filtersOf gs) ≤ 16)
+accepted-few selected p status gs h = not-large status gs (passed limits selected p (notifySet status gs) h .4)
 
 pub watched-accepted : (selected : Bool) (x : Parsed Command) (s : Session) → replyOf limits selected x ≡ Accepted → watchedBy x s ≡ sessionBy x s
 watched-accepted selected bad s h = refl

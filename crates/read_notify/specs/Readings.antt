@@ -1,20 +1,26 @@
--- What the readers of groups answer: the tally of what they read, and the position behind it. Assumes nothing: these are definitions.
+-- What the readers of groups and of the command answer: what was read, the position behind it, and what is kept. Assumes nothing: these are
+-- definitions.
 use mathlib.Core.Path.{_≡_}
-use mathlib.Core.Bool.{Bool, true}
+use mathlib.Core.Bool.{Bool, cond}
 use mathlib.Core.List.{List}
 use Prim.Native.Nat.{ℕ, _+_, _-_, _≤_, _<_}
 use lib.ListN.{length}
-use Rattle.model.specs.Requests.{Filter, namesOf, Command, notifyNone, notifySet, search}
-use Rattle.model.specs.Reading.{Parsed, bad, ok, rowAt, nextAt, lineEnd}
-use Rattle.model.specs.NotifyGrammar.{groupBy, groupAt}
-use Rattle.read_filters.specs.Scopes.{scopeFor}
-use Rattle.read_filters.specs.declared.Scope.{Scope}
-use Rattle.read_notify.specs.Tallies.{tallyOf, readGroup, readTally, add, Room}
+use Rattle.model.specs.Requests.{Asked, Command, notifyNone, notifySet, search}
+use Rattle.model.specs.Limits.{nameCount}
+use Rattle.model.specs.Reading.{Parsed, bad, ok, andThen}
+use Rattle.model.specs.NotifyGrammar.{groupsAt}
+use Rattle.model.specs.Listing.{watching}
+use Rattle.model.specs.declared.Session.{Session}
+use Rattle.read_filters.specs.Keeping.{nothingKept}
+use Rattle.read_filters.specs.declared.Kept.{Kept}
+use Rattle.read_notify.specs.Tallies.{filtersOf, tallyOf, readTally, add}
+use Rattle.read_notify.specs.Watched.{nothingWatched, settle}
 use Rattle.read_notify.specs.declared.Tally.{Tally}
-use Rattle.read_notify.specs.declared.TallyRead.{TallyRead}
-use Rattle.read_notify.specs.declared.TallyRead.the-variants.{Is, Bad}
+use Rattle.read_notify.specs.declared.Watch.{Watch}
+use Rattle.read_notify.specs.declared.Gathered.{Gathered}
 use Rattle.read_notify.specs.declared.NotifyRead.{NotifyRead}
 use Rattle.read_notify.specs.declared.NotifyRead.the-variants.{Nothing, Groups, Bad as Unread}
+use Rattle.read_notify.specs.declared.NotifyKept.{NotifyKept}
 
 -- groups end in the text, behind their beginning, and no count is above that of their octets
 pub record Bounded (s : List ℕ) (at : ℕ) (t : Tally) (p : ℕ) : Type 0 where
@@ -24,45 +30,29 @@ pub record Bounded (s : List ℕ) (at : ℕ) (t : Tally) (p : ℕ) : Type 0 wher
   pub behind : at < p
   pub inside : p ≤ length s
 
-abbrev pub Within : List ℕ → ℕ → TallyRead → Type 0
-Within s at (Is t p) = Bounded s at t p
-Within s at Bad = Unit {0}
+abbrev pub Within : List ℕ → ℕ → Parsed Tally → Type 0
+Within s at (ok p t) = Bounded s at t p
+Within s at bad = Unit {0}
 
--- r is the answer x of the definitions
-pub record ReadsTally (s : List ℕ) (at : ℕ) (x r : TallyRead) : Type 0 where
-  pub exact : r ≡ x
-  pub within : Within s at r
+-- ---- groups
+-- a tally put to those that follow it
+abbrev pub join : Tally → Parsed Tally → Parsed Tally
+join t (ok p rest) = ok p (add t rest)
+join t bad = bad
 
--- groups up to the end of the line, read with any fuel that is enough
-pub record ReadsRow (s : List ℕ) (at : ℕ) (r : TallyRead) : Type 0 where
-  pub exact : (n : ℕ) → length s - at ≤ n → r ≡ readTally (rowAt n (groupAt s) (nextAt lineEnd s) at)
-  pub within : Within s at r
+-- what the code has of groups
+abbrev pub tallyIn : Gathered → Parsed Tally
+tallyIn g = cond (g .ok) (ok (g .next) (g .tally)) bad
 
--- ---- one group behind its filter
-pub record BoundedBehind (s : List ℕ) (at n : ℕ) (t : Tally) (p : ℕ) : Type 0 where
-  pub groups : t .groups ≤ 1
-  pub names : t .names ≡ n
-  pub selected : t .selected ≤ 1
-  pub behind : at < p
-  pub inside : p ≤ length s
+-- these are what is kept of groups, if they are few enough
+abbrev pub Kept-of : Watch → Kept → List Asked → Type 0
+Kept-of w k gs = length gs ≤ 8 → nameCount (filtersOf gs) ≤ 16 → (y : Session) → settle y w k ≡ watching y gs
 
-abbrev pub WithinBehind : List ℕ → ℕ → ℕ → TallyRead → Type 0
-WithinBehind s at n (Is t p) = BoundedBehind s at n t p
-WithinBehind s at n Bad = Unit {0}
-
--- r is the group of a filter of this scope with so many names
-pub record ReadsBehind (s : List ℕ) (at : ℕ) (scope : Scope) (n : ℕ) (r : TallyRead) : Type 0 where
-  pub exact : (f : Filter) → scopeFor f ≡ scope → length (namesOf f) ≡ n → r ≡ readGroup (groupBy true f s at)
-  pub within : WithinBehind s at n r
-
--- ---- a group put to those that follow it
-abbrev pub join : Tally → TallyRead → TallyRead
-join t (Is rest p) = Is (add t rest) p
-join t Bad = Bad
-
-abbrev pub JoinRoom : Tally → TallyRead → Type 0
-JoinRoom t (Is rest p) = Room t rest
-JoinRoom t Bad = Unit {0}
+-- r is the groups from a position up to the end of the line, and what is kept of them
+pub record Gathers (s : List ℕ) (at : ℕ) (r : Gathered) : Type 0 where
+  pub exact : tallyIn r ≡ readTally (groupsAt s at)
+  pub within : Within s at (tallyIn r)
+  pub keeps : (q : ℕ) (gs : List Asked) → groupsAt s at ≡ ok q gs → Kept-of (r .watch) (r .kept) gs
 
 -- ---- the command
 abbrev pub readNotify : Parsed Command → NotifyRead
@@ -71,10 +61,16 @@ readNotify (ok p notifyNone) = Nothing p
 readNotify (ok p (notifySet status gs)) = Groups status (tallyOf gs) p
 readNotify (ok p (search q)) = Unread
 
--- the command with these groups; `status` says whether STATUS stands before them
-abbrev pub note : Bool → TallyRead → NotifyRead
-note status (Is t p) = Groups status t p
-note status Bad = Unread
+-- NOTIFY SET with these groups; `status` says whether STATUS stands before them
+abbrev pub setting : Bool → Parsed (List Asked) → Parsed Command
+setting status x = andThen x λ r groups. ok r (notifySet status groups)
+
+-- the command with what was gathered, and one of which nothing is kept
+abbrev pub noteKept : Bool → Gathered → NotifyKept
+noteKept status g = record { read = cond (g .ok) (Groups status (g .tally) (g .next)) Unread; watch = g .watch; kept = g .kept }
+
+abbrev pub bareOf : NotifyRead → NotifyKept
+bareOf r = record { read = r; watch = nothingWatched; kept = nothingKept }
 
 -- groups end in the text; the word NONE may stand behind it only where the position does
 abbrev pub NotifyWithin : List ℕ → ℕ → NotifyRead → Type 0
@@ -82,7 +78,11 @@ NotifyWithin s at (Nothing p) = (at ≤ p) × (p ≤ at + (length s - at))
 NotifyWithin s at (Groups status t p) = Bounded s at t p
 NotifyWithin s at Unread = Unit {0}
 
--- r is the answer x of the definitions
-pub record ReadsNotify (s : List ℕ) (at : ℕ) (x r : NotifyRead) : Type 0 where
-  pub exact : r ≡ x
-  pub within : NotifyWithin s at r
+-- r is the command x, and what is kept of its groups
+pub record Keeps (x : Parsed Command) (r : NotifyKept) : Type 0 where
+  pub exact : r .read ≡ readNotify x
+  pub keeps : (q : ℕ) (status : Bool) (gs : List Asked) → x ≡ ok q (notifySet status gs) → Kept-of (r .watch) (r .kept) gs
+
+pub record KeepsAt (s : List ℕ) (at : ℕ) (x : Parsed Command) (r : NotifyKept) : Type 0 where
+  pub is : Keeps x r
+  pub within : NotifyWithin s at (r .read)

@@ -17,8 +17,6 @@ use Rattle.read_filters.specs.declared.Scope.{Scope}
 use Rattle.read_filters.specs.declared.Scope.the-variants.{Selected, Delayed, Inboxes, Personal, Subscribed, Subtree, SubtreeOne, Mailboxes}
 use Rattle.read_events.specs.declared.Events.{Events}
 use Rattle.read_notify.specs.declared.Tally.{Tally}
-use Rattle.read_notify.specs.declared.TallyRead.{TallyRead}
-use Rattle.read_notify.specs.declared.TallyRead.the-variants.{Is, Bad}
 
 -- ---- groups
 abbrev pub filtersOf : List Asked → List Filter
@@ -35,13 +33,13 @@ tallyOf gs = record {
   unsupported = anyb (λ (g : Asked). anyb asksUnsupported (g .events)) gs;
 }
 
-abbrev pub readGroup : Parsed Asked → TallyRead
-readGroup bad = Bad
-readGroup (ok p g) = Is (tallyOf (g ∷ [])) p
+-- no group
+abbrev pub noTally : Tally
+noTally = record { groups = 0; names = 0; selected = 0; amiss = false; badevent = false; unsupported = false }
 
-abbrev pub readTally : Parsed (List Asked) → TallyRead
-readTally bad = Bad
-readTally (ok p gs) = Is (tallyOf gs) p
+abbrev pub readTally : Parsed (List Asked) → Parsed Tally
+readTally bad = bad
+readTally (ok p gs) = ok p (tallyOf gs)
 
 -- ---- one group, from what the code has of it
 abbrev pub aboutSelected : Scope → Bool

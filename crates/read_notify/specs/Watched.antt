@@ -10,7 +10,7 @@ use Rattle.model.specs.Text.{pack}
 use Rattle.model.specs.Requests.{Filter, namesOf, Asked, Command, notifyNone, notifySet, search}
 use Rattle.model.specs.Limits.{nameCount}
 use Rattle.model.specs.Reading.{Parsed, bad, ok}
-use Rattle.model.specs.NotifyGrammar.{groupBy, groupsAt}
+use Rattle.model.specs.NotifyGrammar.{filterAt, groupBy}
 use Rattle.model.specs.Memory.{noGroup, silenced}
 use Rattle.model.specs.Listing.{selectorNumber, lendGroups, watching}
 use Rattle.model.specs.declared.LentGroup.{LentGroup}
@@ -20,8 +20,9 @@ use Rattle.read_events.specs.Gathered.{gatherEvents}
 use Rattle.read_events.specs.declared.Events.{Events}
 use Rattle.read_filters.specs.Scopes.{scopeFor}
 use Rattle.read_filters.specs.declared.Scope.{Scope}
+use Rattle.read_filters.specs.Keeping.{withAll}
 use Rattle.read_filters.specs.declared.Kept.{Kept}
-use Rattle.read_notify.specs.Tallies.{filtersOf}
+use Rattle.read_notify.specs.Tallies.{filtersOf, tallyOf}
 use Rattle.read_notify.specs.declared.Watch.{Watch}
 use Rattle.read_notify.specs.declared.LentRead.{LentRead}
 use Rattle.read_notify.specs.declared.LentRead.the-variants.{Is, Bad}
@@ -30,10 +31,6 @@ use Rattle.read_notify.specs.declared.LentRead.the-variants.{Is, Bad}
 -- groups that fit into a session: at most 8, with at most 16 names
 abbrev pub few : List Asked → Bool
 few gs = leb (length gs) 8 && leb (nameCount (filtersOf gs)) 16
-
-abbrev pub watchedGroups : Parsed (List Asked) → Session → Session
-watchedGroups bad s = s
-watchedGroups (ok p gs) s = cond (few gs) (watching s gs) s
 
 abbrev pub watchedBy : Parsed Command → Session → Session
 watchedBy bad s = s
@@ -64,17 +61,17 @@ lentBy selector names first e = record {
   attributes = fetchBits (e .attributes);
 }
 
--- a group that was read; its names begin at `first`
+-- a group that was read, with what it comes to; its names begin at `first`
 abbrev pub lentOf : ℕ → Asked → LentGroup
 lentOf first g = lentBy (selectorNumber (g .filter)) (length (namesOf (g .filter))) first (gatherEvents (g .events))
 
 abbrev pub readLent : ℕ → Parsed Asked → LentRead
 readLent first bad = Bad
-readLent first (ok p g) = Is (lentOf first g) (length (namesOf (g .filter))) p
+readLent first (ok p g) = Is (lentOf first g) (tallyOf (g ∷ [])) p
 
 -- a group ends in the text; it has no more names than octets behind its parenthesis
 abbrev pub LentWithin : List ℕ → ℕ → LentRead → Type 0
-LentWithin s at (Is g n p) = (n + (at + 1) < p) × (p ≤ length s)
+LentWithin s at (Is g t p) = (t .groups ≤ 1) × (t .selected ≤ 1) × (t .names + (at + 1) < p) × (p ≤ length s)
 LentWithin s at Bad = Unit {0}
 
 -- r is the answer x of the definitions
@@ -84,7 +81,7 @@ pub record Lends (s : List ℕ) (at : ℕ) (x r : LentRead) : Type 0 where
 
 -- behind its filter
 abbrev pub LentBehind : List ℕ → ℕ → ℕ → LentRead → Type 0
-LentBehind s at names (Is g n p) = (n ≡ names) × (at < p) × (p ≤ length s)
+LentBehind s at names (Is g t p) = (t .groups ≤ 1) × (t .selected ≤ 1) × (t .names ≡ names) × (at < p) × (p ≤ length s)
 LentBehind s at names Bad = Unit {0}
 
 pub record LendsBehind (s : List ℕ) (at : ℕ) (scope : Scope) (n first : ℕ) (r : LentRead) : Type 0 where
@@ -105,6 +102,6 @@ withGroups w first gs = record { count = w .count + length gs; groups = sets (w 
 abbrev pub settle : Session → Watch → Kept → Session
 settle s w k = record { selected = s .selected; notified = 1; groupcount = lowOf (w .count); told = s .told; groups = w .groups; names = k .names }
 
--- r is the session with the groups that stand at a position, if they are few enough
-pub record KeepsGroups (s : List ℕ) (at : ℕ) (x r : Session) : Type 0 where
-  pub exact : (q : ℕ) (gs : List Asked) → groupsAt s at ≡ ok q gs → length gs ≤ 8 → nameCount (filtersOf gs) ≤ 16 → r ≡ watching x gs
+-- the names of the filter at a position are kept behind those of k
+pub record KeepsMore (s : List ℕ) (at names : ℕ) (k r : Kept) : Type 0 where
+  pub exact : (q : ℕ) (f : Filter) → filterAt s at ≡ ok q f → length (namesOf f) ≡ names → r ≡ withAll k (namesOf f)

@@ -3,11 +3,12 @@ pub mod tallies;
 pub mod watches;
 
 use model::LentGroup;
-pub use tallies::group_at;
-pub use tallies::groups_at;
-pub use tallies::notify_at;
+use read_filters::Kept;
 pub use tallies::reply_for;
-pub use watches::watch_at;
+pub use watches::keep_at;
+pub use watches::settled;
+pub use watches::unkept;
+pub use watches::watch_by;
 
 // What the groups of a NOTIFY come to: how many groups, names and groups about the selected mailbox; and whether a group has a fault
 // that makes it BAD, asks an event that is not supported, or an attribute that is not.
@@ -20,12 +21,6 @@ pub struct Tally {
     pub unsupported: bool,
 }
 
-// A tally of what was read and the position behind it, or that nothing that fits stands there.
-pub enum TallyRead {
-    Is(Tally, usize),
-    Bad,
-}
-
 // What a NOTIFY asks: no more notices, or groups, with or without STATUS; and the position behind it.
 pub enum NotifyRead {
     Nothing(usize),
@@ -33,9 +28,9 @@ pub enum NotifyRead {
     Bad,
 }
 
-// A group as a session holds it, how many names it has, and the position behind it; or that none stands there.
+// A group as a session holds it, what it comes to, and the position behind it; or that none stands there.
 pub enum LentRead {
-    Is(LentGroup, u64, usize),
+    Is(LentGroup, Tally, usize),
     Bad,
 }
 
@@ -43,4 +38,20 @@ pub enum LentRead {
 pub struct Watch {
     pub count: u64,
     pub groups: [LentGroup; 8],
+}
+
+// Groups up to the end of the line: whether all fit, what they come to, the position behind them, and what is kept of them.
+pub struct Gathered {
+    pub ok: bool,
+    pub tally: Tally,
+    pub next: usize,
+    pub watch: Watch,
+    pub kept: Kept,
+}
+
+// A NOTIFY as it was read, and what is kept of its groups.
+pub struct NotifyKept {
+    pub read: NotifyRead,
+    pub watch: Watch,
+    pub kept: Kept,
 }

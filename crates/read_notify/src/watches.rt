@@ -1,8 +1,13 @@
 // The session that an accepted NOTIFY sets: its groups as numbers, its names kept.
+use super::Gathered;
 use super::LentRead;
-use super::TallyRead;
+use super::NotifyKept;
+use super::NotifyRead;
+use super::Tally;
 use super::Watch;
-use super::tallies::groups_at;
+use super::tallies::added;
+use super::tallies::no_tally;
+use super::tallies::tally_by;
 use model::LentGroup;
 use model::Session;
 use octets::Class;
@@ -13,12 +18,19 @@ use read_filters::FilterRead;
 use read_filters::Kept;
 use read_filters::Scope;
 ghost use mathlib.Core.Path.{_≡_};
+ghost use mathlib.Core.Bool.{false};
 ghost use Prim.Native.Nat.{_+_, _*_, _≤_, _<_};
+ghost use lib.Dec.{eqb};
+ghost use lib.ListN.{length};
 ghost use Rattle.model.specs.Text.{one};
-ghost use Rattle.model.specs.Reading.{wordAt};
-ghost use Rattle.model.specs.NotifyGrammar.{groupAt, groupsAt, setBy, notifyAt};
+ghost use Rattle.model.specs.Requests.{Command};
+ghost use Rattle.model.specs.Reading.{Parsed, wordAt};
+ghost use Rattle.model.specs.NotifyGrammar.{groupAt, setBy, notifyAt};
 ghost use Rattle.model.specs.Memory.{silenced};
-ghost use Rattle.read_notify.specs.Watched.{lowOf, bitsOf, fetchBits, firstOf, lentBy, readLent, LendsBehind, Lends, withGroup, nothingWatched, settle, KeepsGroups, watchedGroups, watchedBy};
+ghost use Rattle.read_filters.specs.Keeping.{nothingKept};
+ghost use Rattle.read_notify.specs.Tallies.{noTally};
+ghost use Rattle.read_notify.specs.Readings.{Gathers, noteKept, bareOf, Keeps, KeepsAt};
+ghost use Rattle.read_notify.specs.Watched.{lowOf, bitsOf, fetchBits, firstOf, lentBy, readLent, LendsBehind, Lends, withGroup, nothingWatched, settle, KeepsMore, watchedBy};
 
 // A number as an octet, 0 where it is none.
 fn low(x: u64) -> u8
@@ -89,7 +101,11 @@ fn lent_behind(text: &[u8], at: usize, scope: Scope, names: u64, first: u64) -> 
                 return LentRead::Bad;
             }
             let selector = read_filters::selector_of(scope);
-            LentRead::Is(lent(selector, names, first, e), names, next + 1)
+            LentRead::Is(
+                lent(selector, names, first, e),
+                tally_by(scope, names, e),
+                next + 1,
+            )
         }
         EventsRead::Bad => LentRead::Bad,
     }
@@ -151,7 +167,7 @@ fn no_watch() -> Watch
 }
 
 // The session with these groups and names.
-fn settled(session: Session, watch: Watch, kept: Kept) -> Session
+pub fn settled(session: Session, watch: Watch, kept: Kept) -> Session
     ensures { λ r. ⌜ r ≡ settle session watch kept ⌝ }
 {
     let groups = watch.groups;
@@ -166,27 +182,142 @@ fn settled(session: Session, watch: Watch, kept: Kept) -> Session
     }
 }
 
-// The session with the groups that stand from a position on, which are few enough.
-fn keep_groups(text: &[u8], at: usize, session: Session) -> Session
-    ensures { λ r. ⌜ KeepsGroups (now (text .entry)) at session r ⌝ }
+// What was read of groups up to a position: all there is, if that is the end of the line.
+fn gathered(text: &[u8], tally: Tally, next: usize, watch: Watch, kept: Kept) -> Gathered
+    ensures { λ r. ⌜ r ≡ record { ok = eqb next (length (now (text .entry))); tally = tally; next = next; watch = watch; kept = kept } ⌝ }
 {
+    Gathered {
+        ok: next == text.len(),
+        tally,
+        next,
+        watch,
+        kept,
+    }
+}
+
+// Nothing that fits was read.
+fn ungathered() -> Gathered
+    ensures { λ r. ⌜ r ≡ record { ok = false; tally = noTally; next = 0; watch = nothingWatched; kept = nothingKept } ⌝ }
+{
+    let none = read_filters::keep_nothing();
+    Gathered {
+        ok: false,
+        tally: no_tally(),
+        next: 0,
+        watch: no_watch(),
+        kept: none,
+    }
+}
+
+// The names of the filter at a position are kept behind others: nothing is read where it has none.
+fn keep_more(text: &[u8], at: usize, names: u64, kept: Kept) -> Kept
+    requires { ⌜ kept .count ≤ at ⌝ }
+    ensures { λ r. ⌜ KeepsMore (now (text .entry)) at names kept r ⌝ }
+{
+    if names == 0 {
+        return kept;
+    }
+    let read = read_filters::keep_filter(text, at, kept);
+    let more = read.kept;
+    more
+}
+
+// The groups from a position up to the end of the line, each read once: what they come to, and what is kept of them.
+fn gather(text: &[u8], at: usize) -> Gathered
+    ensures { λ r. ⌜ Gathers (now (text .entry)) at r ⌝ }
+{
+    let mut tally = no_tally();
     let mut watch = no_watch();
     let mut kept = read_filters::keep_nothing();
     let mut p = at;
     loop {
-        let LentRead::Is(group, _, next) = lent_at(text, p, kept.count) else {
-            return session;
+        let LentRead::Is(group, one, next) = lent_at(text, p, kept.count) else {
+            return ungathered();
         };
-        let read = read_filters::keep_filter(text, p + 1, kept);
-        let more = read.kept;
-        kept = more;
+        kept = keep_more(text, p + 1, one.names, kept);
         watch = keep_group(watch, group);
+        tally = added(tally, one);
         if octets::octet_at(text, next) != b' ' {
-            return settled(session, watch, kept);
+            return gathered(text, tally, next, watch, kept);
         }
         p = next + 1;
     }
 }
+
+// ---- the command
+
+// NOTIFY SET with these groups, with STATUS or without.
+fn noted(status: bool, g: Gathered) -> NotifyKept
+    ensures { λ r. ⌜ r ≡ noteKept status g ⌝ }
+{
+    let watch = g.watch;
+    let kept = g.kept;
+    let tally = g.tally;
+    if g.ok {
+        return NotifyKept {
+            read: NotifyRead::Groups(status, tally, g.next),
+            watch,
+            kept,
+        };
+    }
+    NotifyKept {
+        read: NotifyRead::Bad,
+        watch,
+        kept,
+    }
+}
+
+// A NOTIFY of which nothing is kept.
+fn bare(read: NotifyRead) -> NotifyKept
+    ensures { λ r. ⌜ r ≡ bareOf read ⌝ }
+{
+    let none = read_filters::keep_nothing();
+    NotifyKept {
+        read,
+        watch: no_watch(),
+        kept: none,
+    }
+}
+
+// No NOTIFY.
+pub fn unkept() -> NotifyKept
+    ensures { λ r. ⌜ r ≡ bareOf NotifyRead.Bad ⌝ }
+{
+    bare(NotifyRead::Bad)
+}
+
+// Behind SET and a space: STATUS, if it is asked, then the groups.
+fn set_at(text: &[u8], at: usize) -> NotifyKept
+    ensures { λ r. ⌜ KeepsAt (now (text .entry)) at (setBy (wordAt (now (text .entry)) at "STATUS") (now (text .entry)) at) r ⌝ }
+{
+    let end = octets::run_end(text, at, Class::Atom);
+    if octets::is_word(text, at, end, b"STATUS") {
+        if octets::octet_at(text, end) != b' ' {
+            return unkept();
+        }
+        return noted(true, gather(text, end + 1));
+    }
+    noted(false, gather(text, at))
+}
+
+// NOTIFY behind its verb and a space.
+pub fn keep_at(text: &[u8], at: usize) -> NotifyKept
+    ensures { λ r. ⌜ KeepsAt (now (text .entry)) at (notifyAt (now (text .entry)) at) r ⌝ }
+{
+    let end = octets::run_end(text, at, Class::Atom);
+    if octets::is_word(text, at, end, b"NONE") {
+        return bare(NotifyRead::Nothing(end));
+    }
+    if !octets::is_word(text, at, end, b"SET") {
+        return unkept();
+    }
+    if octets::octet_at(text, end) != b' ' {
+        return unkept();
+    }
+    set_at(text, end + 1)
+}
+
+// ---- the session
 
 // The session without groups.
 fn silence(session: Session) -> Session
@@ -196,51 +327,24 @@ fn silence(session: Session) -> Session
     settled(session, no_watch(), none)
 }
 
-// The session with the groups that stand from a position up to the end of the line, if they fit into it.
-fn watch_groups(text: &[u8], at: usize, session: Session) -> Session
-    ensures { λ r. ⌜ r ≡ watchedGroups (groupsAt (now (text .entry)) at) session ⌝ }
+// The session that a NOTIFY sets which was read so: another one where its groups fit into it.
+pub fn watch_by(r: NotifyKept, session: Session) -> Session
+    ensures { λ q. ⌜ ((x : Parsed Command) → Keeps x r → q ≡ watchedBy x session) ⌝ }
 {
-    match groups_at(text, at) {
-        TallyRead::Is(t, _) => {
-            if 8 < t.groups {
+    let read = r.read;
+    match read {
+        NotifyRead::Nothing(_) => silence(session),
+        NotifyRead::Groups(_, tally, _) => {
+            if 8 < tally.groups {
                 return session;
             }
-            if 16 < t.names {
+            if 16 < tally.names {
                 return session;
             }
-            keep_groups(text, at, session)
+            let watch = r.watch;
+            let kept = r.kept;
+            settled(session, watch, kept)
         }
-        TallyRead::Bad => session,
+        NotifyRead::Bad => session,
     }
-}
-
-// Behind SET and a space: the session with the groups, whether or not STATUS stands before them.
-fn watch_set(text: &[u8], at: usize, session: Session) -> Session
-    ensures { λ r. ⌜ r ≡ watchedBy (setBy (wordAt (now (text .entry)) at "STATUS") (now (text .entry)) at) session ⌝ }
-{
-    let end = octets::run_end(text, at, Class::Atom);
-    if octets::is_word(text, at, end, b"STATUS") {
-        if octets::octet_at(text, end) != b' ' {
-            return session;
-        }
-        return watch_groups(text, end + 1, session);
-    }
-    watch_groups(text, at, session)
-}
-
-// NOTIFY behind its verb and a space: the session that it sets.
-pub fn watch_at(text: &[u8], at: usize, session: Session) -> Session
-    ensures { λ r. ⌜ r ≡ watchedBy (notifyAt (now (text .entry)) at) session ⌝ }
-{
-    let end = octets::run_end(text, at, Class::Atom);
-    if octets::is_word(text, at, end, b"NONE") {
-        return silence(session);
-    }
-    if !octets::is_word(text, at, end, b"SET") {
-        return session;
-    }
-    if octets::octet_at(text, end) != b' ' {
-        return session;
-    }
-    watch_set(text, end + 1, session)
 }

@@ -1,3 +1,4 @@
 pub mod Asking
 pub mod Picked
 pub mod Notes
+pub mod Marks

@@ -87,30 +87,6 @@ none false = refl
 
 -- ---- ladders, as code takes them
 module _ (s : Session) (n : Name) (a : ℕ) where
-  abbrev on : ℕ → Bool
-  on k = asked s n a (asksBit k)
-
-  asks-messages : asked s n a asksMessages ≡ (on 0 || (on 1 || on 2))
-  asks-messages = messages-or (λ (g : Group). meets s n a (g .selector)) (groupsOf s)
-
-  pub messages-first : on 0 ≡ true → true ≡ asked s n a asksMessages
-  messages-first e = sym (asks-messages ∙ rw e)
-
-  pub messages-second : on 0 ≡ false → on 1 ≡ true → true ≡ asked s n a asksMessages
-  messages-second e f = sym (asks-messages ∙ rw (e, f))
-
-  pub messages-third : (r : Bool) → on 0 ≡ false → on 1 ≡ false → r ≡ on 2 → r ≡ asked s n a asksMessages
-  messages-third r e f g = g ∙ sym (asks-messages ∙ rw (e, f))
-
-  asks-mailbox : asked s n a asksMailbox ≡ (on 3 || on 4)
-  asks-mailbox = mailbox-or (λ (g : Group). meets s n a (g .selector)) (groupsOf s)
-
-  pub mailbox-first : on 3 ≡ true → true ≡ asked s n a asksMailbox
-  mailbox-first e = sym (asks-mailbox ∙ rw e)
-
-  pub mailbox-second : (r : Bool) → on 3 ≡ false → r ≡ on 4 → r ≡ asked s n a asksMailbox
-  mailbox-second r e g = g ∙ sym (asks-mailbox ∙ rw e)
-
   asks-any : asked s n a asksAny ≡ (asked s n a asksMessages || asked s n a asksMailbox)
   asks-any = any-is (λ (g : Group). meets s n a (g .selector)) (groupsOf s)
 

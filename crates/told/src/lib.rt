@@ -1,4 +1,5 @@
 // Who is told: the groups of a session against a mailbox's name and attributes.
+pub mod marking;
 pub mod picking;
 
 use model::Group;

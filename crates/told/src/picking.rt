@@ -2,37 +2,16 @@
 use model::Session;
 ghost use mathlib.Core.Path.{_≡_};
 ghost use mathlib.Core.List.{List};
-ghost use Prim.Native.Nat.{ℕ, _≤_, _<_};
-ghost use lib.ListN.{length, getD};
+ghost use Prim.Native.Nat.{ℕ, _≤_};
+ghost use lib.ListN.{length};
+ghost use Rattle.model.specs.Names.{Name};
 ghost use Rattle.model.specs.Groups.{asked, selectedAsks, asksMessages, asksMailbox};
 ghost use Rattle.model.specs.Listing.{asksAny};
 ghost use Rattle.model.specs.declared.Mailbox.{Mailbox};
+ghost use Rattle.model.specs.declared.Session.{Session};
 ghost use Rattle.told.specs.Picked.{selects, pickedBy, statusBy};
-ghost use Rattle.rows.specs.Columns.{Column, Names, nameAt, Ends};
+ghost use Rattle.rows.specs.Columns.{Column, Names};
 ghost use Rattle.told.specs.Notes.{noted, Notes, NotesAll};
-
-// A message event is asked for of the mailbox with this name and these attributes.
-pub fn asks_messages(s: Session, name: &[u8], a: u8) -> bool
-    ensures { λ r. ⌜ r ≡ asked s (now (name .entry)) a asksMessages ⌝ }
-{
-    if crate::is_asked(s, name, a, 0) {
-        return true;
-    }
-    if crate::is_asked(s, name, a, 1) {
-        return true;
-    }
-    crate::is_asked(s, name, a, 2)
-}
-
-// A mailbox event is asked for of it.
-pub fn asks_mailbox(s: Session, name: &[u8], a: u8) -> bool
-    ensures { λ r. ⌜ r ≡ asked s (now (name .entry)) a asksMailbox ⌝ }
-{
-    if crate::is_asked(s, name, a, 3) {
-        return true;
-    }
-    crate::is_asked(s, name, a, 4)
-}
 
 // The selected group asks for an event.
 pub fn selected_asks_any(s: Session) -> bool
@@ -53,25 +32,26 @@ pub fn selected_asks_any(s: Session) -> bool
     crate::selected_asks(s, 4)
 }
 
-// The mailbox is told of; `selected`: it is the selected one.
-pub fn is_picked(s: Session, name: &[u8], a: u8, selected: bool) -> bool
-    ensures { λ r. ⌜ r ≡ pickedBy s (now (name .entry)) a selected ⌝ }
+// The mailbox is told of; `selected`: it is the selected one, `any`: the selected group asks for an event, `messages` and `mailbox`: such events
+// are asked for of it.
+fn is_picked(a: u8, selected: bool, any: bool, messages: bool, mailbox: bool) -> bool
+    ensures { λ r. ⌜ ((s : Session) (n : Name) → any ≡ selectedAsks s asksAny → messages ≡ asked s n a asksMessages → mailbox ≡ asked s n a asksMailbox → r ≡ pickedBy s n a selected) ⌝ }
 {
     if !rows::has(a, 4) {
         return false;
     }
-    if asks_mailbox(s, name, a) {
+    if mailbox {
         return true;
     }
     if selected {
-        return selected_asks_any(s);
+        return any;
     }
-    asks_messages(s, name, a)
+    messages
 }
 
 // Its STATUS is told.
-pub fn has_status(s: Session, name: &[u8], a: u8, selected: bool, wanted: bool) -> bool
-    ensures { λ r. ⌜ r ≡ statusBy s (now (name .entry)) a selected wanted ⌝ }
+fn has_status(selected: bool, wanted: bool, messages: bool) -> bool
+    ensures { λ r. ⌜ ((s : Session) (n : Name) (a : ℕ) → messages ≡ asked s n a asksMessages → r ≡ statusBy s n a selected wanted) ⌝ }
 {
     if !wanted {
         return false;
@@ -79,17 +59,17 @@ pub fn has_status(s: Session, name: &[u8], a: u8, selected: bool, wanted: bool) 
     if selected {
         return false;
     }
-    asks_messages(s, name, a)
+    messages
 }
 
 // The id is the selected mailbox's.
-pub fn is_selected(s: Session, id: u64) -> bool
-    ensures { λ r. ⌜ r ≡ selects s id ⌝ }
+fn is_selected(selected: u16, id: u64) -> bool
+    ensures { λ r. ⌜ ((s : Session) → selected ≡ s .selected → r ≡ selects s id) ⌝ }
 {
     if id == 0 {
         return false;
     }
-    id == rows::wide_id(s.selected)
+    id == rows::wide_id(selected)
 }
 
 // ---- notes
@@ -106,32 +86,22 @@ fn octet(yes: bool) -> u8
     if yes { 1 } else { 0 }
 }
 
-fn note(s: Session, wanted: bool, id: u64, a: u8, name: &[u8]) -> RowNote
-    ensures { λ r. ⌜ Notes s wanted id a (now (name .entry)) (r .picked) (r .asks) ⌝ }
-{
-    let selected = is_selected(s, id);
-    let picked = octet(is_picked(s, name, a, selected));
-    let asks = octet(has_status(s, name, a, selected, wanted));
-    RowNote { picked, asks }
-}
-
-// Row k.
-fn note_at(
-    s: Session,
+// A row by its id, its attributes and the marks beside it.
+fn note(
+    id: u64,
+    a: u8,
+    selected: u16,
     wanted: bool,
-    ids: &[u64; 64],
-    attributes: &[u8; 64],
-    lens: &[u8; 64],
-    names: &[u8; 4096],
-    k: usize,
+    any: bool,
+    messages: u8,
+    mailbox: u8,
 ) -> RowNote
-    requires { ⌜ k < 64 ⌝ }
-    ensures { λ r. ⌜ Notes s wanted (getD (now (ids .entry)) k 0) (getD (now (attributes .entry)) k 0) (nameAt (now (lens .entry)) (now (names .entry)) k) (r .picked) (r .asks) ⌝ }
+    ensures { λ r. ⌜ ((s : Session) (n : Name) → selected ≡ s .selected → any ≡ selectedAsks s asksAny → noted messages ≡ asked s n a asksMessages → noted mailbox ≡ asked s n a asksMailbox → Notes s wanted id a n (r .picked) (r .asks)) ⌝ }
 {
-    let all = &names[..];
-    let from = 64 * k;
-    let end = rows::name_end(lens, k);
-    note(s, wanted, ids[k], attributes[k], &all[from..end])
+    let on = is_selected(selected, id);
+    let picked = octet(is_picked(a, on, any, messages != 0, mailbox != 0));
+    let asks = octet(has_status(on, wanted, messages != 0));
+    RowNote { picked, asks }
 }
 
 // All n rows, for a session that NOTIFY SET is to set; `wanted`: STATUS was asked.
@@ -149,9 +119,22 @@ pub fn note_rows(
     requires { ⌜ (n ≤ 64) × (n ≤ length (now picked)) × (n ≤ length (now asks)) ⌝ }
     ensures { λ _. ⌜ ((l : List Mailbox) → length l ≡ n → Column (λ (x : Mailbox). x .id) l (now (ids .entry)) → Column (λ (x : Mailbox). x .attributes) l (now (attributes .entry)) → Column (λ (x : Mailbox). x .namelen) l (now (lens .entry)) → Names l (now (names .entry)) → NotesAll s wanted l (now (picked .exit)) (now (asks .exit))) ⌝ }
 {
+    let mut messages = [0u8; 64];
+    let mut mailbox = [0u8; 64];
+    crate::marking::mark_asked(s, true, attributes, lens, names, n, &mut messages);
+    crate::marking::mark_asked(s, false, attributes, lens, names, n, &mut mailbox);
+    let any = selected_asks_any(s);
     let mut k: usize = 0;
     while k < n {
-        let row = note_at(s, wanted, ids, attributes, lens, names, k);
+        let row = note(
+            ids[k],
+            attributes[k],
+            s.selected,
+            wanted,
+            any,
+            messages[k],
+            mailbox[k],
+        );
         picked[k] = row.picked;
         asks[k] = row.asks;
         k += 1;

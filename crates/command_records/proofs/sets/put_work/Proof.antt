@@ -1,12 +1,9 @@
 -- `put_work`: the listing, then the tagged line. Assumes nothing.
 use borrow.Author.Needs.{needs}
-use Rattle.command_records.proofs.sets.put_work.Statement.{statement}
-use Rattle.command_records.proofs.sets.put_work.Tie as tie
 use native.Mathlib.Omega.{arith}
 use Rattle.out.specs.Put.{_then_}
-
-slice-aggregate-put-listing : tie.Need-slice-aggregate-put-listing
-slice-aggregate-put-listing c = search needs
+use Rattle.command_records.proofs.sets.put_work.Statement.{statement}
+use Rattle.command_records.proofs.sets.put_work.Tie as tie
 
 put-listing-requires : tie.Need-put-listing-requires
 put-listing-requires c κs = search needs
@@ -18,13 +15,15 @@ same-length : tie.Need-same-length
 same-length c = search needs
 
 returns : tie.Need-returns
-returns c = (λ m s wanted d. _then_ (c .before .before .before .before .before .before .before .put-listing .ensures .0 m s wanted (d .long) (d .shown) (d .picks) (d .tells)) (c .before .before .put-reply .ensures .0), (let a = c .before .before .before .before .before .before .before .put-listing .ensures .1 in let b = c .before .before .put-reply .ensures .1 in omega arith))
+returns c = (
+  λ m s wanted d. _then_ (c .before .before .before .before .before .before .put-listing .ensures .0 m s wanted (d .long) (d .shown) (d .ordered) (d .tells)) (c .before .before .put-reply .ensures .0),
+  let a = c .before .before .before .before .before .before .put-listing .ensures .1 in let b = c .before .before .put-reply .ensures .1 in omega arith,
+)
 
 pub put-work-spec : {M : Type 1} → statement M
 put-work-spec =
     tie.close
     (tie.spec
-    slice-aggregate-put-listing
     put-listing-requires
     put-reply-requires
     same-length

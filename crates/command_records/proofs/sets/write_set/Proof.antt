@@ -1,7 +1,5 @@
 -- `write_set`: the end of a command of class 1, and what follows it. Assumes nothing.
 use borrow.Author.Needs.{needs}
-use Rattle.command_records.proofs.sets.write_set.Statement.{statement}
-use Rattle.command_records.proofs.sets.write_set.Tie as tie
 use mathlib.Core.Path.{ap, _∙_}
 use native.Mathlib.Omega.{arith}
 use lib.ListN.{length}
@@ -9,7 +7,9 @@ use Rattle.model.specs.Listing.{watching}
 use Rattle.model.specs.declared.Counts.{Counts}
 use Rattle.model.specs.declared.Answer.the-variants.{Done}
 use Rattle.outcomes.specs.Coming.{quiet}
-use Rattle.command_records.specs.Setting.{set-comes}
+use Rattle.command_records.specs.Setting.{set-comes, asked-view}
+use Rattle.command_records.proofs.sets.write_set.Statement.{statement}
+use Rattle.command_records.proofs.sets.write_set.Tie as tie
 
 sub-limit : tie.Need-sub-limit
 sub-limit c = search needs
@@ -26,8 +26,8 @@ put-work-requires c κs = search needs
 with-counts-requires : tie.Need-with-counts-requires
 with-counts-requires c κs = search needs
 
-watched-requires : tie.Need-watched-requires
-watched-requires c κs = search needs
+viewed-requires : tie.Need-viewed-requires
+viewed-requires c κs = search needs
 
 unmoved-requires : tie.Need-unmoved-requires
 unmoved-requires c κs = search needs
@@ -40,11 +40,12 @@ same-length-2 c = search needs
 
 returns : tie.Need-returns
 returns c =
-    let a = c .before .before .before .before .before .before .before .before .before .before .before .before .before .before .before .before .before .before .before .before .before .args in
-    λ m p wanted gs lent law is first noted right uid begins fits. set-comes m (a .text .now) p wanted gs is first law
+    let a = c .before .before .before .before .before .before .before .before .before .before .before .before .before .before .before .before .before .before .before .before .args in
+    λ m p wanted gs lent law is first asks noted right uid begins fits. set-comes m (a .text .now) p wanted gs is first law
     (let x = ap length (lent .queue) in let y = ap (λ (k : Counts). k .filled) (lent .counts) in omega arith)
     (a .words .now) (a .counts) (a .s) (a .queue .now) lent (a .rights) (a .next) _ right uid (c .before .before .before .before .before .before .before .before .before .before .before .before .before .end-command .result) (c .before .before .before .before .before .before .before .before .before .before .before .before .before .end-command .ensures) begins
-    (c .before .before .before .before .before .before .put-work .ensures .0 m (watching (m .session) gs) wanted noted) (c .before .watched .result) (c .before .watched .ensures) _ (c .unmoved .ensures ∙ ap (λ (k : Counts). quiet Done k (c .before .watched .result)) (c .before .before .with-counts .ensures))
+    (c .before .before .before .before .before .before .put-work .ensures .0 m (watching (m .session) gs) wanted noted) (c .before .viewed .result) (c .before .viewed .ensures ∙ asked-view (a .s) (a .asked) (c .before .before .before .before .before .before .before .before .before .before .before .before .before .end-command .result .session) gs asks) _
+    (c .unmoved .ensures ∙ ap (λ (k : Counts). quiet Done k (c .before .viewed .result)) (c .before .before .with-counts .ensures))
 
 pub write-set-spec : {M : Type 1} → statement M
 write-set-spec =
@@ -55,7 +56,7 @@ write-set-spec =
     end-command-requires
     put-work-requires
     with-counts-requires
-    watched-requires
+    viewed-requires
     unmoved-requires
     same-length
     same-length-2

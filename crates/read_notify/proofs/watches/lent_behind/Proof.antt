@@ -1,12 +1,14 @@
--- `lent_behind`: case by case.
-use native.Mathlib.Omega.{arith}
-use mathlib.Core.Path.{refl, sym, _∙_}
-use Prim.Native.Nat.{_-_}
-use Rattle.read_notify.proofs.Lending.{behind-blank, behind-none, behind-open, behind-lent}
+-- `lent_behind`: case by case. Assumes nothing.
 use borrow.Author.Needs.{needs}
+use mathlib.Core.Path.{sym, ap, _∙_}
+use native.Mathlib.Omega.{arith}
+use Rattle.read_notify.specs.Tallies.{aboutSelected}
+use Rattle.read_notify.specs.declared.Tally.{Tally}
+use Rattle.read_notify.proofs.Counting.{one-most}
+use Rattle.read_notify.proofs.Lending.{behind-blank, behind-none, behind-open, behind-lent}
+use Rattle.octets.specs.Rows.{in-text}
 use Rattle.read_notify.proofs.watches.lent_behind.Statement.{statement}
 use Rattle.read_notify.proofs.watches.lent_behind.Tie as tie
-use Rattle.octets.specs.Rows.{in-text}
 
 octet-at-requires : tie.Need-octet-at-requires
 octet-at-requires c κs = search needs
@@ -35,14 +37,28 @@ selector-of-requires c κs = search needs
 lent-requires : tie.Need-lent-requires
 lent-requires c κs = search needs
 
-add-t17 : tie.Need-add-t17
-add-t17 c = let i = in-text (c .before .before .before .before .before .before .before .before .before .before .before .args .text .now) ((c .before .before .before .before .before .e .given .0 .1 .0)) (sym (c .before .before .before .octet-at2 .ensures) ∙ c .before .before .if2 .left) (omega arith) in omega arith
+tally-by-requires : tie.Need-tally-by-requires
+tally-by-requires c κs = search needs
+
+add-t18 : tie.Need-add-t18
+add-t18 c = let i = in-text (c .before .before .before .before .before .before .before .before .before .before .before .before .args .text .now) (c .before .before .before .before .before .before .e .given .0 .1 .0) (sym (c .before .before .before .before .octet-at2 .ensures) ∙ c .before .before .before .if2 .left) (omega arith) in omega arith
 
 enum-told : tie.Need-enum-told
 enum-told c = search needs
 
 returns-3 : tie.Need-returns-3
-returns-3 c = let w = rw (c .before .before .before .before .before .e .given .1) at (c .before .before .before .before .before .before .before .events-at .ensures .within) in let i = in-text (c .before .before .before .before .before .before .before .before .before .before .before .args .text .now) ((c .before .before .before .before .before .e .given .0 .1 .0)) (sym (c .before .before .before .octet-at2 .ensures) ∙ c .before .before .if2 .left) (omega arith) in record { exact = λ f a b. behind-lent (c .before .before .before .before .before .before .before .before .before .before .before .args .text .now) (c .before .before .before .before .before .before .before .before .before .before .before .args .at) (c .before .before .before .before .before .before .before .before .before .before .before .args .first) f (sym (c .before .before .before .before .before .before .before .before .before .octet-at .ensures) ∙ c .before .before .before .before .before .before .before .before .if1 .left) (sym (c .before .before .before .before .before .e .given .1) ∙ c .before .before .before .before .before .before .before .events-at .ensures .exact) (sym (c .before .before .before .octet-at2 .ensures) ∙ c .before .before .if2 .left) (c .before .selector-of .ensures f a) b (c .lent .ensures); within = (refl, omega arith, omega arith) }
+returns-3 c =
+    let w = rw (c .before .before .before .before .before .before .e .given .1) at (c .before .before .before .before .before .before .before .before .events-at .ensures .within) in
+    let i = in-text (c .before .before .before .before .before .before .before .before .before .before .before .before .args .text .now) (c .before .before .before .before .before .before .e .given .0 .1 .0) (sym (c .before .before .before .before .octet-at2 .ensures) ∙ c .before .before .before .if2 .left) (omega arith) in
+    let m = one-most (aboutSelected (c .before .before .before .before .before .before .before .before .before .before .before .before .args .scope)) in
+    let g = ap (λ (t : Tally). t .groups) (c .tally-by .ensures) in
+    let h = ap (λ (t : Tally). t .selected) (c .tally-by .ensures) in
+    let n = ap (λ (t : Tally). t .names) (c .tally-by .ensures) in
+    record {
+      exact = λ f a b. behind-lent (c .before .before .before .before .before .before .before .before .before .before .before .before .args .text .now) (c .before .before .before .before .before .before .before .before .before .before .before .before .args .at) (c .before .before .before .before .before .before .before .before .before .before .before .before .args .first) f (sym (c .before .before .before .before .before .before .before .before .before .before .octet-at .ensures) ∙ c .before .before .before .before .before .before .before .before .before .if1 .left) (sym (c .before .before .before .before .before .before .e .given .1) ∙ c .before .before .before .before .before .before .before .before .events-at .ensures .exact)
+          (sym (c .before .before .before .before .octet-at2 .ensures) ∙ c .before .before .before .if2 .left) (c .before .before .selector-of .ensures f a) a b (c .before .lent .ensures) (c .tally-by .ensures);
+      within = (omega arith, omega arith, n, omega arith, omega arith);
+    }
 
 returns-4 : tie.Need-returns-4
 returns-4 c = record { exact = λ f a b. behind-none (c .before .before .before .before .before .before .args .text .now) (c .before .before .before .before .before .before .args .at) (c .before .before .before .before .before .before .args .first) f (sym (c .before .before .before .before .octet-at .ensures) ∙ c .before .before .before .if1 .left) (sym (c .enum-told .given .1) ∙ c .before .before .events-at .ensures .exact); within = tt }
@@ -60,7 +76,8 @@ lent-behind-spec =
     returns-2
     selector-of-requires
     lent-requires
-    add-t17
+    tally-by-requires
+    add-t18
     enum-told
     returns-3
     returns-4)

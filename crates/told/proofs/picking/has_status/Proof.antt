@@ -1,24 +1,18 @@
 -- `has_status`: its STATUS is told. Assumes nothing.
-use Rattle.told.proofs.picking.has_status.Statement.{statement}
-use Rattle.told.proofs.picking.has_status.Tie as tie
+use borrow.Author.Needs.{needs}
 use borrow.Author.Tests.{not-true, not-false}
 use Rattle.told.specs.Picked.{status-no, status-selected, status-asked}
-use borrow.Author.Needs.{needs}
+use Rattle.told.proofs.picking.has_status.Statement.{statement}
+use Rattle.told.proofs.picking.has_status.Tie as tie
 
 returns : tie.Need-returns
-returns c = let a = c .before .before .args in status-no (a .s) (a .name .now) (a .a) (a .selected) (a .wanted) (not-true _ (c .if1 .taken))
+returns c = λ s n a e. status-no s n a (c .before .args .selected) (c .before .args .wanted) (not-true _ (c .if1 .taken))
 
 returns-2 : tie.Need-returns-2
-returns-2 c =
-    let a = c .before .before .before .args in
-    status-selected (a .s) (a .name .now) (a .a) (a .selected) (a .wanted) (not-false _ (c .before .if1 .left)) (c .if2 .taken)
-
-asks-messages-requires : tie.Need-asks-messages-requires
-asks-messages-requires c κs = search needs
+returns-2 c = λ s n a e. status-selected s n a (c .before .before .args .selected) (c .before .before .args .wanted) (not-false _ (c .before .if1 .left)) (c .if2 .taken)
 
 returns-3 : tie.Need-returns-3
-returns-3 c = let a = c .before .before .before .before .args in
-    status-asked (a .s) (a .name .now) (a .a) _ (a .selected) (a .wanted) (not-false _ (c .before .before .if1 .left)) (c .before .if2 .left) (c .asks-messages .ensures)
+returns-3 c = λ s n a e. status-asked s n a _ (c .before .before .args .selected) (c .before .before .args .wanted) (not-false _ (c .before .if1 .left)) (c .if2 .left) e
 
 pub has-status-spec : {M : Type 1} → statement M
-has-status-spec = tie.close (tie.spec returns returns-2 asks-messages-requires returns-3)
+has-status-spec = tie.close (tie.spec returns returns-2 returns-3)

@@ -1,10 +1,10 @@
--- `note` meets its contract. Assumes nothing.
-use Rattle.told.proofs.picking.note.Statement.{statement}
-use Rattle.told.proofs.picking.note.Tie as tie
-use mathlib.Core.Path.{_∙_, ap}
+-- `note`: as its tests say. Assumes nothing.
+use borrow.Author.Needs.{needs}
+use mathlib.Core.Path.{ap, _∙_}
 use mathlib.Core.Bool.{Bool}
 use Rattle.told.specs.Picked.{pickedBy, statusBy}
-use borrow.Author.Needs.{needs}
+use Rattle.told.proofs.picking.note.Statement.{statement}
+use Rattle.told.proofs.picking.note.Tie as tie
 
 is-selected-requires : tie.Need-is-selected-requires
 is-selected-requires c κs = search needs
@@ -22,14 +22,10 @@ octet-requires-2 : tie.Need-octet-requires-2
 octet-requires-2 c κs = search needs
 
 returns : tie.Need-returns
-returns c =
-    let a = c .before .before .before .before .before .before .args in
-    let is-selected = c .before .before .before .before .is-selected in
-    record {
-      told = c .before .before .octet .ensures ∙ (c .before .before .before .is-picked .ensures ∙ ap (pickedBy (a .s) (a .name .now) (a .a)) (is-selected .ensures));
-      status = c .octet2 .ensures
-          ∙ (c .before .has-status .ensures ∙ ap (λ (b : Bool). statusBy (a .s) (a .name .now) (a .a) b (a .wanted)) (is-selected .ensures));
-    }
+returns c = λ s n is any messages mailbox. record {
+  told = c .before .before .octet .ensures ∙ (c .before .before .before .is-picked .ensures s n any messages mailbox ∙ ap (pickedBy s n (c .before .before .before .before .before .args .a)) (c .before .before .before .before .is-selected .ensures s is));
+  status = c .octet2 .ensures ∙ (c .before .has-status .ensures s n (c .before .before .before .before .before .args .a) messages ∙ ap (λ (b : Bool). statusBy s n (c .before .before .before .before .before .args .a) b (c .before .before .before .before .before .args .wanted)) (c .before .before .before .before .is-selected .ensures s is));
+}
 
 pub note-spec : {M : Type 1} → statement M
 note-spec =

@@ -1,0 +1,122 @@
+-- `gather`: what is counted and kept grows by a group at each turn; what is left of the row says the same behind it. Assumes nothing.
+use borrow.Author.Needs.{needs}
+use mathlib.Core.Path.{sym, _∙_}
+use Prim.Native.Nat.{_-_}
+use native.Mathlib.Omega.{arith}
+use lib.ListN.{length}
+use Rattle.read_notify.proofs.Storing.{Goes, goes-start, goes-none, goes-never, goes-on, goes-last}
+use Rattle.octets.specs.Rows.{in-text}
+use Rattle.read_notify.proofs.watches.gather.Statement.{statement}
+use Rattle.read_notify.proofs.watches.gather.Tie as tie
+
+abbrev Inv-loop : tie.InvT-loop
+Inv-loop text at tally₀ watch₀ kept₀ p₀ tally watch kept p = Goes text at tally watch kept p
+
+abbrev μ-loop : tie.MeasureT-loop
+μ-loop text at tally₀ watch₀ kept₀ p₀ tally watch kept p = length text - p
+
+no-tally-requires : tie.Need-no-tally-requires Inv-loop μ-loop
+no-tally-requires c κs = search needs
+
+no-watch-requires : tie.Need-no-watch-requires Inv-loop μ-loop
+no-watch-requires c κs = search needs
+
+keep-nothing-requires : tie.Need-keep-nothing-requires Inv-loop μ-loop
+keep-nothing-requires c κs = search needs
+
+loop-holds : tie.Need-loop-holds Inv-loop μ-loop
+loop-holds c = goes-start (c .before .before .before .before .args .text .now) (c .before .before .before .before .args .at) _ _ _ (c .before .before .no-tally .ensures) (c .before .no-watch .ensures) (c .keep-nothing .ensures)
+
+lent-at-requires : tie.Need-lent-at-requires Inv-loop μ-loop
+lent-at-requires c κs = search needs
+
+enum-known-group : tie.Need-enum-known-group Inv-loop μ-loop
+enum-known-group c = search needs
+
+enum-told : tie.Need-enum-told Inv-loop μ-loop
+enum-told c = search needs
+
+ungathered-requires : tie.Need-ungathered-requires Inv-loop μ-loop
+ungathered-requires c κs = search needs
+
+returns : tie.Need-returns Inv-loop μ-loop
+returns c =
+    let l = c .before .before .before .before .loop in
+    let e = sym (c .before .enum-told .given .1) ∙ c .before .before .before .lent-at .ensures .exact in
+    rw (c .ungathered .ensures) (record { exact = goes-none (c .before .before .before .before .before .before .before .before .before .args .text .now) (c .before .before .before .before .before .before .before .before .before .args .at) (l .tally) (l .watch) (l .kept) (l .p) (l .inv) e; within = tt; keeps = λ q gs h a n y. absurd (goes-never (c .before .before .before .before .before .before .before .before .before .args .text .now) (c .before .before .before .before .before .before .before .before .before .args .at) (l .tally) (l .watch) (l .kept) (l .p) (l .inv) e q gs h n) })
+
+add-keep-more : tie.Need-add-keep-more Inv-loop μ-loop
+add-keep-more c =
+    let l = c .before .before .before .before .loop in
+    let w = rw (c .before .group .given .1) at (c .before .before .before .lent-at .ensures .within) in omega (arith, w .2, w .3)
+
+keep-more-requires : tie.Need-keep-more-requires Inv-loop μ-loop
+keep-more-requires c κs = omega (arith, c .before .before .before .before .loop .inv .names)
+
+keep-group-requires : tie.Need-keep-group-requires Inv-loop μ-loop
+keep-group-requires c κs =
+    let l = c .before .before .before .before .before .loop in
+    let w = rw (c .before .before .group .given .1) at (c .before .before .before .before .lent-at .ensures .within) in omega (arith, l .inv .groups, w .2, w .3)
+
+added-requires : tie.Need-added-requires Inv-loop μ-loop
+added-requires c κs =
+    let l = c .before .before .before .before .before .before .loop in
+    let w = rw (c .before .before .before .group .given .1) at (c .before .before .before .before .before .lent-at .ensures .within) in
+    let n = l .inv .counts in
+    record { groups = omega (arith, n .0, w .0, w .2, w .3); names = omega (arith, n .1, w .2, w .3); selected = omega (arith, n .2, w .1, w .2, w .3) }
+
+octet-at-requires : tie.Need-octet-at-requires Inv-loop μ-loop
+octet-at-requires c κs = search needs
+
+gathered-requires : tie.Need-gathered-requires Inv-loop μ-loop
+gathered-requires c κs = search needs
+
+returns-2 : tie.Need-returns-2 Inv-loop μ-loop
+returns-2 c =
+    let l = c .before .before .before .before .before .before .before .before .before .before .loop in
+    let w = rw (c .before .before .before .before .before .before .before .group .given .1) at (c .before .before .before .before .before .before .before .before .before .lent-at .ensures .within) in
+    goes-last (c .before .before .before .before .before .before .before .before .before .before .before .before .before .before .before .args .text .now) (c .before .before .before .before .before .before .before .before .before .before .before .before .before .before .before .args .at) (l .tally) (l .watch) (l .kept) (l .p) (l .inv) (sym (c .before .before .before .before .before .before .before .group .given .1) ∙ c .before .before .before .before .before .before .before .before .before .lent-at .ensures .exact) w (c .before .before .before .before .before .keep-more .ensures .exact) (c .before .before .before .before .keep-group .result) (c .before .before .before .before .keep-group .ensures) (c .before .before .before .added .result) (c .before .before .before .added .ensures)
+    (λ e. c .before .if1 .taken (c .before .before .octet-at .ensures ∙ e)) (c .gathered .ensures)
+
+add-p : tie.Need-add-p Inv-loop μ-loop
+add-p c =
+    let l = c .before .before .before .before .before .before .before .before .before .loop in
+    let w = rw (c .before .before .before .before .before .before .group .given .1) at (c .before .before .before .before .before .before .before .before .lent-at .ensures .within) in let i = in-text (c .before .before .before .before .before .before .before .before .before .before .before .before .before .before .args .text .now) (c .before .before .before .before .before .before .group .given .0 .1 .1 .0) (sym (c .before .octet-at .ensures) ∙ c .if1 .left) (omega arith) in omega (arith, c .before .before .before .before .before .before .before .before .before .before .before .before .before .before .good .0)
+
+loop-less : tie.Need-loop-less Inv-loop μ-loop
+loop-less c =
+    let l = c .before .before .before .before .before .before .before .before .before .loop in
+    let w = rw (c .before .before .before .before .before .before .group .given .1) at (c .before .before .before .before .before .before .before .before .lent-at .ensures .within) in let i = in-text (c .before .before .before .before .before .before .before .before .before .before .before .before .before .before .args .text .now) (c .before .before .before .before .before .before .group .given .0 .1 .1 .0) (sym (c .before .octet-at .ensures) ∙ c .if1 .left) (omega arith) in omega (arith, w .2)
+
+loop-again : tie.Need-loop-again Inv-loop μ-loop
+loop-again c =
+    let l = c .before .before .before .before .before .before .before .before .before .loop in
+    let w = rw (c .before .before .before .before .before .before .group .given .1) at (c .before .before .before .before .before .before .before .before .lent-at .ensures .within) in
+    goes-on (c .before .before .before .before .before .before .before .before .before .before .before .before .before .before .args .text .now) (c .before .before .before .before .before .before .before .before .before .before .before .before .before .before .args .at) (l .tally) (l .watch) (l .kept) (l .p) (l .inv) (sym (c .before .before .before .before .before .before .group .given .1) ∙ c .before .before .before .before .before .before .before .before .lent-at .ensures .exact) w (c .before .before .before .before .keep-more .ensures .exact) (c .before .before .before .keep-group .result) (c .before .before .before .keep-group .ensures) (c .before .before .added .result) (c .before .before .added .ensures)
+    (sym (c .before .octet-at .ensures) ∙ c .if1 .left)
+
+pub gather-spec : {M : Type 1} → statement M
+gather-spec =
+    tie.close
+    (tie.spec
+    Inv-loop
+    μ-loop
+    no-tally-requires
+    no-watch-requires
+    keep-nothing-requires
+    loop-holds
+    lent-at-requires
+    enum-known-group
+    enum-told
+    ungathered-requires
+    returns
+    add-keep-more
+    keep-more-requires
+    keep-group-requires
+    added-requires
+    octet-at-requires
+    gathered-requires
+    returns-2
+    add-p
+    loop-less
+    loop-again)

@@ -209,3 +209,6 @@ all-three l s t (e ∷ es) = rw (all-three l s t es) (both (messageOk e) (owned 
 
 pub slow-order : (l : List Mailbox) (es : List Message) (s t : ℕ) → every (tablesOk l es s t) ≡ (apart clash l && (allb (entryOk l s t) es && apart twin es))
 slow-order l es s t = regroup (apart clash l) (allb messageOk es) (apart twin es) (allb (owned l) es) (allb (stateAt s t) es) ∙ sym (ap (λ (b : Bool). apart clash l && (b && apart twin es)) (all-three l s t es))
+
+pub good-decides : (l : List Mailbox) (es : List Message) (s t : ℕ) → Good l s t es → (allb (entryOk l s t) es && apart twin es) ≡ true
+good-decides l es s t g = rw (all-three l s t es, g .mail, g .owners, g .states, g .twins)

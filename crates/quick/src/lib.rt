@@ -212,23 +212,22 @@ fn fold(d: u64) -> u64
 }
 
 // The digest of the 64 octets of row k.
-fn digest_of(names: &[u8; 4096], k: usize) -> u64
-    requires { ⌜ k < 64 ⌝ }
+fn digest_of(names: &[u8], k: usize) -> u64
+    requires { ⌜ (k < 64) × (length (now names) ≡ 4096) ⌝ }
     ensures { λ r. ⌜ r ≡ digest (block (now (names .entry)) k) ⌝ }
 {
-    let all = &names[..];
     let mut d: u64 = 0;
     let mut i: usize = 0;
     while i < 8 {
-        d = mix(d, word(all, 64 * k + 8 * i));
+        d = mix(d, word(names, 64 * k + 8 * i));
         i += 1;
     }
     fold(d)
 }
 
 // The digests of the names of the first n rows.
-pub fn digests_of(names: &[u8; 4096], n: usize) -> [u64; 64]
-    requires { ⌜ n ≤ 64 ⌝ }
+pub fn digests_of(names: &[u8], n: usize) -> [u64; 64]
+    requires { ⌜ (n ≤ 64) × (length (now names) ≡ 4096) ⌝ }
     ensures { λ r. ⌜ ((k : ℕ) → k < n → getD r k 0 ≡ digest (block (now (names .entry)) k)) ⌝ }
 {
     let mut digests = [0u64; 64];

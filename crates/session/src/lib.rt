@@ -16,13 +16,15 @@ ghost use Rattle.model.specs.Groups.{groupOf};
 ghost use Rattle.model.specs.Lawful.{rangeOk, groupOk, groupsOk, lentNameCount, lentNameOk, blankGroup, blankName, sessionOk};
 ghost use Rattle.session.specs.Tests.{selectorBy, eventsBy, attributesBy, selectings, givenOk};
 
-fn both(a: bool, b: bool) -> bool
+// Both, as one value: nothing branches on the first.
+pub fn both(a: bool, b: bool) -> bool
     ensures { λ r. ⌜ r ≡ (a && b) ⌝ }
 {
     if a { b } else { false }
 }
 
-fn either(a: bool, b: bool) -> bool
+// One or the other, or both.
+pub fn either(a: bool, b: bool) -> bool
     ensures { λ r. ⌜ r ≡ (a || b) ⌝ }
 {
     if a { true } else { b }

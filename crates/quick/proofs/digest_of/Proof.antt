@@ -1,3 +1,4 @@
+-- Each turn mixes in one word more of the row.
 use mathlib.Core.Path.{_≡_, refl, ap, _∙_}
 use Prim.Native.Nat.{_≤_, _-_}
 use native.Mathlib.Omega.{arith}
@@ -8,10 +9,10 @@ use Rattle.quick.proofs.digest_of.Statement.{statement}
 use Rattle.quick.proofs.digest_of.Tie as tie
 
 abbrev Inv-loop : tie.InvT-loop
-Inv-loop names k all d₀ i₀ d i = (i ≤ 8) × (d ≡ mixedUp (block names k) i)
+Inv-loop names k d₀ i₀ d i = (i ≤ 8) × (d ≡ mixedUp (block names k) i)
 
 abbrev μ-loop : tie.MeasureT-loop
-μ-loop names k all d₀ i₀ d i = 8 - i
+μ-loop names k d₀ i₀ d i = 8 - i
 
 loop-holds : tie.Need-loop-holds Inv-loop μ-loop
 unfolding mixedUp

@@ -45,6 +45,10 @@ numbersBy id attributes len validity next = leb 1 id && (leb attributes 63 && (l
 abbrev pub nameBy : ℕ → Name → Bool
 nameBy len o = valid (take len o) && (same (fold (take len o)) (take len o) && zeros (drop len o))
 
+-- the tests of a mailbox, one by one
+abbrev pub fieldTests : Mailbox → List Bool
+fieldTests x = leb 1 (x .id) ∷ leb (x .attributes) 63 ∷ leb 1 (x .uidvalidity) ∷ leb 1 (x .uidnext) ∷ leb (x .namelen) 64 ∷ valid (nameOf x) ∷ same (fold (nameOf x)) (nameOf x) ∷ zeros (drop (x .namelen) (x .name)) ∷ []
+
 eight : (a b c d e f g h : Bool) → every (a ∷ b ∷ c ∷ d ∷ e ∷ f ∷ g ∷ h ∷ []) ≡ ((a && (b && (c && (d && e)))) && (f && (g && h)))
 eight false b c d e f g h = refl
 eight true false c d e f g h = refl

@@ -33,7 +33,7 @@ lent-few rows n h = record { long = length-take-le n rows h; read = λ k. refl }
 
 -- of all columns, those by which an owner is known, and those of ids and names
 pub owners : {l : List Mailbox} {ids attributes lens validities nexts names : List ℕ} → Laid l ids attributes lens validities nexts names → Owners l ids nexts
-owners w = record { id = w .id; next = w .next; rest = w .rest }
+owners w = record { id = w .id; next = w .next }
 
 pub called : {l : List Mailbox} {ids attributes lens validities nexts names : List ℕ} → Laid l ids attributes lens validities nexts names → Called l ids lens names
 called w = record { id = w .id; len = w .len; name = w .name }

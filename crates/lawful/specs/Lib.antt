@@ -1,3 +1,4 @@
 pub mod Fields
+pub mod Neighbours
 pub mod Clashing
 pub mod Lent

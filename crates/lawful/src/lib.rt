@@ -1,14 +1,14 @@
-// Refusal 1: whether all that is lent is lawful. The rows come by columns; the quick test decides where it can, the exact one behind it.
+// Refusal 1: whether all that is lent is lawful. The rows come by columns; the quick tests decide where they can, the exact ones behind them.
 use model::Counts;
 use model::Message;
 use model::Session;
 use model::Uid;
 ghost use mathlib.Core.Path.{_≡_};
-ghost use mathlib.Core.Bool.{_&&_, _||_};
+ghost use mathlib.Core.Bool.{true, _&&_, _||_};
 ghost use mathlib.Core.List.{List};
 ghost use Prim.Native.Nat.{ℕ, _+_, _*_, _≤_, _<_};
 ghost use lib.Dec.{eqb};
-ghost use lib.ListN.{length, take, drop, getD};
+ghost use lib.ListN.{length, take, drop, getD, replicate};
 ghost use Rattle.model.specs.Lists.{apart, anyb, allb, every, same};
 ghost use Rattle.model.specs.Memory.{noMailbox};
 ghost use Rattle.model.specs.Lawful.{clash, twin, owned, messageOk, mailboxOk, contentsOk, lawful};
@@ -16,7 +16,9 @@ ghost use Rattle.model.specs.declared.Mailbox.{Mailbox};
 ghost use Rattle.entries.specs.Words.{messages};
 ghost use Rattle.rows.specs.Columns.{Laid, nameAt, block};
 ghost use Rattle.quick.specs.Passing.{Owners, stateAt, entryOk, tablesOk};
+ghost use Rattle.quick.specs.Distinct.{Low};
 ghost use Rattle.lawful.specs.Fields.{numbersBy, nameBy, rowAt};
+ghost use Rattle.lawful.specs.Neighbours.{placed, misplaced, misplacedUp, Ended};
 ghost use Rattle.lawful.specs.Clashing.{Called, clashAt};
 ghost use Rattle.lawful.specs.Lent.{Lent, memory, filledBy, sizesBy, viewBy};
 
@@ -59,7 +61,97 @@ fn name_ok(names: &[u8; 4096], k: usize, len: u8) -> bool
     names::all_zero(&all[end..stop])
 }
 
-// Row k is in order.
+// ---- a name's octets by neighbours, without a branch: sixteen are tested at once
+
+// a may stand before b: a zero before a zero, an octet of a name before any, but no slash before a slash.
+fn is_placed(a: u8, b: u8) -> bool
+    ensures { λ r. ⌜ r ≡ placed a b ⌝ }
+{
+    let zeros = session::both(a == 0, b == 0);
+    let empty = session::both(a == b'/', b == b'/');
+    let printable = session::both(0x20 <= a, a <= 0x7e);
+    session::either(zeros, session::both(!empty, printable))
+}
+
+// One where a may not stand before b.
+fn misplaced(a: u8, b: u8) -> u8
+    ensures { λ r. ⌜ (r ≡ misplaced a b) × (r ≤ 1) ⌝ }
+{
+    if is_placed(a, b) { 0 } else { 1 }
+}
+
+// How many of the 64 octets from a place on are misplaced.
+fn misplaced_from(octets: &[u8], at: usize) -> u8
+    requires { ⌜ at + 65 ≤ length (now octets) ⌝ }
+    ensures { λ r. ⌜ r ≡ misplacedUp (now (octets .entry)) at 64 ⌝ }
+{
+    let mut sum: u8 = 0;
+    let mut i: usize = 0;
+    while i < 64 {
+        sum += misplaced(octets[at + i], octets[at + i + 1]);
+        i += 1;
+    }
+    sum
+}
+
+// One where a row ends in a zero and the next begins with a name: there a may stand before b.
+fn turn(a: u8, b: u8) -> u8
+    ensures { λ r. ⌜ r ≤ misplaced a b ⌝ }
+{
+    if a == 0 {
+        if b == 0 { 0 } else { 1 }
+    } else {
+        0
+    }
+}
+
+// The name of 1 to 63 octets begins and ends with an octet that is no slash, and a zero follows. It is not as long as INBOX.
+fn ends_ok(octets: &[u8], from: usize, len: u8) -> bool
+    requires { ⌜ from + 64 ≤ length (now octets) ⌝ }
+    ensures { λ r. ⌜ (r ≡ true → Ended (now (octets .entry)) from len) ⌝ }
+{
+    if len < 1 {
+        return false;
+    }
+    if 63 < len {
+        return false;
+    }
+    if len == 5 {
+        return false;
+    }
+    if octets[from] == b'/' {
+        return false;
+    }
+    let end = from + len as usize;
+    let last = octets[end - 1];
+    if last == 0 {
+        return false;
+    }
+    if last == b'/' {
+        return false;
+    }
+    octets[end] == 0
+}
+
+// The name of row k is seen to be in order: no octet is misplaced but where the row before it ends. A no says nothing.
+fn name_seen(names: &[u8; 4096], k: usize, len: u8) -> bool
+    requires { ⌜ k < 64 ⌝ }
+    ensures { λ r. ⌜ (r ≡ true → nameBy len (block (now (names .entry)) k) ≡ true) ⌝ }
+{
+    if k < 1 {
+        return false;
+    }
+    let all = &names[..];
+    let from = 64 * k;
+    if !ends_ok(all, from, len) {
+        return false;
+    }
+    misplaced_from(all, from - 1) == turn(names[from - 1], names[from])
+}
+
+// ---- the mailboxes
+
+// Row k is in order: its name is seen to be, or tested.
 fn row_ok(
     ids: &[u64; 64],
     attributes: &[u8; 64],
@@ -75,6 +167,9 @@ fn row_ok(
     let len = lens[k];
     if !numbers_ok(ids[k], attributes[k], len, validities[k], nexts[k]) {
         return false;
+    }
+    if name_seen(names, k, len) {
+        return true;
     }
     name_ok(names, k, len)
 }
@@ -282,25 +377,47 @@ fn mail_ok(
     true
 }
 
-// ---- the tables
+// ---- the tables: what a quick test says yes to, or else the exact one
 
-// Ids, names and messages are in order, by the exact test.
-fn slowly(
+// No two of the first n rows clash. The table of guesses is filled with them.
+fn rows_differ(
     ids: &[u64; 64],
     lens: &[u8; 64],
-    nexts: &[u64; 64],
     names: &[u8; 4096],
+    n: usize,
+    slots: &mut [u8; 1024],
+) -> bool
+    requires { ⌜ (n ≤ 64) × (now slots ≡ replicate 1024 0) ⌝ }
+    ensures { λ r. ⌜ ((l : List Mailbox) → length l ≡ n → Called l (now (ids .entry)) (now (lens .entry)) (now (names .entry)) → allb mailboxOk l ≡ true → r ≡ apart clash l) × Low (now (slots .exit)) n ⌝ }
+{
+    if !quick::differ(ids, n, slots) {
+        return rows_apart(ids, lens, names, n);
+    }
+    let all = &names[..];
+    let digests = quick::digests_of(all, n);
+    let mut marks = [0u8; 1024];
+    if quick::differ(&digests, n, &mut marks) {
+        return true;
+    }
+    rows_apart(ids, lens, names, n)
+}
+
+// Every used entry is in order, and no two are twins.
+fn messages_ok(
+    ids: &[u64; 64],
+    nexts: &[u64; 64],
+    slots: &[u8; 1024],
     n: usize,
     words: &[u64],
     used: usize,
     selected: u64,
     told: Uid,
 ) -> bool
-    requires { ⌜ (n ≤ 64) × (used * 5 ≤ length (now words)) ⌝ }
-    ensures { λ r. ⌜ ((l : List Mailbox) → length l ≡ n → Owners l (now (ids .entry)) (now (nexts .entry)) → Called l (now (ids .entry)) (now (lens .entry)) (now (names .entry)) → r ≡ every (tablesOk l (take used (messages (now (words .entry)))) selected (told .0))) ⌝ }
+    requires { ⌜ (n ≤ 64) × (used * 5 ≤ length (now words)) × Low (now slots) n ⌝ }
+    ensures { λ r. ⌜ ((l : List Mailbox) → length l ≡ n → Owners l (now (ids .entry)) (now (nexts .entry)) → apart clash l ≡ true → r ≡ (allb (entryOk l selected (told .0)) (take used (messages (now (words .entry)))) && apart twin (take used (messages (now (words .entry)))))) ⌝ }
 {
-    if !rows_apart(ids, lens, names, n) {
-        return false;
+    if quick::all_fit(words, used, ids, nexts, slots, n, selected, told) {
+        return true;
     }
     if !mail_ok(ids, nexts, n, words, used, selected, told) {
         return false;
@@ -308,7 +425,7 @@ fn slowly(
     mail_apart(words, used)
 }
 
-// Ids, names and messages are in order: the quick test's yes, or the exact test.
+// Ids, names and messages are in order, where the mailboxes are by themselves.
 fn tables_ok(
     ids: &[u64; 64],
     lens: &[u8; 64],
@@ -321,13 +438,13 @@ fn tables_ok(
     told: Uid,
 ) -> bool
     requires { ⌜ (n ≤ 64) × (used * 5 ≤ length (now words)) ⌝ }
-    ensures { λ r. ⌜ ((l : List Mailbox) → length l ≡ n → Owners l (now (ids .entry)) (now (nexts .entry)) → Called l (now (ids .entry)) (now (lens .entry)) (now (names .entry)) → r ≡ every (tablesOk l (take used (messages (now (words .entry)))) selected (told .0))) ⌝ }
+    ensures { λ r. ⌜ ((l : List Mailbox) → length l ≡ n → Owners l (now (ids .entry)) (now (nexts .entry)) → Called l (now (ids .entry)) (now (lens .entry)) (now (names .entry)) → allb mailboxOk l ≡ true → r ≡ every (tablesOk l (take used (messages (now (words .entry)))) selected (told .0))) ⌝ }
 {
-    let digests = quick::digests_of(lens, names, n);
-    if quick::sure(ids, nexts, &digests, n, words, used, selected, told) {
-        return true;
+    let mut slots = [0u8; 1024];
+    if !rows_differ(ids, lens, names, n, &mut slots) {
+        return false;
     }
-    slowly(ids, lens, nexts, names, n, words, used, selected, told)
+    messages_ok(ids, nexts, &slots, n, words, used, selected, told)
 }
 
 // ---- all of it

@@ -2,38 +2,53 @@
 use mathlib.Core.Path.{_≡_, refl, ap, sym, _∙_, subst}
 use mathlib.Core.Bool.{Bool, true, false, not, cond, _&&_, _||_}
 use mathlib.Core.List.{List, [], _∷_, _++_}
-use Prim.Native.Nat.{ℕ, zero, suc, _+_, _<_, _≤_}
+use Prim.Native.Nat.{ℕ, zero, suc, _+_, _*_, _/_, _%_, _<_, _≤_}
 use native.Mathlib.Omega.{arith}
 use lib.Dec.{eqb, leb, ltb}
 use lib.ListN.{length, getD, set}
 use lib.Seq.{getD-set-same, getD-set-other}
 use borrow.Author.Tests.{eq-eqb, ne-eqb, lt-ltb, le-ltb, le-leb, leb-true, ltb-true, ltb-false, eqb-true, eqb-false}
-use Rattle.model.specs.Laws.{and-l, and-r, or-r, tf, all-hold}
+use Rattle.model.specs.Laws.{and-l, and-r, or-r, or-true, tf, all-hold}
 use Rattle.model.specs.Lists.{allb, anyb, apart, every}
-use Rattle.model.specs.Memory.{noMailbox, uidOf, place, known, theMailbox}
+use Rattle.model.specs.Memory.{noMailbox, noMessage, uidOf, place, known, theMailbox}
 use Rattle.model.specs.Lawful.{clash, messageOk, twin, owned}
 use Rattle.demands.specs.Lasting.Rows.{all-snoc, all-imp, any-none, apart-snoc}
 use Rattle.rows.specs.Columns.{Column}
+use Rattle.entries.specs.Words.{row, messages, messages-get}
 use Rattle.model.specs.declared.Mailbox.{Mailbox}
 use Rattle.model.specs.declared.Message.{Message}
 
--- the ids and the UIDNEXTs of the rows, by which the owner of a message is known; a UIDNEXT behind them is 0
+-- the ids and the UIDNEXTs of the rows, by which the owner of a message is known
 pub record Owners (l : List Mailbox) (ids nexts : List ℕ) : Type 0 where
   pub id : Column (λ (x : Mailbox). x .id) l ids
   pub next : Column (λ (x : Mailbox). x .uidnext) l nexts
-  pub rest : (k : ℕ) → length l ≤ k → getD nexts k 0 ≡ 0
 
 -- a state as the selected id and the view's bound let it stand
 abbrev pub stateAt : ℕ → ℕ → Message → Bool
 stateAt selected told e = eqb (e .states) 0 || (eqb (e .mailbox) selected && ltb (uidOf e) told)
 
--- an entry of the mailbox with this id and UIDNEXT, above low
-pub record Fits (e : Message) (id next low selected told : ℕ) : Type 0 where
+-- the message whose five words start at b
+abbrev pub entryAt : List ℕ → ℕ → Message
+entryAt ws b = row (getD ws b 0) (getD ws (b + 1) 0) (getD ws (b + 2) 0) (getD ws (b + 3) 0) (getD ws (b + 4) 0)
+
+pub entry-at : (ws : List ℕ) (b : ℕ) → b % 5 ≡ 0 → b + 5 ≤ length ws → getD (messages ws) (b / 5) noMessage ≡ entryAt ws b
+entry-at ws b r h = let e : b / 5 * 5 ≡ b = omega arith in rw e at (messages-get (b / 5) ws (omega arith))
+
+-- an entry whose state may stand
+pub record Viewed (e : Message) (selected told : ℕ) : Type 0 where
+  pub few : e .states ≤ 2
+  pub state : stateAt selected told e ≡ true
+
+-- an entry of the mailbox with this id, above low
+pub record Fits (e : Message) (id low selected told : ℕ) : Type 0 where
   pub mailbox : e .mailbox ≡ id
   pub above : low < uidOf e
-  pub below : uidOf e < next
   pub ok : messageOk e ≡ true
   pub state : stateAt selected told e ≡ true
+
+-- the last UIDs of n rows are below their UIDNEXTs
+abbrev pub Below : List ℕ → List ℕ → ℕ → Type 0
+Below last nexts n = (k : ℕ) → k < n → getD last k 0 < getD nexts k 0
 
 -- all that is said of the messages
 pub record Good (l : List Mailbox) (selected told : ℕ) (es : List Message) : Type 0 where
@@ -42,16 +57,21 @@ pub record Good (l : List Mailbox) (selected told : ℕ) (es : List Message) : T
   pub states : allb (stateAt selected told) es ≡ true
   pub twins : apart twin es ≡ true
 
--- no UID is above the last one of its row
+pub good-none : (l : List Mailbox) (selected told : ℕ) → Good l selected told []
+good-none l s t = record { mail = refl; owners = refl; states = refl; twins = refl }
+
+-- the mailbox is known, and no UID of it is above the last one of its row
 abbrev pub atMost : List Mailbox → List ℕ → Message → Bool
-atMost l last d = leb (uidOf d) (getD last (place (d .mailbox) l) 0)
+atMost l last d = known (d .mailbox) l && leb (uidOf d) (getD last (place (d .mailbox) l) 0)
 
 pub record Going (l : List Mailbox) (selected told : ℕ) (last : List ℕ) (es : List Message) : Type 0 where
-  pub good : Good l selected told es
+  pub mail : allb messageOk es ≡ true
+  pub states : allb (stateAt selected told) es ≡ true
+  pub twins : apart twin es ≡ true
   pub low : allb (atMost l last) es ≡ true
 
 pub going-start : (l : List Mailbox) (selected told : ℕ) (last : List ℕ) → Going l selected told last []
-going-start l s t last = record { good = record { mail = refl; owners = refl; states = refl; twins = refl }; low = refl }
+going-start l s t last = record { mail = refl; states = refl; twins = refl; low = refl }
 
 -- ids that differ: the place of an id is where it stands
 none-here : (o : ℕ) (x : Mailbox) (l : List Mailbox) (k : ℕ) → x .id ≡ o → k < length l → getD l k noMailbox .id ≡ o → anyb (λ (y : Mailbox). clash x y) l ≡ false → ⊥
@@ -76,71 +96,71 @@ place-own o (x ∷ l) (suc k) a h e = go (eqb (x .id) o) refl (place-own o l k (
     go true q ih = absurd (none-here o x l k (eqb-true (x .id) o q) (omega arith) e (f (anyb (λ (y : Mailbox). clash x y) l) n))
     go false q ih = ap suc ih
 
-module _ (l : List Mailbox) (ids nexts : List ℕ) (w : Owners l ids nexts) (a : apart clash l ≡ true) (selected told : ℕ) (last : List ℕ) (es : List Message) (e : Message) (k : ℕ) where
-  module _ (f : Fits e (getD ids k 0) (getD nexts k 0) (getD last k 0) selected told) where
-    inside : k < length l
-    inside = go (ltb k (length l)) refl
-      where
-        go : (b : Bool) → ltb k (length l) ≡ b → k < length l
-        go true q = omega (arith, ltb-true k (length l) q)
-        go false q = let z = w .rest k (omega (arith, ltb-false k (length l) q)) in absurd (let b = f .below in omega arith)
+module _ (l : List Mailbox) (ids nexts : List ℕ) (w : Owners l ids nexts) (a : apart clash l ≡ true) (selected told : ℕ) (last : List ℕ) where
+  at-most : (d : Message) → atMost l last d ≡ true → uidOf d ≤ getD last (place (d .mailbox) l) 0
+  at-most d h = leb-true _ _ (and-r (known (d .mailbox) l) _ h)
 
+  module _ (es : List Message) (e : Message) (k : ℕ) (inside : k < length l) (f : Fits e (getD ids k 0) (getD last k 0) selected told) where
     here : place (e .mailbox) l ≡ k
     here = place-own (e .mailbox) l k a inside (sym (w .id k inside) ∙ sym (f .mailbox))
-
-    is-owned : owned l e ≡ true
-    is-owned = rw (here, lt-ltb k (length l) inside, lt-ltb (uidOf e) (getD l k noMailbox .uidnext) (let z = w .next k inside in let b = f .below in omega arith))
 
     other : (d : Message) → atMost l last d ≡ true → twin d e ≡ false
     other d h = go (eqb (d .mailbox) (e .mailbox)) refl
       where
         b : uidOf d ≤ getD last (place (d .mailbox) l) 0
-        b = leb-true _ _ h
+        b = at-most d h
 
         go : (c : Bool) → eqb (d .mailbox) (e .mailbox) ≡ c → c && eqb (uidOf d) (uidOf e) ≡ false
         go true q = ne-eqb (uidOf d) (uidOf e) (λ z. let p : place (d .mailbox) l ≡ k = ap (λ (i : ℕ). place i l) (eqb-true (d .mailbox) (e .mailbox) q) ∙ here in let u : uidOf d ≤ getD last k 0 = rw p at b in let v = f .above in omega arith)
         go false q = refl
 
     lower : k < length last → (d : Message) → atMost l last d ≡ true → atMost l (set last k (uidOf e)) d ≡ true
-    lower h d q = go (eqb (place (d .mailbox) l) k) refl
+    lower h d q = rw (and-l (known (d .mailbox) l) _ q) (go (eqb (place (d .mailbox) l) k) refl)
       where
         b : uidOf d ≤ getD last (place (d .mailbox) l) 0
-        b = leb-true _ _ q
+        b = at-most d q
 
         go : (c : Bool) → eqb (place (d .mailbox) l) k ≡ c → leb (uidOf d) (getD (set last k (uidOf e)) (place (d .mailbox) l) 0) ≡ true
         go true r = let p = eqb-true (place (d .mailbox) l) k r in let u : uidOf d ≤ getD last k 0 = rw p at b in let v = f .above in rw (p, getD-set-same last k (uidOf e) 0 h) (le-leb (uidOf d) (uidOf e) (omega arith))
-        go false r = rw (getD-set-other last k (place (d .mailbox) l) (uidOf e) 0 (eqb-false (place (d .mailbox) l) k r)) q
+        go false r = rw (getD-set-other last k (place (d .mailbox) l) (uidOf e) 0 (eqb-false (place (d .mailbox) l) k r)) (le-leb _ _ b)
 
     pub going-next : k < length last → Going l selected told last es → Going l selected told (set last k (uidOf e)) (es ++ (e ∷ []))
     going-next h g = record {
-      good = record {
-        mail = all-snoc messageOk es e (g .good .mail) (f .ok);
-        owners = all-snoc (owned l) es e (g .good .owners) is-owned;
-        states = all-snoc (stateAt selected told) es e (g .good .states) (f .state);
-        twins = apart-snoc twin es e (g .good .twins) (any-none (atMost l last) (λ (d : Message). twin d e) other es (g .low));
-      };
-      low = all-snoc (atMost l (set last k (uidOf e))) es e (all-imp (atMost l last) (atMost l (set last k (uidOf e))) (lower h) es (g .low)) (rw (here, getD-set-same last k (uidOf e) 0 h) (le-leb (uidOf e) (uidOf e) (omega arith)));
+      mail = all-snoc messageOk es e (g .mail) (f .ok);
+      states = all-snoc (stateAt selected told) es e (g .states) (f .state);
+      twins = apart-snoc twin es e (g .twins) (any-none (atMost l last) (λ (d : Message). twin d e) other es (g .low));
+      low = all-snoc (atMost l (set last k (uidOf e))) es e (all-imp (atMost l last) (atMost l (set last k (uidOf e))) (lower h) es (g .low)) (rw (here, lt-ltb k (length l) inside, getD-set-same last k (uidOf e) 0 h) (le-leb (uidOf e) (uidOf e) (omega arith)));
     }
 
-module _ (e : Message) (id next low selected told : ℕ) where
-  pub fits-in : e .mailbox ≡ id → low < uidOf e → uidOf e < next → e .flags ≤ 31 → e .size ≤ 4294967295 → e .states ≤ 2 → stateAt selected told e ≡ true → Fits e id next low selected told
-  fits-in m a b f z s t = record {
+  -- where the last UIDs are below the UIDNEXTs, all are
+  module _ (p : Below last nexts (length l)) where
+    is-owned : (d : Message) → atMost l last d ≡ true → owned l d ≡ true
+    is-owned d h =
+        let b = at-most d h in
+        let q = and-l (known (d .mailbox) l) _ h in
+        let i : place (d .mailbox) l < length l = ltb-true _ _ q in
+        let n = w .next (place (d .mailbox) l) i in
+        let m = p (place (d .mailbox) l) i in
+        rw q (lt-ltb (uidOf d) (theMailbox (d .mailbox) l .uidnext) (omega arith))
+
+    pub gone : (es : List Message) → Going l selected told last es → Good l selected told es
+    gone es g = record { mail = g .mail; owners = all-imp (atMost l last) (owned l) is-owned es (g .low); states = g .states; twins = g .twins }
+
+module _ (e : Message) (id low selected told : ℕ) where
+  pub fits-in : e .mailbox ≡ id → low < uidOf e → e .flags ≤ 31 → e .size ≤ 4294967295 → Viewed e selected told → Fits e id low selected told
+  fits-in m a f z v = record {
     mailbox = m;
     above = a;
-    below = b;
-    ok = all-hold (leb 1 (uidOf e) ∷ leb (e .flags) 31 ∷ leb (e .size) 4294967295 ∷ leb (e .states) 2 ∷ []) (le-leb 1 (uidOf e) (omega arith), (le-leb (e .flags) 31 f, (le-leb (e .size) 4294967295 z, (le-leb (e .states) 2 s, tt))));
-    state = t;
+    ok = all-hold (leb 1 (uidOf e) ∷ leb (e .flags) 31 ∷ leb (e .size) 4294967295 ∷ leb (e .states) 2 ∷ []) (le-leb 1 (uidOf e) (omega arith), (le-leb (e .flags) 31 f, (le-leb (e .size) 4294967295 z, (le-leb (e .states) 2 (v .few), tt))));
+    state = v .state;
   }
 
-  pub at-rest : e .states ≡ 0 → stateAt selected told e ≡ true
-  at-rest h = rw (eq-eqb (e .states) 0 h)
+module _ (e : Message) (selected told : ℕ) where
+  pub at-rest : e .states ≡ 0 → Viewed e selected told
+  at-rest h = record { few = omega arith; state = rw (eq-eqb (e .states) 0 h) }
 
-  pub in-view : e .mailbox ≡ selected → ltb (uidOf e) told ≡ true → stateAt selected told e ≡ true
-  in-view h k = rw (eq-eqb (e .mailbox) selected h, k) (go (eqb (e .states) 0))
-    where
-      go : (b : Bool) → (b || true) ≡ true
-      go true = refl
-      go false = refl
+  pub in-view : e .states ≤ 2 → e .mailbox ≡ selected → ltb (uidOf e) told ≡ true → Viewed e selected told
+  in-view f h k = record { few = f; state = rw (eq-eqb (e .mailbox) selected h, k) (or-true (eqb (e .states) 0)) }
 
 -- ---- the conditions on the tables, together
 abbrev pub tablesOk : List Mailbox → List Message → ℕ → ℕ → List Bool
@@ -148,9 +168,6 @@ tablesOk l es selected told = apart clash l ∷ allb messageOk es ∷ apart twin
 
 abbrev pub entryOk : List Mailbox → ℕ → ℕ → Message → Bool
 entryOk l selected told e = messageOk e && (owned l e && stateAt selected told e)
-
-pub tables-good : (l : List Mailbox) (es : List Message) (selected told : ℕ) → apart clash l ≡ true → Good l selected told es → every (tablesOk l es selected told) ≡ true
-tables-good l es s t a g = all-hold (tablesOk l es s t) (a, (g .mail, (g .twins, (g .owners, (g .states, tt)))))
 
 -- the same in the order of the slow test
 regroup : (a b c d e : Bool) → every (a ∷ b ∷ c ∷ d ∷ e ∷ []) ≡ (a && ((b && (d && e)) && c))
@@ -192,3 +209,6 @@ all-three l s t (e ∷ es) = rw (all-three l s t es) (both (messageOk e) (owned 
 
 pub slow-order : (l : List Mailbox) (es : List Message) (s t : ℕ) → every (tablesOk l es s t) ≡ (apart clash l && (allb (entryOk l s t) es && apart twin es))
 slow-order l es s t = regroup (apart clash l) (allb messageOk es) (apart twin es) (allb (owned l) es) (allb (stateAt s t) es) ∙ sym (ap (λ (b : Bool). apart clash l && (b && apart twin es)) (all-three l s t es))
+
+pub good-decides : (l : List Mailbox) (es : List Message) (s t : ℕ) → Good l s t es → (allb (entryOk l s t) es && apart twin es) ≡ true
+good-decides l es s t g = rw (all-three l s t es, g .mail, g .owners, g .states, g .twins)

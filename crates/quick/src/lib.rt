@@ -1,20 +1,18 @@
 // Refusal 1, quickly: one pass over each table that says yes wherever ids, names and UIDs are seen to differ. A no says nothing.
-use model::Message;
 use model::Uid;
 ghost use mathlib.Core.Path.{_≡_};
 ghost use mathlib.Core.Bool.{true};
 ghost use mathlib.Core.List.{List};
-ghost use Prim.Native.Nat.{ℕ, _+_, _*_, _≤_, _<_};
-ghost use lib.ListN.{length, take, getD};
-ghost use Rattle.model.specs.Lists.{apart, every};
-ghost use Rattle.model.specs.Memory.{nameOf};
+ghost use Prim.Native.Nat.{ℕ, _+_, _*_, _%_, _≤_, _<_};
+ghost use lib.ListN.{length, take, getD, replicate};
+ghost use Rattle.model.specs.Lists.{apart};
 ghost use Rattle.model.specs.Lawful.{clash};
 ghost use Rattle.model.specs.declared.Mailbox.{Mailbox};
 ghost use Rattle.entries.specs.Words.{messages};
-ghost use Rattle.rows.specs.Columns.{Column, nameAt};
-ghost use Rattle.quick.specs.Passing.{Owners, Fits, Good, tablesOk};
-ghost use Rattle.quick.specs.Distinct.{slotOf, Absent, Alone, Settled, Differ};
-ghost use Rattle.quick.specs.Weighing.{digest};
+ghost use Rattle.rows.specs.Columns.{block};
+ghost use Rattle.quick.specs.Passing.{Owners, Viewed, Fits, Good, Below, entryAt};
+ghost use Rattle.quick.specs.Distinct.{slotOf, Absent, Differ, Taken, Low};
+ghost use Rattle.quick.specs.Digest.{word, mixed, folded, digest};
 
 // ---- tables of guesses
 
@@ -27,7 +25,9 @@ fn slot(x: u64) -> usize
 }
 
 // A row's number as an octet.
-fn octet(i: usize) -> u8 {
+fn octet(i: usize) -> u8
+    ensures { λ r. ⌜ r ≡ i % 256 ⌝ }
+{
     (i % 256) as u8
 }
 
@@ -79,106 +79,161 @@ pub fn guess(slots: &[u8; 1024], ids: &[u64; 64], id: u64) -> usize
 
 // ---- messages
 
-// The entry is in order, and above the last UID of its row.
-fn entry_fits(e: Message, id: u64, next: u64, low: Uid, selected: u64, told: Uid) -> bool
-    ensures { λ r. ⌜ (r ≡ true → Fits e id next (low .0) selected (told .0)) ⌝ }
+// The row of the n that has the id, where there is one. The caller tests it.
+fn owner(slots: &[u8; 1024], ids: &[u64; 64], n: usize, id: u64) -> usize
+    requires { ⌜ (1 ≤ n) × (n ≤ 64) × Low (now slots) n ⌝ }
+    ensures { λ r. ⌜ r < n ⌝ }
 {
-    if e.mailbox != id {
-        return false;
+    let at = slot(id);
+    let k = row(slots[at]);
+    if ids[k] == id {
+        return k;
     }
-    if e.uid.0 <= low.0 {
-        return false;
-    }
-    if next <= e.uid.0 {
-        return false;
-    }
-    if 31 < e.flags {
-        return false;
-    }
-    if 4294967295 < e.size {
-        return false;
-    }
-    if e.states == 0 {
-        return true;
-    }
-    if 2 < e.states {
-        return false;
-    }
-    if e.mailbox != selected {
-        return false;
-    }
-    e.uid.0 < told.0
+    let j = seek(ids, id);
+    if j < n { j } else { 0 }
 }
 
-// One pass: every entry is in order and rises above those of its mailbox before it. A no says nothing.
-// The last UIDs of the rows are an array of words, as those of `found` are; a single UID is a `Uid`.
+// An entry that is expunged or marked lies in the view.
+fn in_view(words: &[u64], b: usize, selected: u64, told: Uid) -> bool
+    requires { ⌜ b + 5 ≤ length (now words) ⌝ }
+    ensures { λ r. ⌜ (r ≡ true → Viewed (entryAt (now (words .entry)) b) selected (told .0)) ⌝ }
+{
+    if words[b + 4] == 0 {
+        return true;
+    }
+    if 2 < words[b + 4] {
+        return false;
+    }
+    if words[b] != selected {
+        return false;
+    }
+    words[b + 1] < told.0
+}
+
+// The entry whose words start at b is in order, and above the last UID of its row. Each word is read where it is tested.
+fn entry_fits(words: &[u64], b: usize, id: u64, low: Uid, selected: u64, told: Uid) -> bool
+    requires { ⌜ b + 5 ≤ length (now words) ⌝ }
+    ensures { λ r. ⌜ (r ≡ true → Fits (entryAt (now (words .entry)) b) id (low .0) selected (told .0)) ⌝ }
+{
+    if words[b] != id {
+        return false;
+    }
+    if words[b + 1] <= low.0 {
+        return false;
+    }
+    if 31 < words[b + 2] {
+        return false;
+    }
+    if 4294967295 < words[b + 3] {
+        return false;
+    }
+    in_view(words, b, selected, told)
+}
+
+// The last UIDs of the first n rows are below their UIDNEXTs.
+fn below(last: &[u64; 64], nexts: &[u64; 64], n: usize) -> bool
+    requires { ⌜ n ≤ 64 ⌝ }
+    ensures { λ r. ⌜ (r ≡ true → Below (now (last .entry)) (now (nexts .entry)) n) ⌝ }
+{
+    let mut i: usize = 0;
+    while i < n {
+        if nexts[i] <= last[i] {
+            return false;
+        }
+        i += 1;
+    }
+    true
+}
+
+// One pass: every entry is in order and rises above those of its mailbox before it, so that the last of each is compared with the UIDNEXT.
+// A no says nothing. The last UIDs of the rows are an array of words, as those of `found` are; a single UID is a `Uid`.
 pub fn all_fit(
     words: &[u64],
     used: usize,
     ids: &[u64; 64],
     nexts: &[u64; 64],
     slots: &[u8; 1024],
+    n: usize,
     selected: u64,
     told: Uid,
 ) -> bool
-    requires { ⌜ used * 5 ≤ length (now words) ⌝ }
-    ensures { λ r. ⌜ ((l : List Mailbox) → Owners l (now (ids .entry)) (now (nexts .entry)) → apart clash l ≡ true → r ≡ true → Good l selected (told .0) (take used (messages (now (words .entry))))) ⌝ }
+    requires { ⌜ (used * 5 ≤ length (now words)) × (n ≤ 64) × Low (now slots) n ⌝ }
+    ensures { λ r. ⌜ ((l : List Mailbox) → length l ≡ n → Owners l (now (ids .entry)) (now (nexts .entry)) → apart clash l ≡ true → r ≡ true → Good l selected (told .0) (take used (messages (now (words .entry))))) ⌝ }
 {
+    if n < 1 {
+        return used < 1;
+    }
     let mut last = [0u64; 64];
-    let mut i = 0;
-    while i < used {
-        let e = entries::get(words, i);
-        let k = guess(slots, ids, e.mailbox);
+    let end = 5 * used;
+    let mut b: usize = 0;
+    while b < end {
+        let k = owner(slots, ids, n, words[b]);
         let low = Uid(last[k]);
-        if !entry_fits(e, ids[k], nexts[k], low, selected, told) {
+        if !entry_fits(words, b, ids[k], low, selected, told) {
             return false;
         }
-        last[k] = e.uid.0;
-        i += 1;
+        last[k] = words[b + 1];
+        b += 5;
     }
-    true
+    below(&last, nexts, n)
 }
 
 // ---- names
 
-// A digest of a name.
-fn weigh(name: &[u8]) -> u64
-    requires { ⌜ length (now name) ≤ 64 ⌝ }
-    ensures { λ r. ⌜ r ≡ digest (now (name .entry)) ⌝ }
+// Eight octets as one number, the first the least: one load.
+fn word(octets: &[u8], at: usize) -> u64
+    requires { ⌜ at + 8 ≤ length (now octets) ⌝ }
+    ensures { λ r. ⌜ r ≡ word (now (octets .entry)) at ⌝ }
 {
-    let mut sum: u64 = 0;
-    let mut weight: u64 = 1;
-    let mut growth: u64 = 3;
-    let mut i = 0;
-    while i < name.len() {
-        sum += weight * rows::wide_octet(name[i]);
-        weight += growth;
-        growth += 65537;
-        i += 1;
-    }
-    sum
+    rows::wide_octet(octets[at])
+        + 256 * rows::wide_octet(octets[at + 1])
+        + 65536 * rows::wide_octet(octets[at + 2])
+        + 16777216 * rows::wide_octet(octets[at + 3])
+        + 4294967296 * rows::wide_octet(octets[at + 4])
+        + 1099511627776 * rows::wide_octet(octets[at + 5])
+        + 281474976710656 * rows::wide_octet(octets[at + 6])
+        + 72057594037927936 * rows::wide_octet(octets[at + 7])
 }
 
-// The digest of the name of row k.
-fn digest_of(lens: &[u8; 64], names: &[u8; 4096], k: usize) -> u64
-    requires { ⌜ k < 64 ⌝ }
-    ensures { λ r. ⌜ r ≡ digest (nameAt (now (lens .entry)) (now (names .entry)) k) ⌝ }
+// A digest with one word more.
+fn mix(d: u64, w: u64) -> u64
+    ensures { λ r. ⌜ r ≡ mixed d w ⌝ }
 {
-    let all = &names[..];
-    let from = 64 * k;
-    let end = rows::name_end(lens, k);
-    weigh(&all[from..end])
+    let double = std::num::wrapping_add_u64(d, d);
+    let triple = std::num::wrapping_add_u64(double, d);
+    std::num::wrapping_add_u64(triple, w)
+}
+
+// The two halves of a digest together: a slot is made of the lower one.
+fn fold(d: u64) -> u64
+    ensures { λ r. ⌜ r ≡ folded d ⌝ }
+{
+    d % 4294967296 + d / 4294967296
+}
+
+// The digest of the 64 octets of row k.
+fn digest_of(names: &[u8], k: usize) -> u64
+    requires { ⌜ (k < 64) × (length (now names) ≡ 4096) ⌝ }
+    ensures { λ r. ⌜ r ≡ digest (block (now (names .entry)) k) ⌝ }
+{
+    let mut d: u64 = 0;
+    let mut i: usize = 0;
+    while i < 8 {
+        d = mix(d, word(names, 64 * k + 8 * i));
+        i += 1;
+    }
+    fold(d)
 }
 
 // The digests of the names of the first n rows.
-pub fn digests_of(lens: &[u8; 64], names: &[u8; 4096], n: usize) -> [u64; 64]
-    requires { ⌜ n ≤ 64 ⌝ }
-    ensures { λ r. ⌜ ((k : ℕ) → k < n → getD r k 0 ≡ digest (nameAt (now (lens .entry)) (now (names .entry)) k)) ⌝ }
+pub fn digests_of(names: &[u8], n: usize) -> [u64; 64]
+    requires { ⌜ (n ≤ 64) × (length (now names) ≡ 4096) ⌝ }
+    ensures { λ r. ⌜ ((k : ℕ) → k < n → getD r k 0 ≡ digest (block (now (names .entry)) k)) ⌝ }
 {
     let mut digests = [0u64; 64];
     let mut i: usize = 0;
     while i < n {
-        digests[i] = digest_of(lens, names, i);
+        digests[i] = digest_of(names, i);
         i += 1;
     }
     digests
@@ -186,12 +241,12 @@ pub fn digests_of(lens: &[u8; 64], names: &[u8; 4096], n: usize) -> [u64; 64]
 
 // ---- numbers that all differ
 
-// None of the numbers from a place up to another is x.
-fn absent(d: &[u64; 64], from: usize, upto: usize, x: u64) -> bool
+// None of the numbers up to a place is x.
+fn absent(d: &[u64; 64], upto: usize, x: u64) -> bool
     requires { ⌜ upto ≤ 64 ⌝ }
-    ensures { λ r. ⌜ (r ≡ true → Absent (now (d .entry)) from upto x) ⌝ }
+    ensures { λ r. ⌜ (r ≡ true → Absent (now (d .entry)) upto x) ⌝ }
 {
-    let mut j = from;
+    let mut j: usize = 0;
     while j < upto {
         if d[j] == x {
             return false;
@@ -201,66 +256,31 @@ fn absent(d: &[u64; 64], from: usize, upto: usize, x: u64) -> bool
     true
 }
 
-// No other of the first n is equal to number i.
-fn alone(d: &[u64; 64], n: usize, i: usize) -> bool
-    requires { ⌜ (n ≤ 64) × (i < n) ⌝ }
-    ensures { λ r. ⌜ (r ≡ true → Alone (now (d .entry)) n i) ⌝ }
+// Number i is none of those before it: its slot is not taken, or it is compared with each. A slot is 0 until a number other than the first takes it.
+fn is_new(d: &[u64; 64], slots: &[u8; 1024], i: usize) -> bool
+    requires { ⌜ (i < 64) × Taken (now d) (now slots) i ⌝ }
+    ensures { λ r. ⌜ (r ≡ true → Absent (now (d .entry)) i (getD (now (d .entry)) i 0)) ⌝ }
 {
     let x = d[i];
-    if absent(d, 0, i, x) {
-        return absent(d, i + 1, n, x);
+    let at = slot(x);
+    if slots[at] == 0 {
+        return d[0] != x;
     }
-    false
+    absent(d, i, x)
 }
 
-// The table of guesses names i, or number i is alone.
-fn settled(d: &[u64; 64], slots: &[u8; 1024], n: usize, i: usize) -> bool
-    requires { ⌜ (n ≤ 64) × (i < n) ⌝ }
-    ensures { λ r. ⌜ (r ≡ true → Settled (now (d .entry)) (now (slots .entry)) n i) ⌝ }
+// No two of the first n are equal, seen while the table of guesses is filled with their rows. A no says nothing.
+pub fn differ(d: &[u64; 64], n: usize, slots: &mut [u8; 1024]) -> bool
+    requires { ⌜ (n ≤ 64) × (now slots ≡ replicate 1024 0) ⌝ }
+    ensures { λ r. ⌜ (r ≡ true → Differ (now (d .entry)) n) × Low (now (slots .exit)) n ⌝ }
 {
-    let at = slot(d[i]);
-    if row(slots[at]) == i {
-        return true;
-    }
-    alone(d, n, i)
-}
-
-// No two of the first n are equal. A no says nothing.
-fn differ(d: &[u64; 64], slots: &[u8; 1024], n: usize) -> bool
-    requires { ⌜ n ≤ 64 ⌝ }
-    ensures { λ r. ⌜ (r ≡ true → Differ (now (d .entry)) n) ⌝ }
-{
-    let mut i = 0;
+    let mut i: usize = 1;
     while i < n {
-        if !settled(d, slots, n, i) {
+        if !is_new(d, slots, i) {
             return false;
         }
+        slots[slot(d[i])] = octet(i);
         i += 1;
     }
     true
-}
-
-// Mailboxes and messages are in order, seen in one pass over each. A no says nothing.
-pub fn sure(
-    ids: &[u64; 64],
-    nexts: &[u64; 64],
-    digests: &[u64; 64],
-    n: usize,
-    words: &[u64],
-    used: usize,
-    selected: u64,
-    told: Uid,
-) -> bool
-    requires { ⌜ (n ≤ 64) × (used * 5 ≤ length (now words)) ⌝ }
-    ensures { λ r. ⌜ ((l : List Mailbox) → length l ≡ n → Owners l (now (ids .entry)) (now (nexts .entry)) → Column (λ (x : Mailbox). digest (nameOf x)) l (now (digests .entry)) → r ≡ true → every (tablesOk l (take used (messages (now (words .entry)))) selected (told .0)) ≡ true) ⌝ }
-{
-    let slots = guesses(ids, n);
-    if !differ(ids, &slots, n) {
-        return false;
-    }
-    let marks = guesses(digests, n);
-    if !differ(digests, &marks, n) {
-        return false;
-    }
-    all_fit(words, used, ids, nexts, &slots, selected, told)
 }

@@ -8,7 +8,7 @@ use native.Mathlib.Omega.{arith}
 use lib.Dec.{eqb, leb, ltb}
 use lib.ListN.{length, take, drop, getD, drop-of-length-le}
 use lib.Seq.{drop-cons, length-take-le}
-use borrow.Author.Tests.{eq-eqb, ne-eqb, le-leb, lt-leb}
+use borrow.Author.Tests.{eq-eqb, ne-eqb, eqb-true, eqb-false, le-leb, lt-leb}
 use Rattle.model.specs.Laws.{tf, and-true, and-false, all-hold}
 use Rattle.model.specs.Lists.{anyb, allb, apart, every, same}
 use Rattle.model.specs.Text.{bit, one}
@@ -144,6 +144,15 @@ module _ {A : Type 0} (p : A → Bool) (l : List A) (i : ℕ) where
 
   pub rest-past : length l ≤ i → allb p (drop i l) ≡ true
   rest-past h = rw (drop-of-length-le l {i = i} h)
+
+-- zeros by how many octets are none
+module _ (l : List ℕ) (i s : ℕ) where
+  pub filled-next : i < length l → zeros l ≡ (eqb s 0 && zeros (drop i l)) → zeros l ≡ (eqb (s + one (not (eqb (getD l i 0) 0))) 0 && zeros (drop (i + 1) l))
+  filled-next h inv = inv ∙ rw (add-one, drop-cons l i 0 h) (go (eqb (getD l i 0) 0) refl)
+    where
+      go : (b : Bool) → eqb (getD l i 0) 0 ≡ b → (eqb s 0 && (eqb 0 (getD l i 0) && zeros (drop (suc i) l))) ≡ (eqb (s + one (not b)) 0 && zeros (drop (suc i) l))
+      go true e = let z : s + 0 ≡ s = omega arith in rw (eqb-true (getD l i 0) 0 e, z)
+      go false e = rw (ne-eqb 0 (getD l i 0) (λ z. eqb-false (getD l i 0) 0 e (sym z)), and-false (eqb s 0), ne-eqb (s + 1) 0 (λ z. (let y : ⊥ = omega arith in y)))
 
 -- ---- a name
 abbrev pub givenOk : Name → Bool

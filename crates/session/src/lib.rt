@@ -8,21 +8,24 @@ use model::Session;
 ghost use mathlib.Core.Path.{_≡_};
 ghost use mathlib.Core.Bool.{_&&_, _||_, cond, not};
 ghost use Prim.Native.Nat.{_+_, _≤_, _<_};
+ghost use lib.Dec.{eqb};
 ghost use lib.ListN.{length, take, drop};
 ghost use Rattle.model.specs.Lists.{allb, same};
 ghost use Rattle.model.specs.Text.{bit, one};
 ghost use Rattle.model.specs.Names.{valid, fold};
 ghost use Rattle.model.specs.Groups.{groupOf};
-ghost use Rattle.model.specs.Lawful.{rangeOk, groupOk, groupsOk, lentNameCount, lentNameOk, blankGroup, blankName, sessionOk};
+ghost use Rattle.model.specs.Lawful.{zeros, rangeOk, groupOk, groupsOk, lentNameCount, lentNameOk, blankGroup, blankName, sessionOk};
 ghost use Rattle.session.specs.Tests.{selectorBy, eventsBy, attributesBy, selectings, givenOk};
 
-fn both(a: bool, b: bool) -> bool
+// Both, as one value: nothing branches on the first.
+pub fn both(a: bool, b: bool) -> bool
     ensures { λ r. ⌜ r ≡ (a && b) ⌝ }
 {
     if a { b } else { false }
 }
 
-fn either(a: bool, b: bool) -> bool
+// One or the other, or both.
+pub fn either(a: bool, b: bool) -> bool
     ensures { λ r. ⌜ r ≡ (a || b) ⌝ }
 {
     if a { true } else { b }
@@ -216,11 +219,32 @@ fn lent_name_ok(x: LentName) -> bool
     both(given_ok(&octets[..n]), names::all_zero(&octets[n..]))
 }
 
+// One for an octet that is not zero.
+fn octet_if(b: bool) -> u8
+    ensures { λ r. ⌜ (r ≡ one b) × (r ≤ 1) ⌝ }
+{
+    if b { 1 } else { 0 }
+}
+
+// How many of 64 octets are not zero, without a branch: sixteen are seen at once.
+fn filled(octets: &[u8]) -> u8
+    requires { ⌜ length (now octets) ≡ 64 ⌝ }
+    ensures { λ r. ⌜ eqb r 0 ≡ zeros (now (octets .entry)) ⌝ }
+{
+    let mut sum: u8 = 0;
+    let mut i: usize = 0;
+    while i < 64 {
+        sum += octet_if(octets[i] != 0);
+        i += 1;
+    }
+    sum
+}
+
 fn blank_name(x: LentName) -> bool
     ensures { λ r. ⌜ r ≡ blankName x ⌝ }
 {
     let octets = x.octets;
-    both(x.len == 0, names::all_zero(&octets))
+    both(x.len == 0, filled(&octets) == 0)
 }
 
 fn names_ok(names: [LentName; 16], n: usize) -> bool

@@ -51,9 +51,9 @@ returns-4 : tie.Need-returns-4
 returns-4 c =
     let args = c .before .before .before .before .before .before .before .before .before .before .args in
     λ l h w.
-    c .tables-ok .ensures l h (owners w) (called w)
-    ∙ tables-decide l (take (args .used) (messages (args .words .now))) (args .s)
-    (sym (c .before .before .rows-ok .ensures l h w) ∙ not-false _ (c .before .if3 .left))
+    let ok = sym (c .before .before .rows-ok .ensures l h w) ∙ not-false _ (c .before .if3 .left) in
+    c .tables-ok .ensures l h (owners w) (called w) ok
+    ∙ tables-decide l (take (args .used) (messages (args .words .now))) (args .s) ok
     (sym (c .before .before .before .before .before .before .before .before .session-ok .ensures) ∙ not-false _ (c .before .before .before .before .before .before .before .if1 .left))
     (sym (c .before .before .before .before .view-ok .ensures l h (owners w)) ∙ not-false _ (c .before .before .before .if2 .left))
 

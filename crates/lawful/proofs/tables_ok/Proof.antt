@@ -1,36 +1,38 @@
--- A yes of the quick test is right; else the exact test decides.
-use mathlib.Core.Path.{sym}
-use native.Mathlib.Omega.{arith}
-use Rattle.lawful.specs.Clashing.{digests-at}
+-- The rows first, then the messages.
+use mathlib.Core.Path.{_≡_, sym, _∙_}
+use mathlib.Core.Bool.{true}
+use lib.ListN.{take}
+use borrow.Author.Tests.{not-true, not-false}
+use Rattle.model.specs.Lists.{apart, allb}
+use Rattle.model.specs.Lawful.{clash, twin}
+use Rattle.entries.specs.Words.{messages}
+use Rattle.rows.specs.Walks.{first-no}
+use Rattle.quick.specs.Passing.{entryOk, slow-order}
 use borrow.Author.Needs.{needs}
 use Rattle.lawful.proofs.tables_ok.Statement.{statement}
 use Rattle.lawful.proofs.tables_ok.Tie as tie
 
-digests-of-requires : tie.Need-digests-of-requires
-digests-of-requires c κs = search needs
-
-sure-requires : tie.Need-sure-requires
-sure-requires c κs = search needs
+rows-differ-requires : tie.Need-rows-differ-requires
+rows-differ-requires c κs = search needs
 
 returns : tie.Need-returns
 returns c =
-    let args = c .before .before .before .before .before .args in
-    λ l h w v.
-    let d = digests-at l (args .ids .now) (args .lens .now) (args .names .now) (c .before .before .before .digests-of .result) v (λ k g. c .before .before .before .digests-of .ensures k (omega arith)) in
-    sym (c .before .sure .ensures l h w d (c .if1 .taken))
+    let args = c .before .before .before .before .args in
+    let es = take (args .used) (messages (args .words .now)) in
+    λ l h w v ok.
+    rw (slow-order l es (args .selected) (args .told .0))
+    (first-no (apart clash l) (allb (entryOk l (args .selected) (args .told .0)) es) (apart twin es) (sym (c .before .rows-differ .ensures .0 l h v ok) ∙ not-true _ (c .if1 .taken)))
 
-slowly-requires : tie.Need-slowly-requires
-slowly-requires c κs = search needs
+messages-ok-requires : tie.Need-messages-ok-requires
+messages-ok-requires c κs = search needs
 
 returns-2 : tie.Need-returns-2
-returns-2 c = c .slowly .ensures
+returns-2 c =
+    let args = c .before .before .before .before .before .before .args in
+    let es = take (args .used) (messages (args .words .now)) in
+    λ l h w v ok.
+    let yes : apart clash l ≡ true = sym (c .before .before .before .rows-differ .ensures .0 l h v ok) ∙ not-false _ (c .before .before .if1 .left) in
+    rw (slow-order l es (args .selected) (args .told .0), yes) (c .messages-ok .ensures l h w yes)
 
 pub tables-ok-spec : {M : Type 1} → statement M
-tables-ok-spec =
-    tie.close
-    (tie.spec
-    digests-of-requires
-    sure-requires
-    returns
-    slowly-requires
-    returns-2)
+tables-ok-spec = tie.close (tie.spec rows-differ-requires returns messages-ok-requires returns-2)

@@ -1,109 +1,121 @@
-use Rattle.quick.proofs.all_fit.Statement.{statement}
-use Rattle.quick.proofs.all_fit.Tie as tie
+-- The last UID of each row bounds those of its mailbox so far; in the end it is below the UIDNEXT.
 use mathlib.Core.Path.{_≡_, refl}
 use mathlib.Core.Bool.{true, false}
 use mathlib.Core.List.{List}
-use Prim.Native.Nat.{_≤_, _-_, _<_}
+use Prim.Native.Nat.{suc, _+_, _*_, _/_, _%_, _-_, _≤_, _<_}
 use native.Mathlib.Omega.{arith}
-use native.Mathlib.Numerals.{add-one}
 use lib.ListN.{length, take, length-set}
 use lib.Seq.{take-suc}
-use borrow.Author.Tests.{not-false}
+use borrow.Author.Tests.{not-false, ltb-true}
 use Rattle.model.specs.Laws.{tf}
 use Rattle.model.specs.Lists.{apart}
 use Rattle.model.specs.Memory.{noMessage}
 use Rattle.model.specs.Lawful.{clash}
 use Rattle.model.specs.declared.Mailbox.{Mailbox}
 use Rattle.entries.specs.Words.{messages, messages-length}
-use Rattle.quick.specs.Passing.{Owners, Going, going-start, going-next}
+use Rattle.quick.specs.Passing.{Owners, Going, Below, entryAt, entry-at, good-none, going-start, going-next, gone}
 use borrow.Author.Needs.{needs}
+use Rattle.quick.proofs.all_fit.Statement.{statement}
+use Rattle.quick.proofs.all_fit.Tie as tie
 
 abbrev Inv-loop : tie.InvT-loop
-Inv-loop words used ids nexts slots selected told last₀ i₀ last i = (i ≤ used) × (length last ≡ 64) × ((l : List Mailbox) → Owners l ids nexts → apart clash l ≡ true → Going l selected (told .0) last (take i (messages words)))
+Inv-loop words used ids nexts slots n selected told last₀ end b₀ last b = (end ≡ 5 * used) × (b ≤ end) × (b % 5 ≡ 0) × (length last ≡ 64) × ((l : List Mailbox) → length l ≡ n → Owners l ids nexts → apart clash l ≡ true → Going l selected (told .0) last (take (b / 5) (messages words)))
 
 abbrev μ-loop : tie.MeasureT-loop
-μ-loop words used ids nexts slots selected told last₀ i₀ last i = used - i
+μ-loop words used ids nexts slots n selected told last₀ end b₀ last b = end - b
 
--- src/lib.rt:127:5
+returns : tie.Need-returns Inv-loop μ-loop
+returns c =
+    let args = c .before .before .args in
+    λ l h w a z. let e : args .used ≡ 0 = omega (arith, ltb-true (args .used) 1 z) in rw e (good-none l (args .selected) (args .told .0))
+
+mul-end : tie.Need-mul-end Inv-loop μ-loop
+mul-end c = search needs
+
 loop-holds : tie.Need-loop-holds Inv-loop μ-loop
-loop-holds c = (search needs, search needs, λ l w a. going-start l _ _ _)
+loop-holds c = (search needs, search needs, search needs, search needs, λ l h w a. going-start l _ _ _)
 
--- src/lib.rt:128:13
-get-requires : tie.Need-get-requires Inv-loop μ-loop
-get-requires c κs = search needs
+mul-owner : tie.Need-mul-owner Inv-loop μ-loop
+mul-owner c = search needs
 
--- src/lib.rt:129:13
-guess-requires : tie.Need-guess-requires Inv-loop μ-loop
-guess-requires c κs = search needs
+shared-slice-read-owner : tie.Need-shared-slice-read-owner Inv-loop μ-loop
+shared-slice-read-owner c = search needs
 
--- src/lib.rt:131:23
+owner-requires : tie.Need-owner-requires Inv-loop μ-loop
+owner-requires c κs = search needs
+
 mul-entry-fits : tie.Need-mul-entry-fits Inv-loop μ-loop
 mul-entry-fits c = search needs
 
--- src/lib.rt:131:23
 array-read-entry-fits : tie.Need-array-read-entry-fits Inv-loop μ-loop
 array-read-entry-fits c = search needs
 
--- src/lib.rt:132:27
 mul-entry-fits-2 : tie.Need-mul-entry-fits-2 Inv-loop μ-loop
 mul-entry-fits-2 c = search needs
 
--- src/lib.rt:132:27
 element-copy-out-entry-fits : tie.Need-element-copy-out-entry-fits Inv-loop μ-loop
 element-copy-out-entry-fits c = search needs
 
--- src/lib.rt:132:35
-mul-entry-fits-3 : tie.Need-mul-entry-fits-3 Inv-loop μ-loop
-mul-entry-fits-3 c = search needs
-
--- src/lib.rt:132:35
-element-copy-out-entry-fits-2 : tie.Need-element-copy-out-entry-fits-2 Inv-loop μ-loop
-element-copy-out-entry-fits-2 c = search needs
-
--- src/lib.rt:130:13
 entry-fits-requires : tie.Need-entry-fits-requires Inv-loop μ-loop
 entry-fits-requires c κs = search needs
 
--- src/lib.rt:131:13
-returns : tie.Need-returns Inv-loop μ-loop
-returns c = λ l w a z. tf false z refl
+returns-2 : tie.Need-returns-2 Inv-loop μ-loop
+returns-2 c = λ l h w a z. tf false z refl
 
--- src/lib.rt:133:9
+add-last : tie.Need-add-last Inv-loop μ-loop
+add-last c = search needs
+
 mul-last : tie.Need-mul-last Inv-loop μ-loop
 mul-last c = search needs
 
--- src/lib.rt:133:9
+shared-slice-read-last : tie.Need-shared-slice-read-last Inv-loop μ-loop
+shared-slice-read-last c = search needs
+
+mul-last-2 : tie.Need-mul-last-2 Inv-loop μ-loop
+mul-last-2 c = search needs
+
 array-write-last : tie.Need-array-write-last Inv-loop μ-loop
 array-write-last c = search needs
 
--- src/lib.rt:134:9
-add-i : tie.Need-add-i Inv-loop μ-loop
-add-i c = search needs
+add-b : tie.Need-add-b Inv-loop μ-loop
+add-b c = search needs
 
--- src/lib.rt:127:5
 loop-less : tie.Need-loop-less Inv-loop μ-loop
 loop-less c = search needs
 
--- src/lib.rt:127:5
 loop-again : tie.Need-loop-again Inv-loop μ-loop
 loop-again c =
-    let args = c .before .before .before .before .before .before .before .before .before .args in
-    let turn = c .before .before .before .before .before .before .before .loop in (
+    let args = c .before .before .before .before .before .before .before .before .before .before .args in
+    let turn = c .before .before .before .before .before .before .before .loop in
+    let pre = c .before .before .before .before .before .before .before .before .before .before .pre in
+    let es = messages (args .words .now) in
+    let i = turn .b / 5 in
+    let many = messages-length (args .used) (args .words .now) (pre .0) in
+    let h : i < length es = omega arith in
+    let on : (turn .b + 5) / 5 ≡ suc i = omega arith in
+    let e = entryAt (args .words .now) (turn .b) in
+    let fits = c .before .before .entry-fits .ensures (not-false _ (c .before .if2 .left)) in
+    let k = c .before .before .before .before .owner .result in (
       search needs,
-      simp length-set (turn .inv .1),
-      λ l w a.
-          let es = messages (args .words .now) in
-          let i = turn .i in
-          let many = messages-length (args .used) (args .words .now) (c .before .before .before .before .before .before .before .before .before .pre) in
-          let h : i < length es = omega arith in
-          let fits = c .before .entry-fits .ensures (not-false _ (c .if1 .left)) in
-          rw (add-one, take-suc es i noMessage h, ← c .before .before .before .before .before .get .ensures)
-          (going-next l (args .ids .now) (args .nexts .now) w a (args .selected) (args .told .0) (turn .last) (take i es) (c .before .before .before .before .before .get .result) (c .before .before .before .before .guess .result) fits (omega arith) (turn .inv .2 l w a)),
+      search needs,
+      search needs,
+      simp length-set (turn .inv .3),
+      λ l q w a.
+          rw (on, take-suc es i noMessage h, entry-at (args .words .now) (turn .b) (turn .inv .2) (omega arith))
+          (going-next l (args .ids .now) (args .nexts .now) w a (args .selected) (args .told .0) (turn .last) (take i es) e k (omega arith) fits (omega arith) (turn .inv .4 l q w a)),
     )
 
--- src/lib.rt:113:1
-returns-2 : tie.Need-returns-2 Inv-loop μ-loop
-returns-2 c = λ l w a z. let e : c .before .loop .i ≡ c .before .before .before .args .used = omega arith in rw e at (c .before .loop .inv .2 l w a .good)
+below-requires : tie.Need-below-requires Inv-loop μ-loop
+below-requires c κs = search needs
+
+returns-3 : tie.Need-returns-3 Inv-loop μ-loop
+returns-3 c =
+    let args = c .before .before .before .before .before .before .args in
+    let turn = c .before .before .before .loop in
+    λ l h w a z.
+    let below : Below (turn .last) (args .nexts .now) (length l) = rw h (c .below .ensures z) in
+    let e : turn .b / 5 ≡ args .used = omega arith in
+    gone l (args .ids .now) (args .nexts .now) w a (args .selected) (args .told .0) (turn .last) below (take (args .used) (messages (args .words .now))) (rw e at (turn .inv .4 l h w a))
 
 pub all-fit-spec : {M : Type 1} → statement M
 all-fit-spec =
@@ -111,20 +123,25 @@ all-fit-spec =
     (tie.spec
     Inv-loop
     μ-loop
+    returns
+    mul-end
     loop-holds
-    get-requires
-    guess-requires
+    mul-owner
+    shared-slice-read-owner
+    owner-requires
     mul-entry-fits
     array-read-entry-fits
     mul-entry-fits-2
     element-copy-out-entry-fits
-    mul-entry-fits-3
-    element-copy-out-entry-fits-2
     entry-fits-requires
-    returns
+    returns-2
+    add-last
     mul-last
+    shared-slice-read-last
+    mul-last-2
     array-write-last
-    add-i
+    add-b
     loop-less
     loop-again
-    returns-2)
+    below-requires
+    returns-3)

@@ -7,12 +7,12 @@ use native.Mathlib.Omega.{arith}
 use lib.ListN.{length}
 
 -- src/lib.rt:257:39
-slice-aggregate-all-zero : tie.Need-slice-aggregate-all-zero
-slice-aggregate-all-zero c = search needs
+slice-aggregate-filled : tie.Need-slice-aggregate-filled
+slice-aggregate-filled c = search needs
 
 -- src/lib.rt:257:22
-all-zero-requires : tie.Need-all-zero-requires
-all-zero-requires c κs = let lx : length (c .before .before .before .args .x .octets) ≡ 64 = search needs in omega arith
+filled-requires : tie.Need-filled-requires
+filled-requires c κs = let lx : length (c .before .before .before .args .x .octets) ≡ 64 = search needs in lx
 
 -- src/lib.rt:257:5
 both-requires : tie.Need-both-requires
@@ -20,8 +20,8 @@ both-requires c κs = search needs
 
 -- src/lib.rt:253:1
 returns : tie.Need-returns
-returns c = rw (c .both .ensures, c .before .all-zero .ensures)
+returns c = rw (c .both .ensures, c .before .filled .ensures)
 
 pub blank-name-spec : {M : Type 1} → statement M
 blank-name-spec =
-    tie.close (tie.spec slice-aggregate-all-zero all-zero-requires both-requires returns)
+    tie.close (tie.spec slice-aggregate-filled filled-requires both-requires returns)

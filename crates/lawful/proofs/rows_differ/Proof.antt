@@ -1,0 +1,58 @@
+-- Ids that differ, and digests that do, are a yes that is right; else every two rows are compared.
+use mathlib.Core.Path.{_≡_, sym}
+use native.Mathlib.Omega.{arith}
+use lib.ListN.{length}
+use borrow.Author.Tests.{not-false}
+use Rattle.quick.specs.Distinct.{Differ}
+use Rattle.quick.specs.Digest.{digest}
+use Rattle.lawful.specs.Clashing.{digests-apart}
+use borrow.Author.Needs.{needs}
+use Rattle.lawful.proofs.rows_differ.Statement.{statement}
+use Rattle.lawful.proofs.rows_differ.Tie as tie
+
+differ-requires : tie.Need-differ-requires
+differ-requires c κs = search needs
+
+rows-apart-requires : tie.Need-rows-apart-requires
+rows-apart-requires c κs = search needs
+
+returns : tie.Need-returns
+returns c = (λ l h v ok. c .rows-apart .ensures l h v, c .before .before .differ .ensures .1)
+
+digests-of-requires : tie.Need-digests-of-requires
+digests-of-requires c κs = search needs
+
+differ-requires-2 : tie.Need-differ-requires-2
+differ-requires-2 c κs = search needs
+
+returns-2 : tie.Need-returns-2
+returns-2 c =
+    let start = c .before .before .before .before .before .before .before .before .before in
+    let names = start .args .names .now in
+    let digests = c .before .before .before .before .digests-of in
+    let long : length names ≡ 4096 = search needs in (
+      λ l h v ok.
+          let a : Differ (start .args .ids .now) (length l) = rw h (c .before .before .before .before .before .before .before .differ .ensures .0 (not-false _ (c .before .before .before .before .before .before .if1 .left))) in
+          let b : Differ (digests .result) (length l) = rw h (c .before .differ2 .ensures .0 (c .if2 .taken)) in
+          sym (digests-apart l (start .args .ids .now) (start .args .lens .now) names (digests .result) v long (omega arith) ok digest (λ k g. digests .ensures k (omega arith)) a b),
+      c .before .before .before .before .before .before .before .differ .ensures .1,
+    )
+
+rows-apart-requires-2 : tie.Need-rows-apart-requires-2
+rows-apart-requires-2 c κs = search needs
+
+returns-3 : tie.Need-returns-3
+returns-3 c = (λ l h v ok. c .rows-apart2 .ensures l h v, c .before .before .before .before .before .before .before .before .differ .ensures .1)
+
+pub rows-differ-spec : {M : Type 1} → statement M
+rows-differ-spec =
+    tie.close
+    (tie.spec
+    differ-requires
+    rows-apart-requires
+    returns
+    digests-of-requires
+    differ-requires-2
+    returns-2
+    rows-apart-requires-2
+    returns-3)

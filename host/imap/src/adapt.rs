@@ -36,8 +36,7 @@ impl Adapted {
         let mut view = push.view();
         let before = push.queue().len();
         let answer = push.call(record);
-        // a drained queue is shorter, and `drained` follows
-        let new = push.queue().get(before..).unwrap_or_default();
+        let new = &push.queue()[before..];
         let mut announced = false;
         for line in new.split_inclusive(|&octet| octet == b'\n') {
             let text = String::from_utf8_lossy(line);

@@ -19,6 +19,9 @@ impl Store {
     fn each(&self, mut act: impl FnMut(&Session, &mut State)) {
         for session in &self.sessions {
             let mut state = session.lock();
+            if state.closing {
+                continue;
+            }
             act(session, &mut state);
             let wake = state.is_waiting() || state.closing;
             drop(state);

@@ -40,7 +40,7 @@ pub fn serve(socket: TcpStream, store: &Arc<Mutex<Store>>, number: u64) -> io::R
     }
     let others = |other: &Arc<Session>| other.number != number;
     store.lock().unwrap().sessions.retain(others);
-    session.lock().closing = true;
+    session.lock().close();
     session.wake();
     let _ = writer?.join();
     Ok(())

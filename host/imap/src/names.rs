@@ -32,10 +32,11 @@ pub fn is_beneath(name: &str, upper: &str) -> bool {
 }
 
 /// The name's parents from the top, and the name itself. The root of the shared ones is no mailbox.
-pub fn with_parents(name: &str) -> Vec<&str> {
+pub fn with_parents(name: &str) -> Vec<String> {
     (name.match_indices('/').map(|(at, _)| &name[..at]))
         .chain([name])
         .filter(|upper| *upper != SHARED)
+        .map(fold)
         .collect()
 }
 
@@ -98,5 +99,6 @@ mod tests {
     fn parents() {
         assert_eq!(with_parents("a/b/c"), ["a", "a/b", "a/b/c"]);
         assert_eq!(with_parents("Shared/x"), ["Shared/x"]);
+        assert_eq!(with_parents("inbox/x"), ["INBOX", "inbox/x"]);
     }
 }

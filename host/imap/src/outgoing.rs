@@ -19,6 +19,8 @@ pub struct Outgoing {
     /// Octets that were ever put in line, and how many of them are done with.
     promised: u64,
     done: u64,
+    /// The last piece is in line: what comes later stays in the queue.
+    sealed: bool,
 }
 
 /// What the writer has in hand: octets of its own, and stretches of the queue's front by length.
@@ -39,7 +41,7 @@ impl Outgoing {
     /// Gives what the queue holds its place, in front of all that comes later. Answers what must be done with until then.
     pub fn place(&mut self, queue: usize) -> u64 {
         let more = queue - self.placed;
-        if more > 0 {
+        if more > 0 && !self.sealed {
             self.put(Piece::Notices(more), more);
             self.placed = queue;
         }
@@ -61,12 +63,19 @@ impl Outgoing {
     }
 
     fn put(&mut self, piece: Piece, len: usize) {
-        self.pieces.push_back(piece);
-        self.promised += len as u64;
+        if !self.sealed {
+            self.pieces.push_back(piece);
+            self.promised += len as u64;
+        }
+    }
+
+    /// Nothing comes after what is in line.
+    pub fn seal(&mut self) {
+        self.sealed = true;
     }
 
     pub fn is_waiting(&self, queue: usize) -> bool {
-        !self.pieces.is_empty() || queue > self.placed
+        !self.pieces.is_empty() || (queue > self.placed && !self.sealed)
     }
 
     pub fn is_done(&self, until: u64) -> bool {

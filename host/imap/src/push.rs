@@ -8,50 +8,63 @@ pub use borjavid::records::{self, Class, Notice};
 pub use borjavid::{Answer, Refusal};
 
 /// The memory that one connection lends.
-pub struct Push(Memory);
+pub struct Push {
+    memory: Memory,
+    drained: u64,
+}
 
 impl Push {
     pub fn new(queue: usize) -> Push {
-        Push(Memory::new(queue))
+        Push {
+            memory: Memory::new(queue),
+            drained: 0,
+        }
     }
 
     pub fn call(&mut self, record: &[u8]) -> Answer {
-        self.0.step(record)
+        self.memory.step(record)
     }
 
     /// What the client was not sent yet, in whole lines.
     pub fn queue(&self) -> &[u8] {
-        self.0.queue()
+        self.memory.queue()
     }
 
     /// So many octets of the queue went out to the client.
     pub fn drained(&mut self, count: usize) -> Answer {
-        self.0.drain(count)
+        self.drained += count as u64;
+        self.memory.drain(count)
+    }
+
+    /// How much ever came to the queue. Its length alone doesn't show that a record wrote something, since the writer may
+    /// have drained it meanwhile.
+    pub fn told(&self) -> u64 {
+        self.drained + self.queue().len() as u64
     }
 
     /// UIDs of the client's view: message n is at n - 1.
     pub fn view(&self) -> Vec<u32> {
-        self.0.view()
+        self.memory.view()
     }
 
     /// The selected mailbox, 0 for none.
     pub fn selected(&self) -> u16 {
-        self.0.session().selected
+        self.memory.session().selected
     }
 
     /// Whether a NOTIFY SET stands.
     pub fn watches(&self) -> bool {
-        self.0.session().groupcount > 0
+        self.memory.session().groupcount > 0
     }
 
     /// Whether a NOTIFY was ever accepted: flag changes that it doesn't ask for are then dropped, and wait before.
     pub fn notified(&self) -> bool {
-        self.0.session().notified != 0
+        self.memory.session().notified != 0
     }
 
     /// Whether there is room for another mailbox with so many messages.
     pub fn has_room(&self, messages: usize) -> bool {
-        let (rows, entries) = self.0.room();
+        let (rows, entries) = self.memory.room();
         rows > 0 && messages <= entries
     }
 }

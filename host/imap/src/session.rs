@@ -32,7 +32,7 @@ pub struct State {
     /// In IDLE: lines that found no room in the queue.
     owed: u64,
     outgoing: Outgoing,
-    /// BYE was said: what is on its way goes out, and nothing after it.
+    /// What is on its way goes out, and nothing after it.
     pub closing: bool,
     /// The socket is gone.
     pub dead: bool,
@@ -162,10 +162,13 @@ impl State {
     }
 
     pub fn bye(&mut self, why: &str) {
-        if !self.closing {
-            self.own(format!("* BYE {why}\r\n").into_bytes());
-            self.closing = true;
-        }
+        self.own(format!("* BYE {why}\r\n").into_bytes());
+        self.close();
+    }
+
+    pub fn close(&mut self) {
+        self.outgoing.seal();
+        self.closing = true;
     }
 
     /// The tables are full. The library can't tell the client all that it asked for any more, so NOTIFY ends, and the client
@@ -219,7 +222,9 @@ impl State {
     /// It was written: only now the queue is drained of it.
     pub fn finish(&mut self, batch: &Batch) {
         if batch.drains > 0 {
-            self.push.drained(batch.drains);
+            if let Answer::Refused(why) = self.push.drained(batch.drains) {
+                self.apart(why, b"DR");
+            }
             if let Some(adapted) = &mut self.adapted {
                 adapted.drained(batch.drains);
             }

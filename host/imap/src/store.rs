@@ -77,6 +77,11 @@ impl Mailbox {
         self.place(uid).map(|place| &self.messages[place])
     }
 
+    /// Whether there is such a message for the user.
+    pub fn has(&self, uid: u32, user: &str) -> bool {
+        self.may(user, 'r') && self.place(uid).is_some()
+    }
+
     pub fn place(&self, uid: u32) -> Option<usize> {
         self.messages.binary_search_by_key(&uid, |m| m.uid).ok()
     }

@@ -12,7 +12,7 @@ impl Run<'_> {
         let name = reader.mailbox()?;
         reader.end()?;
         // a client may show so that it wants children
-        Ok(name.strip_suffix('/').unwrap_or(&name).to_string())
+        Ok(names::fold(name.strip_suffix('/').unwrap_or(&name)))
     }
 
     pub(super) fn create(&mut self, reader: &mut Reader) -> Read<End> {
@@ -40,8 +40,8 @@ impl Run<'_> {
     fn create_with_parents(&mut self, name: &str) -> Read<()> {
         let (user, by) = (self.user.clone(), self.session.number);
         for upper in names::with_parents(name) {
-            if self.store().named(&user, upper).is_none() {
-                let made = self.store_mut().create(&user, upper, by);
+            if self.store().named(&user, &upper).is_none() {
+                let made = self.store_mut().create(&user, &upper, by);
                 made.ok_or(Stop::No("[LIMIT] too many mailboxes".into()))?;
             }
         }

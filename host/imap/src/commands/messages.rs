@@ -31,7 +31,8 @@ impl Run<'_> {
             .collect()
     }
 
-    /// Does something with each message that is still there, a few at a time. It is given the message's number and UID.
+    /// Does something with each message that is still there to be read, a few at a time. It is given the mailbox, and the
+    /// message's number and UID.
     pub(super) fn with_each(
         &mut self,
         uids: &[u32],
@@ -46,7 +47,7 @@ impl Run<'_> {
             for &uid in few {
                 let there = self
                     .selected()
-                    .is_ok_and(|m| m.id == id && m.message(uid).is_some());
+                    .is_ok_and(|m| m.id == id && m.has(uid, &self.user));
                 if let (true, Ok(place)) = (there, view.binary_search(&uid)) {
                     act(self, id, place + 1, uid)?;
                 }
@@ -166,13 +167,13 @@ impl Run<'_> {
 
     /// Where the library tells the change to this client too, the host's own FETCH is left out.
     fn store_one(&mut self, id: u16, number: usize, uid: u32, flags: u8, silent: bool) {
-        let before = self.state().push.queue().len();
+        let before = self.state().push.told();
         self.store_mut().set_flags(id, uid, flags);
         let mailbox = &self.store().mailboxes[&id];
         let state = self.state();
         let waits =
             !state.push.notified() && mailbox.may(&self.user, 'l') && mailbox.may(&self.user, 'r');
-        let told = waits || state.push.queue().len() > before;
+        let told = waits || state.push.told() > before;
         let modseq = state.adapted.as_ref().is_some_and(|a| a.condstore);
         drop(state);
         if told || (silent && !modseq) {
@@ -208,6 +209,10 @@ impl Run<'_> {
                 self.store_mut().expunge(id, uid);
             }
             self.pause()?;
+            let mailbox = self.store().mailboxes.get(&id);
+            if !mailbox.is_some_and(|m| m.may(&self.user, 'e')) {
+                break;
+            }
         }
         Ok(())
     }

@@ -87,9 +87,12 @@ fn an_account_outgrows_the_messages() {
     let refused = watch.bob.answer("ESEARCH IN (personal) ALL");
     assert_eq!(refused, "NO [LIMIT] account too large");
     assert_eq!(watch.bob.answer("NOTIFY NONE"), "OK NOTIFY done");
-    // the selected mailbox is followed as before
+    // the selected mailbox is followed as before, and the other is not shown in part
     watch.bob.append("INBOX");
     assert_eq!(watch.bob.ok("FETCH 1 (UID)"), ["* 1 FETCH (UID 1)"]);
+    let refused = watch.bob.answer("SELECT Shared/Open");
+    assert_eq!(refused, "NO [LIMIT] mailbox too large");
+    watch.bob.ok("SELECT INBOX");
     // the next connection isn't offered what it can't have, and is served otherwise
     let mut next = watch.server.connect();
     assert!(!next.answer("LOGIN bob pw").contains("NOTIFY"));
@@ -113,7 +116,7 @@ fn the_selected_mailbox_outgrows_the_messages() {
     watch.bob.ok("SELECT Shared/Open");
     watch.alice.append("Shared/Open");
     assert_eq!(
-        watch.bob.to_the_end(),
+        watch.bob.all_the_rest(),
         "* BYE [LIMIT] mailbox too large\r\n"
     );
     watch.end();

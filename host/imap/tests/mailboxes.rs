@@ -93,6 +93,38 @@ fn a_grant_is_one_line_and_a_revoke_another() {
 }
 
 #[test]
+fn a_revoke_gives_the_room_back() {
+    let mut watch = Watch::new(0, &[]);
+    watch.notify(NAMES);
+    for name in ["Shared/One", "Shared/Two", "Shared/Three"] {
+        watch.alice.ok(&format!("CREATE {name}"));
+        watch.alice.append_many((0..600).map(|_| name.into()));
+        watch.alice.ok(&format!("SETACL {name} bob lr"));
+        assert_eq!(watch.heard(), [format!("* LIST () \"/\" \"{name}\"")]);
+        watch.alice.ok(&format!("SETACL {name} bob \"\""));
+        assert_eq!(
+            watch.heard(),
+            [format!("* LIST (\\NonExistent) \"/\" \"{name}\"")]
+        );
+    }
+    watch.end();
+}
+
+#[test]
+fn uidnext_is_the_store_s() {
+    let mut watch = Watch::new(3, &[]);
+    watch.alice.ok("SELECT Shared/Open");
+    watch.alice.ok("STORE 1:3 FLAGS (\\Deleted)");
+    watch.alice.ok("EXPUNGE");
+    let mut next = watch.server.log_in("bob");
+    let group = "(mailboxes Shared/Open (MessageNew MessageExpunge))";
+    let status = next.ok(&format!("NOTIFY SET STATUS {group}"));
+    let known = "* STATUS \"Shared/Open\" (MESSAGES 0 UIDNEXT 4 ";
+    assert!(status[0].starts_with(known), "{status:?}");
+    watch.end();
+}
+
+#[test]
 fn revoked_while_selected() {
     let mut watch = Watch::new(1, &[]);
     watch.notify(&format!(

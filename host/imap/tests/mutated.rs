@@ -113,7 +113,7 @@ fn run(seed: u64, options: &[&str]) {
         }
         client.try_send(&octets);
         client.hang_up();
-        client.to_the_end();
+        client.all_the_rest();
         assert_eq!(watcher.ok("NOOP"), [""; 0]);
     }
     let mut carol = server.log_in("carol");

@@ -185,7 +185,7 @@ fn an_open_literal_keeps_nothing_back() {
         watch.heard(),
         ["* STATUS \"Shared/Open\" (UIDNEXT 2 MESSAGES 1)"]
     );
-    watch.bob.send(MESSAGE[..9].as_bytes());
+    watch.bob.send(&MESSAGE.as_bytes()[..9]);
     watch.alice.append("Shared/Open");
     assert_eq!(
         watch.heard(),

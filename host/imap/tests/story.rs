@@ -65,7 +65,7 @@ fn octets(messages: Option<usize>) -> Vec<u8> {
     bob.ok("ESEARCH IN (subtree Shared personal) RETURN (COUNT) ALL");
     bob.ok("LIST \"\" *");
     bob.start("LOGOUT");
-    bob.to_the_end();
+    bob.all_the_rest();
     server.end();
     bob.octets
 }

@@ -68,13 +68,18 @@ impl Hidden {
         alice.run(command);
     }
 
+    /// A name that bob may know, of a folder that he may not.
+    fn name(&mut self) -> String {
+        let upper = self.chance.of(&["Shared", "Shared", "Shared/Open"]);
+        format!("{upper}/Hid{}", self.chance.below(20))
+    }
+
     /// Something that bob must not hear of.
     fn act(&mut self, alice: &mut Client, carol: &mut Client) {
         let kind = self.chance.below(20);
         if kind < 5 || self.names.is_empty() {
-            let name = format!("Shared/Hid{}", self.chance.below(30));
+            let name = self.name();
             self.run(alice, &format!("CREATE {name}"));
-            self.names.retain(|other| *other != name);
             return self.names.push(name);
         }
         let place = self.chance.below(self.names.len());
@@ -86,11 +91,9 @@ impl Hidden {
                 }
             }
             11 | 12 => {
-                let new = format!("Shared/Hid{}", self.chance.below(30));
+                let new = self.name();
                 self.run(alice, &format!("RENAME {name} {new}"));
-                self.names = (0..30)
-                    .map(|number| format!("Shared/Hid{number}"))
-                    .collect();
+                self.names[place] = new;
             }
             13 | 14 => {
                 self.run(alice, &format!("DELETE {name}"));
@@ -186,7 +189,7 @@ fn run(seed: u64, hidden_seed: u64, most: usize) -> (String, usize) {
         }
     }
     bob.start("LOGOUT");
-    bob.to_the_end();
+    bob.all_the_rest();
     server.end();
     let octets = String::from_utf8_lossy(&bob.octets).into_owned();
     (octets, hidden.commands)

@@ -113,7 +113,7 @@ impl Client {
     }
 
     /// All that comes until the server ends the connection.
-    pub fn to_the_end(&mut self) -> String {
+    pub fn all_the_rest(&mut self) -> String {
         let before = self.octets.len();
         // a connection may end with a reset where the server had not read all
         let _ = self.reader.read_to_end(&mut self.octets);

@@ -3,29 +3,44 @@
 mod support;
 
 use support::watch::Watch;
-use support::Server;
+use support::{Client, Server};
 
 const ALL: &str = "(selected (MessageNew MessageExpunge FlagChange))";
+const LARGE: usize = 24 << 20;
 const STOPPED: &str = "* OK [NOTIFICATIONOVERFLOW] stopped";
 const TOO_LARGE: &str = "* OK [NOTIFICATIONOVERFLOW] account too large";
+
+/// A message in the client's INBOX that no socket's buffers hold.
+fn append_large(client: &mut Client) {
+    client.send(format!("big APPEND INBOX {{{LARGE}+}}\r\n").as_bytes());
+    client.send(&vec![b'x'; LARGE]);
+    client.send(b"\r\n");
+    client.until("big OK");
+}
+
+/// From here on the client doesn't read: the server is inside an answer that its socket doesn't take.
+fn stop_reading(client: &mut Client) -> String {
+    client.ok("SELECT INBOX");
+    let tag = client.start("FETCH 1 (BODY.PEEK[])");
+    client.until("* 1 FETCH (BODY[]");
+    tag
+}
+
+/// And now it does: that answer is read to its tag.
+fn read_again(client: &mut Client, tag: &str) {
+    let answer = client.until(tag);
+    assert_eq!(answer.len(), 2, "the message and the tag");
+}
 
 #[test]
 fn a_client_that_doesn_t_read_is_told_so_and_nobody_waits() {
     let mut watch = Watch::new(100, &[]);
-    // a message that no socket's buffers hold
-    let large = 24 << 20;
-    watch
-        .bob
-        .send(format!("big APPEND INBOX {{{large}+}}\r\n").as_bytes());
-    watch.bob.send(&vec![b'x'; large]);
-    watch.bob.send(b"\r\n");
-    watch.bob.until("big OK");
+    append_large(&mut watch.bob);
     let mut deaf = watch.server.log_in("bob");
     deaf.ok(&format!(
         "NOTIFY SET {ALL} (subtree Shared (MessageNew MessageExpunge))"
     ));
-    deaf.ok("SELECT INBOX");
-    let tag = deaf.start("FETCH 1 (BODY.PEEK[])");
+    let tag = stop_reading(&mut deaf);
     watch.notify(ALL);
     watch.bob.ok("SELECT Shared/Open");
     // others are served, and hear all of it, while its queue fills
@@ -45,14 +60,12 @@ fn a_client_that_doesn_t_read_is_told_so_and_nobody_waits() {
         }
     }
     // now it reads: what its queue held, and as the last line that there was more
-    let mut lines = deaf.until(STOPPED);
-    let own = |line: &String| line.starts_with(&tag) || line.starts_with("* 1 FETCH (BODY[]");
-    lines.retain(|line| !own(line) && !line.ends_with("xxx)"));
+    read_again(&mut deaf, &tag);
+    let lines = deaf.until(STOPPED);
     let notices = lines.len() - 1;
     assert!(notices > 500 && notices < rounds, "{notices}");
-    assert!(lines[..notices]
-        .iter()
-        .all(|line| line.starts_with("* STATUS \"Shared/Fence\"")));
+    let is_notice = |line: &String| line.starts_with("* STATUS \"Shared/Fence\"");
+    assert!(lines[..notices].iter().all(is_notice));
     assert_eq!(deaf.ok("NOOP").len(), 0);
     // and may ask again
     deaf.ok("NOTIFY SET (subtree Shared (MessageNew MessageExpunge))");
@@ -143,31 +156,53 @@ fn an_account_outgrows_the_mailboxes() {
     server.end();
 }
 
-/// The account outgrows the tables while the client doesn't read and its queue is full: it is told all the same.
+/// The account outgrows the tables while the queue has no room for anything more: the client is told when it reads.
 #[test]
-fn an_overflow_behind_a_full_queue() {
-    let mut watch = Watch::new(1000, &["--queue", "1024"]);
-    let large = 24 << 20;
-    watch
-        .alice
-        .send(format!("big APPEND INBOX {{{large}+}}\r\n").as_bytes());
-    watch.alice.send(&vec![b'x'; large]);
-    watch.alice.send(b"\r\n");
-    watch.alice.until("big OK");
+fn an_account_outgrows_behind_a_full_queue() {
+    // 18 lines of 53 octets leave 6 of 1,024 - 64
+    let mut watch = Watch::new(1024 - 18 - 1, &["--queue", "1024"]);
+    append_large(&mut watch.alice);
     let mut deaf = watch.server.log_in("alice");
     let groups = "(subtree Shared (MessageNew MessageExpunge))";
     deaf.ok(&format!("NOTIFY SET {groups}"));
-    deaf.ok("SELECT INBOX");
-    deaf.start("FETCH 1 (BODY.PEEK[])");
+    let tag = stop_reading(&mut deaf);
     watch
         .alice
-        .append_many((0..40).map(|_| "Shared/Open".into()));
-    let lines = deaf.until("* OK [NOTIFICATIONOVERFLOW]");
-    assert!(lines.len() > 10 && lines.len() < 40, "{}", lines.len());
-    assert!(!lines.iter().any(|line| line.starts_with("x ")));
+        .append_many((0..18 + 5).map(|_| "Shared/Open".into()));
+    read_again(&mut deaf, &tag);
+    let lines = deaf.lines(19);
+    assert!(
+        lines[17].ends_with("(UIDNEXT 1024 MESSAGES 1023)"),
+        "{lines:?}"
+    );
+    assert_eq!(lines[18], TOO_LARGE);
     assert_eq!(deaf.ok("NOOP"), [""; 0]);
     assert!(deaf
         .answer(&format!("NOTIFY SET {groups}"))
         .starts_with("NO "));
+    watch.end();
+}
+
+/// In IDLE more is owed than the queue has room for while the client doesn't read: it goes as the queue is drained.
+#[test]
+fn idle_behind_a_full_queue() {
+    let mut watch = Watch::new(0, &["--queue", "1024"]);
+    append_large(&mut watch.bob);
+    let mut other = watch.server.log_in("bob");
+    other.append_many((0..100).map(|_| "INBOX".into()));
+    let tag = stop_reading(&mut watch.bob);
+    let idle = watch.bob.start("IDLE");
+    // the server has read that by then; if not, all is owed at IDLE's beginning, which is as right
+    (0..200).for_each(|_| drop(other.ok("NOOP")));
+    other.ok("SELECT INBOX");
+    other.ok("STORE 1:101 FLAGS (\\Flagged)");
+    read_again(&mut watch.bob, &tag);
+    let lines = watch.bob.lines(1 + 101);
+    let flags = lines
+        .iter()
+        .filter(|line| line.ends_with("FLAGS (\\Flagged))"));
+    assert_eq!(flags.count(), 101);
+    watch.bob.send(b"DONE\r\n");
+    assert_eq!(watch.bob.line(), format!("{idle} OK IDLE done"));
     watch.end();
 }

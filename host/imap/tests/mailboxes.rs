@@ -96,16 +96,27 @@ fn a_grant_is_one_line_and_a_revoke_another() {
 fn a_revoke_gives_the_room_back() {
     let mut watch = Watch::new(0, &[]);
     watch.notify(NAMES);
-    for name in ["Shared/One", "Shared/Two", "Shared/Three"] {
+    for (name, select) in [
+        ("Shared/A", false),
+        ("Shared/B", true),
+        ("Shared/C", false),
+        ("Shared/D", true),
+    ] {
         watch.alice.ok(&format!("CREATE {name}"));
         watch.alice.append_many((0..600).map(|_| name.into()));
         watch.alice.ok(&format!("SETACL {name} bob lr"));
         assert_eq!(watch.heard(), [format!("* LIST () \"/\" \"{name}\"")]);
+        if select {
+            watch.bob.ok(&format!("SELECT {name}"));
+        }
         watch.alice.ok(&format!("SETACL {name} bob \"\""));
         assert_eq!(
             watch.heard(),
             [format!("* LIST (\\NonExistent) \"/\" \"{name}\"")]
         );
+        if select {
+            watch.bob.ok("UNSELECT");
+        }
     }
     watch.end();
 }

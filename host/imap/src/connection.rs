@@ -67,7 +67,8 @@ impl Connection<'_> {
         if word == "AUTHENTICATE" {
             self.await_response(&mut command)?;
         }
-        if word == "IDLE" && command.len() == at + word.len() {
+        let known = !self.session.lock().user.is_empty();
+        if word == "IDLE" && command.len() == at + word.len() && known {
             return self.idle(&tag);
         }
         // what a client doesn't read makes its next command wait

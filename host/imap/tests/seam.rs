@@ -281,7 +281,7 @@ fn nobody_is_served_before_login() {
         "NOTIFY NONE",
         "ESEARCH IN (personal) ALL",
         "SELECT INBOX",
-        "IDLE x",
+        "IDLE",
     ] {
         assert_eq!(stranger.answer(command), "BAD refused");
     }

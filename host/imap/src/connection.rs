@@ -55,6 +55,9 @@ struct Connection<'a> {
 impl Connection<'_> {
     /// One command, from its line to its tag. None when it was the last.
     fn turn(&mut self) -> Option<()> {
+        if !self.session.caught_up() {
+            return None;
+        }
         let mut command = self.input.command()?;
         let space = command.iter().position(|&octet| octet == b' ');
         let tag = &command[..space.unwrap_or(command.len())];
@@ -70,10 +73,6 @@ impl Connection<'_> {
         let known = !self.session.lock().user.is_empty();
         if word == "IDLE" && command.len() == at + word.len() && known {
             return self.idle(&tag);
-        }
-        // what a client doesn't read makes its next command wait
-        if !self.session.all_written() {
-            return None;
         }
         let mut run = Run::new(self.store, self.session, &tag);
         let at = (at + word.len()).min(command.len());

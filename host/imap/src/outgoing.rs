@@ -16,8 +16,9 @@ pub struct Outgoing {
     pieces: VecDeque<Piece>,
     /// Octets of the queue that have a piece, or are in the writer's hand.
     placed: usize,
-    /// Octets that were ever put in line, and how many of them are done with.
+    /// Octets that were ever put in line, how many of them the writer has taken, and how many are done with.
     promised: u64,
+    taken: u64,
     done: u64,
     /// The last piece is in line: what comes later stays in the queue.
     sealed: bool,
@@ -78,6 +79,11 @@ impl Outgoing {
         !self.pieces.is_empty() || (queue > self.placed && !self.sealed)
     }
 
+    /// Octets that wait for the writer.
+    pub fn behind(&self) -> u64 {
+        self.promised - self.taken
+    }
+
     pub fn is_done(&self, until: u64) -> bool {
         self.done >= until
     }
@@ -85,6 +91,7 @@ impl Outgoing {
     /// All that is to be written now.
     pub fn take(&mut self, queue: usize) -> Batch {
         let promised = self.place(queue);
+        self.taken = promised;
         let mut batch = Batch {
             parts: Vec::new(),
             drains: 0,

@@ -10,6 +10,9 @@ use crate::transcript::Transcript;
 use std::collections::HashSet;
 use std::sync::{Condvar, Mutex, MutexGuard};
 
+/// How many octets of answers may wait for the writer when the next command is read.
+const BEHIND: u64 = 1 << 16;
+
 pub struct Session {
     pub number: u64,
     state: Mutex<State>,
@@ -88,6 +91,15 @@ impl Session {
         let until = state.place();
         self.wake();
         while !state.dead && !state.outgoing.is_done(until) {
+            state = self.wait(state);
+        }
+        !state.dead
+    }
+
+    /// Waits while much of earlier answers waits for the writer: what a client doesn't read makes its own commands wait.
+    pub fn caught_up(&self) -> bool {
+        let mut state = self.lock();
+        while !state.dead && state.outgoing.behind() > BEHIND {
             state = self.wait(state);
         }
         !state.dead

@@ -206,3 +206,38 @@ fn idle_behind_a_full_queue() {
     assert_eq!(watch.bob.line(), format!("{idle} OK IDLE done"));
     watch.end();
 }
+
+/// Nothing comes behind BYE, whatever happens until the client has read it.
+#[test]
+fn bye_is_the_last() {
+    let mut watch = Watch::new(0, &[]);
+    append_large(&mut watch.bob);
+    let mut other = watch.server.log_in("bob");
+    other.append_many((0..1023).map(|_| "INBOX".into()));
+    let tag = stop_reading(&mut watch.bob);
+    watch.bob.start("IDLE");
+    (0..200).for_each(|_| drop(other.ok("NOOP")));
+    other.append("INBOX");
+    other.ok("RENAME INBOX old");
+    other.ok("DELETE old");
+    read_again(&mut watch.bob, &tag);
+    let rest = watch.bob.all_the_rest();
+    let rest = rest.strip_prefix("+ idling\r\n").unwrap_or(&rest);
+    assert_eq!(rest, "* BYE [LIMIT] mailbox too large\r\n");
+    watch.end();
+}
+
+/// A client that asks and doesn't read makes its own commands wait, and the server no larger.
+#[test]
+fn answers_that_nobody_reads_don_t_pile_up() {
+    let mut watch = Watch::new(0, &[]);
+    append_large(&mut watch.bob);
+    stop_reading(&mut watch.bob);
+    for _ in 0..40 {
+        watch.bob.start("FETCH 1 (BODY.PEEK[])");
+    }
+    (0..500).for_each(|_| drop(watch.alice.ok("NOOP")));
+    let resident = watch.server.resident();
+    assert!(resident < 10 * LARGE, "{resident} octets");
+    watch.end();
+}

@@ -30,7 +30,7 @@ fn main() {
         let server = Server::start();
         let mut bench = Bench::new(&server, watchers);
         bench.time();
-        bench.rush();
+        bench.rush(&server);
         println!(
             "{watchers} watchers: {}",
             server.memory(watchers, bench.before)
@@ -72,6 +72,16 @@ impl Server {
         let line = status.lines().find(|line| line.starts_with("VmRSS:"));
         let number = line.and_then(|line| line.split_whitespace().nth(1)?.parse::<u64>().ok());
         number.unwrap_or(0) * 1024
+    }
+
+    /// Time that the server has had of the processors, the kernel's share with it. The kernel counts in hundredths of a second.
+    fn worked(&self) -> Duration {
+        let path = format!("/proc/{}/stat", self.process.id());
+        let stat = std::fs::read_to_string(path).unwrap_or_default();
+        let behind_the_name = stat.rsplit(')').next().unwrap_or_default();
+        let fields = behind_the_name.split_whitespace().skip(11).take(2);
+        let ticks: u64 = fields.flat_map(|field| field.parse::<u64>()).sum();
+        Duration::from_millis(10 * ticks)
     }
 
     fn memory(&self, watchers: usize, before: u64) -> String {
@@ -181,11 +191,11 @@ impl Bench {
     }
 
     /// As many as go, with some on the way at a time.
-    fn rush(&mut self) {
-        let mut spent = Duration::ZERO;
+    fn rush(&mut self, server: &Server) {
+        let (mut spent, mut worked) = (Duration::ZERO, Duration::ZERO);
         for _ in 0..ROUNDS {
             self.empty();
-            let start = Instant::now();
+            let (start, before) = (Instant::now(), server.worked());
             for some in 0..APPENDS / AHEAD {
                 let text = format!("p {}\r\n", self.append).repeat(AHEAD);
                 self.actor.send(&text);
@@ -202,10 +212,15 @@ impl Bench {
                 assert!(!line.contains("OVERFLOW"), "{line}");
             }
             spent += start.elapsed();
+            worked += server.worked() - before;
         }
         let notices = ROUNDS * APPENDS * self.watchers;
         let rate = notices as f64 / spent.as_secs_f64();
-        println!("{} watchers: {rate:.0} notices a second", self.watchers);
+        let each = worked.as_micros() as f64 / notices as f64;
+        println!(
+            "{} watchers: {rate:.0} notices a second, {each:.1} us of a processor for each",
+            self.watchers
+        );
     }
 
     /// The tables hold 1,024 messages: what was appended goes, and its notices are let pass.

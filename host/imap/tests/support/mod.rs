@@ -60,6 +60,17 @@ impl Server {
         client
     }
 
+    /// Octets of it that are resident.
+    pub fn resident(&self) -> usize {
+        let path = format!("/proc/{}/status", self.process.id());
+        let status = std::fs::read_to_string(path).expect("its status");
+        let line = status.lines().find(|line| line.starts_with("VmRSS:"));
+        let number = line.and_then(|line| line.split_whitespace().nth(1));
+        1024 * number
+            .and_then(|n| n.parse::<usize>().ok())
+            .expect("its memory")
+    }
+
     /// Ends it: no panic and no record refused on the way, for both are written to its standard error.
     pub fn end(mut self) {
         self.process.kill().expect("its end");

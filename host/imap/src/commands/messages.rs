@@ -6,9 +6,20 @@ use crate::adapt;
 use crate::fetch::{self, Item};
 use crate::flags::{self, DELETED, SEEN};
 use crate::parse::{is_within, joined, Read, Reader, Set, Stop};
+use crate::store::Mailbox;
 
 /// Octets of the queue for each message that a command goes through before it waits: no line is longer than this.
 const LINE: usize = 256;
+/// Octets of its own that a command puts together before it waits.
+const MOST: usize = 1 << 20;
+
+/// What a FETCH asks for.
+struct Asked {
+    items: Vec<Item>,
+    /// Only messages that changed since then.
+    since: u64,
+    sets_seen: bool,
+}
 
 impl Run<'_> {
     /// How many messages' lines have room in the queue.
@@ -39,18 +50,17 @@ impl Run<'_> {
         mut act: impl FnMut(&mut Self, u16, usize, u32) -> Read<()>,
     ) -> Read<()> {
         let id = self.selected()?.id;
-        for (turn, few) in uids.chunks(self.few()).enumerate() {
-            if turn > 0 {
+        let (mut view, mut left) = (self.state().push.view(), self.few());
+        for &uid in uids {
+            if left == 0 || self.out.len() > MOST {
                 self.pause()?;
+                (view, left) = (self.state().push.view(), self.few());
             }
-            let view = self.state().push.view();
-            for &uid in few {
-                let there = self
-                    .selected()
-                    .is_ok_and(|m| m.id == id && m.has(uid, &self.user));
-                if let (true, Ok(place)) = (there, view.binary_search(&uid)) {
-                    act(self, id, place + 1, uid)?;
-                }
+            left -= 1;
+            let there = |mailbox: &Mailbox| mailbox.id == id && mailbox.has(uid, &self.user);
+            let there = self.selected().is_ok_and(there);
+            if let (true, Ok(place)) = (there, view.binary_search(&uid)) {
+                act(self, id, place + 1, uid)?;
             }
         }
         Ok(())
@@ -99,35 +109,29 @@ impl Run<'_> {
             self.out.extend(text.bytes());
         }
         let sets_seen = items.iter().any(Item::sets_seen) && self.needs_to_change(&['s']).is_ok();
+        let asked = Asked {
+            items,
+            since,
+            sets_seen,
+        };
         self.with_each(&self.chosen(&set, uid), |run, id, number, uid| {
-            run.fetch_one(id, number, uid, &items, since, sets_seen);
+            run.fetch_one(id, number, uid, &asked);
             Ok(())
         })?;
         done()
     }
 
-    fn fetch_one(
-        &mut self,
-        id: u16,
-        number: usize,
-        uid: u32,
-        items: &[Item],
-        since: u64,
-        sets_seen: bool,
-    ) {
-        let message = |run: &Self| {
-            run.store().mailboxes[&id]
-                .message(uid)
-                .map(|m| (m.flags, m.modseq))
-        };
-        let Some((flags, _)) = message(self).filter(|&(_, modseq)| modseq > since) else {
+    fn fetch_one(&mut self, id: u16, number: usize, uid: u32, asked: &Asked) {
+        let found = self.store().mailboxes[&id].message(uid);
+        let Some(message) = found.filter(|message| message.modseq > asked.since) else {
             return;
         };
-        if sets_seen && flags & SEEN == 0 {
+        let flags = message.flags;
+        if asked.sets_seen && flags & SEEN == 0 {
             self.store_mut().set_flags(id, uid, flags | SEEN);
         }
         if let Some(message) = self.store().mailboxes[&id].message(uid) {
-            let line = fetch::line(number, items, message);
+            let line = fetch::line(number, &asked.items, message);
             self.out.extend(line);
         }
     }

@@ -16,19 +16,20 @@ fn notice(session: &Session, by: u64) -> Notice {
 }
 
 impl Store {
+    /// Every session, and then their writers are woken: woken in between they would take the processor from the rest.
     fn each(&self, mut act: impl FnMut(&Session, &mut State)) {
+        let mut woken = Vec::new();
         for session in &self.sessions {
             let mut state = session.lock();
             if state.closing {
                 continue;
             }
             act(session, &mut state);
-            let wake = state.is_waiting() || state.closing;
-            drop(state);
-            if wake {
-                session.wake();
+            if state.is_waiting() || state.closing {
+                woken.push(session);
             }
         }
+        woken.iter().for_each(|session| session.wake());
     }
 
     fn tell(&self, id: u16, record: &[u8]) {

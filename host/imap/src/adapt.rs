@@ -1,0 +1,257 @@
+//! OUTSIDE THE PROMISES, and off unless `--adapt` is given: lines in another form than the library writes, for clients that
+//! must have it. A client's NOTIFY may ask for any fetch attribute, FETCH and STATUS get MODSEQ, EXPUNGE becomes VANISHED
+//! (RFC 7162). Nothing that was proved speaks of lines that went through here.
+
+use crate::fetch::{self, Item};
+use crate::flags;
+use crate::parse::{is_within, joined, Read, Reader, Set, Stop};
+use crate::push::{Answer, Push};
+use crate::store::{Mailbox, Store};
+use std::collections::VecDeque;
+
+pub const CAPABILITY: &str = " CONDSTORE QRESYNC";
+
+#[derive(Default)]
+pub struct Adapted {
+    /// The client wants MODSEQ.
+    pub condstore: bool,
+    /// And VANISHED.
+    pub qresync: bool,
+    /// What NOTIFY asked for beyond the three attributes that the library writes.
+    more: Vec<Item>,
+    /// Each line of the queue: its octets there, and what is written for it.
+    lines: VecDeque<(usize, Vec<u8>)>,
+}
+
+impl Adapted {
+    pub fn enable(&mut self, word: &str) -> bool {
+        let known = word == "CONDSTORE" || word == "QRESYNC";
+        self.condstore |= known;
+        self.qresync |= word == "QRESYNC";
+        known
+    }
+
+    /// One record; what it puts into the queue is rewritten at once, while the store is as the line says.
+    pub fn call(&mut self, push: &mut Push, store: &Store, user: &str, record: &[u8]) -> Answer {
+        let mut view = push.view();
+        let before = push.queue().len();
+        let answer = push.call(record);
+        let new = &push.queue()[before..];
+        let mut announced = false;
+        for line in new.split_inclusive(|&octet| octet == b'\n') {
+            let text = String::from_utf8_lossy(line);
+            let words: Vec<&str> = text.trim_end().splitn(4, ' ').collect();
+            let number = words.get(1).and_then(|word| word.parse::<usize>().ok());
+            let written = match (words.get(1).copied(), number, words.get(2).copied()) {
+                (_, Some(number), Some("EXPUNGE")) if number <= view.len() => {
+                    let uid = view.remove(number - 1);
+                    self.qresync.then(|| format!("* VANISHED {uid}\r\n").into())
+                }
+                (_, Some(_), Some("EXISTS")) => {
+                    view = push.view();
+                    announced = true;
+                    None
+                }
+                (_, Some(number), Some("FETCH")) if number <= view.len() => {
+                    let mailbox = store.mailboxes.get(&push.selected());
+                    mailbox.and_then(|m| self.fetch_line(line, m, view[number - 1], announced))
+                }
+                (Some("STATUS"), ..) => self.status_line(line, store, user),
+                _ => None,
+            };
+            let written = written.unwrap_or_else(|| line.to_vec());
+            self.lines.push_back((line.len(), written));
+        }
+        answer
+    }
+
+    fn fetch_line(&self, line: &[u8], mailbox: &Mailbox, uid: u32, new: bool) -> Option<Vec<u8>> {
+        let message = mailbox.message(uid)?;
+        let mut written = line.strip_suffix(b")\r\n")?.to_vec();
+        for item in self.more.iter().filter(|_| new) {
+            written.push(b' ');
+            fetch::write(&mut written, item, message);
+        }
+        if self.condstore {
+            written.extend(format!(" MODSEQ ({})", message.modseq).bytes());
+        }
+        written.extend(b")\r\n");
+        Some(written)
+    }
+
+    fn status_line(&self, line: &[u8], store: &Store, user: &str) -> Option<Vec<u8>> {
+        let name = Reader::new(line.strip_prefix(b"* STATUS ")?)
+            .mailbox()
+            .ok()?;
+        let mailbox = store.named(user, &name).filter(|_| self.condstore)?;
+        let mut written = line.strip_suffix(b")\r\n")?.to_vec();
+        written.extend(format!(" HIGHESTMODSEQ {})\r\n", mailbox.modseq).bytes());
+        Some(written)
+    }
+
+    /// What is written for a stretch of the queue, which is whole lines.
+    pub fn written(&self, from: usize, count: usize) -> Vec<u8> {
+        let mut at = 0;
+        let mut written = Vec::new();
+        for (len, line) in &self.lines {
+            if (from..from + count).contains(&at) {
+                written.extend(line);
+            }
+            at += len;
+        }
+        written
+    }
+
+    pub fn drained(&mut self, count: usize) {
+        let mut left = count;
+        while let Some((len, _)) = self.lines.front().filter(|_| left > 0) {
+            left -= len;
+            self.lines.pop_front();
+        }
+    }
+
+    /// A NOTIFY was accepted, or not: what the host adds to the FETCH lines of new messages.
+    pub fn asked(&mut self, push: &Push, tag: &str, more: Vec<Item>) {
+        let accepted = format!("{tag} OK ");
+        let queue = push.queue();
+        let last = queue.split_inclusive(|&octet| octet == b'\n').next_back();
+        if last.is_some_and(|line| line.starts_with(accepted.as_bytes())) {
+            self.more = more;
+        }
+    }
+}
+
+/// A NOTIFY whose MessageNew asks for more than the library writes: the line for the library, and what the host adds.
+pub fn narrowed(line: Vec<u8>) -> (Vec<u8>, Vec<Item>) {
+    narrow(&line).unwrap_or((line, Vec::new()))
+}
+
+fn narrow(line: &[u8]) -> Option<(Vec<u8>, Vec<Item>)> {
+    let key = b"MESSAGENEW (";
+    let capitals = line.to_ascii_uppercase();
+    let at = capitals.windows(key.len()).position(|w| w == key)? + key.len() - 1;
+    let mut reader = Reader { octets: line, at };
+    let mut more = reader.list(fetch::item).ok()?.concat();
+    let three = [Item::Uid, Item::Flags, Item::Size];
+    let names = ["UID", "FLAGS", "RFC822.SIZE"];
+    let kept: Vec<&str> = (0..3)
+        .filter(|&at| at == 0 || more.contains(&three[at]))
+        .map(|at| names[at])
+        .collect();
+    more.retain(|item| !three.contains(item));
+    if more.is_empty() {
+        return None;
+    }
+    let mut narrow = line[..at].to_vec();
+    narrow.extend(format!("({})", kept.join(" ")).bytes());
+    narrow.extend(reader.rest());
+    Some((narrow, more))
+}
+
+/// What a client knew when it last had the mailbox selected.
+pub struct Known {
+    validity: u64,
+    modseq: u64,
+    uids: Set,
+}
+
+/// `(CONDSTORE)` or `(QRESYNC (validity modseq [uids [(numbers uids)]]))` behind SELECT.
+pub fn select_parameter(reader: &mut Reader) -> Read<Option<Known>> {
+    reader.need(b'(')?;
+    let known = match reader.word()?.as_str() {
+        "CONDSTORE" => None,
+        "QRESYNC" => {
+            reader.space()?;
+            Some(known(reader)?)
+        }
+        _ => return Err(Stop::Bad),
+    };
+    reader.need(b')')?;
+    Ok(known)
+}
+
+fn known(reader: &mut Reader) -> Read<Known> {
+    reader.need(b'(')?;
+    let validity = reader.number()?;
+    reader.space()?;
+    let modseq = reader.number()?;
+    let mut uids = vec![(1, u32::MAX)];
+    if reader.eat(b' ') && reader.peek() != b'(' {
+        uids = reader.set()?;
+        reader.eat(b' ');
+    }
+    if reader.eat(b'(') {
+        reader.set()?;
+        reader.space()?;
+        reader.set()?;
+        reader.need(b')')?;
+    }
+    reader.need(b')')?;
+    Ok(Known {
+        validity,
+        modseq,
+        uids,
+    })
+}
+
+/// What SELECT tells such a client.
+pub fn selected(mailbox: &Mailbox, known: Option<Known>, qresync: bool) -> String {
+    let mut text = format!("* OK [HIGHESTMODSEQ {}] ok\r\n", mailbox.modseq);
+    let valid = |known: &Known| qresync && known.validity == u64::from(mailbox.uid_validity);
+    let Some(known) = known.filter(valid) else {
+        return text;
+    };
+    text += &vanished(mailbox, known.modseq, &known.uids);
+    let changed = |uid, modseq| modseq > known.modseq && is_within(&known.uids, uid, u32::MAX);
+    for (place, message) in mailbox.messages.iter().enumerate() {
+        if changed(message.uid, message.modseq) {
+            let (number, uid, modseq) = (place + 1, message.uid, message.modseq);
+            let flags = flags::list(message.flags);
+            text += &format!("* {number} FETCH (UID {uid} FLAGS {flags} MODSEQ ({modseq}))\r\n");
+        }
+    }
+    text
+}
+
+/// The line for what is gone since then, if anything is.
+pub fn vanished(mailbox: &Mailbox, since: u64, uids: &Set) -> String {
+    let gone = |&&(uid, when): &&(u32, u64)| when > since && is_within(uids, uid, u32::MAX);
+    let mut gone: Vec<u32> = mailbox.expunged.iter().filter(gone).map(|g| g.0).collect();
+    gone.sort_unstable();
+    match gone.is_empty() {
+        true => String::new(),
+        false => format!("* VANISHED (EARLIER) {}\r\n", joined(&gone)),
+    }
+}
+
+/// `(CHANGEDSINCE n VANISHED)` behind FETCH: since when, and whether to tell what is gone.
+pub fn fetch_modifiers(reader: &mut Reader) -> Read<(u64, bool)> {
+    let (mut since, mut vanished) = (0, false);
+    reader.list(|reader| {
+        match reader.word()?.as_str() {
+            "CHANGEDSINCE" => {
+                reader.space()?;
+                since = reader.number()?;
+            }
+            "VANISHED" => vanished = true,
+            _ => return Err(Stop::Bad),
+        }
+        Ok(())
+    })?;
+    Ok((since, vanished))
+}
+
+/// `(UNCHANGEDSINCE n)` and a space before STORE's flags.
+pub fn unchanged_since(reader: &mut Reader) -> Read<u64> {
+    if !reader.eat(b'(') {
+        return Ok(u64::MAX);
+    }
+    if !reader.has_word("UNCHANGEDSINCE") {
+        return Err(Stop::Bad);
+    }
+    reader.space()?;
+    let modseq = reader.number()?;
+    reader.need(b')')?;
+    reader.space()?;
+    Ok(modseq)
+}

@@ -1,0 +1,120 @@
+//! Which mailboxes a session's library has: those on which the user has l or r, as long as the tables hold them.
+
+use crate::push::{self, records, Answer, Notice};
+use crate::session::State;
+use crate::store::{Mailbox, Store};
+
+impl Store {
+    /// At login, before any NOTIFY, so nothing is written. An account that doesn't fit is found here, and handed over only as
+    /// its mailboxes are selected.
+    pub fn load(&self, state: &mut State) {
+        let user = state.user.clone();
+        let messages: usize = self.visible(&user).map(|m| m.messages.len()).sum();
+        let gap = self.visible(&user).any(Mailbox::has_gap);
+        if !push::fits(self.visible(&user).count(), messages + usize::from(gap)) {
+            state.outgrown = true;
+            return;
+        }
+        for mailbox in self.visible(&user) {
+            self.hand(state, mailbox, Notice::Quiet);
+        }
+    }
+
+    /// A mailbox with all its messages. The rights come last: the client reads one LIST where one is owed, and not a STATUS
+    /// for each message.
+    pub fn hand(&self, state: &mut State, mailbox: &Mailbox, notice: Notice) {
+        let entries = mailbox.messages.len() + usize::from(mailbox.has_gap());
+        if !state.push.has_room(entries) {
+            return state.outgrow(self);
+        }
+        let attributes = mailbox.attributes(&state.user);
+        let rights = mailbox.bits(&state.user);
+        let empty = mailbox.uid_next == 1;
+        let (attributes, notice) = match empty {
+            true => (attributes, notice),
+            false => (attributes & !rights, Notice::Quiet),
+        };
+        let (id, validity) = (mailbox.id, mailbox.uid_validity);
+        let name = mailbox.name.as_bytes();
+        let record = records::create(id, attributes, notice, validity, name);
+        if state.feed(self, &record) != Answer::Done {
+            return;
+        }
+        state.handed.insert(id);
+        if !empty {
+            self.hand_messages(state, mailbox);
+            state.feed(self, &records::rights(id, rights));
+        }
+    }
+
+    fn hand_messages(&self, state: &mut State, mailbox: &Mailbox) {
+        let id = mailbox.id;
+        for message in &mailbox.messages {
+            let size = message.octets.len() as u32;
+            let record = records::message(id, message.uid, message.flags, size);
+            state.feed(self, &record);
+        }
+        if mailbox.has_gap() {
+            // no record has UIDNEXT: a message that comes and goes raises it
+            let last = mailbox.uid_next - 1;
+            state.feed(self, &records::message(id, last, 0, 0));
+            state.feed(self, &records::expunge(id, last));
+        }
+    }
+
+    /// For a session whose account doesn't fit: the tables serve the mailbox that is to be selected, and no other.
+    pub fn hand_only(&self, state: &mut State, mailbox: &Mailbox) {
+        for id in std::mem::take(&mut state.handed) {
+            state.feed(self, &records::delete(id, Notice::Quiet));
+        }
+        self.hand(state, mailbox, Notice::Quiet);
+    }
+
+    /// A mailbox that the user may see from now on, or that is new.
+    pub fn offer(&self, state: &mut State, mailbox: &Mailbox, notice: Notice) {
+        if !state.outgrown {
+            self.hand(state, mailbox, notice);
+        }
+    }
+
+    /// The user's rights on a mailbox that the library has. Where none is left it goes, since what the user may not see
+    /// must take no room; a selected one goes when it is left.
+    pub fn regrant(&self, state: &mut State, mailbox: &Mailbox) {
+        let bits = mailbox.bits(&state.user);
+        state.feed(self, &records::rights(mailbox.id, bits));
+        if bits == 0 && state.push.selected() != mailbox.id {
+            self.withdraw(state, mailbox.id, Notice::Quiet);
+        }
+    }
+
+    pub fn withdraw(&self, state: &mut State, id: u16, notice: Notice) {
+        state.feed(self, &records::delete(id, notice));
+        state.handed.remove(&id);
+    }
+
+    /// No mailbox is selected any more. One that was revoked meanwhile goes now.
+    pub fn leave(&self, state: &mut State) {
+        let id = state.push.selected();
+        if id == 0 {
+            return;
+        }
+        state.call(self, &records::select(0));
+        let seen = self
+            .mailboxes
+            .get(&id)
+            .is_some_and(|m| m.is_visible(&state.user));
+        if !seen {
+            self.withdraw(state, id, Notice::Quiet);
+        }
+    }
+
+    /// The library had no room for a message. A mailbox that it knows in part would be shown with wrong numbers: it goes, and
+    /// if it is the selected one the view can't be kept.
+    pub fn cut_off(&self, state: &mut State, id: u16) {
+        if state.push.selected() == id {
+            state.bye("[LIMIT] mailbox too large");
+        } else {
+            self.withdraw(state, id, Notice::Quiet);
+        }
+    }
+}

@@ -1,0 +1,75 @@
+//! The library, as the host sees it: a call for each record, a queue to write out, a view to number by. No other file knows
+//! which library stands behind this.
+
+use borjavid::memory::{MAILBOXES, MESSAGES};
+use borjavid::Memory;
+
+pub use borjavid::records::{self, Class, Notice};
+pub use borjavid::{Answer, Refusal};
+
+/// The memory that one connection lends.
+pub struct Push {
+    memory: Memory,
+    drained: u64,
+}
+
+impl Push {
+    pub fn new(queue: usize) -> Push {
+        Push {
+            memory: Memory::new(queue),
+            drained: 0,
+        }
+    }
+
+    pub fn call(&mut self, record: &[u8]) -> Answer {
+        self.memory.step(record)
+    }
+
+    /// What the client was not sent yet, in whole lines.
+    pub fn queue(&self) -> &[u8] {
+        self.memory.queue()
+    }
+
+    /// So many octets of the queue went out to the client.
+    pub fn drained(&mut self, count: usize) -> Answer {
+        self.drained += count as u64;
+        self.memory.drain(count)
+    }
+
+    /// How much ever came to the queue. Its length alone doesn't show that a record wrote something, since the writer may
+    /// have drained it meanwhile.
+    pub fn told(&self) -> u64 {
+        self.drained + self.queue().len() as u64
+    }
+
+    /// UIDs of the client's view: message n is at n - 1.
+    pub fn view(&self) -> Vec<u32> {
+        self.memory.view()
+    }
+
+    /// The selected mailbox, 0 for none.
+    pub fn selected(&self) -> u16 {
+        self.memory.session().selected
+    }
+
+    /// Whether a NOTIFY SET stands.
+    pub fn watches(&self) -> bool {
+        self.memory.session().groupcount > 0
+    }
+
+    /// Whether a NOTIFY was ever accepted: flag changes that it doesn't ask for are then dropped, and wait before.
+    pub fn notified(&self) -> bool {
+        self.memory.session().notified != 0
+    }
+
+    /// Whether there is room for another mailbox with so many messages.
+    pub fn has_room(&self, messages: usize) -> bool {
+        let (rows, entries) = self.memory.room();
+        rows > 0 && messages <= entries
+    }
+}
+
+/// Whether an account of this size can be handed over.
+pub fn fits(mailboxes: usize, messages: usize) -> bool {
+    mailboxes <= MAILBOXES && messages <= MESSAGES
+}

@@ -1,0 +1,164 @@
+//! Mailboxes, messages and rights, all under one lock. What changes them stands in `changes`.
+
+use crate::options::Options;
+use crate::push::records;
+use crate::session::Session;
+use std::collections::hash_map::DefaultHasher;
+use std::collections::{BTreeMap, BTreeSet, HashMap};
+use std::hash::{Hash, Hasher};
+use std::sync::Arc;
+
+pub const USERS: [&str; 3] = ["alice", "bob", "carol"];
+pub const PASSWORD: &str = "pw";
+/// Who makes the mailboxes beneath `Shared/`.
+pub const ADMINISTRATOR: &str = "alice";
+pub const ALL_RIGHTS: &str = "lrswipkxtea";
+
+pub struct Message {
+    pub uid: u32,
+    pub flags: u8,
+    pub modseq: u64,
+    pub date: String,
+    pub octets: Arc<[u8]>,
+}
+
+pub struct Mailbox {
+    pub id: u16,
+    pub name: String,
+    /// None where it is shared, and ruled by `rights`.
+    pub owner: Option<String>,
+    pub rights: BTreeMap<String, String>,
+    /// Mail for the owner comes here. It stays so when INBOX is renamed: no record takes the bit away.
+    pub delivery: bool,
+    pub uid_validity: u32,
+    pub uid_next: u32,
+    pub modseq: u64,
+    pub messages: Vec<Message>,
+    /// UIDs that are gone, and when; kept for `adapt` alone.
+    pub expunged: Vec<(u32, u64)>,
+    pub subscribers: BTreeSet<String>,
+}
+
+impl Mailbox {
+    pub fn rights(&self, user: &str) -> &str {
+        match &self.owner {
+            Some(owner) if owner == user => ALL_RIGHTS,
+            Some(_) => "",
+            None => self.rights.get(user).map_or("", |rights| rights),
+        }
+    }
+
+    pub fn may(&self, user: &str, right: char) -> bool {
+        self.rights(user).contains(right)
+    }
+
+    /// The two rights that the library knows.
+    pub fn bits(&self, user: &str) -> u8 {
+        let bit = |right, bit| if self.may(user, right) { bit } else { 0 };
+        bit('l', records::LOOKUP) | bit('r', records::READ)
+    }
+
+    /// Whether there is such a mailbox, as far as the user can know.
+    pub fn is_visible(&self, user: &str) -> bool {
+        self.bits(user) != 0
+    }
+
+    pub fn attributes(&self, user: &str) -> u8 {
+        let own = self.owner.as_deref() == Some(user);
+        let bit = |on, bit| if on { bit } else { 0 };
+        records::SELECTABLE
+            | bit(own, records::PERSONAL)
+            | bit(own && self.delivery, records::DELIVERY)
+            | bit(self.subscribers.contains(user), records::SUBSCRIBED)
+            | self.bits(user)
+    }
+
+    pub fn message(&self, uid: u32) -> Option<&Message> {
+        self.place(uid).map(|place| &self.messages[place])
+    }
+
+    /// Whether there is such a message for the user.
+    pub fn has(&self, uid: u32, user: &str) -> bool {
+        self.may(user, 'r') && self.place(uid).is_some()
+    }
+
+    pub fn place(&self, uid: u32) -> Option<usize> {
+        self.messages.binary_search_by_key(&uid, |m| m.uid).ok()
+    }
+
+    /// Whether UIDNEXT is above what the messages alone would make it.
+    pub fn has_gap(&self) -> bool {
+        self.messages.last().map_or(1, |last| last.uid + 1) < self.uid_next
+    }
+
+    /// Whether the name is one of the user's names: their own, or a shared one.
+    fn is_named_for(&self, user: &str) -> bool {
+        self.owner.as_deref().is_none_or(|owner| owner == user)
+    }
+}
+
+pub struct Store {
+    pub mailboxes: BTreeMap<u16, Mailbox>,
+    pub sessions: Vec<Arc<Session>>,
+    pub options: Options,
+    last_id: u16,
+    /// The last UIDVALIDITY of each name. One counter for all would tell everybody of mailboxes that they may not see.
+    validities: HashMap<(Option<String>, String), u32>,
+}
+
+impl Store {
+    pub fn new(options: Options) -> Store {
+        Store {
+            mailboxes: BTreeMap::new(),
+            sessions: Vec::new(),
+            options,
+            last_id: 0,
+            validities: HashMap::new(),
+        }
+    }
+
+    /// The mailbox that has the name for this user, whether visible or not.
+    pub fn named(&self, user: &str, name: &str) -> Option<&Mailbox> {
+        self.mailboxes
+            .values()
+            .find(|mailbox| mailbox.name == name && mailbox.is_named_for(user))
+    }
+
+    /// All that the user may know of.
+    pub fn visible<'a>(&'a self, user: &'a str) -> impl Iterator<Item = &'a Mailbox> {
+        self.mailboxes
+            .values()
+            .filter(move |mailbox| mailbox.is_visible(user))
+    }
+
+    /// An id that no mailbox has. None when there are as many as a record can name.
+    pub fn free_id(&mut self) -> Option<u16> {
+        if self.mailboxes.len() >= usize::from(u16::MAX) {
+            return None;
+        }
+        loop {
+            self.last_id = self.last_id.wrapping_add(1);
+            if self.last_id != 0 && !self.mailboxes.contains_key(&self.last_id) {
+                return Some(self.last_id);
+            }
+        }
+    }
+
+    /// The UIDVALIDITY of a new mailbox: drawn from its name at first, then one above the name's last.
+    pub fn new_validity(&mut self, owner: &Option<String>, name: &str) -> u32 {
+        let key = (owner.clone(), name.to_string());
+        let mut hasher = DefaultHasher::new();
+        key.hash(&mut hasher);
+        let first = (hasher.finish() as u32 >> 2) + 1;
+        let validity = self.validities.get(&key).map_or(first, |last| last + 1);
+        self.validities.insert(key, validity);
+        validity
+    }
+
+    /// A renamed mailbox brings its UIDVALIDITY along: the next of that name must be above it.
+    pub fn keep_validity(&mut self, owner: &Option<String>, name: &str, validity: u32) {
+        let key = (owner.clone(), name.to_string());
+        let last = self.validities.entry(key).or_insert(validity);
+        *last = validity.max(*last);
+    }
+}

@@ -62,7 +62,7 @@ pub enum Names {
     Alike,
     /// 64 octets, all of which are written with a `\` before them.
     Quoted,
-    /// 64 octets, the same up to the last five, with one digest wherever the weights of a digest grow evenly.
+    /// 64 octets with one digest, the same but for four.
     Digest,
     /// 64 octets, a part every two.
     Deep,
@@ -96,19 +96,12 @@ fn quoted(number: usize) -> Vec<u8> {
     (0..64).map(octet).collect()
 }
 
-/// Evenly growing weights have no third differences, so 1, -3, 3, -1 weighs nothing wherever it stands.
+/// The digest counts each eight octets three times as often as the eight behind them: 1 more here is 3 less there.
 fn one_digest(number: usize) -> Vec<u8> {
-    let (one, other) = ((number / 8) as i32, (number % 8) as i32);
-    let moved = [
-        -one,
-        3 * one - other,
-        3 * other - 3 * one,
-        one - 3 * other,
-        other,
-    ];
     let mut octets = vec![b'P'; 64];
-    for (octet, by) in octets[59..].iter_mut().zip(moved) {
-        *octet = (i32::from(*octet) + by) as u8;
+    for (place, by) in [(48, number / 8), (49, number % 8)] {
+        octets[place] += by as u8;
+        octets[place + 8] -= 3 * by as u8;
     }
     octets
 }

@@ -1,10 +1,10 @@
 -- A digest of a row's 64 octets: their eight words, each mixed in with what there is. Assumes nothing.
-use mathlib.Core.Path.{_≡_, refl, ap, ap₂, sym, _∙_}
+use mathlib.Core.Path.{_≡_, _∙_}
 use mathlib.Core.List.{List}
-use Prim.Native.Nat.{ℕ, zero, suc, _+_, _*_, _/_, _%_, _^_, _<_, _≤_}
+use Prim.Native.Nat.{ℕ, zero, suc, _+_, _*_, _/_, _%_, _^_, _<_}
 use native.Mathlib.Numerals.{add-one}
 use native.Mathlib.Omega.{arith}
-use lib.ListN.{length, take, drop, getD, set}
+use lib.ListN.{length, getD, set}
 use lib.Seq.{getD-take, getD-drop, getD-set-same, getD-set-other}
 use Rattle.rows.specs.Columns.{block, all-below}
 

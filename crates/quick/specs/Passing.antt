@@ -1,5 +1,5 @@
 -- One pass over the messages: what each entry must meet, and why that is enough. Assumes nothing.
-use mathlib.Core.Path.{_≡_, refl, ap, sym, _∙_, subst}
+use mathlib.Core.Path.{_≡_, refl, ap, sym, _∙_}
 use mathlib.Core.Bool.{Bool, true, false, not, cond, _&&_, _||_}
 use mathlib.Core.List.{List, [], _∷_, _++_}
 use Prim.Native.Nat.{ℕ, zero, suc, _+_, _*_, _/_, _%_, _<_, _≤_}
@@ -7,7 +7,7 @@ use native.Mathlib.Omega.{arith}
 use lib.Dec.{eqb, leb, ltb}
 use lib.ListN.{length, getD, set}
 use lib.Seq.{getD-set-same, getD-set-other}
-use borrow.Author.Tests.{eq-eqb, ne-eqb, lt-ltb, le-ltb, le-leb, leb-true, ltb-true, ltb-false, eqb-true, eqb-false}
+use borrow.Author.Tests.{eq-eqb, ne-eqb, lt-ltb, le-leb, leb-true, ltb-true, eqb-true, eqb-false}
 use Rattle.model.specs.Laws.{and-l, and-r, or-r, or-true, tf, all-hold}
 use Rattle.model.specs.Lists.{allb, anyb, apart, every}
 use Rattle.model.specs.Memory.{noMailbox, noMessage, uidOf, place, known, theMailbox}

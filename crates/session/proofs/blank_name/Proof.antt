@@ -3,7 +3,6 @@ use Rattle.session.proofs.blank_name.Statement.{statement}
 use Rattle.session.proofs.blank_name.Tie as tie
 use mathlib.Core.Path.{_≡_}
 use Prim.Native.Nat.{_-_}
-use native.Mathlib.Omega.{arith}
 use lib.ListN.{length}
 
 -- src/lib.rt:257:39

@@ -1,5 +1,7 @@
 // The mailbox table as the host lends it, a slice of rows: read into an array by one walk, and written back by another. What is
 // searched or changed in between is an array, which the borrow checker follows by itself.
+pub mod columns;
+
 use model::Mailbox;
 ghost use mathlib.Core.Path.{_≡_};
 ghost use Prim.Native.Nat.{_≤_, min};

@@ -15,7 +15,7 @@ ghost use Rattle.lent.specs.Standing.{Stands, Keeps};
 // The name of row k goes to its 64 octets.
 fn keep_name(names: &mut [u8], k: usize, name: [u8; 64])
     requires { ⌜ (k < 64) × (length (now names) ≡ 4096) ⌝ }
-    ensures { λ _. ⌜ (now (names .exit) ≡ paste (now (names .entry)) (64 * k) name 64) × (length name ≡ 64) ⌝ }
+    ensures { λ _. ⌜ (now (names .exit) ≡ paste (now (names .entry)) (64 * k) name 64) × (length (now (names .entry)) ≡ 4096) × (length name ≡ 64) ⌝ }
 {
     let at = 64 * k;
     let mut j = 0;
@@ -23,29 +23,6 @@ fn keep_name(names: &mut [u8], k: usize, name: [u8; 64])
         names[at + j] = name[j];
         j += 1;
     }
-}
-
-// Row k is x, field by field.
-fn spread(
-    x: Mailbox,
-    k: usize,
-    ids: &mut [u64],
-    attributes: &mut [u8],
-    lens: &mut [u8],
-    validities: &mut [u64],
-    nexts: &mut [u64],
-    names: &mut [u8],
-)
-    requires { ⌜ (k < 64) × (length (now ids) ≡ 64) × (length (now attributes) ≡ 64) × (length (now lens) ≡ 64) × (length (now validities) ≡ 64) × (length (now nexts) ≡ 64) × (length (now names) ≡ 4096) ⌝ }
-    ensures { λ _. ⌜ Keeps k x (now (ids .entry)) (now (attributes .entry)) (now (lens .entry)) (now (validities .entry)) (now (nexts .entry)) (now (names .entry)) (now (ids .exit)) (now (attributes .exit)) (now (lens .exit)) (now (validities .exit)) (now (nexts .exit)) (now (names .exit)) ⌝ }
-{
-    let name = x.name;
-    ids[k] = rows::wide_id(x.id);
-    attributes[k] = x.attributes;
-    lens[k] = x.namelen;
-    validities[k] = rows::wide_number(x.uidvalidity);
-    nexts[k] = rows::wide_number(x.uidnext);
-    keep_name(names, k, name);
 }
 
 // Row k is x.
@@ -62,7 +39,13 @@ pub fn keep(
     requires { ⌜ k < 64 ⌝ }
     ensures { λ _. ⌜ Keeps k x (now (ids .entry)) (now (attributes .entry)) (now (lens .entry)) (now (validities .entry)) (now (nexts .entry)) (now (names .entry)) (now (ids .exit)) (now (attributes .exit)) (now (lens .exit)) (now (validities .exit)) (now (nexts .exit)) (now (names .exit)) ⌝ }
 {
-    spread(x, k, ids, attributes, lens, validities, nexts, names);
+    let name = x.name;
+    ids[k] = rows::wide_id(x.id);
+    attributes[k] = x.attributes;
+    lens[k] = x.namelen;
+    validities[k] = rows::wide_number(x.uidvalidity);
+    nexts[k] = rows::wide_number(x.uidnext);
+    keep_name(names, k, name);
 }
 
 // ---- a row is made of the columns

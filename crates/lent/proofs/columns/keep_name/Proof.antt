@@ -51,7 +51,7 @@ returns : tie.Need-returns Inv-loop μ-loop
 returns c =
     let wide : length (c .before .before .args .t3) ≡ 64 = search needs in
     let z : c .before .loop .j ≡ 64 = omega arith in
-    (rw z at (c .before .loop .inv .2), wide)
+    (rw z at (c .before .loop .inv .2), c .before .before .pre .1, wide)
 
 pub keep-name-spec : {M : Type 1} → statement M
 keep-name-spec =

@@ -1,9 +1,7 @@
 -- `row_at`: row k of the first n, or none. Assumes nothing.
 use borrow.Author.Needs.{needs}
-use mathlib.Core.Path.{_≡_, _∙_, sym}
-use Prim.Native.Nat.{_≤_, _<_}
+use mathlib.Core.Path.{_∙_}
 use native.Mathlib.Omega.{arith}
-use lib.ListN.{length}
 use Rattle.lent.specs.Standing.{row-none, row-stands}
 use Rattle.lent.proofs.columns.row_at.Statement.{statement}
 use Rattle.lent.proofs.columns.row_at.Tie as tie

@@ -1,13 +1,13 @@
--- What becomes of the lent table after an outcome: a row is put in its place, or the used rows are written anew, one of them taken out. Assumes nothing.
+-- What becomes of the lent table after an outcome: a row is put in its place, or one is taken out, and those behind it move up. Assumes nothing.
 use mathlib.Core.Path.{_≡_, refl, ap, sym, _∙_}
 use mathlib.Core.Bool.{Bool, true, false, cond}
-use mathlib.Core.List.{List, _∷_}
+use mathlib.Core.List.{List}
 use Prim.Native.Nat.{ℕ, _-_, _<_, _≤_}
 use native.Mathlib.Omega.{arith}
 use lib.Dec.{ltb, leb}
-use lib.ListN.{length, set, take, drop, length-append, length-take, length-drop}
+use lib.ListN.{length, set}
 use lib.Seq.{set-out}
-use borrow.Author.Tests.{leb-true, leb-false, ltb-true, ltb-false}
+use borrow.Author.Tests.{leb-true, leb-false, le-leb, lt-leb, ltb-true, ltb-false}
 use Rattle.model.specs.Memory.{Memory, noMailbox}
 use Rattle.model.specs.Lawful.{lawful}
 use Rattle.model.specs.Rules.{Outcome}
@@ -17,7 +17,7 @@ use Rattle.model.specs.declared.Counts.{Counts}
 use Rattle.model.specs.declared.Session.{Session}
 use Rattle.demands.specs.Lasting.Law.{law-out}
 use Rattle.laws.specs.Shift.{without, over}
-use Rattle.rows.specs.Shift.{closed}
+use Rattle.rows.specs.Shift.{closed, shift-end}
 use Rattle.outcomes.specs.Coming.{changed}
 use Rattle.outcomes.specs.Laws.{call-unlawful}
 use Rattle.outcomes.specs.declared.Change.{Change}
@@ -25,73 +25,107 @@ use Rattle.outcomes.specs.declared.Change.the-variants.{Nothing, Put, Taken}
 use Rattle.outcomes.specs.declared.Outcome.{Outcome as Came}
 use Rattle.push.specs.Steps.{memoryOf, Steps}
 use Rattle.push.specs.Served.{lentAs}
-use Rattle.lent.specs.Rows.{within, loaded, loaded-length, over-none}
-use Rattle.lent.specs.Closing.{saved-closed}
+use Rattle.lent.specs.Closing.{moved-none, closed-past}
 use Rattle.exported.specs.Kept.{call-rows}
 
--- where a row is put: behind the last of n rows, if none is
-abbrev pub placed : Change → ℕ → ℕ → ℕ
-placed Nothing at n = n
-placed Put at n = at
-placed Taken at n = n
+-- the last of the used rows, if there are so many, and no more than 64; else the place behind the last of n rows
+abbrev pub lastOf : ℕ → ℕ → ℕ
+lastOf used n = cond (ltb 64 n) n (cond (ltb used 1) n (cond (ltb n used) n (used - 1)))
 
-abbrev pub putAt : Came → ℕ → ℕ
-putAt r n = placed (r .change) (r .at) n
+-- the row that is written: behind the last of n rows, if none is
+abbrev pub placed : Change → ℕ → ℕ → ℕ → ℕ
+placed Nothing at used n = n
+placed Put at used n = at
+placed Taken at used n = lastOf used n
 
--- the used rows, if there are so many, and no more than 64
-abbrev pub usedOf : ℕ → ℕ → ℕ
-usedOf used n = cond (ltb 64 n) 0 (cond (ltb n used) 0 used)
+abbrev pub putAt : Came → ℕ → ℕ → ℕ
+putAt r used n = placed (r .change) (r .at) used n
 
--- how many rows are written anew
-abbrev pub rewritten : Change → ℕ → ℕ → ℕ
-rewritten Nothing used n = 0
-rewritten Put used n = 0
-rewritten Taken used n = usedOf used n
+-- whence the rows move up as far as row k: from row k, if none is taken out
+abbrev pub taken : Change → ℕ → ℕ → ℕ
+taken Nothing at k = k
+taken Put at k = k
+taken Taken at k = cond (ltb at k) at k
 
-abbrev pub takenOf : Came → ℕ → ℕ → ℕ
-takenOf r used n = rewritten (r .change) used n
+abbrev pub movedFrom : Came → ℕ → ℕ → ℕ
+movedFrom r k n = cond (leb n k) k (taken (r .change) (r .at) k)
 
--- none is written anew
-over-nothing : (t l : List Mailbox) → over t l (within 0 (length l)) ≡ l
-over-nothing t l = let e : within 0 (length l) ≡ 0 = omega arith in ap (over t l) e ∙ sym (over-none t l)
+-- what is written there
+abbrev pub written : Change → Mailbox → Mailbox
+written Nothing x = x
+written Put x = x
+written Taken x = noMailbox
+
+abbrev pub leftRow : Came → Mailbox
+leftRow r = written (r .change) (r .row)
+
+-- the rows move up within the table
+taken-fits : (c : Change) (at k : ℕ) → taken c at k ≤ k
+taken-fits Nothing at k = omega arith
+taken-fits Put at k = omega arith
+taken-fits Taken at k = go (ltb at k) refl
+  where
+    go : (b : Bool) → ltb at k ≡ b → cond b at k ≤ k
+    go true e = let h = ltb-true at k e in omega arith
+    go false e = omega arith
+
+pub moved-fits : (r : Came) (k n : ℕ) → (movedFrom r k n ≤ k) × (movedFrom r k n < k → k < n)
+moved-fits r k n = go (leb n k) refl
+  where
+    go : (b : Bool) → leb n k ≡ b → (cond b k (taken (r .change) (r .at) k) ≤ k) × (cond b k (taken (r .change) (r .at) k) < k → k < n)
+    go true e = (omega arith, λ h. absurd (let z : ⊥ = omega arith in z))
+    go false e = (taken-fits (r .change) (r .at) k, λ h. leb-false n k e)
+
+-- the rows as they are left: those behind row j have moved up, as far as row k, which is x
+abbrev closedUp : List Mailbox → ℕ → ℕ → Mailbox → List Mailbox
+closedUp ys j k x = set (over (without j ys) ys k) k x
+
+-- no row moves
+left-at : (ys : List Mailbox) (k : ℕ) (x : Mailbox) → closedUp ys k k x ≡ set ys k x
+left-at ys k x = ap (λ (l : List Mailbox). set l k x) (sym (moved-none k ys))
 
 -- behind the last row there is none to put
-put-none : (t l : List Mailbox) (x : Mailbox) → over t (set l (length l) x) (within 0 (length l)) ≡ l
-put-none t l x = ap (λ (s : List Mailbox). over t s (within 0 (length l))) (set-out l (length l) x (omega arith)) ∙ over-nothing t l
+left-none : (ys : List Mailbox) (k : ℕ) (x : Mailbox) → length ys ≤ k → closedUp ys k k x ≡ ys
+left-none ys k x h = left-at ys k x ∙ set-out ys k x h
 
--- no table of 64 rows grows by it
-closed-64 : (at n : ℕ) (l : List Mailbox) → length l ≡ 64 → 1 ≤ n → n ≤ 64 → length (closed at n l) ≤ 64
-closed-64 at n l e h g =
-    let a = length-append (take (n - 1) (without at l)) (noMailbox ∷ drop n l) in
-    let b = length-take (n - 1) (without at l) in
-    let c = length-drop n l in
-    omega arith
+module _ (at : ℕ) (x : Mailbox) (used : ℕ) (ys new : List Mailbox) (kept : length new ≡ length ys) (wide : 64 < length ys → ys ≡ new) (many : length ys < used → ys ≡ new) where
+  -- the rows as the code leaves them, if it writes row k
+  abbrev leaves : Change → ℕ → List Mailbox
+  leaves c k = closedUp ys (cond (leb (length ys) k) k (taken c at k)) k (written c x)
 
-module _ (at : ℕ) (x : Mailbox) (used : ℕ) (ys after new : List Mailbox) (kept : length new ≡ length ys) (wide : 64 < length ys → ys ≡ new) (many : length ys < used → ys ≡ new) where
+  -- nothing moves
+  still : (c : Change) (k : ℕ) → taken c at k ≡ k → leaves c k ≡ set ys k (written c x)
+  still c k e = go (leb (length ys) k)
+    where
+      go : (b : Bool) → closedUp ys (cond b k (taken c at k)) k (written c x) ≡ set ys k (written c x)
+      go true = left-at ys k (written c x)
+      go false = ap (λ (j : ℕ). closedUp ys j k (written c x)) e ∙ left-at ys k (written c x)
+
+  -- behind the last row
+  past : (c : Change) → leaves c (length ys) ≡ ys
+  past c = rw (le-leb (length ys) (length ys) (omega arith)) (left-none ys (length ys) (written c x) (omega arith))
+
   taken-none : closed at 0 ys ≡ new → ⊥
   taken-none e = let a = ap length e in omega arith
 
-  taken : closed at used ys ≡ new → (length (closed at used (loaded ys)) ≤ 64 → after ≡ closed at used (loaded ys)) → 1 ≤ used → used ≤ length ys → length ys ≤ 64
-      → over after (set ys (length ys) x) (within used (length ys)) ≡ new
-  taken e f one fit few =
-      ap (λ (s : List Mailbox). over after s (within used (length ys))) (set-out ys (length ys) x (omega arith))
-      ∙ (ap (λ (t : List Mailbox). over t ys (within used (length ys))) (f (closed-64 at used (loaded ys) (loaded-length ys) one (omega arith)))
-      ∙ (saved-closed at used ys one fit few ∙ e))
-
-  written-as : (c : Change) → changed c at x used ys ≡ new → (length (changed c at x used (loaded ys)) ≤ 64 → after ≡ changed c at x used (loaded ys))
-      → over after (set ys (placed c at (length ys)) x) (within (rewritten c used (length ys)) (length ys)) ≡ new
-  written-as Nothing e f = put-none after ys x ∙ e
-  written-as Put e f = let z : within 0 (length ys) ≡ 0 = omega arith in ap (over after (set ys at x)) z ∙ (sym (over-none after (set ys at x)) ∙ e)
-  written-as Taken e f = go (ltb 64 (length ys)) refl (ltb (length ys) used) refl
+  -- a row is taken out of the first n
+  out-of : 1 ≤ used → used ≤ length ys → leaves Taken (used - 1) ≡ closed at used ys
+  out-of one fit = rw (lt-leb (length ys) (used - 1) (omega arith)) (go (ltb at (used - 1)) refl)
     where
-      some : (b : Bool) → leb 1 used ≡ b → used ≤ length ys → length ys ≤ 64 → over after (set ys (length ys) x) (within used (length ys)) ≡ new
-      some true h fit few = taken e f (leb-true 1 used h) fit few
-      some false h fit few = let z = leb-false 1 used h in let y : used ≡ 0 = omega arith in absurd (taken-none (rw y at e))
+      go : (b : Bool) → ltb at (used - 1) ≡ b → closedUp ys (cond b at (used - 1)) (used - 1) noMailbox ≡ closed at used ys
+      go true e = let h = ltb-true at (used - 1) e in shift-end at used (used - 1) ys (omega arith) fit (omega arith)
+      go false e = shift-end (used - 1) used (used - 1) ys (omega arith) fit (omega arith) ∙ closed-past at used ys (ltb-false at (used - 1) e)
 
-      go : (a : Bool) → ltb 64 (length ys) ≡ a → (b : Bool) → ltb (length ys) used ≡ b → over after (set ys (length ys) x) (within (cond a 0 (cond b 0 used)) (length ys)) ≡ new
-      go true p b q = put-none after ys x ∙ wide (ltb-true 64 (length ys) p)
-      go false p true q = put-none after ys x ∙ many (ltb-true (length ys) used q)
-      go false p false q = some (leb 1 used) refl (ltb-false (length ys) used q) (ltb-false 64 (length ys) p)
+  written-as : (c : Change) → changed c at x used ys ≡ new → leaves c (placed c at used (length ys)) ≡ new
+  written-as Nothing e = past Nothing ∙ e
+  written-as Put e = still Put at refl ∙ e
+  written-as Taken e = go (ltb 64 (length ys)) refl (ltb used 1) refl (ltb (length ys) used) refl
+    where
+      go : (a : Bool) → ltb 64 (length ys) ≡ a → (b : Bool) → ltb used 1 ≡ b → (c : Bool) → ltb (length ys) used ≡ c → leaves Taken (cond a (length ys) (cond b (length ys) (cond c (length ys) (used - 1)))) ≡ new
+      go true p b q c r = past Taken ∙ wide (ltb-true 64 (length ys) p)
+      go false p true q c r = let z = ltb-true used 1 q in let y : used ≡ 0 = omega arith in absurd (taken-none (rw y at e))
+      go false p false q true r = past Taken ∙ many (ltb-true (length ys) used r)
+      go false p false q false r = let z = ltb-false used 1 q in out-of (omega arith) (ltb-false (length ys) used r) ∙ e
 
 -- memory that is not lawful stays
 same-rows : (m : Memory) (o : List ℕ) → (lawful m ≡ true → ⊥) → m .rows ≡ call m o .after .rows
@@ -102,23 +136,22 @@ same-rows m o n = go (lawful m) refl
     go false e = ap (λ (x : Outcome). x .after .rows) (call-unlawful m o e)
 
 -- what is written back is what the outcome says of the table
-module _ (ys : List Mailbox) (ws : List ℕ) (k : Counts) (s : Session) (q o : List ℕ) (r : Came) (ws′ q′ : List ℕ) (after : List Mailbox) where
+module _ (ys : List Mailbox) (ws : List ℕ) (k : Counts) (s : Session) (q o : List ℕ) (r : Came) (ws′ q′ : List ℕ) where
   abbrev m : Memory
   m = memoryOf (lentAs ys ws k s q)
 
   -- the rows as the code leaves them
   abbrev pub left : List Mailbox
-  left = over after (set ys (putAt r (length ys)) (r .row)) (within (takenOf r (k .mailboxes) (length ys)) (length ys))
+  left = let i = putAt r (k .mailboxes) (length ys) in set (over (without (movedFrom r i (length ys)) ys) ys i) i (leftRow r)
 
   pub written-back : Steps (lentAs ys ws k s q) o (r .answer) (lentAs (changed (r .change) (r .at) (r .row) (k .mailboxes) ys) ws′ (r .counts) (r .session) q′)
-      → (length (changed (r .change) (r .at) (r .row) (k .mailboxes) (loaded ys)) ≤ 64 → after ≡ changed (r .change) (r .at) (r .row) (k .mailboxes) (loaded ys))
       → Steps (lentAs ys ws k s q) o (r .answer) (lentAs left ws′ (r .counts) (r .session) q′)
-  written-back steps f = record {
+  written-back steps = record {
     answer = steps .answer;
-    table = written-as (r .at) (r .row) (k .mailboxes) ys after (call m o .after .rows) (call-rows m o)
+    table = written-as (r .at) (r .row) (k .mailboxes) ys (call m o .after .rows) (call-rows m o)
         (λ h. same-rows m o (λ e. let z : length ys ≤ 64 = leb-true _ _ (law-out m e .rows) in (let y : ⊥ = omega arith in y)))
         (λ h. same-rows m o (λ e. let z : k .mailboxes ≤ length ys = leb-true _ _ (law-out m e .used) in (let y : ⊥ = omega arith in y)))
-        (r .change) (steps .table) f;
+        (r .change) (steps .table);
     words = steps .words;
     counts = steps .counts;
     session = steps .session;

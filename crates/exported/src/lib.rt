@@ -8,13 +8,13 @@ use model::Session;
 use outcomes::Change;
 use outcomes::Outcome;
 ghost use mathlib.Core.Path.{_≡_};
-ghost use lib.ListN.{take, set};
+ghost use lib.ListN.{length, take, set};
 ghost use Rattle.model.specs.Answers.{refusalNumber};
 ghost use Rattle.model.specs.Memory.{place};
-ghost use Rattle.lent.specs.Rows.{placeNamed};
-ghost use Rattle.push.specs.Served.{lentAs};
+ghost use Rattle.lent.specs.Rows.{loaded, placeNamed};
+ghost use Rattle.push.specs.Served.{Stepped, lentAs};
 ghost use Rattle.exported.specs.Numbers.{numbersOf};
-ghost use Rattle.exported.specs.Written.{putAt, usedOf, takenOf};
+ghost use Rattle.exported.specs.Written.{lastOf, putAt, movedFrom, leftRow};
 ghost use Rattle.exported.specs.Called.{Calls};
 
 // ---- the answer
@@ -69,45 +69,109 @@ fn numbers(out: Outcome) -> Answered
 
 // ---- what becomes of the table
 
-// The place at which a row is put, or that behind the last lent row, where there is none.
-fn put_at(out: Outcome, lent: usize) -> usize
-    ensures { λ r. ⌜ r ≡ putAt out lent ⌝ }
+// The last used row, if there are so many, and no more than 64; or the place behind the last lent row.
+fn last_row(used: u64, lent: usize) -> usize
+    ensures { λ r. ⌜ r ≡ lastOf used lent ⌝ }
+{
+    if 64 < lent {
+        return lent;
+    }
+    if used < 1 {
+        return lent;
+    }
+    let rows = lent as u64;
+    if rows < used {
+        return lent;
+    }
+    used as usize - 1
+}
+
+// The row that is written: the place of one that is put, or the last used one, where one is taken out.
+fn put_at(out: Outcome, used: u64, lent: usize) -> usize
+    ensures { λ r. ⌜ r ≡ putAt out used lent ⌝ }
 {
     let change = out.change;
     match change {
         Change::Nothing => lent,
         Change::Put => out.at,
-        Change::Taken => lent,
+        Change::Taken => last_row(used, lent),
     }
 }
 
-// The used rows, if there are so many, and no more than 64.
-fn used_rows(used: u64, lent: usize) -> usize
-    ensures { λ r. ⌜ r ≡ usedOf used lent ⌝ }
+// Whence the rows move up as far as row k: from the one that is taken out.
+fn moved_from(out: Outcome, k: usize, lent: usize) -> usize
+    ensures { λ r. ⌜ r ≡ movedFrom out k lent ⌝ }
 {
-    if 64 < lent {
-        return 0;
+    if lent <= k {
+        return k;
     }
-    let rows = lent as u64;
-    if rows < used {
-        return 0;
+    let at = out.at;
+    let change = out.change;
+    match change {
+        Change::Nothing => k,
+        Change::Put => k,
+        Change::Taken => if at < k { at } else { k },
     }
-    used as usize
 }
 
-// How many rows are written anew: where one is taken out, those in use.
-fn taken_of(out: Outcome, used: u64, lent: usize) -> usize
-    ensures { λ r. ⌜ r ≡ takenOf out used lent ⌝ }
+// What is written there: the row that is put, or zeros, where one is taken out.
+fn left_row(out: Outcome) -> Mailbox
+    ensures { λ r. ⌜ r ≡ leftRow out ⌝ }
 {
     let change = out.change;
     match change {
-        Change::Nothing => 0,
-        Change::Put => 0,
-        Change::Taken => used_rows(used, lent),
+        Change::Nothing => out.row,
+        Change::Put => out.row,
+        Change::Taken => rows::vacant(),
     }
 }
 
 // ---- the step
+
+// One record, served: the used rows are laid out by columns, and what becomes of the table is in the outcome.
+fn served(
+    rows: &[Mailbox],
+    words: &mut [u64],
+    counts: Counts,
+    s: Session,
+    queue: &mut [u8],
+    record: &[u8],
+) -> Outcome
+    ensures { λ r. ⌜ Stepped (loaded (now (rows .entry))) (length (now (rows .entry))) (now (words .entry)) counts s (now (queue .entry)) (now («record» .entry)) r (now (words .exit)) (now (queue .exit)) ⌝ }
+{
+    let n = rows.len();
+    let m = lent::used_rows(counts.mailboxes, n);
+    let mut ids = [0u64; 64];
+    let mut attributes = [0u8; 64];
+    let mut lens = [0u8; 64];
+    let mut validities = [0u64; 64];
+    let mut nexts = [0u64; 64];
+    let mut names = [0u8; 4096];
+    lent::lay(
+        rows,
+        m,
+        &mut ids,
+        &mut attributes,
+        &mut lens,
+        &mut validities,
+        &mut nexts,
+        &mut names,
+    );
+    push::decide(
+        n,
+        &ids,
+        &attributes,
+        &lens,
+        &validities,
+        &nexts,
+        &names,
+        words,
+        counts,
+        s,
+        queue,
+        record,
+    )
+}
 
 // One record on the memory that a host lends. The counts stand beside the session, each lent by `&mut`: a command that is not accepted
 // changes the one and not the other. Rows, words, counts and session fill the six registers of a call; queue and record lie behind them,
@@ -124,15 +188,14 @@ pub extern "C" fn borjavid_step(
     ensures { λ r. ⌜ Calls (lentAs (now (rows .entry)) (now (words .entry)) (now (counts .entry)) (now (session .entry)) (now (queue .entry))) (now («record» .entry)) r (lentAs (now (rows .exit)) (now (words .exit)) (now (counts .exit)) (now (session .exit)) (now (queue .exit))) ⌝ }
 {
     let n = rows.len();
-    let t = lent::load(rows);
     let before = *counts;
-    let out = push::step(t, n, words, before, *session, queue, record);
+    let out = served(rows, words, before, *session, queue, record);
     *counts = out.counts;
     *session = out.session;
-    let after = push::streams::applied(t, before.mailboxes, out);
-    let k = put_at(out, n);
-    let m = taken_of(out, before.mailboxes, n);
-    lent::write_back(rows, k, out.row, after, m);
+    let k = put_at(out, before.mailboxes, n);
+    let from = moved_from(out, k, n);
+    let x = left_row(out);
+    lent::write_back(rows, from, k, x);
     numbers(out)
 }
 

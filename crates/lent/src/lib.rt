@@ -1,13 +1,16 @@
-// The mailbox table as the host lends it, a slice of rows: read into an array by one walk, and written back by another. What is
-// searched or changed in between is an array, which the borrow checker follows by itself.
+// The mailbox table as the host lends it, a slice of rows: laid out by columns or read into an array by one walk each, and written back
+// by others. What is searched in between is an array or a column, which the borrow checker follows by itself.
+pub mod columns;
+
 use model::Mailbox;
 ghost use mathlib.Core.Path.{_≡_};
-ghost use Prim.Native.Nat.{_≤_, min};
+ghost use Prim.Native.Nat.{_≤_, _<_};
 ghost use lib.ListN.{length, take, set, replicate};
 ghost use Rattle.model.specs.Lists.{same};
 ghost use Rattle.model.specs.Memory.{noMailbox, nameOf, place};
-ghost use Rattle.laws.specs.Shift.{over};
+ghost use Rattle.laws.specs.Shift.{over, without};
 ghost use Rattle.lent.specs.Rows.{loaded, within, placeNamed};
+ghost use Rattle.lent.specs.Standing.{Lays};
 
 // ---- the slice: each of these is a walk by hand
 
@@ -35,25 +38,46 @@ pub fn set_row(rows: &mut [Mailbox], k: usize, x: Mailbox)
     }
 }
 
-// The first m rows, as far as there are any, become those of the array.
-pub fn save(rows: &mut [Mailbox], t: [Mailbox; 64], m: usize)
-    ensures { λ _. ⌜ now (rows .exit) ≡ over t (now (rows .entry)) (within m (length (now (rows .entry)))) ⌝ }
+// The first m rows go into the columns.
+pub fn lay(
+    rows: &[Mailbox],
+    m: usize,
+    ids: &mut [u64; 64],
+    attributes: &mut [u8; 64],
+    lens: &mut [u8; 64],
+    validities: &mut [u64; 64],
+    nexts: &mut [u64; 64],
+    names: &mut [u8; 4096],
+)
+    requires { ⌜ (m ≤ length (now rows)) × (m ≤ 64) ⌝ }
+    ensures { λ _. ⌜ Lays (now (rows .entry)) m (now (ids .entry)) (now (attributes .entry)) (now (lens .entry)) (now (validities .entry)) (now (nexts .entry)) (now (names .entry)) (now (ids .exit)) (now (attributes .exit)) (now (lens .exit)) (now (validities .exit)) (now (nexts .exit)) (now (names .exit)) ⌝ }
 {
-    let n = rows.len();
-    let e = reach(m, n);
     let mut i = 0;
-    while i < e {
-        rows[i] = t[i];
+    while i < m {
+        columns::keep(rows[i], i, ids, attributes, lens, validities, nexts, names);
         i += 1;
     }
 }
 
-// Row k becomes x, and then the first m rows become those of the array: what a step leaves of the table.
-pub fn write_back(rows: &mut [Mailbox], k: usize, x: Mailbox, t: [Mailbox; 64], m: usize)
-    ensures { λ _. ⌜ now (rows .exit) ≡ over t (set (now (rows .entry)) k x) (within m (length (now (rows .entry)))) ⌝ }
+// The rows behind `from` move up by one, as far as row k.
+pub fn move_up(rows: &mut [Mailbox], from: usize, k: usize)
+    requires { ⌜ (from ≤ k) × (from < k → k < length (now rows)) ⌝ }
+    ensures { λ _. ⌜ now (rows .exit) ≡ over (without from (now (rows .entry))) (now (rows .entry)) k ⌝ }
 {
+    let mut i = from;
+    while i < k {
+        rows[i] = rows[i + 1];
+        i += 1;
+    }
+}
+
+// The rows behind `from` move up, as far as row k, which becomes x: what a step leaves of the table.
+pub fn write_back(rows: &mut [Mailbox], from: usize, k: usize, x: Mailbox)
+    requires { ⌜ (from ≤ k) × (from < k → k < length (now rows)) ⌝ }
+    ensures { λ _. ⌜ now (rows .exit) ≡ set (over (without from (now (rows .entry))) (now (rows .entry)) k) k x ⌝ }
+{
+    move_up(rows, from, k);
     set_row(rows, k, x);
-    save(rows, t, m);
 }
 
 // ---- the array
@@ -69,6 +93,16 @@ pub fn reach(m: usize, n: usize) -> usize
         return 64;
     }
     if n < 64 { n } else { 64 }
+}
+
+// How many of the used rows there are, likewise.
+pub fn used_rows(used: u64, n: usize) -> usize
+    ensures { λ r. ⌜ r ≡ within used n ⌝ }
+{
+    if used < 64 {
+        return reach(used as usize, n);
+    }
+    reach(64, n)
 }
 
 // An array of empty rows.

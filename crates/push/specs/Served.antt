@@ -1,12 +1,12 @@
 -- The step's contract on the arrays that it is given, and what its parts need. Assumes nothing.
-use mathlib.Core.Path.{_≡_, refl, ap, ap₂, sym, _∙_}
+use mathlib.Core.Path.{_≡_, refl, ap, sym, _∙_}
 use mathlib.Core.Bool.{Bool, true, false}
-use mathlib.Core.List.{List, [], _∷_}
-use Prim.Native.Nat.{ℕ, zero, suc, _+_, _*_, _/_, _<_, _≤_}
+use mathlib.Core.List.{List}
+use Prim.Native.Nat.{ℕ, _*_, _/_, _≤_}
 use native.Mathlib.Omega.{arith}
 use lib.Dec.{leb}
 use lib.ListN.{length, take, getD, replicate, length-replicate}
-use lib.Seq.{getD-take, length-take-le, take-take}
+use lib.Seq.{length-take-le, take-take}
 use borrow.Author.Tests.{leb-true, leb-false, le-leb}
 use Rattle.model.specs.Records.{isRecord, recordOf}
 use Rattle.model.specs.Memory.{Memory, boxes, noMailbox, place, theMailbox}
@@ -21,8 +21,8 @@ use Rattle.model.specs.declared.Refusal.the-variants.{UnlawfulMemory, BadRecord
 use Rattle.demands.specs.Lasting.Law.{Law, law-out}
 use Rattle.entries.specs.Words.{messages, messages-count}
 use Rattle.rows.specs.Columns.{Laid}
-use Rattle.rows.specs.Walks.{any-default}
 use Rattle.lawful.specs.Lent.{Lent as Rows, memory}
+use Rattle.lent.specs.Standing.{Stands}
 use Rattle.mailboxes.specs.Free.{law-room}
 use Rattle.records.specs.declared.Kind.{Kind}
 use Rattle.records.specs.declared.Kind.the-variants.{Create, Delete, Rename, Subscribe, Grant, Arrive, Expunge, Reflag, Select, Ended, Command, Drained, Unknown}
@@ -63,6 +63,11 @@ Stepped rows lent ws k s q o r ws′ q′ =
     (t : List Mailbox) → Rows t rows lent
     → Steps (lentAs t ws k s q) o (r .answer) (lentAs (changed (r .change) (r .at) (r .row) (k .mailboxes) t) ws′ (r .counts) (r .session) q′)
 
+-- the columns have the used rows of `rows`
+pub record Seen (rows : List Mailbox) (k : Counts) (ids attributes lens validities nexts names : List ℕ) : Type 0 where
+  pub long : length rows ≡ 64
+  pub stands : Stands (take (k .mailboxes) rows) ids attributes lens validities nexts names
+
 pub comes-steps : (t : List Mailbox) (ws : List ℕ) (k : Counts) (s : Session) (q o : List ℕ) (r : Came) (ws′ q′ : List ℕ)
     → Comes (memory t (messages ws) k s q) (call (memory t (messages ws) k s q) o) r ws ws′ q′
     → Steps (lentAs t ws k s q) o (r .answer) (lentAs (changed (r .change) (r .at) (r .row) (k .mailboxes) t) ws′ (r .counts) (r .session) q′)
@@ -75,19 +80,9 @@ comes-steps t ws k s q o r ws′ q′ c = record {
   queue = c .queue;
 }
 
--- ---- row k of the first n
-pub row-none : (l : List Mailbox) (n k : ℕ) → n ≤ k → noMailbox ≡ getD (take n l) k noMailbox
-row-none l zero k h = refl
-row-none [] (suc n) k h = refl
-row-none (x ∷ l) (suc n) zero h = absurd (let z : ⊥ = omega arith in z)
-row-none (x ∷ l) (suc n) (suc k) h = row-none l n k (omega arith)
-
-pub row-some : (l : List Mailbox) (n k : ℕ) (d : Mailbox) → k < n → n ≤ length l → getD l k d ≡ getD (take n l) k noMailbox
-row-some l n k d h f = any-default l k d noMailbox (omega arith) ∙ sym (getD-take n l k noMailbox h)
-
 -- the mailbox that was found
-pub placed : (m : Memory) (rows : List Mailbox) (i k n : ℕ) (x : Mailbox) → boxes m ≡ take n rows → k ≡ place i (boxes m) → x ≡ getD (take n rows) k noMailbox → Placed m i k x
-placed m rows i k n x e at is = record { at = at; is = is ∙ ap₂ (λ (l : List Mailbox) (j : ℕ). getD l j noMailbox) (sym e) at }
+pub placed : (m : Memory) (i k : ℕ) (x : Mailbox) → k ≡ place i (boxes m) → x ≡ getD (boxes m) k noMailbox → Placed m i k x
+placed m i k x at is = record { at = at; is = is ∙ ap (λ (j : ℕ). getD (boxes m) j noMailbox) at }
 
 -- ---- a table that is lent as the code has it, whatever its length
 some-rows : (rows : List Mailbox) (lent : ℕ) → length rows ≡ 64 → (t : List Mailbox) × Rows t rows lent
@@ -131,11 +126,11 @@ module _ (rows : List Mailbox) (lent : ℕ) (ws : List ℕ) (k : Counts) (s : Se
         let l = w .long in
         ap (take (k .mailboxes)) (w .read (omega arith)) ∙ take-take (k .mailboxes) lent rows (omega arith)
 
-    module _ {ids attributes lens validities nexts names ws′ q′ : List ℕ} (laid : Laid (take (k .mailboxes) rows) ids attributes lens validities nexts names) where
+    module _ {ids attributes lens validities nexts names ws′ q′ : List ℕ} (stands : Stands (take (k .mailboxes) rows) ids attributes lens validities nexts names) where
       pub steps-served : ((t : List Mailbox) → Rows t rows lent → true ≡ lawful (mem t)) → isRecord o ≡ true
-          → ((m : Memory) → Lends m ws k s q → Law m → boxes m ≡ take (k .mailboxes) rows → length (m .rows) ≡ lent → Laid (boxes m) ids attributes lens validities nexts names → Comes m (ladder m (recordOf o)) r ws ws′ q′)
+          → ((m : Memory) → Lends m ws k s q → Law m → length (m .rows) ≡ lent → Stands (boxes m) ids attributes lens validities nexts names → Comes m (ladder m (recordOf o)) r ws ws′ q′)
           → Stepped rows lent ws k s q o r ws′ q′
       steps-served h b f = λ t w.
           let law = law-out (mem t) (sym (h t w)) in
           let u = used-rows t w law in
-          comes-steps t ws k s q o r ws′ q′ (rw (← call-ladder (mem t) o (sym (h t w)) b) (f (mem t) (lends t) law u (w .long) (rw u laid)))
+          comes-steps t ws k s q o r ws′ q′ (rw (← call-ladder (mem t) o (sym (h t w)) b) (f (mem t) (lends t) law (w .long) (rw u stands)))

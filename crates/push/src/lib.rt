@@ -12,17 +12,18 @@ use records::Received;
 ghost use mathlib.Core.Path.{_≡_};
 ghost use mathlib.Core.Bool.{true};
 ghost use mathlib.Core.List.{List};
-ghost use Prim.Native.Nat.{ℕ, _≤_, _<_, _/_};
-ghost use lib.ListN.{length, take, getD};
+ghost use Prim.Native.Nat.{_≤_, _/_};
+ghost use lib.ListN.{length};
 ghost use Rattle.model.specs.Records.{recordOf, kindOf};
-ghost use Rattle.model.specs.Memory.{Memory, boxes, noMailbox};
+ghost use Rattle.model.specs.Memory.{Memory, boxes};
+ghost use Rattle.model.specs.declared.Mailbox.{Mailbox};
 ghost use Rattle.demands.specs.Lasting.Law.{Law};
-ghost use Rattle.rows.specs.Columns.{Laid};
 ghost use Rattle.records.specs.Kinds.{kindFor};
 ghost use Rattle.records.specs.Reading.{Reads};
 ghost use Rattle.records.specs.Laws.{Says};
 ghost use Rattle.outcomes.specs.Coming.{Lends, Ready, Placed, Comes, ladder};
-ghost use Rattle.push.specs.Served.{Stepped, Serves, sought};
+ghost use Rattle.lent.specs.Standing.{Stands};
+ghost use Rattle.push.specs.Served.{Seen, Stepped, Serves, sought};
 
 // ---- the mailbox that a record is about
 
@@ -45,17 +46,6 @@ fn sought_id(kind: Kind, id: u64, selected: u16) -> u64
         Kind::Drained => rows::wide_id(selected),
         Kind::Unknown => id,
     }
-}
-
-// Row k of the first n, or none.
-fn row_at(table: [Mailbox; 64], n: usize, k: usize) -> Mailbox
-    requires { ⌜ n ≤ 64 ⌝ }
-    ensures { λ r. ⌜ r ≡ getD (take n table) k noMailbox ⌝ }
-{
-    if n <= k {
-        return rows::vacant();
-    }
-    table[k]
 }
 
 // ---- a record in lawful memory
@@ -154,7 +144,6 @@ fn dispatch(
 
 // The mailbox is found, and the record is served.
 fn serve(
-    table: [Mailbox; 64],
     lent: usize,
     ids: &[u64; 64],
     attributes: &[u8; 64],
@@ -170,7 +159,7 @@ fn serve(
     r: Received,
 ) -> Outcome
     requires { ⌜ Ready (now words) counts s (now queue) × (length (now words) / 5 ≤ 1024) × Reads (now octets) r × (r .valid ≡ true) ⌝ }
-    ensures { λ z. ⌜ ((m : Memory) → Lends m (now (words .entry)) counts s (now (queue .entry)) → Law m → boxes m ≡ take (counts .mailboxes) table → length (m .rows) ≡ lent → Laid (boxes m) (now (ids .entry)) (now (attributes .entry)) (now (lens .entry)) (now (validities .entry)) (now (nexts .entry)) (now (names .entry)) → Comes m (ladder m (recordOf (now (octets .entry)))) z (now (words .entry)) (now (words .exit)) (now (queue .exit))) ⌝ }
+    ensures { λ z. ⌜ ((m : Memory) → Lends m (now (words .entry)) counts s (now (queue .entry)) → Law m → length (m .rows) ≡ lent → Stands (boxes m) (now (ids .entry)) (now (attributes .entry)) (now (lens .entry)) (now (validities .entry)) (now (nexts .entry)) (now (names .entry)) → Comes m (ladder m (recordOf (now (octets .entry)))) z (now (words .entry)) (now (words .exit)) (now (queue .exit))) ⌝ }
 {
     let n = counts.mailboxes as usize;
     let values = r.values;
@@ -178,7 +167,7 @@ fn serve(
     let kind = r.kind;
     let id = sought_id(kind, values[0], s.selected);
     let k = rows::find(ids, n, id);
-    let x = row_at(table, n, k);
+    let x = lent::columns::row_at(ids, attributes, lens, validities, nexts, names, n, k);
     dispatch(
         kind,
         values,
@@ -202,9 +191,8 @@ fn serve(
 
 // ---- refusals 1 and 2
 
-// A record on memory whose used rows come by columns.
-fn decide(
-    table: [Mailbox; 64],
+// A record on memory whose used rows come by columns; `lent` rows are lent.
+pub fn decide(
     lent: usize,
     ids: &[u64; 64],
     attributes: &[u8; 64],
@@ -218,8 +206,8 @@ fn decide(
     queue: &mut [u8],
     octets: &[u8],
 ) -> Outcome
-    requires { ⌜ Laid (take (counts .mailboxes) table) (now ids) (now attributes) (now lens) (now validities) (now nexts) (now names) ⌝ }
-    ensures { λ r. ⌜ Stepped table lent (now (words .entry)) counts s (now (queue .entry)) (now (octets .entry)) r (now (words .exit)) (now (queue .exit)) ⌝ }
+    requires { ⌜ ((rows : List Mailbox) × Seen rows counts (now ids) (now attributes) (now lens) (now validities) (now nexts) (now names)) ⌝ }
+    ensures { λ r. ⌜ ((rows : List Mailbox) → Seen rows counts (now (ids .entry)) (now (attributes .entry)) (now (lens .entry)) (now (validities .entry)) (now (nexts .entry)) (now (names .entry)) → Stepped rows lent (now (words .entry)) counts s (now (queue .entry)) (now (octets .entry)) r (now (words .exit)) (now (queue .exit))) ⌝ }
 {
     let room = queue.len();
     if !lawful::is_lawful(
@@ -242,7 +230,6 @@ fn decide(
         return outcomes::refused(Refusal::BadRecord, counts, s);
     }
     serve(
-        table,
         lent,
         ids,
         attributes,
@@ -288,7 +275,6 @@ pub fn step(
         &mut names,
     );
     decide(
-        table,
         lent,
         &ids,
         &attributes,

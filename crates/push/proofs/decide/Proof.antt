@@ -20,8 +20,8 @@ same-length c = search needs
 returns : tie.Need-returns
 returns c =
     let a = c .before .before .before .before .before .before .before .args in
-    steps-unlawful (a .table) (a .lent) (a .words .now) (a .counts) (a .s) (a .queue .now) (a .octets .now) _
-    (λ t w. sym (not-true _ (c .before .if1 .taken)) ∙ c .before .before .is-lawful .ensures t (a .table) (a .queue .now) w (c .before .before .before .before .before .before .before .pre) refl)
+    λ rows seen. steps-unlawful rows (a .lent) (a .words .now) (a .counts) (a .s) (a .queue .now) (a .octets .now) _
+    (λ t w. sym (not-true _ (c .before .if1 .taken)) ∙ c .before .before .is-lawful .ensures t rows (a .queue .now) w (seen .stands .laid) refl)
     (c .refused .ensures)
 
 read-requires : tie.Need-read-requires
@@ -36,16 +36,17 @@ same-length-2 c = search needs
 returns-2 : tie.Need-returns-2
 returns-2 c =
     let a = c .before .before .before .before .before .before .before .before .before .before .args in
-    steps-bad (a .table) (a .lent) (a .words .now) (a .counts) (a .s) (a .queue .now) (a .octets .now) _
-    (λ t w. sym (not-false _ (c .before .before .before .before .if1 .left)) ∙ c .before .before .before .before .before .is-lawful .ensures t (a .table) (a .queue .now) w (c .before .before .before .before .before .before .before .before .before .before .pre) refl)
+    λ rows seen. steps-bad rows (a .lent) (a .words .now) (a .counts) (a .s) (a .queue .now) (a .octets .now) _
+    (λ t w. sym (not-false _ (c .before .before .before .before .if1 .left)) ∙ c .before .before .before .before .before .is-lawful .ensures t rows (a .queue .now) w (seen .stands .laid) refl)
     (read-refused (c .before .before .before .read .ensures) (not-true _ (c .before .if2 .taken)))
     (c .refused2 .ensures)
 
 serve-requires : tie.Need-serve-requires
 serve-requires c κs =
     let a = c .before .before .before .before .before .before .before .before .before .before .before .args in
-    let l = law-ready (a .table) (a .lent) (a .words .now) (a .counts) (a .s) (a .queue .now) (c .before .before .before .before .before .before .before .before .before .before .before .good .0 .1 .0 .1)
-    (λ t w. sym (c .before .before .before .before .before .before .is-lawful .ensures t (a .table) (a .queue .now) w (c .before .before .before .before .before .before .before .before .before .before .before .pre) refl) ∙ not-false _ (c .before .before .before .before .before .if1 .left)) in
+    let p = c .before .before .before .before .before .before .before .before .before .before .before .pre in
+    let l = law-ready (p .0) (a .lent) (a .words .now) (a .counts) (a .s) (a .queue .now) (p .1 .long)
+    (λ t w. sym (c .before .before .before .before .before .before .is-lawful .ensures t (p .0) (a .queue .now) w (p .1 .stands .laid) refl) ∙ not-false _ (c .before .before .before .before .before .if1 .left)) in
     (l .0, l .1, c .before .before .before .before .read .ensures, not-false _ (c .before .before .if2 .left))
 
 same-length-3 : tie.Need-same-length-3
@@ -57,8 +58,8 @@ same-length-4 c = search needs
 returns-3 : tie.Need-returns-3
 returns-3 c =
     let a = c .before .before .before .before .before .before .before .before .before .before .before .before .before .before .before .before .args in
-    steps-served (a .table) (a .lent) (a .words .now) (a .counts) (a .s) (a .queue .now) (a .octets .now) _ (c .before .before .before .before .before .before .before .before .before .before .before .before .before .before .before .before .pre)
-    (λ t w. sym (not-false _ (c .before .before .before .before .before .before .before .before .before .before .if1 .left)) ∙ c .before .before .before .before .before .before .before .before .before .before .before .is-lawful .ensures t (a .table) (a .queue .now) w (c .before .before .before .before .before .before .before .before .before .before .before .before .before .before .before .before .pre) refl)
+    λ rows seen. steps-served rows (a .lent) (a .words .now) (a .counts) (a .s) (a .queue .now) (a .octets .now) _ (seen .stands)
+    (λ t w. sym (not-false _ (c .before .before .before .before .before .before .before .before .before .before .if1 .left)) ∙ c .before .before .before .before .before .before .before .before .before .before .before .is-lawful .ensures t rows (a .queue .now) w (seen .stands .laid) refl)
     (sym (c .before .before .before .before .before .before .before .before .before .read .ensures .valid) ∙ not-false _ (c .before .before .before .before .before .before .before .if2 .left))
     (c .before .before .before .before .serve .ensures)
 

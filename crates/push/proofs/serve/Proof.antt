@@ -36,12 +36,13 @@ same-length-2 c = search needs
 returns : tie.Need-returns
 returns c =
     let a = c .before .before .before .before .before .before .before .before .before .before .before .before .before .before .args in
-    λ m lends law e len laid.
+    let id = c .before .before .before .before .before .before .before .before .before .sought-id in
+    let found = c .before .before .before .before .before .before .before .before .find in
+    let x = c .before .before .before .before .before .before .before .row-at in
+    λ m lends law len stands.
     let long : length (boxes m) ≡ a .counts .mailboxes = boxes-long m (leb-true _ _ (law .used)) ∙ ap (λ (j : Counts). j .mailboxes) (lends .counts) in
-    let w : Placed m (c .before .before .before .before .before .before .before .before .before .sought-id .result) (c .before .before .before .before .before .before .before .before .find .result) (c .before .before .before .before .before .before .before .row-at .result) =
-    placed m (a .table) (c .before .before .before .before .before .before .before .before .before .sought-id .result) (c .before .before .before .before .before .before .before .before .find .result) (a .counts .mailboxes) (c .before .before .before .before .before .before .before .row-at .result) e
-    (c .before .before .before .before .before .before .before .before .find .ensures .0 (boxes m) long (laid .id)) (c .before .before .before .before .before .before .before .row-at .ensures) in
-    c .before .before .before .before .dispatch .ensures m lends law len (rw (← c .before .before .before .before .before .before .before .before .before .sought-id .ensures) w) laid
+    let w : Placed m (id .result) (found .result) (x .result) = placed m (id .result) (found .result) (x .result) (found .ensures .0 (boxes m) long (stands .laid .id)) (x .ensures (boxes m) long stands) in
+    c .before .before .before .before .dispatch .ensures m lends law len (rw (← id .ensures) w) (stands .laid)
 
 pub serve-spec : {M : Type 1} → statement M
 serve-spec =

@@ -3,6 +3,8 @@
 use matching::Probe;
 use model::MessageNumber;
 use model::Uid;
+use order::links::by_uid;
+use order::links::link;
 ghost use mathlib.Core.Path.{_≡_};
 ghost use Prim.Native.Nat.{_+_, _*_, _≤_, _<_};
 ghost use lib.Dec.{ltb};
@@ -10,7 +12,7 @@ ghost use lib.ListN.{length, take, getD};
 ghost use Rattle.model.specs.Lists.{filterb};
 ghost use Rattle.model.specs.Memory.{noMessage, uidOf, messagesOf};
 ghost use Rattle.entries.specs.Words.{messages};
-ghost use Rattle.order.specs.Chosen.{chosen};
+ghost use Rattle.order.specs.Links.{Linked};
 ghost use Rattle.found.specs.Finds.{Pushed, Hits, Finds, Keeps};
 ghost use Rattle.found.specs.Searched.{Searched, told};
 ghost use Rattle.found.specs.Runs.{RowSearched, Found};
@@ -109,15 +111,17 @@ pub fn search_box(
     words: &[u64],
     used: usize,
     id: u64,
+    heads: &[usize; 256],
+    next: &[usize],
     cells: &[u64],
     filled: usize,
     order: &mut [usize],
     uids: &mut [u64],
 ) -> usize
-    requires { ⌜ ((used * 5 ≤ length (now words)) × (used ≤ length (now order))) × ((used ≤ length (now uids)) × (filled ≤ length (now cells))) ⌝ }
+    requires { ⌜ ((used * 5 ≤ length (now words)) × (used ≤ length (now order))) × ((used ≤ length (now uids)) × (filled ≤ length (now cells))) × ((used ≤ length (now next)) × Linked (messages (now words)) used (now heads) (now next)) ⌝ }
     ensures { λ r. ⌜ Searched used (messagesOf id (take used (messages (now (words .entry))))) (now (cells .entry)) filled (now (uids .exit)) r ⌝ }
 {
-    let n = order::by_uid(words, used, id, order);
+    let n = by_uid(words, used, id, heads, next, order);
     find(words, order, n, cells, filled, uids)
 }
 
@@ -126,6 +130,8 @@ pub fn search_view(
     words: &[u64],
     used: usize,
     id: u64,
+    heads: &[usize; 256],
+    next: &[usize],
     below: Uid,
     cells: &[u64],
     filled: usize,
@@ -133,10 +139,10 @@ pub fn search_view(
     view: &mut [usize],
     uids: &mut [u64],
 ) -> usize
-    requires { ⌜ ((used * 5 ≤ length (now words)) × ((used ≤ length (now order)) × (used ≤ length (now view)))) × ((used ≤ length (now uids)) × (filled ≤ length (now cells))) ⌝ }
+    requires { ⌜ ((used * 5 ≤ length (now words)) × ((used ≤ length (now order)) × (used ≤ length (now view)))) × ((used ≤ length (now uids)) × (filled ≤ length (now cells))) × ((used ≤ length (now next)) × Linked (messages (now words)) used (now heads) (now next)) ⌝ }
     ensures { λ r. ⌜ Searched used (told (below .0) (messagesOf id (take used (messages (now (words .entry)))))) (now (cells .entry)) filled (now (uids .exit)) r ⌝ }
 {
-    let n = order::by_uid(words, used, id, order);
+    let n = by_uid(words, used, id, heads, next, order);
     let v = told_of(words, order, n, below, view);
     find(words, view, v, cells, filled, uids)
 }
@@ -146,6 +152,8 @@ fn search_row(
     words: &[u64],
     used: usize,
     id: u64,
+    heads: &[usize; 256],
+    next: &[usize],
     selected: u64,
     below: Uid,
     cells: &[u64],
@@ -154,13 +162,25 @@ fn search_row(
     view: &mut [usize],
     uids: &mut [u64],
 ) -> usize
-    requires { ⌜ ((used * 5 ≤ length (now words)) × ((used ≤ length (now order)) × (used ≤ length (now view)))) × ((used ≤ length (now uids)) × (filled ≤ length (now cells))) ⌝ }
+    requires { ⌜ ((used * 5 ≤ length (now words)) × ((used ≤ length (now order)) × (used ≤ length (now view)))) × ((used ≤ length (now uids)) × (filled ≤ length (now cells))) × ((used ≤ length (now next)) × Linked (messages (now words)) used (now heads) (now next)) ⌝ }
     ensures { λ r. ⌜ (RowSearched (take used (messages (now (words .entry)))) id selected (below .0) (now (cells .entry)) filled (now (uids .exit)) r) × (r ≤ used) ⌝ }
 {
     if sources::is_selected(id, selected) {
-        return search_view(words, used, id, below, cells, filled, order, view, uids);
+        return search_view(
+            words,
+            used,
+            id,
+            heads,
+            next,
+            below,
+            cells,
+            filled,
+            order,
+            view,
+            uids,
+        );
     }
-    search_box(words, used, id, cells, filled, order, uids)
+    search_box(words, used, id, heads, next, cells, filled, order, uids)
 }
 
 // A place with room for 1,024 behind it.
@@ -194,6 +214,9 @@ pub fn find_runs(
     requires { ⌜ ((used * 5 ≤ length (now words)) × ((used ≤ 1024) × (filled ≤ length (now cells)))) × ((used ≤ length (now order)) × (used ≤ length (now view)) × (2048 ≤ length (now uids))) × ((n ≤ length (now rows)) × (n ≤ length (now starts)) × (n ≤ length (now counts))) × (n ≤ 64) ⌝ }
     ensures { λ _. ⌜ Found (take used (messages (now (words .entry)))) (now (ids .entry)) (now (rows .entry)) n selected (below .0) (now (cells .entry)) filled (now (uids .exit)) (now (starts .exit)) (now (counts .exit)) ⌝ }
 {
+    let mut heads = [0usize; 256];
+    let mut next = [0usize; 1024];
+    link(words, used, &mut heads, &mut next);
     let mut i = n;
     let mut total = 0;
     while 0 < i {
@@ -204,6 +227,8 @@ pub fn find_runs(
             words,
             used,
             id,
+            &heads,
+            &next,
             selected,
             below,
             cells,

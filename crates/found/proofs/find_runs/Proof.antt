@@ -4,27 +4,37 @@ use Rattle.found.proofs.find_runs.Reads as reads
 use Rattle.found.proofs.find_runs.Lts as lts
 use Rattle.found.proofs.search_row.Reads as search-row-reads
 use Rattle.found.proofs.within.Reads as within-reads
+use Rattle.order.proofs.links.link.Reads as link-reads
 use mathlib.Core.Path.{_≡_, refl, sym, ap, _∙_}
 use native.Mathlib.Omega.{arith}
 use Prim.Native.Nat.{ℕ, _≤_, _-_, _<_, _+_}
 use lib.ListN.{length, take, drop, length-set, length-drop}
 use Rattle.entries.specs.Words.{messages}
-use Rattle.found.specs.Runs.{Finding, finding-start, finding-next, finding-end}
+use Rattle.found.specs.Runs.{Finding, finding-start, finding-next, finding-end, row-longer, idAt}
 use borrow.Author.Needs.{needs}
 use borrow.Rule.Slice.PartMut.{mid-len}
-use Rattle.found.specs.Runs.{row-longer, idAt}
 
 abbrev Inv-loop : tie.InvT-loop
-Inv-loop words used selected below ids rows n cells filled order₀ view₀ uids₀ starts₀ counts₀ i₀ total₀ order view uids starts counts i total =
+Inv-loop words used selected below ids rows n cells filled order₀ view₀ uids₀ starts₀ counts₀ heads next i₀ total₀ order view uids starts counts i total =
     (i ≤ n) × ((length order ≡ length order₀) × (length view ≡ length view₀)) × (length uids ≡ length uids₀) × ((length starts ≡ length starts₀) × (length counts ≡ length counts₀)) × Finding (take used (messages words)) ids rows n selected (below .0) cells filled uids starts counts i total
 
 abbrev μ-loop : tie.MeasureT-loop
-μ-loop words used selected below ids rows n cells filled order₀ view₀ uids₀ starts₀ counts₀ i₀ total₀ order view uids starts counts i total =
+μ-loop words used selected below ids rows n cells filled order₀ view₀ uids₀ starts₀ counts₀ heads next i₀ total₀ order view uids starts counts i total =
     i
+
+-- src/lib.rt:219:35
+slice-aggregate-link : tie.Need-slice-aggregate-link Inv-loop μ-loop
+slice-aggregate-link c = search needs
+
+-- src/lib.rt:219:5
+link-requires : tie.Need-link-requires Inv-loop μ-loop
+link-requires c κs = (c .before .before .before .before .before .before .before .before .before .before .pre .0 .0, c .before .before .before .before .before .before .before .before .before .before .pre .0 .1 .0, refl)
 
 -- src/lib.rt:216:5
 loop-holds : tie.Need-loop-holds Inv-loop μ-loop
-loop-holds c = (omega arith, (refl, refl), refl, (refl, refl), finding-start (take (c .before .before .before .before .before .before .before .before .args .used) (messages (c .before .before .before .before .before .before .before .before .args .words .now))) (c .before .before .before .before .before .before .before .before .args .ids .now) (c .before .before .before .before .before .before .before .before .args .rows .now) (c .before .before .before .before .before .before .before .before .args .n) (c .before .before .before .before .before .before .before .before .args .selected) (c .before .before .before .before .before .before .before .before .args .below .0) (c .before .before .before .before .before .before .before .before .args .cells .now) (c .before .before .before .before .before .before .before .before .args .filled) _ _ _)
+loop-holds c =
+    let a = c .before .before .before .before .before .before .before .before .before .before .before .before .args in
+    (omega arith, (refl, refl), refl, (refl, refl), finding-start (take (a .used) (messages (a .words .now))) (a .ids .now) (a .rows .now) (a .n) (a .selected) (a .below .0) (a .cells .now) (a .filled) _ _ _)
 
 -- src/lib.rt:217:9
 sub-i : tie.Need-sub-i Inv-loop μ-loop
@@ -50,6 +60,10 @@ element-copy-out-id c = search needs
 within-requires : tie.Need-within-requires Inv-loop μ-loop
 within-requires c κs = search needs
 
+-- src/lib.rt:231:13
+slice-aggregate-search-row : tie.Need-slice-aggregate-search-row Inv-loop μ-loop
+slice-aggregate-search-row c = search needs
+
 -- src/lib.rt:220:90
 mul-search-row : tie.Need-mul-search-row Inv-loop μ-loop
 mul-search-row c = search needs
@@ -66,29 +80,58 @@ part-search-row-start c = search needs
 part-search-row-end : tie.Need-part-search-row-end Inv-loop μ-loop
 part-search-row-end c = search needs
 
--- src/lib.rt:220:13
+-- src/lib.rt:226:13
 search-row-requires : tie.Need-search-row-requires Inv-loop μ-loop
-search-row-requires c κs = let l = c .before .before .before .before .before .before .before .loop .inv .2 in let w = c .before .before .before .within .ensures .0 in let p = c .before .before .before .before .before .before .before .before .before .before .before .before .before .before .before .before .pre .1 .2 in let u = c .before .before .before .before .before .before .before .before .before .before .before .before .before .before .before .before .pre .0 .1 .0 in let m = mid-len (c .before .before .before .within .result) (length (c .before .before .before .before .before .before .before .loop .uids)) (c .before .before .before .before .before .before .before .loop .uids) (omega arith) in let y : c .before .before .before .before .before .before .before .before .before .before .before .before .before .before .before .before .args .used ≤ length (take (length (c .before .before .before .before .before .before .before .loop .uids) - c .before .before .before .within .result) (drop (c .before .before .before .within .result) (c .before .before .before .before .before .before .before .loop .uids))) = omega arith in ((search needs, (search needs, search needs)), (y, search needs))
+search-row-requires c κs =
+    let a = c .before .before .before .before .before .before .before .before .before .before .before .before .before .before .before .before .before .before .before .before .before .before .args in
+    let q = c .before .before .before .before .before .before .before .before .before .before .before .before .before .before .before .before .before .before .before .before .before .before .pre in
+    let v = c .before .before .before .before .before .before .before .before .before .loop in
+    let f = c .before .before .before .before .before .within .result in
+    let l = v .inv .2 in
+    let lo = v .inv .1 .0 in
+    let lv = v .inv .1 .1 in
+    let o = q .1 .0 in
+    let e = q .1 .1 in
+    let p = q .1 .2 in
+    let u = q .0 .1 .0 in
+    let w = c .before .before .before .before .before .within .ensures .0 in
+    let m = mid-len f (length (v .uids)) (v .uids) (omega arith) in
+    let y : a .used ≤ length (take (length (v .uids) - f) (drop f (v .uids))) = omega arith in
+    ((q .0 .0, (omega arith, omega arith)), (y, q .0 .1 .1), (omega (arith, c .before .before .before .before .before .before .before .before .before .before .next2 .given), c .before .before .before .before .before .before .before .before .before .before .before .link .ensures))
 
 -- src/lib.rt:221:9
 mul-starts : tie.Need-mul-starts Inv-loop μ-loop
-mul-starts c = omega (arith, c .before .before .before .before .before .before .before .before .before .before .before .before .before .before .before .before .before .before .before .before .before .before .before .pre .3, c .before .before .before .before .before .before .before .before .before .before .before .before .before .before .loop .inv .0)
+mul-starts c = omega (arith, c .before .before .before .before .before .before .before .before .before .before .before .before .before .before .before .before .before .before .before .before .before .before .before .before .before .before .before .before .before .pre .3, c .before .before .before .before .before .before .before .before .before .before .before .before .before .before .before .before .loop .inv .0)
 
 -- src/lib.rt:221:9
 slice-write-starts : tie.Need-slice-write-starts Inv-loop μ-loop
-slice-write-starts c = search needs
+slice-write-starts c =
+    let h = c .before .before .before .before .before .before .before .before .before .before .before .before .before .before .before .loop-test .taken in
+    let i = c .before .before .before .before .before .before .before .before .before .before .before .before .before .before .before .before .loop .inv .0 in
+    let l = c .before .before .before .before .before .before .before .before .before .before .before .before .before .before .before .before .loop .inv .3 in
+    let p = c .before .before .before .before .before .before .before .before .before .before .before .before .before .before .before .before .before .before .before .before .before .before .before .before .before .before .before .before .before .pre .2 in
+    omega arith
 
 -- src/lib.rt:222:9
 mul-counts : tie.Need-mul-counts Inv-loop μ-loop
-mul-counts c = omega (arith, c .before .before .before .before .before .before .before .before .before .before .before .before .before .before .before .before .before .before .before .before .before .before .before .pre .3, c .before .before .before .before .before .before .before .before .before .before .before .before .before .before .loop .inv .0)
+mul-counts c = omega (arith, c .before .before .before .before .before .before .before .before .before .before .before .before .before .before .before .before .before .before .before .before .before .before .before .before .before .before .before .before .before .pre .3, c .before .before .before .before .before .before .before .before .before .before .before .before .before .before .before .before .loop .inv .0)
 
 -- src/lib.rt:222:9
 slice-write-counts : tie.Need-slice-write-counts Inv-loop μ-loop
-slice-write-counts c = search needs
+slice-write-counts c =
+    let h = c .before .before .before .before .before .before .before .before .before .before .before .before .before .before .before .loop-test .taken in
+    let i = c .before .before .before .before .before .before .before .before .before .before .before .before .before .before .before .before .loop .inv .0 in
+    let l = c .before .before .before .before .before .before .before .before .before .before .before .before .before .before .before .before .loop .inv .3 in
+    let p = c .before .before .before .before .before .before .before .before .before .before .before .before .before .before .before .before .before .before .before .before .before .before .before .before .before .before .before .before .before .pre .2 in
+    omega arith
 
 -- src/lib.rt:223:17
 add-total : tie.Need-add-total Inv-loop μ-loop
-add-total c = search needs
+add-total c =
+    let w = c .before .before .before .before .before .before .before .before .before .before .before .before .within .ensures .0 in
+    let r = c .before .before .before .before .before .before .search-row .ensures .1 in
+    let u = c .before .before .before .before .before .before .before .before .before .before .before .before .before .before .before .before .before .before .before .before .before .before .before .before .before .before .before .before .before .pre .0 .1 .0 in
+    record { fits = omega arith }
 
 -- src/lib.rt:216:5
 loop-less : tie.Need-loop-less Inv-loop μ-loop
@@ -97,25 +140,30 @@ loop-less c = search needs
 -- src/lib.rt:216:5
 loop-again : tie.Need-loop-again Inv-loop μ-loop
 loop-again c =
-    let es = take (c .before .before .before .before .before .before .before .before .before .before .before .before .before .before .before .before .before .before .before .before .before .before .before .args .used) (messages (c .before .before .before .before .before .before .before .before .before .before .before .before .before .before .before .before .before .before .before .before .before .before .before .args .words .now)) in
-    let l = c .before .before .before .before .before .before .before .before .before .before .before .before .before .before .loop .inv .2 in
-    let w = c .before .before .before .before .before .before .before .before .before .before .within .ensures .0 in
-    let p = c .before .before .before .before .before .before .before .before .before .before .before .before .before .before .before .before .before .before .before .before .before .before .before .pre .1 .2 in
-    let u = c .before .before .before .before .before .before .before .before .before .before .before .before .before .before .before .before .before .before .before .before .before .before .before .pre .0 .1 .0 in
-    let f = c .before .before .before .before .before .before .search-row .ensures .1 in
-    let i = c .before .before .before .before .before .before .before .before .before .before .before .before .before .before .loop .inv .0 in
-    let ls = c .before .before .before .before .before .before .before .before .before .before .before .before .before .before .loop .inv .3 .0 in
-    let lc = c .before .before .before .before .before .before .before .before .before .before .before .before .before .before .loop .inv .3 .1 in
-    let ns = c .before .before .before .before .before .before .before .before .before .before .before .before .before .before .before .before .before .before .before .before .before .before .before .pre .2 .1 in
-    let nc = c .before .before .before .before .before .before .before .before .before .before .before .before .before .before .before .before .before .before .before .before .before .before .before .pre .2 .2 in
-    let h : 0 < c .before .before .before .before .before .before .before .before .before .before .before .before .before .before .loop .i = search needs in
-    let m = c .before .uids .given .0 ∙ mid-len (c .before .before .before .before .before .before .before .before .before .before .within .result) (length (c .before .before .before .before .before .before .before .before .before .before .before .before .before .before .loop .uids)) (c .before .before .before .before .before .before .before .before .before .before .before .before .before .before .loop .uids) (omega arith) in (
+    let a = c .before .before .before .before .before .before .before .before .before .before .before .before .before .before .before .before .before .before .before .before .before .before .before .before .before .before .before .before .before .args in
+    let q = c .before .before .before .before .before .before .before .before .before .before .before .before .before .before .before .before .before .before .before .before .before .before .before .before .before .before .before .before .before .pre in
+    let v = c .before .before .before .before .before .before .before .before .before .before .before .before .before .before .before .before .loop in
+    let z = c .before .before .before .before .before .before .before .before .before .before .before .before .within in
+    let s = c .before .before .before .before .before .before .search-row in
+    let es = take (a .used) (messages (a .words .now)) in
+    let l = v .inv .2 in
+    let w = z .ensures .0 in
+    let p = q .1 .2 in
+    let u = q .0 .1 .0 in
+    let f = s .ensures .1 in
+    let i = v .inv .0 in
+    let ls = v .inv .3 .0 in
+    let lc = v .inv .3 .1 in
+    let ns = q .2 .1 in
+    let nc = q .2 .2 in
+    let h = c .before .before .before .before .before .before .before .before .before .before .before .before .before .before .before .loop-test .taken in
+    let m = c .before .uids .given .0 ∙ mid-len (z .result) (length (v .uids)) (v .uids) (omega arith) in (
       search needs,
       (search needs, search needs),
       c .before .uids .given .1 ∙ l,
       (search needs, search needs),
-      finding-next es (c .before .before .before .before .before .before .before .before .before .before .before .before .before .before .before .before .before .before .before .before .before .before .before .args .ids .now) (c .before .before .before .before .before .before .before .before .before .before .before .before .before .before .before .before .before .before .before .before .before .before .before .args .rows .now) (c .before .before .before .before .before .before .before .before .before .before .before .before .before .before .before .before .before .before .before .before .before .before .before .args .n) (c .before .before .before .before .before .before .before .before .before .before .before .before .before .before .before .before .before .before .before .before .before .before .before .args .selected) (c .before .before .before .before .before .before .before .before .before .before .before .before .before .before .before .before .before .before .before .before .before .before .before .args .below .0) (c .before .before .before .before .before .before .before .before .before .before .before .before .before .before .before .before .before .before .before .before .before .before .before .args .cells .now) (c .before .before .before .before .before .before .before .before .before .before .before .before .before .before .before .before .before .before .before .before .before .before .before .args .filled) (c .before .before .before .before .before .before .before .before .before .before .before .before .before .before .loop .uids) (c .before .before .before .before .before .before .before .before .before .before .before .before .before .before .loop .starts) (c .before .before .before .before .before .before .before .before .before .before .before .before .before .before .loop .counts) (c .before .before .before .before .before .before .before .before .before .before .before .before .before .before .loop .i) (c .before .before .before .before .before .before .before .before .before .before .before .before .before .before .loop .total) (c .before .before .before .before .before .before .before .before .before .before .before .before .before .before .loop .inv .4) h i (omega arith) (omega arith) (c .before .before .before .before .before .before .before .before .before .before .within .result) w (omega arith) (c .before .before .before .before .before .before .before .before .before .before .within .ensures .1) _ (c .before .before .before .before .before .before .search-row .result) (omega arith)
-          (row-longer es (idAt (c .before .before .before .before .before .before .before .before .before .before .before .before .before .before .before .before .before .before .before .before .before .before .before .args .ids .now) (c .before .before .before .before .before .before .before .before .before .before .before .before .before .before .before .before .before .before .before .before .before .before .before .args .rows .now) (c .before .before .before .before .before .before .before .before .before .before .before .before .before .before .loop .i - 1)) (c .before .before .before .before .before .before .before .before .before .before .before .before .before .before .before .before .before .before .before .before .before .before .before .args .selected) (c .before .before .before .before .before .before .before .before .before .before .before .before .before .before .before .before .before .before .before .before .before .before .before .args .below .0) (c .before .before .before .before .before .before .before .before .before .before .before .before .before .before .before .before .before .before .before .before .before .before .before .args .cells .now) (c .before .before .before .before .before .before .before .before .before .before .before .before .before .before .before .before .before .before .before .before .before .before .before .args .filled) _ (c .before .before .before .before .before .before .search-row .result) (c .before .before .before .before .before .before .search-row .ensures .0) (omega arith) _),
+      finding-next es (a .ids .now) (a .rows .now) (a .n) (a .selected) (a .below .0) (a .cells .now) (a .filled) (v .uids) (v .starts) (v .counts) (v .i) (v .total) (v .inv .4) h i (omega arith) (omega arith) (z .result) w (omega arith) (z .ensures .1) _ (s .result) (omega arith)
+          (row-longer es (idAt (a .ids .now) (a .rows .now) (v .i - 1)) (a .selected) (a .below .0) (a .cells .now) (a .filled) _ (s .result) (s .ensures .0) (omega arith) _),
     )
 
 -- src/lib.rt:195:1
@@ -140,7 +188,9 @@ same-length-5 c = search needs
 
 -- src/lib.rt:195:1
 returns : tie.Need-returns Inv-loop μ-loop
-returns c = finding-end (take (c .before .before .before .before .before .before .before .before .before .before .args .used) (messages (c .before .before .before .before .before .before .before .before .before .before .args .words .now))) (c .before .before .before .before .before .before .before .before .before .before .args .ids .now) (c .before .before .before .before .before .before .before .before .before .before .args .rows .now) (c .before .before .before .before .before .before .before .before .before .before .args .n) (c .before .before .before .before .before .before .before .before .before .before .args .selected) (c .before .before .before .before .before .before .before .before .before .before .args .below .0) (c .before .before .before .before .before .before .before .before .before .before .args .cells .now) (c .before .before .before .before .before .before .before .before .before .before .args .filled) _ _ _ (c .before .loop .i) (c .before .loop .total) (omega arith) (c .before .loop .inv .4)
+returns c =
+    let a = c .before .before .before .before .before .before .before .before .before .before .before .before .before .before .args in
+    finding-end (take (a .used) (messages (a .words .now))) (a .ids .now) (a .rows .now) (a .n) (a .selected) (a .below .0) (a .cells .now) (a .filled) _ _ _ (c .before .loop .i) (c .before .loop .total) (omega arith) (c .before .loop .inv .4)
 
 pub find-runs-spec : {M : Type 1} → statement M
 find-runs-spec =
@@ -148,6 +198,8 @@ find-runs-spec =
     (tie.spec
     Inv-loop
     μ-loop
+    slice-aggregate-link
+    link-requires
     loop-holds
     sub-i
     mul-id
@@ -155,6 +207,7 @@ find-runs-spec =
     mul-id-2
     element-copy-out-id
     within-requires
+    slice-aggregate-search-row
     mul-search-row
     sub-search-row
     part-search-row-start

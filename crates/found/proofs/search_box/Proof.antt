@@ -4,7 +4,7 @@ use Rattle.found.proofs.search_box.Tie as tie
 use Rattle.found.proofs.search_box.Reads as reads
 use Rattle.found.proofs.search_box.Lts as lts
 use Rattle.found.proofs.find.Reads as find-reads
-use Rattle.order.proofs.by_uid.Reads as by-uid-reads
+use Rattle.order.proofs.links.by_uid.Reads as by-uid-reads
 use Rattle.found.specs.Searched.{order-few, box-searched, view-searched}
 use Rattle.entries.specs.Words.{messages}
 use native.Mathlib.Omega.{arith}
@@ -15,7 +15,10 @@ by-uid-requires c κs = search needs
 
 -- src/lib.rt:23:5
 find-requires : tie.Need-find-requires
-find-requires c κs = let a = order-few (messages (c .before .before .before .before .before .before .before .before .before .before .args .words .now)) (c .before .before .before .before .before .before .before .before .before .before .args .used) (c .before .before .before .before .before .before .before .before .before .before .args .id) _ (c .before .before .before .before .by-uid .result) (c .before .before .before .before .by-uid .ensures) in (omega arith, omega arith, c .before .before .before .before .before .before .before .before .before .before .pre .1 .1)
+find-requires c κs =
+    let a = c .before .before .before .before .before .before .before .before .before .before .before .args in
+    let f = order-few (messages (a .words .now)) (a .used) (a .id) _ (c .before .before .before .before .by-uid .result) (c .before .before .before .before .by-uid .ensures) in
+    (omega arith, omega arith, c .before .before .before .before .before .before .before .before .before .before .before .pre .1 .1)
 
 -- src/lib.rt:10:1
 same-length : tie.Need-same-length
@@ -27,7 +30,9 @@ same-length-2 c = search needs
 
 -- src/lib.rt:10:1
 returns : tie.Need-returns
-returns c = box-searched (messages (c .before .before .before .before .before .before .before .before .before .before .before .before .before .args .words .now)) (c .before .before .before .before .before .before .before .before .before .before .before .before .before .args .used) (c .before .before .before .before .before .before .before .before .before .before .before .before .before .args .id) _ (c .before .before .before .before .before .before .before .by-uid .result) (c .before .before .before .before .before .before .before .by-uid .ensures) (c .before .before .before .before .before .before .before .before .before .before .before .before .before .args .cells .now) (c .before .before .before .before .before .before .before .before .before .before .before .before .before .args .filled) _ _ (c .before .before .find .result) (c .before .before .find .ensures)
+returns c =
+    let a = c .before .before .before .before .before .before .before .before .before .before .before .before .before .before .args in
+    box-searched (messages (a .words .now)) (a .used) (a .id) _ (c .before .before .before .before .before .before .before .by-uid .result) (c .before .before .before .before .before .before .before .by-uid .ensures) (a .cells .now) (a .filled) _ _ (c .before .before .find .result) (c .before .before .find .ensures)
 
 pub search-box-spec : {M : Type 1} → statement M
 search-box-spec =

@@ -34,7 +34,9 @@ same-length-3 c = search needs
 
 -- src/lib.rt:178:9
 returns : tie.Need-returns
-returns c = (row-viewed (take (c .before .before .before .before .before .before .before .before .before .before .before .before .before .before .before .before .before .args .used) (messages (c .before .before .before .before .before .before .before .before .before .before .before .before .before .before .before .before .before .args .words .now))) (c .before .before .before .before .before .before .before .before .before .before .before .before .before .before .before .before .before .args .used) (c .before .before .before .before .before .before .before .before .before .before .before .before .before .before .before .before .before .args .id) (c .before .before .before .before .before .before .before .before .before .before .before .before .before .before .before .before .before .args .selected) (c .before .before .before .before .before .before .before .before .before .before .before .before .before .before .before .before .before .args .below .0) (c .before .before .before .before .before .before .before .before .before .before .before .before .before .before .before .before .before .args .cells .now) (c .before .before .before .before .before .before .before .before .before .before .before .before .before .before .before .before .before .args .filled) _ (c .before .before .before .before .before .before .search-view .result) (c .before .before .before .before .before .before .before .before .before .before .before .is-selected .result) (c .before .before .before .before .before .before .before .before .before .before .before .is-selected .ensures) (c .before .before .before .before .before .before .before .before .before .before .if1 .taken) (c .before .before .before .before .before .before .search-view .ensures), c .before .before .before .before .before .before .search-view .ensures .few)
+returns c =
+    let a = c .before .before .before .before .before .before .before .before .before .before .before .before .before .before .before .before .before .before .args in
+    (row-viewed (take (a .used) (messages (a .words .now))) (a .used) (a .id) (a .selected) (a .below .0) (a .cells .now) (a .filled) _ (c .before .before .before .before .before .before .search-view .result) (c .before .before .before .before .before .before .before .before .before .before .before .is-selected .result) (c .before .before .before .before .before .before .before .before .before .before .before .is-selected .ensures) (c .before .before .before .before .before .before .before .before .before .before .if1 .taken) (c .before .before .before .before .before .before .search-view .ensures), c .before .before .before .before .before .before .search-view .ensures .few)
 
 -- src/lib.rt:180:5
 search-box-requires : tie.Need-search-box-requires
@@ -50,7 +52,9 @@ same-length-5 c = search needs
 
 -- src/lib.rt:162:1
 returns-2 : tie.Need-returns-2
-returns-2 c = (row-boxed (take (c .before .before .before .before .before .before .before .before .before .before .before .before .before .before .args .used) (messages (c .before .before .before .before .before .before .before .before .before .before .before .before .before .before .args .words .now))) (c .before .before .before .before .before .before .before .before .before .before .before .before .before .before .args .used) (c .before .before .before .before .before .before .before .before .before .before .before .before .before .before .args .id) (c .before .before .before .before .before .before .before .before .before .before .before .before .before .before .args .selected) (c .before .before .before .before .before .before .before .before .before .before .before .before .before .before .args .below .0) (c .before .before .before .before .before .before .before .before .before .before .before .before .before .before .args .cells .now) (c .before .before .before .before .before .before .before .before .before .before .before .before .before .before .args .filled) _ (c .before .before .before .before .search-box .result) (c .before .before .before .before .before .before .before .before .is-selected .result) (c .before .before .before .before .before .before .before .before .is-selected .ensures) (c .before .before .before .before .before .before .before .if1 .left) (c .before .before .before .before .search-box .ensures), c .before .before .before .before .search-box .ensures .few)
+returns-2 c =
+    let a = c .before .before .before .before .before .before .before .before .before .before .before .before .before .before .before .args in
+    (row-boxed (take (a .used) (messages (a .words .now))) (a .used) (a .id) (a .selected) (a .below .0) (a .cells .now) (a .filled) _ (c .before .before .before .before .search-box .result) (c .before .before .before .before .before .before .before .before .is-selected .result) (c .before .before .before .before .before .before .before .before .is-selected .ensures) (c .before .before .before .before .before .before .before .if1 .left) (c .before .before .before .before .search-box .ensures), c .before .before .before .before .search-box .ensures .few)
 
 pub search-row-spec : {M : Type 1} → statement M
 search-row-spec =

@@ -5,7 +5,7 @@ use Rattle.found.proofs.search_view.Reads as reads
 use Rattle.found.proofs.search_view.Lts as lts
 use Rattle.found.proofs.find.Reads as find-reads
 use Rattle.found.proofs.told_of.Reads as told-of-reads
-use Rattle.order.proofs.by_uid.Reads as by-uid-reads
+use Rattle.order.proofs.links.by_uid.Reads as by-uid-reads
 use Rattle.found.specs.Searched.{order-few, box-searched, view-searched}
 use Rattle.entries.specs.Words.{messages}
 use native.Mathlib.Omega.{arith}
@@ -16,11 +16,19 @@ by-uid-requires c κs = search needs
 
 -- src/lib.rt:42:9
 told-of-requires : tie.Need-told-of-requires
-told-of-requires c κs = let a = order-few (messages (c .before .before .before .before .before .before .before .before .before .before .before .args .words .now)) (c .before .before .before .before .before .before .before .before .before .before .before .args .used) (c .before .before .before .before .before .before .before .before .before .before .before .args .id) _ (c .before .before .before .before .by-uid .result) (c .before .before .before .before .by-uid .ensures) in (omega arith, omega arith)
+told-of-requires c κs =
+    let a = c .before .before .before .before .before .before .before .before .before .before .before .before .args in
+    let f = order-few (messages (a .words .now)) (a .used) (a .id) _ (c .before .before .before .before .by-uid .result) (c .before .before .before .before .by-uid .ensures) in
+    (omega arith, omega arith)
 
 -- src/lib.rt:43:5
 find-requires : tie.Need-find-requires
-find-requires c κs = let a = order-few (messages (c .before .before .before .before .before .before .before .before .before .before .before .before .before .before .before .before .args .words .now)) (c .before .before .before .before .before .before .before .before .before .before .before .before .before .before .before .before .args .used) (c .before .before .before .before .before .before .before .before .before .before .before .before .before .before .before .before .args .id) _ (c .before .before .before .before .before .before .before .before .before .by-uid .result) (c .before .before .before .before .before .before .before .before .before .by-uid .ensures) in let b = c .before .before .before .before .told-of .ensures .few in let d = c .before .before .before .before .told-of .ensures .long in (omega arith, omega arith, c .before .before .before .before .before .before .before .before .before .before .before .before .before .before .before .before .pre .1 .1)
+find-requires c κs =
+    let a = c .before .before .before .before .before .before .before .before .before .before .before .before .before .before .before .before .before .args in
+    let f = order-few (messages (a .words .now)) (a .used) (a .id) _ (c .before .before .before .before .before .before .before .before .before .by-uid .result) (c .before .before .before .before .before .before .before .before .before .by-uid .ensures) in
+    let b = c .before .before .before .before .told-of .ensures .few in
+    let d = c .before .before .before .before .told-of .ensures .long in
+    (omega arith, omega arith, c .before .before .before .before .before .before .before .before .before .before .before .before .before .before .before .before .before .pre .1 .1)
 
 -- src/lib.rt:27:1
 same-length : tie.Need-same-length
@@ -36,7 +44,9 @@ same-length-3 c = search needs
 
 -- src/lib.rt:27:1
 returns : tie.Need-returns
-returns c = view-searched (messages (c .before .before .before .before .before .before .before .before .before .before .before .before .before .before .before .before .before .before .before .args .words .now)) (c .before .before .before .before .before .before .before .before .before .before .before .before .before .before .before .before .before .before .before .args .used) (c .before .before .before .before .before .before .before .before .before .before .before .before .before .before .before .before .before .before .before .args .id) _ (c .before .before .before .before .before .before .before .before .before .before .before .before .by-uid .result) (c .before .before .before .before .before .before .before .before .before .before .before .before .by-uid .ensures) (c .before .before .before .before .before .before .before .before .before .before .before .before .before .before .before .before .before .before .before .args .below .0) _ _ (c .before .before .before .before .before .before .before .told-of .result) (c .before .before .before .before .before .before .before .told-of .ensures) (c .before .before .before .before .before .before .before .before .before .before .before .before .before .before .before .before .before .before .before .args .cells .now) (c .before .before .before .before .before .before .before .before .before .before .before .before .before .before .before .before .before .before .before .args .filled) _ _ (c .before .before .find .result) (c .before .before .find .ensures)
+returns c =
+    let a = c .before .before .before .before .before .before .before .before .before .before .before .before .before .before .before .before .before .before .before .before .args in
+    view-searched (messages (a .words .now)) (a .used) (a .id) _ (c .before .before .before .before .before .before .before .before .before .before .before .before .by-uid .result) (c .before .before .before .before .before .before .before .before .before .before .before .before .by-uid .ensures) (a .below .0) _ _ (c .before .before .before .before .before .before .before .told-of .result) (c .before .before .before .before .before .before .before .told-of .ensures) (a .cells .now) (a .filled) _ _ (c .before .before .find .result) (c .before .before .find .ensures)
 
 pub search-view-spec : {M : Type 1} → statement M
 search-view-spec =

@@ -171,7 +171,7 @@ fn answer_by(
     }
 }
 
-// A command from its text on; x is the selected mailbox's row. A verb that is none was refused before.
+// A command from its text on; x is the selected mailbox's row. A line without a verb is BAD.
 pub fn answer(
     words: &mut [u64],
     queue: &mut [u8],

@@ -7,10 +7,10 @@ use native.Mathlib.Omega.{arith}
 use native.Mathlib.Numerals.{add-one}
 use lib.Dec.{eqb, ltb}
 use borrow.Author.Tests.{eqb-true, le-ltb}
-use lib.ListN.{length, take, drop, getD, set, replicate, take-append-drop, length-append, length-map, length-replicate}
+use lib.ListN.{length, take, drop, getD, set, replicate, take-append-drop, length-append, length-replicate}
 use lib.Seq.{take-suc, drop-cons, set-append-seam, set-getD, getD-append-add, getD-drop, take-at, length-take-le, drop-append-add, drop-drop}
 use Rattle.model.specs.Lists.{filterb, keep}
-use Rattle.model.specs.Laws.{tf, and-l, and-r, and-false, filter-append, filter-length}
+use Rattle.model.specs.Laws.{tf, and-l, and-r, and-false, filter-append}
 use Rattle.model.specs.Memory.{noMessage, uidOf, inMailbox, expunged, marked, withStates, refill}
 use Rattle.model.specs.declared.Message.{Message}
 use Rattle.entries.specs.Words.{messages, messages-length, stored}
@@ -97,13 +97,6 @@ module _ (sweep : Sweep) where
   pub kept-none : kept sweep [] ≡ []
   unfolding kept
   kept-none = refl
-
-  pub kept-length : (l : List Message) → length (kept sweep l) ≤ length l
-  unfolding kept
-  kept-length l =
-      let a = length-map (filterb (λ (e : Message). not (goes sweep e)) l) (calm sweep) in
-      let d = filter-length (λ (e : Message). not (goes sweep e)) l in
-      omega arith
 
   kept-snoc : (l : List Message) (e : Message) → kept sweep (l ++ (e ∷ [])) ≡ kept sweep l ++ kept sweep (e ∷ [])
   unfolding kept

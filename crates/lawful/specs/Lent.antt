@@ -27,10 +27,6 @@ pub record Lent (t rows : List Mailbox) (lent : ℕ) : Type 0 where
   pub long : length t ≡ lent
   pub read : lent ≤ 64 → t ≡ take lent rows
 
--- a table that is not too long is what was read of it
-pub lent-few : (rows : List Mailbox) (n : ℕ) → n ≤ length rows → Lent (take n rows) rows n
-lent-few rows n h = record { long = length-take-le n rows h; read = λ k. refl }
-
 -- of all columns, those by which an owner is known, and those of ids and names
 pub owners : {l : List Mailbox} {ids attributes lens validities nexts names : List ℕ} → Laid l ids attributes lens validities nexts names → Owners l ids nexts
 owners w = record { id = w .id; next = w .next }

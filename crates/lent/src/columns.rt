@@ -2,28 +2,14 @@
 use model::Mailbox;
 ghost use mathlib.Core.Path.{_≡_};
 ghost use mathlib.Core.List.{List};
-ghost use Prim.Native.Nat.{ℕ, _*_, _≤_, _<_};
+ghost use Prim.Native.Nat.{_≤_, _<_};
 ghost use lib.ListN.{length, getD};
-ghost use lib.Seq.{paste};
 ghost use Rattle.model.specs.declared.Mailbox.{Mailbox};
 ghost use Rattle.model.specs.Memory.{noMailbox};
 ghost use Rattle.rows.specs.Columns.{block};
 ghost use Rattle.lent.specs.Standing.{Stands, Keeps};
 
 // ---- a row is put into the columns
-
-// The name of row k goes to its 64 octets.
-fn keep_name(names: &mut [u8], k: usize, name: [u8; 64])
-    requires { ⌜ (k < 64) × (length (now names) ≡ 4096) ⌝ }
-    ensures { λ _. ⌜ (now (names .exit) ≡ paste (now (names .entry)) (64 * k) name 64) × (length (now (names .entry)) ≡ 4096) × (length name ≡ 64) ⌝ }
-{
-    let at = 64 * k;
-    let mut j = 0;
-    while j < 64 {
-        names[at + j] = name[j];
-        j += 1;
-    }
-}
 
 // Row k is x.
 pub fn keep(
@@ -45,7 +31,7 @@ pub fn keep(
     lens[k] = x.namelen;
     validities[k] = rows::wide_number(x.uidvalidity);
     nexts[k] = rows::wide_number(x.uidnext);
-    keep_name(names, k, name);
+    rows::keep_name(names, k, name);
 }
 
 // ---- a row is made of the columns

@@ -80,7 +80,7 @@ fn blank(column: &mut [u64])
 }
 
 // The name of row k goes to its 64 octets.
-fn keep_name(names: &mut [u8], k: usize, name: [u8; 64])
+pub fn keep_name(names: &mut [u8], k: usize, name: [u8; 64])
     requires { ⌜ (k < 64) × (length (now names) ≡ 4096) ⌝ }
     ensures { λ _. ⌜ (now (names .exit) ≡ paste (now (names .entry)) (64 * k) name 64) × (length (now (names .exit)) ≡ 4096) × (length name ≡ 64) ⌝ }
 {
@@ -153,22 +153,6 @@ pub fn find(ids: &[u64; 64], n: usize, id: u64) -> usize
         i += 1;
     }
     n
-}
-
-// The UIDNEXT of row k.
-pub fn uid_next(nexts: &[u64; 64], k: usize) -> u64
-    requires { ⌜ k < 64 ⌝ }
-    ensures { λ r. ⌜ r ≡ getD (now (nexts .entry)) k 0 ⌝ }
-{
-    nexts[k]
-}
-
-// Whether row k has the attribute of bit b.
-pub fn has_attribute(attributes: &[u8; 64], k: usize, b: u8) -> bool
-    requires { ⌜ k < 64 ⌝ }
-    ensures { λ r. ⌜ r ≡ bit b (getD (now (attributes .entry)) k 0) ⌝ }
-{
-    has(attributes[k], b)
 }
 
 // Where the name of row k ends in the run of names.

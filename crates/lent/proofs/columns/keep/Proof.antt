@@ -1,5 +1,7 @@
 -- `keep`: row k is x. Assumes nothing.
 use borrow.Author.Needs.{needs}
+use mathlib.Core.Path.{_≡_}
+use lib.ListN.{length}
 use Rattle.lent.specs.Standing.{keeps}
 use Rattle.lent.proofs.columns.keep.Statement.{statement}
 use Rattle.lent.proofs.columns.keep.Tie as tie
@@ -48,7 +50,8 @@ returns c =
     let validity = c .before .before .before .wide-number in
     let next = c .before .before .wide-number2 in
     let name = c .keep-name in
-    keeps (a .ids .now) (a .attributes .now) (a .lens .now) (a .validities .now) (a .nexts .now) (a .names .now) (name .ensures .1) (a .k) (a .x) (id .result) (validity .result) (next .result) (name .last .0)
+    let long : length (a .names .now) ≡ 4096 = search needs in
+    keeps (a .ids .now) (a .attributes .now) (a .lens .now) (a .validities .now) (a .nexts .now) (a .names .now) long (a .k) (a .x) (id .result) (validity .result) (next .result) (name .last .0)
     (s .pre) (record { id = search needs; validity = search needs; next = search needs }) (name .ensures .2) (id .ensures) (validity .ensures) (next .ensures) (name .ensures .0)
 
 pub keep-spec : {M : Type 1} → statement M

@@ -378,24 +378,26 @@ fn mail_ok(
 
 // ---- the tables: what a quick test says yes to, or else the exact one
 
-// No two of the first n rows clash. The table of guesses is filled with them.
+// No two of the first n rows clash. The table of guesses is filled with them, and rows that share a slot are chained. Nobody reads what the digests fill.
 fn rows_differ(
     ids: &[u64; 64],
     lens: &[u8; 64],
     names: &[u8; 4096],
     n: usize,
     slots: &mut [u8; 1024],
+    chain: &mut [u8; 64],
 ) -> bool
-    requires { ⌜ (n ≤ 64) × (now slots ≡ replicate 1024 0) ⌝ }
-    ensures { λ r. ⌜ ((l : List Mailbox) → length l ≡ n → Called l (now (ids .entry)) (now (lens .entry)) (now (names .entry)) → allb mailboxOk l ≡ true → r ≡ apart clash l) × Low (now (slots .exit)) n ⌝ }
+    requires { ⌜ (n ≤ 64) × (now slots ≡ replicate 1024 0) × (now chain ≡ replicate 64 0) ⌝ }
+    ensures { λ r. ⌜ ((l : List Mailbox) → length l ≡ n → Called l (now (ids .entry)) (now (lens .entry)) (now (names .entry)) → allb mailboxOk l ≡ true → r ≡ apart clash l) × Low (now (slots .exit)) n × Low (now (chain .exit)) n ⌝ }
 {
-    if !quick::differ(ids, n, slots) {
+    if !quick::differ(ids, n, slots, chain) {
         return rows_apart(ids, lens, names, n);
     }
     let all = &names[..];
     let digests = quick::digests_of(all, n);
     let mut marks = [0u8; 1024];
-    if quick::differ(&digests, n, &mut marks) {
+    let mut links = [0u8; 64];
+    if quick::differ(&digests, n, &mut marks, &mut links) {
         return true;
     }
     rows_apart(ids, lens, names, n)
@@ -406,16 +408,17 @@ fn messages_ok(
     ids: &[u64; 64],
     nexts: &[u64; 64],
     slots: &[u8; 1024],
+    chain: &[u8; 64],
     n: usize,
     words: &[u64],
     used: usize,
     selected: u64,
     told: Uid,
 ) -> bool
-    requires { ⌜ (n ≤ 64) × (used * 5 ≤ length (now words)) × Low (now slots) n ⌝ }
+    requires { ⌜ (n ≤ 64) × (used * 5 ≤ length (now words)) × Low (now slots) n × Low (now chain) n ⌝ }
     ensures { λ r. ⌜ ((l : List Mailbox) → length l ≡ n → Owners l (now (ids .entry)) (now (nexts .entry)) → apart clash l ≡ true → r ≡ (allb (entryOk l selected (told .0)) (take used (messages (now (words .entry)))) && apart twin (take used (messages (now (words .entry)))))) ⌝ }
 {
-    if quick::all_fit(words, used, ids, nexts, slots, n, selected, told) {
+    if quick::all_fit(words, used, ids, nexts, slots, chain, n, selected, told) {
         return true;
     }
     if !mail_ok(ids, nexts, n, words, used, selected, told) {
@@ -440,10 +443,11 @@ fn tables_ok(
     ensures { λ r. ⌜ ((l : List Mailbox) → length l ≡ n → Owners l (now (ids .entry)) (now (nexts .entry)) → Called l (now (ids .entry)) (now (lens .entry)) (now (names .entry)) → allb mailboxOk l ≡ true → r ≡ every (tablesOk l (take used (messages (now (words .entry)))) selected (told .0))) ⌝ }
 {
     let mut slots = [0u8; 1024];
-    if !rows_differ(ids, lens, names, n, &mut slots) {
+    let mut chain = [0u8; 64];
+    if !rows_differ(ids, lens, names, n, &mut slots, &mut chain) {
         return false;
     }
-    messages_ok(ids, nexts, &slots, n, words, used, selected, told)
+    messages_ok(ids, nexts, &slots, &chain, n, words, used, selected, told)
 }
 
 // ---- all of it

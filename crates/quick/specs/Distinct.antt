@@ -5,7 +5,7 @@ use mathlib.Core.List.{List, [], _∷_}
 use Prim.Native.Nat.{ℕ, zero, suc, _+_, _*_, _/_, _%_, _<_, _≤_}
 use native.Mathlib.Omega.{arith}
 use lib.Dec.{eqb}
-use lib.ListN.{length, getD, set}
+use lib.ListN.{length, getD, set, replicate}
 use lib.Seq.{getD-set-same, getD-set-other}
 use borrow.Author.Tests.{eqb-true, eqb-false}
 use Rattle.model.specs.Laws.{tf}
@@ -13,7 +13,7 @@ use Rattle.model.specs.Lists.{anyb, apart, same}
 use Rattle.model.specs.Memory.{noMailbox}
 use Rattle.model.specs.Lawful.{clash}
 use Rattle.model.specs.declared.Mailbox.{Mailbox}
-use Rattle.rows.specs.Columns.{all-below}
+use Rattle.rows.specs.Columns.{all-below, zero-at}
 
 -- the slot of a number: its product with a number near 2 ^ 32 by the golden ratio, the upper ten bits of the lower 32
 unfoldable pub slotOf : ℕ → ℕ
@@ -27,9 +27,12 @@ Absent d upto x = (j : ℕ) → j < upto → getD d j 0 ≡ x → ⊥
 abbrev pub Differ : List ℕ → ℕ → Type 0
 Differ d n = (i : ℕ) → i < n → Absent d i (getD d i 0)
 
--- a slot names one of n rows
+-- each number names one of n rows
 abbrev pub Low : List ℕ → ℕ → Type 0
-Low slots n = 1 ≤ n → (s : ℕ) → getD slots s 0 < n
+Low l n = 1 ≤ n → (s : ℕ) → getD l s 0 < n
+
+pub low-zeros : (m n : ℕ) (l : List ℕ) → l ≡ replicate m 0 → Low l n
+low-zeros m n l e a s = let z = zero-at m s in rw e (omega arith)
 
 -- the slots of the numbers below i are taken; the first number takes none
 abbrev pub Taken : List ℕ → List ℕ → ℕ → Type 0

@@ -5,10 +5,11 @@ use mathlib.Core.List.{List, [], _∷_, _++_}
 use Prim.Native.Nat.{ℕ, zero, suc, _+_, _*_, _/_, _%_, _<_, _≤_}
 use native.Mathlib.Omega.{arith}
 use lib.Dec.{eqb, leb, ltb}
+use lib.Bits.{bitOr, or-add-and, and-le-l, and-le-r}
 use lib.ListN.{length, getD, set}
 use lib.Seq.{getD-set-same, getD-set-other}
 use borrow.Author.Tests.{eq-eqb, ne-eqb, lt-ltb, le-leb, leb-true, ltb-true, eqb-true, eqb-false}
-use Rattle.model.specs.Laws.{and-l, and-r, or-r, or-true, tf, all-hold}
+use Rattle.model.specs.Laws.{and-l, and-r, or-r, or-true, tf, each, all-hold}
 use Rattle.model.specs.Lists.{allb, anyb, apart, every}
 use Rattle.model.specs.Memory.{noMailbox, noMessage, uidOf, place, known, theMailbox}
 use Rattle.model.specs.Lawful.{clash, messageOk, twin, owned}
@@ -39,12 +40,39 @@ pub record Viewed (e : Message) (selected told : ℕ) : Type 0 where
   pub few : e .states ≤ 2
   pub state : stateAt selected told e ≡ true
 
--- an entry of the mailbox with this id, above low
+-- an entry of the mailbox with this id, above low, whose state may stand
 pub record Fits (e : Message) (id low selected told : ℕ) : Type 0 where
   pub mailbox : e .mailbox ≡ id
   pub above : low < uidOf e
-  pub ok : messageOk e ≡ true
-  pub state : stateAt selected told e ≡ true
+  pub viewed : Viewed e selected told
+
+-- a message in order whose flags and size are at most these: with the greatest that may be it is `messageOk`
+abbrev pub okUpTo : ℕ → ℕ → Message → Bool
+okUpTo flags size e = every (
+    leb 1 (uidOf e)
+    ∷ leb (e .flags) flags
+    ∷ leb (e .size) size
+    ∷ leb (e .states) 2
+    ∷ []
+    )
+
+module _ (e : Message) (flags size : ℕ) where
+  ok-up-to : 1 ≤ uidOf e → e .flags ≤ flags → e .size ≤ size → e .states ≤ 2 → okUpTo flags size e ≡ true
+  ok-up-to u f z s = all-hold (leb 1 (uidOf e) ∷ leb (e .flags) flags ∷ leb (e .size) size ∷ leb (e .states) 2 ∷ []) (le-leb 1 (uidOf e) u, (le-leb (e .flags) flags f, (le-leb (e .size) size z, (le-leb (e .states) 2 s, tt))))
+
+  ok-wider : (low small : ℕ) → low ≤ flags → small ≤ size → okUpTo low small e ≡ true → okUpTo flags size e ≡ true
+  ok-wider low small h k o =
+      let p = each (leb 1 (uidOf e) ∷ leb (e .flags) low ∷ leb (e .size) small ∷ leb (e .states) 2 ∷ []) o in
+      let f = leb-true (e .flags) low (p .1 .0) in
+      let z = leb-true (e .size) small (p .1 .1 .0) in
+      ok-up-to (leb-true 1 (uidOf e) (p .0)) (omega arith) (omega arith) (leb-true (e .states) 2 (p .1 .1 .1 .0))
+
+-- numbers are at most their join, bit by bit
+join-l : (a b : ℕ) → a ≤ bitOr a b
+join-l a b = omega (arith, or-add-and a b, and-le-r a b)
+
+join-r : (a b : ℕ) → b ≤ bitOr a b
+join-r a b = omega (arith, or-add-and a b, and-le-l a b)
 
 -- the last UIDs of n rows are below their UIDNEXTs
 abbrev pub Below : List ℕ → List ℕ → ℕ → Type 0
@@ -64,14 +92,14 @@ good-none l s t = record { mail = refl; owners = refl; states = refl; twins = re
 abbrev pub atMost : List Mailbox → List ℕ → Message → Bool
 atMost l last d = known (d .mailbox) l && leb (uidOf d) (getD last (place (d .mailbox) l) 0)
 
-pub record Going (l : List Mailbox) (selected told : ℕ) (last : List ℕ) (es : List Message) : Type 0 where
-  pub mail : allb messageOk es ≡ true
+pub record Going (l : List Mailbox) (selected told flags size : ℕ) (last : List ℕ) (es : List Message) : Type 0 where
+  pub mail : allb (okUpTo flags size) es ≡ true
   pub states : allb (stateAt selected told) es ≡ true
   pub twins : apart twin es ≡ true
   pub low : allb (atMost l last) es ≡ true
 
-pub going-start : (l : List Mailbox) (selected told : ℕ) (last : List ℕ) → Going l selected told last []
-going-start l s t last = record { mail = refl; states = refl; twins = refl; low = refl }
+pub going-start : (l : List Mailbox) (selected told flags size : ℕ) (last : List ℕ) → Going l selected told flags size last []
+going-start l s t f z last = record { mail = refl; states = refl; twins = refl; low = refl }
 
 -- ids that differ: the place of an id is where it stands
 none-here : (o : ℕ) (x : Mailbox) (l : List Mailbox) (k : ℕ) → x .id ≡ o → k < length l → getD l k noMailbox .id ≡ o → anyb (λ (y : Mailbox). clash x y) l ≡ false → ⊥
@@ -124,10 +152,19 @@ module _ (l : List Mailbox) (ids nexts : List ℕ) (w : Owners l ids nexts) (a :
         go true r = let p = eqb-true (place (d .mailbox) l) k r in let u : uidOf d ≤ getD last k 0 = rw p at b in let v = f .above in rw (p, getD-set-same last k (uidOf e) 0 h) (le-leb (uidOf d) (uidOf e) (omega arith))
         go false r = rw (getD-set-other last k (place (d .mailbox) l) (uidOf e) 0 (eqb-false (place (d .mailbox) l) k r)) (le-leb _ _ b)
 
-    pub going-next : k < length last → Going l selected told last es → Going l selected told (set last k (uidOf e)) (es ++ (e ∷ []))
-    going-next h g = record {
-      mail = all-snoc messageOk es e (g .mail) (f .ok);
-      states = all-snoc (stateAt selected told) es e (g .states) (f .state);
+    -- the join of the flags so far, or of the sizes, takes the entry's in
+    in-order : (flags size : ℕ) → allb (okUpTo flags size) es ≡ true → allb (okUpTo (bitOr flags (e .flags)) (bitOr size (e .size))) (es ++ (e ∷ [])) ≡ true
+    in-order flags size h =
+        let above = f .above in
+        let ok = okUpTo (bitOr flags (e .flags)) (bitOr size (e .size)) in
+        all-snoc ok es e
+        (all-imp (okUpTo flags size) ok (λ d. ok-wider d (bitOr flags (e .flags)) (bitOr size (e .size)) flags size (join-l flags (e .flags)) (join-l size (e .size))) es h)
+        (ok-up-to e (bitOr flags (e .flags)) (bitOr size (e .size)) (omega arith) (join-r flags (e .flags)) (join-r size (e .size)) (f .viewed .few))
+
+    pub going-next : (flags size : ℕ) → k < length last → Going l selected told flags size last es → Going l selected told (bitOr flags (e .flags)) (bitOr size (e .size)) (set last k (uidOf e)) (es ++ (e ∷ []))
+    going-next flags size h g = record {
+      mail = in-order flags size (g .mail);
+      states = all-snoc (stateAt selected told) es e (g .states) (f .viewed .state);
       twins = apart-snoc twin es e (g .twins) (any-none (atMost l last) (λ (d : Message). twin d e) other es (g .low));
       low = all-snoc (atMost l (set last k (uidOf e))) es e (all-imp (atMost l last) (atMost l (set last k (uidOf e))) (lower h) es (g .low)) (rw (here, lt-ltb k (length l) inside, getD-set-same last k (uidOf e) 0 h) (le-leb (uidOf e) (uidOf e) (omega arith)));
     }
@@ -143,17 +180,8 @@ module _ (l : List Mailbox) (ids nexts : List ℕ) (w : Owners l ids nexts) (a :
         let m = p (place (d .mailbox) l) i in
         rw q (lt-ltb (uidOf d) (theMailbox (d .mailbox) l .uidnext) (omega arith))
 
-    pub gone : (es : List Message) → Going l selected told last es → Good l selected told es
-    gone es g = record { mail = g .mail; owners = all-imp (atMost l last) (owned l) is-owned es (g .low); states = g .states; twins = g .twins }
-
-module _ (e : Message) (id low selected told : ℕ) where
-  pub fits-in : e .mailbox ≡ id → low < uidOf e → e .flags ≤ 31 → e .size ≤ 4294967295 → Viewed e selected told → Fits e id low selected told
-  fits-in m a f z v = record {
-    mailbox = m;
-    above = a;
-    ok = all-hold (leb 1 (uidOf e) ∷ leb (e .flags) 31 ∷ leb (e .size) 4294967295 ∷ leb (e .states) 2 ∷ []) (le-leb 1 (uidOf e) (omega arith), (le-leb (e .flags) 31 f, (le-leb (e .size) 4294967295 z, (le-leb (e .states) 2 (v .few), tt))));
-    state = v .state;
-  }
+    pub gone : (es : List Message) (flags size : ℕ) → flags ≤ 31 → size ≤ 4294967295 → Going l selected told flags size last es → Good l selected told es
+    gone es flags size f z g = record { mail = all-imp (okUpTo flags size) messageOk (λ d. ok-wider d 31 4294967295 flags size f z) es (g .mail); owners = all-imp (atMost l last) (owned l) is-owned es (g .low); states = g .states; twins = g .twins }
 
 module _ (e : Message) (selected told : ℕ) where
   pub at-rest : e .states ≡ 0 → Viewed e selected told

@@ -79,15 +79,19 @@ pub fn guess(slots: &[u8; 1024], ids: &[u64; 64], id: u64) -> usize
 
 // ---- messages
 
-// The row of the n that has the id, where there is one. The caller tests it.
-fn owner(slots: &[u8; 1024], ids: &[u64; 64], n: usize, id: u64) -> usize
-    requires { ⌜ (1 ≤ n) × (n ≤ 64) × Low (now slots) n ⌝ }
+// The row of the n that has the id, where there is one: that of its slot, the one chained to it, or else by a search. The caller tests it.
+fn owner(slots: &[u8; 1024], chain: &[u8; 64], ids: &[u64; 64], n: usize, id: u64) -> usize
+    requires { ⌜ (1 ≤ n) × (n ≤ 64) × Low (now slots) n × Low (now chain) n ⌝ }
     ensures { λ r. ⌜ r < n ⌝ }
 {
     let at = slot(id);
     let k = row(slots[at]);
     if ids[k] == id {
         return k;
+    }
+    let before = row(chain[k]);
+    if ids[before] == id {
+        return before;
     }
     let j = seek(ids, id);
     if j < n { j } else { 0 }
@@ -110,7 +114,7 @@ fn in_view(words: &[u64], b: usize, selected: u64, told: Uid) -> bool
     words[b + 1] < told.0
 }
 
-// The entry whose words start at b is in order, and above the last UID of its row. Each word is read where it is tested.
+// The entry whose words start at b is in order but for its flags and size, and above the last UID of its row. Each word is read where it is tested.
 fn entry_fits(words: &[u64], b: usize, id: u64, low: Uid, selected: u64, told: Uid) -> bool
     requires { ⌜ b + 5 ≤ length (now words) ⌝ }
     ensures { λ r. ⌜ (r ≡ true → Fits (entryAt (now (words .entry)) b) id (low .0) selected (told .0)) ⌝ }
@@ -119,12 +123,6 @@ fn entry_fits(words: &[u64], b: usize, id: u64, low: Uid, selected: u64, told: U
         return false;
     }
     if words[b + 1] <= low.0 {
-        return false;
-    }
-    if 31 < words[b + 2] {
-        return false;
-    }
-    if 4294967295 < words[b + 3] {
         return false;
     }
     in_view(words, b, selected, told)
@@ -146,6 +144,7 @@ fn below(last: &[u64; 64], nexts: &[u64; 64], n: usize) -> bool
 }
 
 // One pass: every entry is in order and rises above those of its mailbox before it, so that the last of each is compared with the UIDNEXT.
+// Flags and sizes are joined bit by bit and tested at the end: a join is at least each of its numbers, and the bounds are all ones.
 // A no says nothing. The last UIDs of the rows are an array of words, as those of `found` are; a single UID is a `Uid`.
 pub fn all_fit(
     words: &[u64],
@@ -153,27 +152,38 @@ pub fn all_fit(
     ids: &[u64; 64],
     nexts: &[u64; 64],
     slots: &[u8; 1024],
+    chain: &[u8; 64],
     n: usize,
     selected: u64,
     told: Uid,
 ) -> bool
-    requires { ⌜ (used * 5 ≤ length (now words)) × (n ≤ 64) × Low (now slots) n ⌝ }
+    requires { ⌜ (used * 5 ≤ length (now words)) × (n ≤ 64) × Low (now slots) n × Low (now chain) n ⌝ }
     ensures { λ r. ⌜ ((l : List Mailbox) → length l ≡ n → Owners l (now (ids .entry)) (now (nexts .entry)) → apart clash l ≡ true → r ≡ true → Good l selected (told .0) (take used (messages (now (words .entry))))) ⌝ }
 {
     if n < 1 {
         return used < 1;
     }
     let mut last = [0u64; 64];
+    let mut flags: u64 = 0;
+    let mut size: u64 = 0;
     let end = 5 * used;
     let mut b: usize = 0;
     while b < end {
-        let k = owner(slots, ids, n, words[b]);
+        let k = owner(slots, chain, ids, n, words[b]);
         let low = Uid(last[k]);
         if !entry_fits(words, b, ids[k], low, selected, told) {
             return false;
         }
         last[k] = words[b + 1];
+        flags = flags | words[b + 2];
+        size = size | words[b + 3];
         b += 5;
+    }
+    if 31 < flags {
+        return false;
+    }
+    if 4294967295 < size {
+        return false;
     }
     below(&last, nexts, n)
 }
@@ -269,17 +279,20 @@ fn is_new(d: &[u64; 64], slots: &[u8; 1024], i: usize) -> bool
     absent(d, i, x)
 }
 
-// No two of the first n are equal, seen while the table of guesses is filled with their rows. A no says nothing.
-pub fn differ(d: &[u64; 64], n: usize, slots: &mut [u8; 1024]) -> bool
-    requires { ⌜ (n ≤ 64) × (now slots ≡ replicate 1024 0) ⌝ }
-    ensures { λ r. ⌜ (r ≡ true → Differ (now (d .entry)) n) × Low (now (slots .exit)) n ⌝ }
+// No two of the first n are equal, seen while the table of guesses is filled with their rows. A row that takes a slot is chained to the row that had it.
+// A no says nothing.
+pub fn differ(d: &[u64; 64], n: usize, slots: &mut [u8; 1024], chain: &mut [u8; 64]) -> bool
+    requires { ⌜ (n ≤ 64) × (now slots ≡ replicate 1024 0) × (now chain ≡ replicate 64 0) ⌝ }
+    ensures { λ r. ⌜ (r ≡ true → Differ (now (d .entry)) n) × Low (now (slots .exit)) n × Low (now (chain .exit)) n ⌝ }
 {
     let mut i: usize = 1;
     while i < n {
         if !is_new(d, slots, i) {
             return false;
         }
-        slots[slot(d[i])] = octet(i);
+        let at = slot(d[i]);
+        chain[i] = slots[at];
+        slots[at] = octet(i);
         i += 1;
     }
     true

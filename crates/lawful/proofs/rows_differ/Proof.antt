@@ -17,7 +17,7 @@ rows-apart-requires : tie.Need-rows-apart-requires
 rows-apart-requires c κs = search needs
 
 returns : tie.Need-returns
-returns c = (λ l h v ok. c .rows-apart .ensures l h v, c .before .before .differ .ensures .1)
+returns c = (λ l h v ok. c .rows-apart .ensures l h v, c .before .before .differ .ensures .1, c .before .before .differ .ensures .2)
 
 digests-of-requires : tie.Need-digests-of-requires
 digests-of-requires c κs = search needs
@@ -27,22 +27,24 @@ differ-requires-2 c κs = search needs
 
 returns-2 : tie.Need-returns-2
 returns-2 c =
-    let start = c .before .before .before .before .before .before .before .before .before in
+    let start = c .before .before .before .before .before .before .before .before .before .before .before in
     let names = start .args .names .now in
-    let digests = c .before .before .before .before .digests-of in
+    let digests = c .before .before .before .before .before .digests-of in
+    let differ = c .before .before .before .before .before .before .before .before .differ in
     let long : length names ≡ 4096 = search needs in (
       λ l h v ok.
-          let a : Differ (start .args .ids .now) (length l) = rw h (c .before .before .before .before .before .before .before .differ .ensures .0 (not-false _ (c .before .before .before .before .before .before .if1 .left))) in
+          let a : Differ (start .args .ids .now) (length l) = rw h (differ .ensures .0 (not-false _ (c .before .before .before .before .before .before .before .if1 .left))) in
           let b : Differ (digests .result) (length l) = rw h (c .before .differ2 .ensures .0 (c .if2 .taken)) in
           sym (digests-apart l (start .args .ids .now) (start .args .lens .now) names (digests .result) v long (omega arith) ok digest (λ k g. digests .ensures k (omega arith)) a b),
-      c .before .before .before .before .before .before .before .differ .ensures .1,
+      differ .ensures .1,
+      differ .ensures .2,
     )
 
 rows-apart-requires-2 : tie.Need-rows-apart-requires-2
 rows-apart-requires-2 c κs = search needs
 
 returns-3 : tie.Need-returns-3
-returns-3 c = (λ l h v ok. c .rows-apart2 .ensures l h v, c .before .before .before .before .before .before .before .before .differ .ensures .1)
+returns-3 c = let differ = c .before .before .before .before .before .before .before .before .before .differ in (λ l h v ok. c .rows-apart2 .ensures l h v, differ .ensures .1, differ .ensures .2)
 
 pub rows-differ-spec : {M : Type 1} → statement M
 rows-differ-spec =

@@ -17,7 +17,7 @@ rows-differ-requires c κs = search needs
 
 returns : tie.Need-returns
 returns c =
-    let args = c .before .before .before .before .args in
+    let args = c .before .before .before .before .before .args in
     let es = take (args .used) (messages (args .words .now)) in
     λ l h w v ok.
     rw (slow-order l es (args .selected) (args .told .0))
@@ -28,10 +28,10 @@ messages-ok-requires c κs = search needs
 
 returns-2 : tie.Need-returns-2
 returns-2 c =
-    let args = c .before .before .before .before .before .before .args in
+    let args = c .before .before .before .before .before .before .before .before .args in
     let es = take (args .used) (messages (args .words .now)) in
     λ l h w v ok.
-    let yes : apart clash l ≡ true = sym (c .before .before .before .rows-differ .ensures .0 l h v ok) ∙ not-false _ (c .before .before .if1 .left) in
+    let yes : apart clash l ≡ true = sym (c .before .before .before .before .rows-differ .ensures .0 l h v ok) ∙ not-false _ (c .before .before .before .if1 .left) in
     rw (slow-order l es (args .selected) (args .told .0), yes) (c .messages-ok .ensures l h w yes)
 
 pub tables-ok-spec : {M : Type 1} → statement M

@@ -19,10 +19,10 @@ use Rattle.quick.proofs.all_fit.Statement.{statement}
 use Rattle.quick.proofs.all_fit.Tie as tie
 
 abbrev Inv-loop : tie.InvT-loop
-Inv-loop words used ids nexts slots n selected told last₀ end b₀ last b = (end ≡ 5 * used) × (b ≤ end) × (b % 5 ≡ 0) × (length last ≡ 64) × ((l : List Mailbox) → length l ≡ n → Owners l ids nexts → apart clash l ≡ true → Going l selected (told .0) last (take (b / 5) (messages words)))
+Inv-loop words used ids nexts slots chain n selected told last₀ flags₀ size₀ end b₀ last flags size b = (end ≡ 5 * used) × (b ≤ end) × (b % 5 ≡ 0) × (length last ≡ 64) × ((l : List Mailbox) → length l ≡ n → Owners l ids nexts → apart clash l ≡ true → Going l selected (told .0) flags size last (take (b / 5) (messages words)))
 
 abbrev μ-loop : tie.MeasureT-loop
-μ-loop words used ids nexts slots n selected told last₀ end b₀ last b = end - b
+μ-loop words used ids nexts slots chain n selected told last₀ flags₀ size₀ end b₀ last flags size b = end - b
 
 returns : tie.Need-returns Inv-loop μ-loop
 returns c =
@@ -33,7 +33,7 @@ mul-end : tie.Need-mul-end Inv-loop μ-loop
 mul-end c = search needs
 
 loop-holds : tie.Need-loop-holds Inv-loop μ-loop
-loop-holds c = (search needs, search needs, search needs, search needs, λ l h w a. going-start l _ _ _)
+loop-holds c = (search needs, search needs, search needs, search needs, λ l h w a. going-start l _ _ _ _ _)
 
 mul-owner : tie.Need-mul-owner Inv-loop μ-loop
 mul-owner c = search needs
@@ -77,6 +77,24 @@ mul-last-2 c = search needs
 array-write-last : tie.Need-array-write-last Inv-loop μ-loop
 array-write-last c = search needs
 
+add-flags : tie.Need-add-flags Inv-loop μ-loop
+add-flags c = search needs
+
+mul-flags : tie.Need-mul-flags Inv-loop μ-loop
+mul-flags c = search needs
+
+shared-slice-read-flags : tie.Need-shared-slice-read-flags Inv-loop μ-loop
+shared-slice-read-flags c = search needs
+
+add-size : tie.Need-add-size Inv-loop μ-loop
+add-size c = search needs
+
+mul-size : tie.Need-mul-size Inv-loop μ-loop
+mul-size c = search needs
+
+shared-slice-read-size : tie.Need-shared-slice-read-size Inv-loop μ-loop
+shared-slice-read-size c = search needs
+
 add-b : tie.Need-add-b Inv-loop μ-loop
 add-b c = search needs
 
@@ -85,37 +103,43 @@ loop-less c = search needs
 
 loop-again : tie.Need-loop-again Inv-loop μ-loop
 loop-again c =
-    let args = c .before .before .before .before .before .before .before .before .before .before .args in
-    let turn = c .before .before .before .before .before .before .before .loop in
-    let pre = c .before .before .before .before .before .before .before .before .before .before .pre in
+    let args = c .before .before .before .before .before .before .before .before .before .before .before .before .args in
+    let turn = c .before .before .before .before .before .before .before .before .before .loop in
+    let pre = c .before .before .before .before .before .before .before .before .before .before .before .before .pre in
     let es = messages (args .words .now) in
     let i = turn .b / 5 in
     let many = messages-length (args .used) (args .words .now) (pre .0) in
     let h : i < length es = omega arith in
     let on : (turn .b + 5) / 5 ≡ suc i = omega arith in
     let e = entryAt (args .words .now) (turn .b) in
-    let fits = c .before .before .entry-fits .ensures (not-false _ (c .before .if2 .left)) in
-    let k = c .before .before .before .before .owner .result in (
+    let fits = c .before .before .before .before .entry-fits .ensures (not-false _ (c .before .before .before .if2 .left)) in
+    let k = c .before .before .before .before .before .before .owner .result in (
       search needs,
       search needs,
       search needs,
       simp length-set (turn .inv .3),
       λ l q w a.
           rw (on, take-suc es i noMessage h, entry-at (args .words .now) (turn .b) (turn .inv .2) (omega arith))
-          (going-next l (args .ids .now) (args .nexts .now) w a (args .selected) (args .told .0) (turn .last) (take i es) e k (omega arith) fits (omega arith) (turn .inv .4 l q w a)),
+          (going-next l (args .ids .now) (args .nexts .now) w a (args .selected) (args .told .0) (turn .last) (take i es) e k (omega arith) fits (turn .flags) (turn .size) (omega arith) (turn .inv .4 l q w a)),
     )
+
+returns-3 : tie.Need-returns-3 Inv-loop μ-loop
+returns-3 c = λ l h w a z. tf false z refl
+
+returns-4 : tie.Need-returns-4 Inv-loop μ-loop
+returns-4 c = λ l h w a z. tf false z refl
 
 below-requires : tie.Need-below-requires Inv-loop μ-loop
 below-requires c κs = search needs
 
-returns-3 : tie.Need-returns-3 Inv-loop μ-loop
-returns-3 c =
-    let args = c .before .before .before .before .before .before .args in
-    let turn = c .before .before .before .loop in
+returns-5 : tie.Need-returns-5 Inv-loop μ-loop
+returns-5 c =
+    let args = c .before .before .before .before .before .before .before .before .args in
+    let turn = c .before .before .before .before .before .loop in
     λ l h w a z.
     let below : Below (turn .last) (args .nexts .now) (length l) = rw h (c .below .ensures z) in
     let e : turn .b / 5 ≡ args .used = omega arith in
-    gone l (args .ids .now) (args .nexts .now) w a (args .selected) (args .told .0) (turn .last) below (take (args .used) (messages (args .words .now))) (rw e at (turn .inv .4 l h w a))
+    gone l (args .ids .now) (args .nexts .now) w a (args .selected) (args .told .0) (turn .last) below (take (args .used) (messages (args .words .now))) (turn .flags) (turn .size) (c .before .before .before .if3 .left) (c .before .before .if4 .left) (rw e at (turn .inv .4 l h w a))
 
 pub all-fit-spec : {M : Type 1} → statement M
 all-fit-spec =
@@ -140,8 +164,16 @@ all-fit-spec =
     shared-slice-read-last
     mul-last-2
     array-write-last
+    add-flags
+    mul-flags
+    shared-slice-read-flags
+    add-size
+    mul-size
+    shared-slice-read-size
     add-b
     loop-less
     loop-again
+    returns-3
+    returns-4
     below-requires
-    returns-3)
+    returns-5)

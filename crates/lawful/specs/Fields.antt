@@ -1,20 +1,21 @@
 -- A mailbox's fields, test by test, by its columns. Assumes nothing.
-use mathlib.Core.Path.{_≡_, refl, ap, ap₂, sym, _∙_}
+use mathlib.Core.Path.{_≡_, refl}
 use mathlib.Core.Bool.{Bool, true, false, _&&_}
-use mathlib.Core.List.{List, [], _∷_, _++_}
+use mathlib.Core.List.{List, [], _∷_}
 use Prim.Native.Nat.{ℕ, _+_, _-_, _*_, _<_, _≤_}
 use native.Mathlib.Omega.{arith}
 use lib.Dec.{leb}
-use lib.ListN.{length, take, drop, getD, length-drop}
-use lib.Seq.{take-take, take-add, drop-drop, drop-at, length-take-le}
+use lib.ListN.{length, take, drop, getD}
 use borrow.Author.Tests.{lt-leb, le-leb, leb-true}
 use Rattle.model.specs.Laws.{and-r}
 use Rattle.model.specs.Lists.{every, same}
-use Rattle.model.specs.Names.{Name, valid, fold}
+use Rattle.model.specs.Names.{valid, fold}
 use Rattle.model.specs.Memory.{noMailbox, nameOf}
 use Rattle.model.specs.Lawful.{zeros, mailboxOk}
 use Rattle.model.specs.declared.Mailbox.{Mailbox}
 use Rattle.rows.specs.Columns.{Laid, block}
+-- a row's name is tested as a session's is: by the one definition
+pub use Rattle.names.specs.Kept.{nameBy}
 
 -- ---- a row by its columns
 abbrev pub rowAt : List ℕ → List ℕ → List ℕ → List ℕ → List ℕ → List ℕ → ℕ → Mailbox
@@ -40,10 +41,6 @@ row-at l ids attributes lens validities nexts names w k h =
 -- ---- all of a mailbox's tests
 abbrev pub numbersBy : ℕ → ℕ → ℕ → ℕ → ℕ → Bool
 numbersBy id attributes len validity next = leb 1 id && (leb attributes 63 && (leb 1 validity && (leb 1 next && leb len 64)))
-
--- of a name's 64 octets the first are the name
-abbrev pub nameBy : ℕ → Name → Bool
-nameBy len o = valid (take len o) && (same (fold (take len o)) (take len o) && zeros (drop len o))
 
 -- the tests of a mailbox, one by one
 abbrev pub fieldTests : Mailbox → List Bool
@@ -87,28 +84,6 @@ module _ (id a n v u : ℕ) where
       let r = and-r (leb 1 v) _ q in
       leb-true n 64 (and-r (leb 1 u) _ r)
 
--- n is the name of the octets o
-module _ (len : ℕ) (o n : Name) (e : n ≡ take len o) where
-  pub name-invalid : valid n ≡ false → false ≡ nameBy len o
-  name-invalid h = rw (← e, h)
-
-  pub name-unfolded : valid n ≡ true → same (fold n) n ≡ false → false ≡ nameBy len o
-  name-unfolded h k = rw (← e, h, k)
-
-  pub name-rest : (r : Bool) (z : Name) → valid n ≡ true → same (fold n) n ≡ true → r ≡ zeros z → z ≡ drop len o → r ≡ nameBy len o
-  name-rest r z h k q f = rw (← e, h, k) (q ∙ ap zeros f)
-
--- the parts of a row's octets, as code takes them from the run of names
-module _ (names : List ℕ) (k len : ℕ) (w : length names ≡ 4096) (h : k < 64) (g : len ≤ 64) where
-  pub front-part : (e : ℕ) → e ≡ 64 * k + len → take (e - 64 * k) (drop (64 * k) names) ≡ take len (block names k)
-  front-part e q = let z : e - 64 * k ≡ len = omega arith in rw z (sym (take-take len 64 (drop (64 * k) names) g))
-
-  pub back-part : (e t : ℕ) → e ≡ 64 * k + len → t ≡ 64 * k + 64 → take (t - e) (drop e names) ≡ drop len (block names k)
-  back-part e t q r =
-      let d : List ℕ = drop (64 * k) names in
-      let m = length-drop (64 * k) names in
-      let z : t - e ≡ 64 - len = omega arith in
-      let y : len + (64 - len) ≡ 64 = omega arith in
-      let x : drop len d ≡ drop e names = drop-drop len (64 * k) names ∙ ap (λ (j : ℕ). drop j names) (sym q) in
-      let v : take 64 d ≡ take len d ++ take (64 - len) (drop len d) = ap (λ (j : ℕ). take j d) (sym y) ∙ take-add len (64 - len) d in
-      sym (ap (drop len) v ∙ (drop-at (take len d) (take (64 - len) (drop len d)) len (length-take-le len d (omega arith)) ∙ ap₂ (λ (j : ℕ) (l : List ℕ). take j l) (sym z) x))
+-- a row's octets, as code takes them from the run of names
+pub row-part : (names : List ℕ) (k t : ℕ) → t ≡ 64 * k + 64 → take (t - 64 * k) (drop (64 * k) names) ≡ block names k
+row-part names k t e = let z : t - 64 * k ≡ 64 = omega arith in rw z

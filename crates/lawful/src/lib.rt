@@ -49,15 +49,8 @@ fn name_ok(names: &[u8; 4096], k: usize, len: u8) -> bool
 {
     let all = &names[..];
     let from = 64 * k;
-    let end = from + len as usize;
     let stop = from + 64;
-    if !names::is_valid(&all[from..end]) {
-        return false;
-    }
-    if !names::is_folded(&all[from..end]) {
-        return false;
-    }
-    names::all_zero(&all[end..stop])
+    names::is_kept(&all[from..stop], len as usize)
 }
 
 // ---- a name's octets by neighbours, without a branch: sixteen are tested at once

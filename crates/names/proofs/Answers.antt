@@ -2,17 +2,19 @@
 use mathlib.Core.Path.{_≡_, refl, ap, sym, _∙_}
 use mathlib.Core.Bool.{Bool, true, false, not, cond, _&&_, _||_}
 use mathlib.Core.List.{List, [], _∷_}
-use Prim.Native.Nat.{ℕ, _+_, _<_, _≤_}
+use Prim.Native.Nat.{ℕ, _+_, _-_, _<_, _≤_}
 use native.Mathlib.Omega.{arith}
 use lib.Dec.{eqb, leb}
-use lib.ListN.{length, drop}
+use lib.ListN.{length, take, drop, length-drop}
+use lib.Seq.{take-all}
 use borrow.Author.Tests.{leb-true}
 use Rattle.model.specs.Lists.{same, anyb, allb}
 use Rattle.model.specs.Text.{sameWord}
 use Rattle.model.specs.Names.{printable, noPartEmpty, valid, inbox, fold, leads, beneath, subtree, subtreeOne}
 use Rattle.model.specs.Listing.{lendName}
+use Rattle.model.specs.Lawful.{zeros}
 use Rattle.model.specs.declared.LentName.{LentName}
-use Rattle.names.specs.Kept.{keptName}
+use Rattle.names.specs.Kept.{keptName, nameBy}
 
 -- ---- beneath
 pub beneath-empty : (top n : List ℕ) → length top ≡ 0 → beneath top n ≡ false
@@ -65,3 +67,15 @@ module _ (n : List ℕ) where
 
   pub kept-itself : valid n ≡ true → sameWord n inbox ≡ false → lendName n ≡ keptName n
   kept-itself e i = ap (λ (t : Bool). keptName (cond t (fold n) [])) e ∙ ap (λ (t : Bool). keptName (cond t inbox n)) i
+
+-- ---- octets that keep a name
+module _ (len : ℕ) (o : List ℕ) where
+  pub by-invalid : valid (take len o) ≡ false → false ≡ nameBy len o
+  by-invalid h = rw h
+
+  pub by-unfolded : valid (take len o) ≡ true → same (fold (take len o)) (take len o) ≡ false → false ≡ nameBy len o
+  by-unfolded h k = rw (h, k)
+
+  -- all that is left of the octets, as code takes it
+  pub by-rest : valid (take len o) ≡ true → same (fold (take len o)) (take len o) ≡ true → zeros (take (length o - len) (drop len o)) ≡ nameBy len o
+  by-rest h k = rw (h, k) (ap zeros (take-all (length o - len) (drop len o) (let z = length-drop len o in omega arith)))

@@ -9,7 +9,7 @@ ghost use Rattle.model.specs.Text.{upper, sameWord};
 ghost use Rattle.model.specs.Names.{valid, fold, inbox, leads, beneath, subtree, subtreeOne, before};
 ghost use Rattle.model.specs.Listing.{lendName};
 ghost use Rattle.model.specs.Lawful.{zeros};
-ghost use Rattle.names.specs.Kept.{keptName};
+ghost use Rattle.names.specs.Kept.{keptName, nameBy};
 ghost use Rattle.names.specs.Once.{textOk};
 use model::LentName;
 
@@ -250,4 +250,18 @@ pub fn stored(name: &[u8]) -> LentName
         return kept(b"INBOX");
     }
     kept(name)
+}
+
+// The first n octets are a valid name that is folded, and zeros stand behind it.
+pub fn is_kept(octets: &[u8], n: usize) -> bool
+    requires { ⌜ (n ≤ length (now octets)) × (length (now octets) ≤ 65536) ⌝ }
+    ensures { λ r. ⌜ r ≡ nameBy n (now (octets .entry)) ⌝ }
+{
+    if !is_valid(&octets[..n]) {
+        return false;
+    }
+    if !is_folded(&octets[..n]) {
+        return false;
+    }
+    all_zero(&octets[n..])
 }

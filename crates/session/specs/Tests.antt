@@ -1,18 +1,18 @@
 -- The tests of a session, as the code takes them. Assumes nothing.
 use mathlib.Core.Path.{_≡_, refl, ap, sym, _∙_}
-use mathlib.Core.Bool.{Bool, true, false, not, cond, _&&_, _||_}
-use mathlib.Core.List.{List, [], _∷_, map}
+use mathlib.Core.Bool.{Bool, true, false, not, cond, _&&_, _||_, and-assoc}
+use mathlib.Core.List.{List, [], _∷_, _++_, map}
 use Prim.Native.Nat.{ℕ, zero, suc, _+_, _*_, _-_, _<_, _≤_}
 use native.Mathlib.Numerals.{add-one}
 use native.Mathlib.Omega.{arith}
 use lib.Dec.{eqb, leb, ltb}
 use lib.ListN.{length, take, drop, getD, drop-of-length-le}
-use lib.Seq.{drop-cons, length-take-le}
+use lib.Seq.{drop-cons}
 use borrow.Author.Tests.{eq-eqb, ne-eqb, eqb-true, eqb-false, le-leb, lt-leb}
-use Rattle.model.specs.Laws.{tf, and-true, and-false, all-hold}
+use Rattle.model.specs.Laws.{tf, and-l, and-r, and-true, and-false, all-hold}
 use Rattle.model.specs.Lists.{anyb, allb, apart, every, same}
 use Rattle.model.specs.Text.{bit, one}
-use Rattle.model.specs.Names.{Name, valid, fold}
+use Rattle.model.specs.Names.{valid, fold}
 use Rattle.model.specs.Groups.{selectorOf, groupOf, groupsOf, isSelecting, lentName}
 use Rattle.model.specs.Lawful.{zeros, eventsOk, attributesOk, rangeOk, groupOk, groupsOk, lentNameCount, lentNameOk, blankGroup, blankName, bothSelecting, usedGroups, sessionOk}
 use Rattle.model.specs.declared.NameRange.{NameRange}
@@ -21,6 +21,7 @@ use Rattle.model.specs.declared.Group.{Group}
 use Rattle.model.specs.declared.LentGroup.{LentGroup}
 use Rattle.model.specs.declared.LentName.{LentName}
 use Rattle.model.specs.declared.Session.{Session}
+use Rattle.names.specs.Kept.{nameBy}
 use Rattle.rows.specs.Walks.{front, past}
 
 -- ---- a group
@@ -155,9 +156,6 @@ module _ (l : List ℕ) (i s : ℕ) where
       go false e = rw (ne-eqb 0 (getD l i 0) (λ z. eqb-false (getD l i 0) 0 e (sym z)), and-false (eqb s 0), ne-eqb (s + 1) 0 (λ z. (let y : ⊥ = omega arith in y)))
 
 -- ---- a name
-abbrev pub givenOk : Name → Bool
-givenOk n = eqb (length n) 0 || (valid n && same (fold n) n)
-
 -- past the end of an array of names, in code
 abbrev pub unnamed : LentName
 unnamed = record { len = 0; octets = [] }
@@ -166,24 +164,32 @@ module _ (x : LentName) where
   pub too-long : 64 < x .len → false ≡ lentNameOk x
   too-long h = rw (lt-leb (x .len) 64 h)
 
-  pub name-is : (p q : Bool) → length (x .octets) ≡ 64 → x .len ≤ 64 → p ≡ givenOk (lentName x) → q ≡ zeros (drop (x .len) (x .octets)) → (p && q) ≡ lentNameOk x
-  name-is p q w h e f =
-      let k : length (lentName x) ≡ x .len = length-take-le (x .len) (x .octets) (omega arith) in
-      rw (le-leb (x .len) 64 h, e, f, k)
+  pub name-none : x .len ≡ 0 → zeros (x .octets) ≡ lentNameOk x
+  name-none e = rw e
 
--- ---- the session's conditions
-abbrev pub sessionTests : Session → List Bool
-sessionTests s =
+  pub name-kept : x .len ≤ 64 → (x .len ≡ 0 → ⊥) → nameBy (x .len) (x .octets) ≡ lentNameOk x
+  name-kept h k = rw (le-leb (x .len) 64 h, ne-eqb (x .len) 0 k) (sym (and-assoc (valid (lentName x)) (same (fold (lentName x)) (lentName x)) (zeros (drop (x .len) (x .octets)))))
+
+-- ---- the session's conditions: those before the names, and all
+abbrev pub groupTests : Session → List Bool
+groupTests s =
     leb (s .notified) 1
     ∷ leb (s .groupcount) 8
     ∷ (eqb (s .groupcount) 0 || eqb (s .notified) 1)
     ∷ groupsOk 0 (usedGroups s)
     ∷ apart bothSelecting (groupsOf s)
     ∷ leb (lentNameCount (usedGroups s)) 16
-    ∷ allb lentNameOk (take (lentNameCount (usedGroups s)) (s .names))
+    ∷ []
+
+abbrev pub sessionTests : Session → List Bool
+sessionTests s =
+    groupTests s
+    ++ (
+    allb lentNameOk (take (lentNameCount (usedGroups s)) (s .names))
     ∷ allb blankGroup (drop (s .groupcount) (s .groups))
     ∷ allb blankName (drop (lentNameCount (usedGroups s)) (s .names))
     ∷ []
+    )
 
 module _ (s : Session) (k : ℕ) (e : k ≡ selectings (usedGroups s)) where
   pub many-selected : 1 < k → apart bothSelecting (groupsOf s) ≡ false
@@ -201,3 +207,11 @@ no-at (b ∷ bs) (suc k) e = go b (no-at bs k e)
     go : (b : Bool) → false ≡ every bs → false ≡ (b && every bs)
     go true ih = ih
     go false ih = refl
+
+-- the names are tested last, the used ones and the others at once
+around : (bs : List Bool) (g h i : Bool) → every bs ≡ true → h ≡ true → (g && i) ≡ every (bs ++ (g ∷ h ∷ i ∷ []))
+around [] g h i e f = rw f (ap (λ (b : Bool). g && b) (sym (and-true i)))
+around (b ∷ bs) g h i e f = rw (and-l b (every bs) e) (around bs g h i (and-r b (every bs) e) f)
+
+pub names-last : (s : Session) (k : ℕ) → k ≡ lentNameCount (usedGroups s) → every (groupTests s) ≡ true → allb blankGroup (drop (s .groupcount) (s .groups)) ≡ true → (allb lentNameOk (take k (s .names)) && allb blankName (drop k (s .names))) ≡ sessionOk s
+names-last s k e f g = rw e (around (groupTests s) (allb lentNameOk (take (lentNameCount (usedGroups s)) (s .names))) (allb blankGroup (drop (s .groupcount) (s .groups))) (allb blankName (drop (lentNameCount (usedGroups s)) (s .names))) f g)

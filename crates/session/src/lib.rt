@@ -10,12 +10,11 @@ ghost use mathlib.Core.Bool.{_&&_, _||_, cond, not};
 ghost use Prim.Native.Nat.{_+_, _≤_, _<_};
 ghost use lib.Dec.{eqb};
 ghost use lib.ListN.{length, take, drop};
-ghost use Rattle.model.specs.Lists.{allb, same};
+ghost use Rattle.model.specs.Lists.{allb};
 ghost use Rattle.model.specs.Text.{bit, one};
-ghost use Rattle.model.specs.Names.{valid, fold};
 ghost use Rattle.model.specs.Groups.{groupOf};
 ghost use Rattle.model.specs.Lawful.{zeros, rangeOk, groupOk, groupsOk, lentNameCount, lentNameOk, blankGroup, blankName, sessionOk};
-ghost use Rattle.session.specs.Tests.{selectorBy, eventsBy, attributesBy, selectings, givenOk};
+ghost use Rattle.session.specs.Tests.{selectorBy, eventsBy, attributesBy, selectings};
 
 // Both, as one value: nothing branches on the first.
 pub fn both(a: bool, b: bool) -> bool
@@ -198,16 +197,7 @@ fn blank_groups(groups: [LentGroup; 8], from: usize) -> bool
 
 // ---- the names
 
-// Nothing, or a name that is valid and folded.
-fn given_ok(name: &[u8]) -> bool
-    ensures { λ r. ⌜ r ≡ givenOk (now (name .entry)) ⌝ }
-{
-    if name.len() == 0 {
-        return true;
-    }
-    both(names::is_valid(name), names::is_folded(name))
-}
-
+// Nothing, or a valid name that is folded; zeros stand behind it.
 fn lent_name_ok(x: LentName) -> bool
     ensures { λ r. ⌜ r ≡ lentNameOk x ⌝ }
 {
@@ -216,7 +206,10 @@ fn lent_name_ok(x: LentName) -> bool
     }
     let octets = x.octets;
     let n = x.len as usize;
-    both(given_ok(&octets[..n]), names::all_zero(&octets[n..]))
+    if n == 0 {
+        return names::all_zero(&octets);
+    }
+    names::is_kept(&octets, n)
 }
 
 // One for an octet that is not zero.
@@ -247,26 +240,19 @@ fn blank_name(x: LentName) -> bool
     both(x.len == 0, filled(&octets) == 0)
 }
 
-fn names_ok(names: [LentName; 16], n: usize) -> bool
-    requires { ⌜ n ≤ 16 ⌝ }
-    ensures { λ r. ⌜ r ≡ allb lentNameOk (take n names) ⌝ }
+// The first names, those in use, are in order, and the others are zero. One function for both: each that takes the names copies them.
+fn names_fit(names: [LentName; 16], used: usize) -> bool
+    requires { ⌜ used ≤ 16 ⌝ }
+    ensures { λ r. ⌜ r ≡ (allb lentNameOk (take used names) && allb blankName (drop used names)) ⌝ }
 {
     let mut i: usize = 0;
-    while i < n {
+    while i < used {
         let x = names[i];
         if !lent_name_ok(x) {
             return false;
         }
         i += 1;
     }
-    true
-}
-
-fn blank_names(names: [LentName; 16], from: usize) -> bool
-    requires { ⌜ from ≤ 16 ⌝ }
-    ensures { λ r. ⌜ r ≡ allb blankName (drop from names) ⌝ }
-{
-    let mut i = from;
     while i < 16 {
         let x = names[i];
         if !blank_name(x) {
@@ -304,16 +290,9 @@ pub fn session_ok(s: Session) -> bool
     if 16 < many {
         return false;
     }
-    let names = s.names;
-    let used = many as usize;
-    if !names_ok(names, used) {
-        return false;
-    }
     if !blank_groups(groups, n) {
         return false;
     }
-    if !blank_names(names, used) {
-        return false;
-    }
-    true
+    let names = s.names;
+    names_fit(names, many as usize)
 }

@@ -1,0 +1,66 @@
+use borrow.Author.Needs.{needs}
+use Rattle.names.proofs.is_kept.Statement.{statement}
+use Rattle.names.proofs.is_kept.Tie as tie
+use mathlib.Core.Path.{sym, _∙_}
+use native.Mathlib.Omega.{arith}
+use lib.Seq.{length-take-le}
+use borrow.Author.Tests.{not-true, not-false}
+use Rattle.names.proofs.Answers.{by-invalid, by-unfolded, by-rest}
+
+slice-aggregate-is-valid : tie.Need-slice-aggregate-is-valid
+slice-aggregate-is-valid c = sym (length-take-le _ _ (omega arith))
+
+is-valid-requires : tie.Need-is-valid-requires
+is-valid-requires c κs = search needs
+
+returns : tie.Need-returns
+returns c =
+    let start = c .before .before .before .before in
+    by-invalid (start .args .n) (start .args .octets .now) (sym (c .before .is-valid .ensures) ∙ not-true _ (c .if1 .taken))
+
+slice-aggregate-is-folded : tie.Need-slice-aggregate-is-folded
+slice-aggregate-is-folded c = sym (length-take-le _ _ (omega arith))
+
+is-folded-requires : tie.Need-is-folded-requires
+is-folded-requires c κs = search needs
+
+returns-2 : tie.Need-returns-2
+returns-2 c =
+    let first = c .before .before .before in
+    let start = first .before .before .before .before in
+    by-unfolded (start .args .n) (start .args .octets .now) (sym (first .before .is-valid .ensures) ∙ not-false _ (first .if1 .left)) (sym (c .before .is-folded .ensures) ∙ not-true _ (c .if2 .taken))
+
+sub-all-zero : tie.Need-sub-all-zero
+sub-all-zero c = search needs
+
+part-all-zero-start : tie.Need-part-all-zero-start
+part-all-zero-start c = search needs
+
+part-all-zero-end : tie.Need-part-all-zero-end
+part-all-zero-end c = search needs
+
+all-zero-requires : tie.Need-all-zero-requires
+all-zero-requires c κs = search needs
+
+returns-3 : tie.Need-returns-3
+returns-3 c =
+    let second = c .before .before in
+    let first = second .before .before .before in
+    let start = first .before .before .before .before in
+    c .all-zero .ensures ∙ by-rest (start .args .n) (start .args .octets .now) (sym (first .before .is-valid .ensures) ∙ not-false _ (first .if1 .left)) (sym (second .before .is-folded .ensures) ∙ not-false _ (second .if2 .left))
+
+pub is-kept-spec : {M : Type 1} → statement M
+is-kept-spec =
+    tie.close
+    (tie.spec
+    slice-aggregate-is-valid
+    is-valid-requires
+    returns
+    slice-aggregate-is-folded
+    is-folded-requires
+    returns-2
+    sub-all-zero
+    part-all-zero-start
+    part-all-zero-end
+    all-zero-requires
+    returns-3)

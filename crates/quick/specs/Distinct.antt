@@ -34,6 +34,9 @@ Low l n = 1 ≤ n → (s : ℕ) → getD l s 0 < n
 pub low-zeros : (m n : ℕ) (l : List ℕ) → l ≡ replicate m 0 → Low l n
 low-zeros m n l e a s = let z = zero-at m s in rw e (omega arith)
 
+pub low-wider : (l : List ℕ) (n m : ℕ) → 1 ≤ n → n ≤ m → Low l n → Low l m
+low-wider l n m o h p a s = let z = p o s in omega arith
+
 -- the slots of the numbers below i are taken; the first number takes none
 abbrev pub Taken : List ℕ → List ℕ → ℕ → Type 0
 Taken d slots i = (j : ℕ) → 1 ≤ j → j < i → getD slots (slotOf (getD d j 0)) 0 ≡ 0 → ⊥

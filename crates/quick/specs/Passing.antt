@@ -6,8 +6,8 @@ use Prim.Native.Nat.{ℕ, zero, suc, _+_, _*_, _/_, _%_, _<_, _≤_}
 use native.Mathlib.Omega.{arith}
 use lib.Dec.{eqb, leb, ltb}
 use lib.Bits.{bitOr, or-add-and, and-le-l, and-le-r}
-use lib.ListN.{length, getD, set}
-use lib.Seq.{getD-set-same, getD-set-other}
+use lib.ListN.{length, take, getD, set}
+use lib.Seq.{take-suc, getD-set-same, getD-set-other}
 use borrow.Author.Tests.{eq-eqb, ne-eqb, lt-ltb, le-leb, leb-true, ltb-true, eqb-true, eqb-false}
 use Rattle.model.specs.Laws.{and-l, and-r, or-r, or-true, tf, each, all-hold}
 use Rattle.model.specs.Lists.{allb, anyb, apart, every}
@@ -15,9 +15,11 @@ use Rattle.model.specs.Memory.{noMailbox, noMessage, uidOf, place, known, theMa
 use Rattle.model.specs.Lawful.{clash, messageOk, twin, owned}
 use Rattle.demands.specs.Lasting.Rows.{all-snoc, all-imp, any-none, apart-snoc}
 use Rattle.rows.specs.Columns.{Column}
-use Rattle.entries.specs.Words.{row, messages, messages-get}
+use Rattle.entries.specs.Words.{row, messages, messages-get, messages-length}
 use Rattle.model.specs.declared.Mailbox.{Mailbox}
 use Rattle.model.specs.declared.Message.{Message}
+use Rattle.quick.specs.declared.Pass.{Pass}
+use Rattle.quick.specs.Distinct.{Low}
 
 -- the ids and the UIDNEXTs of the rows, by which the owner of a message is known
 pub record Owners (l : List Mailbox) (ids nexts : List ℕ) : Type 0 where
@@ -101,6 +103,18 @@ pub record Going (l : List Mailbox) (selected told flags size : ℕ) (last : Lis
 pub going-start : (l : List Mailbox) (selected told flags size : ℕ) (last : List ℕ) → Going l selected told flags size last []
 going-start l s t f z last = record { mail = refl; states = refl; twins = refl; low = refl }
 
+-- the entries before the place where a pass is are in order
+abbrev pub Passed : List ℕ → List Mailbox → ℕ → ℕ → Pass → List ℕ → Type 0
+Passed ws l selected told p last = Going l selected told (p .flags) (p .size) last (take (p .at / 5) (messages ws))
+
+-- a run from one place to another: whatever mailboxes the rows are, it keeps the entries passed in order
+pub record Ran (ws : List ℕ) (end : ℕ) (ids slots : List ℕ) (selected told : ℕ) (from : Pass) (before : List ℕ) (p : Pass) (last : List ℕ) : Type 0 where
+  pub on : from .at ≤ p .at
+  pub inside : p .at ≤ end
+  pub whole : p .at % 5 ≡ 0
+  pub long : length last ≡ 64
+  pub kept : (l : List Mailbox) (nexts : List ℕ) → Owners l ids nexts → apart clash l ≡ true → 1 ≤ length l → Low slots (length l) → Passed ws l selected told from before → Passed ws l selected told p last
+
 -- ids that differ: the place of an id is where it stands
 none-here : (o : ℕ) (x : Mailbox) (l : List Mailbox) (k : ℕ) → x .id ≡ o → k < length l → getD l k noMailbox .id ≡ o → anyb (λ (y : Mailbox). clash x y) l ≡ false → ⊥
 none-here o x [] k e h f n = omega arith
@@ -182,6 +196,17 @@ module _ (l : List Mailbox) (ids nexts : List ℕ) (w : Owners l ids nexts) (a :
 
     pub gone : (es : List Message) (flags size : ℕ) → flags ≤ 31 → size ≤ 4294967295 → Going l selected told flags size last es → Good l selected told es
     gone es flags size f z g = record { mail = all-imp (okUpTo flags size) messageOk (λ d. ok-wider d 31 4294967295 flags size f z) es (g .mail); owners = all-imp (atMost l last) (owned l) is-owned es (g .low); states = g .states; twins = g .twins }
+
+-- a pass with one entry more
+pub passed-next : (ws ids nexts : List ℕ) (l : List Mailbox) → Owners l ids nexts → apart clash l ≡ true → (selected told : ℕ) (p : Pass) (last : List ℕ) (k : ℕ) → p .at % 5 ≡ 0 → p .at + 5 ≤ length ws → k < length l → k < length last → Fits (entryAt ws (p .at)) (getD ids k 0) (getD last k 0) selected told → Passed ws l selected told p last → Passed ws l selected told (record { at = p .at + 5; flags = bitOr (p .flags) (getD ws (p .at + 2) 0); size = bitOr (p .size) (getD ws (p .at + 3) 0) }) (set last k (getD ws (p .at + 1) 0))
+passed-next ws ids nexts l w a selected told p last k r whole inside low f g =
+    let es = messages ws in
+    let i = p .at / 5 in
+    let many = messages-length (i + 1) ws (omega arith) in
+    let h : i < length es = omega arith in
+    let on : (p .at + 5) / 5 ≡ suc i = omega arith in
+    rw (on, take-suc es i noMessage h, entry-at ws (p .at) r (omega arith))
+    (going-next l ids nexts w a selected told last (take i es) (entryAt ws (p .at)) k inside f (p .flags) (p .size) low g)
 
 module _ (e : Message) (selected told : ℕ) where
   pub at-rest : e .states ≡ 0 → Viewed e selected told

@@ -1,5 +1,10 @@
 // Refusal 1, quickly: one pass over each table that says yes wherever ids, names and UIDs are seen to differ. A no says nothing.
+mod passing;
+
 use model::Uid;
+use passing::below;
+use passing::entry_fits;
+use passing::owner;
 ghost use mathlib.Core.Path.{_≡_};
 ghost use mathlib.Core.Bool.{true};
 ghost use mathlib.Core.List.{List};
@@ -10,7 +15,7 @@ ghost use Rattle.model.specs.Lawful.{clash};
 ghost use Rattle.model.specs.declared.Mailbox.{Mailbox};
 ghost use Rattle.entries.specs.Words.{messages};
 ghost use Rattle.rows.specs.Columns.{block};
-ghost use Rattle.quick.specs.Passing.{Owners, Viewed, Fits, Good, Below, entryAt};
+ghost use Rattle.quick.specs.Passing.{Owners, Good, Ran};
 ghost use Rattle.quick.specs.Distinct.{slotOf, Absent, Differ, Taken, Low};
 ghost use Rattle.quick.specs.Digest.{word, mixed, folded, digest};
 
@@ -79,72 +84,47 @@ pub fn guess(slots: &[u8; 1024], ids: &[u64; 64], id: u64) -> usize
 
 // ---- messages
 
-// The row of the n that has the id, where there is one: that of its slot, the one chained to it, or else by a search. The caller tests it.
-fn owner(slots: &[u8; 1024], chain: &[u8; 64], ids: &[u64; 64], n: usize, id: u64) -> usize
-    requires { ⌜ (1 ≤ n) × (n ≤ 64) × Low (now slots) n × Low (now chain) n ⌝ }
-    ensures { λ r. ⌜ r < n ⌝ }
-{
-    let at = slot(id);
-    let k = row(slots[at]);
-    if ids[k] == id {
-        return k;
-    }
-    let before = row(chain[k]);
-    if ids[before] == id {
-        return before;
-    }
-    let j = seek(ids, id);
-    if j < n { j } else { 0 }
+// How far a pass is, and the flags and sizes that it met, joined bit by bit.
+struct Pass {
+    at: usize,
+    flags: u64,
+    size: u64,
 }
 
-// An entry that is expunged or marked lies in the view.
-fn in_view(words: &[u64], b: usize, selected: u64, told: Uid) -> bool
-    requires { ⌜ b + 5 ≤ length (now words) ⌝ }
-    ensures { λ r. ⌜ (r ≡ true → Viewed (entryAt (now (words .entry)) b) selected (told .0)) ⌝ }
+// On from a place, as long as the row of the entry's slot has its id and the entry is in order. Most entries are passed here, in a small loop without a search.
+fn run(
+    words: &[u64],
+    end: usize,
+    ids: &[u64; 64],
+    slots: &[u8; 1024],
+    last: &mut [u64; 64],
+    selected: u64,
+    told: Uid,
+    from: Pass,
+) -> Pass
+    requires { ⌜ (from .at ≤ end) × (from .at % 5 ≡ 0) × (end % 5 ≡ 0) × (end ≤ length (now words)) × (length (now last) ≡ 64) × Low (now slots) 64 ⌝ }
+    ensures { λ r. ⌜ Ran (now (words .entry)) end (now (ids .entry)) (now (slots .entry)) selected (told .0) from (now (last .entry)) r (now (last .exit)) ⌝ }
 {
-    if words[b + 4] == 0 {
-        return true;
-    }
-    if 2 < words[b + 4] {
-        return false;
-    }
-    if words[b] != selected {
-        return false;
-    }
-    words[b + 1] < told.0
-}
-
-// The entry whose words start at b is in order but for its flags and size, and above the last UID of its row. Each word is read where it is tested.
-fn entry_fits(words: &[u64], b: usize, id: u64, low: Uid, selected: u64, told: Uid) -> bool
-    requires { ⌜ b + 5 ≤ length (now words) ⌝ }
-    ensures { λ r. ⌜ (r ≡ true → Fits (entryAt (now (words .entry)) b) id (low .0) selected (told .0)) ⌝ }
-{
-    if words[b] != id {
-        return false;
-    }
-    if words[b + 1] <= low.0 {
-        return false;
-    }
-    in_view(words, b, selected, told)
-}
-
-// The last UIDs of the first n rows are below their UIDNEXTs.
-fn below(last: &[u64; 64], nexts: &[u64; 64], n: usize) -> bool
-    requires { ⌜ n ≤ 64 ⌝ }
-    ensures { λ r. ⌜ (r ≡ true → Below (now (last .entry)) (now (nexts .entry)) n) ⌝ }
-{
-    let mut i: usize = 0;
-    while i < n {
-        if nexts[i] <= last[i] {
-            return false;
+    let mut b = from.at;
+    let mut flags = from.flags;
+    let mut size = from.size;
+    while b < end {
+        let k = row(slots[slot(words[b])]);
+        let low = Uid(last[k]);
+        if !entry_fits(words, b, ids[k], low, selected, told) {
+            return Pass { at: b, flags, size };
         }
-        i += 1;
+        last[k] = words[b + 1];
+        flags = flags | words[b + 2];
+        size = size | words[b + 3];
+        b += 5;
     }
-    true
+    Pass { at: b, flags, size }
 }
 
 // One pass: every entry is in order and rises above those of its mailbox before it, so that the last of each is compared with the UIDNEXT.
-// Flags and sizes are joined bit by bit and tested at the end: a join is at least each of its numbers, and the bounds are all ones.
+// Where a run stops, the one entry is tested with the row that `owner` finds.
+// A join of flags or sizes is tested at the end: it is at least each of its numbers, and the bounds are all ones.
 // A no says nothing. The last UIDs of the rows are an array of words, as those of `found` are; a single UID is a `Uid`.
 pub fn all_fit(
     words: &[u64],
@@ -164,25 +144,48 @@ pub fn all_fit(
         return used < 1;
     }
     let mut last = [0u64; 64];
-    let mut flags: u64 = 0;
-    let mut size: u64 = 0;
     let end = 5 * used;
-    let mut b: usize = 0;
-    while b < end {
-        let k = owner(slots, chain, ids, n, words[b]);
+    let mut p = run(
+        words,
+        end,
+        ids,
+        slots,
+        &mut last,
+        selected,
+        told,
+        Pass {
+            at: 0,
+            flags: 0,
+            size: 0,
+        },
+    );
+    while p.at < end {
+        let at = p.at;
+        let k = owner(slots, chain, ids, n, words[at]);
         let low = Uid(last[k]);
-        if !entry_fits(words, b, ids[k], low, selected, told) {
+        if !entry_fits(words, at, ids[k], low, selected, told) {
             return false;
         }
-        last[k] = words[b + 1];
-        flags = flags | words[b + 2];
-        size = size | words[b + 3];
-        b += 5;
+        last[k] = words[at + 1];
+        p = run(
+            words,
+            end,
+            ids,
+            slots,
+            &mut last,
+            selected,
+            told,
+            Pass {
+                at: at + 5,
+                flags: p.flags | words[at + 2],
+                size: p.size | words[at + 3],
+            },
+        );
     }
-    if 31 < flags {
+    if 31 < p.flags {
         return false;
     }
-    if 4294967295 < size {
+    if 4294967295 < p.size {
         return false;
     }
     below(&last, nexts, n)

@@ -4,8 +4,8 @@ use native.Mathlib.Omega.{arith}
 use Rattle.model.specs.Laws.{tf}
 use Rattle.quick.specs.Passing.{at-rest, in-view}
 use borrow.Author.Needs.{needs}
-use Rattle.quick.proofs.in_view.Statement.{statement}
-use Rattle.quick.proofs.in_view.Tie as tie
+use Rattle.quick.proofs.passing.in_view.Statement.{statement}
+use Rattle.quick.proofs.passing.in_view.Tie as tie
 
 add-if1 : tie.Need-add-if1
 add-if1 c = search needs

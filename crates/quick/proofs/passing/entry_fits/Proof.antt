@@ -3,8 +3,8 @@ use mathlib.Core.Bool.{false}
 use native.Mathlib.Omega.{arith}
 use Rattle.model.specs.Laws.{tf}
 use borrow.Author.Needs.{needs}
-use Rattle.quick.proofs.entry_fits.Statement.{statement}
-use Rattle.quick.proofs.entry_fits.Tie as tie
+use Rattle.quick.proofs.passing.entry_fits.Statement.{statement}
+use Rattle.quick.proofs.passing.entry_fits.Tie as tie
 
 mul-if1 : tie.Need-mul-if1
 mul-if1 c = search needs

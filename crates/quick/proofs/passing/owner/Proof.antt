@@ -1,7 +1,7 @@
 use native.Mathlib.Omega.{arith}
 use borrow.Author.Needs.{needs}
-use Rattle.quick.proofs.owner.Statement.{statement}
-use Rattle.quick.proofs.owner.Tie as tie
+use Rattle.quick.proofs.passing.owner.Statement.{statement}
+use Rattle.quick.proofs.passing.owner.Tie as tie
 
 slot-requires : tie.Need-slot-requires
 slot-requires c κs = search needs

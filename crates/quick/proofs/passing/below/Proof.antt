@@ -7,8 +7,8 @@ use Rattle.model.specs.Laws.{tf}
 use Rattle.rows.specs.Columns.{all-below}
 use Rattle.quick.specs.Passing.{Below}
 use borrow.Author.Needs.{needs}
-use Rattle.quick.proofs.below.Statement.{statement}
-use Rattle.quick.proofs.below.Tie as tie
+use Rattle.quick.proofs.passing.below.Statement.{statement}
+use Rattle.quick.proofs.passing.below.Tie as tie
 
 abbrev Inv-loop : tie.InvT-loop
 Inv-loop last nexts n i₀ i = (i ≤ n) × Below last nexts i

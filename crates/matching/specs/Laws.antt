@@ -1,21 +1,22 @@
 -- What a cell says of the set, the test or the key that is coded there. Assumes nothing.
-use mathlib.Core.Path.{_≡_, refl, ap, ap₂, sym, _∙_}
+use mathlib.Core.Path.{_≡_, refl, ap, ap₂, sym, subst, _∙_}
 use mathlib.Core.Bool.{Bool, true, false, not, cond, _&&_, _||_}
 use mathlib.Core.List.{List, [], _∷_, _++_, append-assoc, append-nil}
-use Prim.Native.Nat.{ℕ, zero, suc, _+_, _-_, _*_, _/_, _≤_, _<_, min, max}
+use Prim.Native.Nat.{ℕ, zero, suc, _+_, _-_, _*_, _/_, _%_, _^_, _≤_, _<_, min, max}
 use native.Mathlib.Numerals.{add-one}
 use native.Mathlib.Omega.{arith}
-use borrow.Author.Tests.{le-leb, lt-leb, eq-eqb, ne-eqb}
+use native.Mathlib.Nat.{min-le-left, min-le-right, le-max-left, le-max-right, le-min, max-le, div-one, div-div-eq-div-mul, pow-succ', pow-le-pow-right}
+use borrow.Author.Tests.{le-leb, lt-leb, leb-true, leb-false, eq-eqb, eqb-true, ne-eqb, le-ltb, ltb-false, not-true, not-false}
 use lib.Dec.{eqb, leb, ltb}
-use lib.ListN.{length, take, drop, getD, length-append, length-drop, take-append-drop}
+use lib.ListN.{length, drop, getD, length-append, length-drop, take-append-drop}
 use lib.Seq.{drop-cons, drop-drop, drop-append-seam, length-take-le}
 use Rattle.model.specs.Text.{bit}
 use Rattle.model.specs.Requests.{Bound, number, star, Part, Test, all, unsupported, flagged, larger, smaller, uids, numbers, Key, test, non, either, group, Keys, end, more}
-use Rattle.model.specs.Limits.{partsOf}
-use Rattle.model.specs.Searching.{Candidate, boundOf, inPart, inSet, passes, holds, holdsAll}
+use Rattle.model.specs.Searching.{Candidate, agrees, boundOf, inPart, inSet, passes, holds, holdsAll}
 use Rattle.read_keys.specs.Table.{boundNumber, partCells, flagNumber, testCode, code, codes}
-use Rattle.matching.specs.Tests.{candidate, ProperBound, ProperParts, Proper, Propers, boundBy, partHolds, simpleOf, widthOf, joined, holdsSome, folded, TestsSet, TestsTest, TestsKey, TestsKeys, TestsAll, Behind}
+use Rattle.matching.specs.Tests.{candidate, factsOf, ProperBound, ProperParts, Proper, Propers, boundBy, partHolds, Counted, countedWidth, simpleOf, widthOf, holdsSome, folded, TestsSet, TestsTest, TestsKey, TestsKeysOn, TestsAll, Behind, LastNest, Answers}
 use Rattle.matching.specs.declared.Probe.{Probe}
+use Rattle.matching.specs.declared.Outcome.{Outcome}
 
 -- ---- cells
 pub past-end : (l : List ℕ) (i : ℕ) → length l ≤ i → 0 ≡ getD l i 0
@@ -52,8 +53,30 @@ bound-same last star h = refl
 part-same : (last n : ℕ) (p : Part) → ProperBound (p .from) → ProperBound (p .upto) → partHolds (boundNumber (p .from)) (boundNumber (p .upto)) last n ≡ inPart last n p
 part-same last n p h k = ap₂ (λ (a b : ℕ). leb (min a b) n && leb n (max a b)) (bound-same last (p .from) h) (bound-same last (p .upto) k)
 
-pub part-by : (x y last n a b low high : ℕ) (r : Bool) → a ≡ boundBy last x → b ≡ boundBy last y → low ≡ min a b → high ≡ max a b → r ≡ (leb low n && leb n high) → r ≡ partHolds x y last n
-part-by x y last n a b low high r e f g h k = k ∙ ap₂ (λ (l u : ℕ). leb l n && leb n u) (g ∙ ap₂ (λ (l u : ℕ). min l u) e f) (h ∙ ap₂ (λ (l u : ℕ). max l u) e f)
+-- a number against two bounds in either order
+abbrev within : ℕ → ℕ → ℕ → Bool
+within a b n = leb (min a b) n && leb n (max a b)
+
+module _ (x y last n a b : ℕ) (e : a ≡ boundBy last x) (f : b ≡ boundBy last y) where
+  of-bounds : (r : Bool) → r ≡ within a b n → r ≡ partHolds x y last n
+  of-bounds r h = h ∙ ap₂ (λ (a b : ℕ). leb (min a b) n && leb n (max a b)) e f
+
+  pub part-above : a < n → leb n b ≡ partHolds x y last n
+  part-above h = of-bounds (leb n b) (upper (leb n b) refl ∙ ap (λ (t : Bool). t && leb n (max a b)) (sym (le-leb (min a b) n (omega (arith, min-le-left a b)))))
+    where
+      upper : (t : Bool) → leb n b ≡ t → leb n b ≡ leb n (max a b)
+      upper true t = t ∙ sym (le-leb n (max a b) (omega (arith, le-max-right a b, leb-true n b t)))
+      upper false t = t ∙ sym (lt-leb n (max a b) (let l = leb-false n b t in let m : max a b ≤ n - 1 = max-le (omega arith) (omega arith) in omega arith))
+
+  pub part-below : n < a → leb b n ≡ partHolds x y last n
+  part-below h = of-bounds (leb b n) (lower (leb b n) refl ∙ ap (λ (t : Bool). leb (min a b) n && t) (sym (le-leb n (max a b) (omega (arith, le-max-left a b)))))
+    where
+      lower : (t : Bool) → leb b n ≡ t → leb b n ≡ leb (min a b) n && true
+      lower true t = t ∙ ap (λ (t : Bool). t && true) (sym (le-leb (min a b) n (omega (arith, min-le-right a b, leb-true b n t))))
+      lower false t = t ∙ ap (λ (t : Bool). t && true) (sym (lt-leb (min a b) n (let l = leb-false b n t in let m : suc n ≤ min a b = le-min (omega arith) (omega arith) in omega arith)))
+
+  pub part-on : n ≤ a → a ≤ n → true ≡ partHolds x y last n
+  part-on h k = of-bounds true (ap₂ _&&_ (sym (le-leb (min a b) n (omega (arith, min-le-left a b)))) (sym (le-leb n (max a b) (omega (arith, le-max-left a b)))))
 
 -- the parts that are left, from cell i on
 pub record SetLeft (cells : List ℕ) (i stop last n : ℕ) (whole : Bool) : Type 0 where
@@ -71,7 +94,7 @@ module _ (cells : List ℕ) (at stop last n : ℕ) where
   pub set-start : SetGoing cells at stop last n at
   set-start ps rest e f g = record { parts = ps; rest = rest; is = e; stops = f; proper = g; same = refl }
 
-  module _ (i : ℕ) (b : Bool) (q : b ≡ partHolds (getD cells i 0) (getD cells (i + 1) 0) last n) (h : i < stop) (go : SetGoing cells at stop last n i) where
+  module _ (i : ℕ) (b : Bool) (q : b ≡ partHolds (getD cells i 0) (getD cells (i + 1) 0) last n) (h : i + 1 < stop) (go : SetGoing cells at stop last n i) where
     hit : b ≡ true → (whole : Bool) (ps : List Part) (rest : List ℕ) → drop i cells ≡ partCells ps ++ rest → stop ≡ i + length (partCells ps) → ProperParts ps → whole ≡ inSet last n ps → true ≡ whole
     hit t whole [] rest e f g s = absurd (let z : ⊥ = omega arith in z)
     hit t whole (p ∷ ps) rest e f g s =
@@ -101,7 +124,7 @@ module _ (cells : List ℕ) (at stop last n : ℕ) where
     pub set-next : b ≡ false → SetGoing cells at stop last n (i + 2)
     set-next t ps rest e f g = let l = go ps rest e f g in miss t (inSet last n ps) (l .parts) (l .rest) (l .is) (l .stops) (l .proper) (l .same)
 
-  module _ (i : ℕ) (h : stop ≤ i) (go : SetGoing cells at stop last n i) where
+  module _ (i : ℕ) (h : stop ≤ i + 1) (go : SetGoing cells at stop last n i) where
     over : (whole : Bool) (ps : List Part) → stop ≡ i + length (partCells ps) → whole ≡ inSet last n ps → false ≡ whole
     over whole [] f s = sym s
     over whole (p ∷ ps) f s = absurd (let z : ⊥ = omega arith in z)
@@ -110,9 +133,16 @@ module _ (cells : List ℕ) (at stop last n : ℕ) where
     set-end ps rest e f g = let l = go ps rest e f g in over (inSet last n ps) (l .parts) (l .stops) (l .same)
 
 -- ---- tests
-pub bit-next : (k n : ℕ) → 0 < k → bit k n ≡ bit (k - 1) (n / 2)
-bit-next zero n h = absurd (let z : ⊥ = omega arith in z)
-bit-next (suc k) n h = ap (λ (j : ℕ). bit j (n / 2)) (let z : k ≡ suc k - 1 = omega arith in z)
+pub bit-shifted : (k n : ℕ) → eqb (n / 2 ^ k % 2) 1 ≡ bit k n
+bit-shifted zero n = ap (λ (m : ℕ). eqb (m % 2) 1) (div-one n)
+bit-shifted (suc k) n = ap (λ (m : ℕ). eqb (m % 2) 1) (ap (λ (d : ℕ). n / d) (pow-succ' 2 k) ∙ sym (div-div-eq-div-mul n 2 (2 ^ k))) ∙ bit-shifted k (n / 2)
+
+bit-past : (k n : ℕ) → n < 2 ^ k → false ≡ bit k n
+bit-past zero n h = ap (λ (m : ℕ). eqb (m % 2) 1) (let z : 0 ≡ n = omega arith in z)
+bit-past (suc k) n h = bit-past k (n / 2) (let z = pow-succ' 2 k in omega arith)
+
+pub bit-none : (k n : ℕ) → 63 < k → n < 2 ^ 64 → false ≡ bit k n
+bit-none k n h f = bit-past k n (let z : 2 ^ 64 ≤ 2 ^ k = pow-le-pow-right {n = 2} (omega arith) {i = 64} {j = k} (omega arith) in omega arith)
 
 module _ (cells : List ℕ) (at stop : ℕ) (p : Probe) (kind : ℕ) (q : kind ≡ getD cells at 0) where
   head : (x : ℕ) (ys : List ℕ) → drop at cells ≡ x ∷ ys → kind ≡ x
@@ -198,86 +228,33 @@ module _ (cells : List ℕ) (at stop kind x left : ℕ) (q : kind ≡ getD cells
   width-is (either a b) rest e h = set-width 9 (length (code a ++ code b)) ((code a ++ code b) ++ rest) (2 + length (code a ++ code b)) e refl (omega arith) ∙ omega arith
   width-is (group ks) rest e h = set-width 10 (length (codes ks)) (codes ks ++ rest) (2 + length (codes ks)) e refl (omega arith) ∙ omega arith
 
-  module _ (w : ℕ) (s : w ≡ widthOf kind x left) (some : 1 ≤ w) where
+  counted : Counted kind → countedWidth kind x left ≡ widthOf kind x left
+  counted h =
+      let a = h .0 in
+      let e : kind ≡ 2 → ⊥ = λ z. (let c : ⊥ = omega arith in c) in
+      let f : kind ≡ 3 → ⊥ = λ z. (let c : ⊥ = omega arith in c) in
+      let g : kind ≡ 4 → ⊥ = λ z. (let c : ⊥ = omega arith in c) in
+      simp (ne-eqb kind 2 e, ne-eqb kind 3 f, ne-eqb kind 4 g, le-ltb kind 5 (omega arith), ne-eqb kind 7 (h .1))
+
+  module _ (w : ℕ) (v : Counted (getD cells at 0)) (t : w ≡ countedWidth kind x left) (some : 1 ≤ w) where
+    s : w ≡ widthOf kind x left
+    s = t ∙ counted (subst Counted (sym q) v)
+
     pub behind-all : left ≤ w → Behind cells at stop stop
-    behind-all h = record { after = m; inside = omega arith; exact = λ k rest e f. let z = width-is k rest e f in omega arith }
+    behind-all h = record { after = m; inside = omega arith; exact = λ k rest e f. let z = s ∙ width-is k rest e f in omega arith }
 
     pub behind-part : w < left → Behind cells at stop (at + w)
-    behind-part h = record { after = omega arith; inside = omega arith; exact = λ k rest e f. let z = width-is k rest e f in omega arith }
+    behind-part h = record { after = omega arith; inside = omega arith; exact = λ k rest e f. let z = s ∙ width-is k rest e f in omega arith }
+
+-- ---- the last key, if it holds keys
+module _ (cells : List ℕ) (at stop : ℕ) where
+  pub nest-not : LastNest cells at stop false
+  nest-not e = absurd (let z : _≡_ {A = ℕ} 0 1 = cc in let y : ⊥ = omega arith in y)
+
+  pub nest-by : (kind after : ℕ) → kind ≡ getD cells at 0 → 8 ≤ kind → Behind cells at stop after → LastNest cells at stop (eqb after stop)
+  nest-by kind after q h b e = (omega arith, subst (λ (r : ℕ). Behind cells at stop r) (eqb-true after stop e) b)
 
 -- ---- keys
-joined-more : (any a b x : Bool) → joined any a (joined any b x) ≡ joined any (joined any a b) x
-joined-more true true b x = refl
-joined-more true false b x = refl
-joined-more false true b x = refl
-joined-more false false b x = refl
-
-joined-first : (any x : Bool) → x ≡ joined any (not any) x
-joined-first true x = refl
-joined-first false x = refl
-
-folded-more : (any : Bool) (k : Key) (ks : Keys) (c : Candidate) → folded any (more k ks) c ≡ joined any (holds k c) (folded any ks c)
-unfolding holds holdsSome
-folded-more true k ks c = refl
-folded-more false k ks c = refl
-
-folded-none : (any a : Bool) (c : Candidate) → a ≡ joined any a (folded any end c)
-unfolding holds holdsSome
-folded-none true true c = refl
-folded-none true false c = refl
-folded-none false true c = refl
-folded-none false false c = refl
-
--- the keys that are left, from cell i on
-pub record Left (cells : List ℕ) (i stop : ℕ) (any : Bool) (p : Probe) (sum whole : Bool) : Type 0 where
-  pub keys : Keys
-  pub rest : List ℕ
-  pub is : drop i cells ≡ codes keys ++ rest
-  pub stops : stop ≡ i + length (codes keys)
-  pub proper : Propers keys
-  pub same : whole ≡ joined any sum (folded any keys (candidate p))
-
-abbrev pub Going : List ℕ → ℕ → ℕ → Bool → Probe → ℕ → Bool → Type 0
-Going cells at stop any p i sum = (ks : Keys) (rest : List ℕ) → drop at cells ≡ codes ks ++ rest → stop ≡ at + length (codes ks) → Propers ks → Left cells i stop any p sum (folded any ks (candidate p))
-
-module _ (cells : List ℕ) (at stop : ℕ) (any : Bool) (p : Probe) where
-  pub going-start : (sum : Bool) → sum ≡ not any → Going cells at stop any p at sum
-  going-start sum q ks rest e f g = record { keys = ks; rest = rest; is = e; stops = f; proper = g; same = joined-first any (folded any ks (candidate p)) ∙ ap (λ (a : Bool). joined any a (folded any ks (candidate p))) (sym q) }
-
-  module _ (i : ℕ) (sum : Bool) (go : Going cells at stop any p i sum) where
-    module _ (h : i < stop) (after : ℕ) (b : Behind cells i stop after) (t : Bool) (r : TestsKey cells i after p t) (sum′ : Bool) (j : sum′ ≡ joined any sum t) where
-      step : (whole : Bool) (ks : Keys) (rest : List ℕ) → drop i cells ≡ codes ks ++ rest → stop ≡ i + length (codes ks) → Propers ks → whole ≡ joined any sum (folded any ks (candidate p)) → Left cells after stop any p sum′ whole
-      unfolding code Proper
-      step whole end rest e f g s = absurd (let z : ⊥ = omega arith in z)
-      step whole (more k ks) rest e f g s =
-          let d : drop i cells ≡ code k ++ (codes ks ++ rest) = e ∙ append-assoc (code k) (codes ks) rest in
-          let l = length-append (code k) (codes ks) in
-          let n : after ≡ i + length (code k) = b .exact k (codes ks ++ rest) d (omega arith) in
-          let v : t ≡ holds k (candidate p) = r k (codes ks ++ rest) d n (g .0) in
-          record {
-            keys = ks;
-            rest = rest;
-            is = ap (λ (z : ℕ). drop z cells) n ∙ past cells i (code k) (codes ks ++ rest) d;
-            stops = omega arith;
-            proper = g .1;
-            same =
-                s ∙ (ap (joined any sum) (folded-more any k ks (candidate p))
-                ∙ (joined-more any sum (holds k (candidate p)) (folded any ks (candidate p))
-                ∙ ap (λ (a : Bool). joined any a (folded any ks (candidate p))) (ap (joined any sum) (sym v) ∙ sym j)));
-          }
-
-      pub going-next : Going cells at stop any p after sum′
-      going-next ks rest e f g = let l = go ks rest e f g in step (folded any ks (candidate p)) (l .keys) (l .rest) (l .is) (l .stops) (l .proper) (l .same)
-
-    module _ (h : stop ≤ i) where
-      last : (whole : Bool) (ks : Keys) → stop ≡ i + length (codes ks) → whole ≡ joined any sum (folded any ks (candidate p)) → sum ≡ whole
-      unfolding code
-      last whole end f s = folded-none any sum (candidate p) ∙ sym s
-      last whole (more k ks) f s = let l = length-append (code k) (codes ks) in let z = code-some k in absurd (let y : ⊥ = omega arith in y)
-
-      pub going-end : TestsKeys cells at stop any p sum
-      going-end ks rest e f g = let l = go ks rest e f g in last (folded any ks (candidate p)) (l .keys) (l .stops) (l .same)
-
 and-true : (b : Bool) → b && true ≡ b
 and-true true = refl
 and-true false = refl
@@ -286,16 +263,46 @@ or-false : (b : Bool) → b || false ≡ b
 or-false true = refl
 or-false false = refl
 
-module _ (cells : List ℕ) (at stop : ℕ) (p : Probe) (kind : ℕ) (q : kind ≡ getD cells at 0) (r : Bool) where
+-- the first key that decides is the answer, whatever stands behind it
+decided : (any h : Bool) (k : Key) (ks : Keys) (c : Candidate) → h ≡ holds k c → agrees any h ≡ true → any ≡ folded any (more k ks) c
+unfolding holds holdsSome
+decided true h k ks c v t = ap (λ (x : Bool). x || holdsSome ks c) (sym t ∙ v)
+decided false h k ks c v t = ap (λ (x : Bool). x && holdsAll ks c) (sym (not-true h t) ∙ v)
+
+-- one that does not decide says nothing of the others
+passed : (any h : Bool) (k : Key) (ks : Keys) (c : Candidate) → h ≡ holds k c → agrees any h ≡ false → folded any (more k ks) c ≡ folded any ks c
+unfolding holds holdsSome
+passed true h k ks c v t = ap (λ (x : Bool). x || holdsSome ks c) (sym v ∙ t)
+passed false h k ks c v t = ap (λ (x : Bool). x && holdsAll ks c) (sym v ∙ not-false h t)
+
+none : (any : Bool) (c : Candidate) → not any ≡ folded any end c
+unfolding holds holdsSome
+none true c = refl
+none false c = refl
+
+single : (any : Bool) (k : Key) (c : Candidate) → folded any (more k end) c ≡ holds k c
+unfolding holds holdsSome
+single true k c = or-false (holds k c)
+single false k c = and-true (holds k c)
+
+turned : (on b x : Bool) → agrees on (agrees b x) ≡ agrees (agrees b on) x
+turned true true x = refl
+turned true false x = refl
+turned false true x = refl
+turned false false true = refl
+turned false false false = refl
+
+-- the keys that a key holds
+pub record Inner (cells : List ℕ) (at kind : ℕ) (k : Key) (rest : List ℕ) : Type 0 where
+  pub keys : Keys
+  pub is : drop (at + 2) cells ≡ codes keys ++ rest
+  pub size : length (code k) ≡ 2 + length (codes keys)
+  pub proper : Propers keys
+  pub same : (c : Candidate) → holds k c ≡ agrees (not (eqb kind 8)) (folded (eqb kind 9) keys c)
+
+module _ (cells : List ℕ) (at kind : ℕ) (q : kind ≡ getD cells at 0) where
   is-kind : (x : ℕ) (ys : List ℕ) → drop at cells ≡ x ∷ ys → kind ≡ x
   is-kind x ys e = q ∙ one-at cells at x ys e .0
-
-  pub key-test : kind < 8 → TestsTest cells at stop p r → TestsKey cells at stop p r
-  unfolding code holds Proper
-  key-test h t (test u) rest e f g = t u rest e f g
-  key-test h t (non k) rest e f g = let z = is-kind 8 (length (code k) ∷ (code k ++ rest)) e in absurd (omega arith)
-  key-test h t (either a b) rest e f g = let z = is-kind 9 (length (code a ++ code b) ∷ ((code a ++ code b) ++ rest)) e in absurd (omega arith)
-  key-test h t (group ks) rest e f g = let z = is-kind 10 (length (codes ks) ∷ (codes ks ++ rest)) e in absurd (omega arith)
 
   low : (t : Test) (rest : List ℕ) → drop at cells ≡ testCode t ++ rest → kind < 8
   low all rest e = let z = is-kind 1 rest e in omega arith
@@ -306,32 +313,182 @@ module _ (cells : List ℕ) (at stop : ℕ) (p : Probe) (kind : ℕ) (q : kind �
   low (uids ps) rest e = let z = is-kind 5 (length ps ∷ (partCells ps ++ rest)) e in omega arith
   low (numbers ps) rest e = let z = is-kind 6 (length ps ∷ (partCells ps ++ rest)) e in omega arith
 
-  module _ (h : 8 ≤ kind) (t : TestsKeys cells (at + 2) stop (eqb kind 9) p r) where
-    among : (b : Bool) → eqb kind 9 ≡ b → TestsKeys cells (at + 2) stop b p r
-    among b e = rw e at t
+  inner : 8 ≤ kind → (k : Key) (rest : List ℕ) → drop at cells ≡ code k ++ rest → Proper k → Inner cells at kind k rest
+  unfolding code holds holdsSome Proper
+  inner h (test u) rest e g = let z = low u rest e in absurd (omega arith)
+  inner h (non k) rest e g =
+      let z = is-kind 8 (length (code k) ∷ (code k ++ rest)) e in
+      let n = append-nil (code k) in
+      record {
+        keys = more k end;
+        is = others cells at 8 (length (code k)) (code k ++ rest) e ∙ ap (λ (l : List ℕ). l ++ rest) (sym n);
+        size = let l = ap length n in omega arith;
+        proper = (g, tt);
+        same = λ c. ap not (sym (and-true (holds k c))) ∙ sym (ap (λ (x : ℕ). agrees (not (eqb x 8)) (folded (eqb x 9) (more k end) c)) z);
+      }
+  inner h (either a b) rest e g =
+      let z = is-kind 9 (length (code a ++ code b) ∷ ((code a ++ code b) ++ rest)) e in
+      let n = ap (λ (l : List ℕ). code a ++ l) (append-nil (code b)) in
+      record {
+        keys = more a (more b end);
+        is = others cells at 9 (length (code a ++ code b)) ((code a ++ code b) ++ rest) e ∙ ap (λ (l : List ℕ). l ++ rest) (sym n);
+        size = let l = ap length n in omega arith;
+        proper = (g .0, (g .1, tt));
+        same = λ c. ap (λ (x : Bool). holds a c || x) (sym (or-false (holds b c))) ∙ sym (ap (λ (x : ℕ). agrees (not (eqb x 8)) (folded (eqb x 9) (more a (more b end)) c)) z);
+      }
+  inner h (group ks) rest e g =
+      let z = is-kind 10 (length (codes ks) ∷ (codes ks ++ rest)) e in
+      record {
+        keys = ks;
+        is = others cells at 10 (length (codes ks)) (codes ks ++ rest) e;
+        size = omega arith;
+        proper = g;
+        same = λ c. sym (ap (λ (x : ℕ). agrees (not (eqb x 8)) (folded (eqb x 9) ks c)) z);
+      }
 
-    pub key-non : kind ≡ 8 → (s : Bool) → s ≡ not r → TestsKey cells at stop p s
-    unfolding code holds Proper
-    key-non d s v (test u) rest e f g = let z = low u rest e in absurd (omega arith)
-    key-non d s v (non k) rest e f g =
-        let o = others cells at 8 (length (code k)) (code k ++ rest) e in
-        let n = append-nil (code k) in
-        v ∙ ap not (among false (ap (λ (x : ℕ). eqb x 9) d) (more k end) rest (o ∙ ap (λ (l : List ℕ). l ++ rest) (sym n)) (f ∙ (let l = ap length n in omega arith)) (g, tt) ∙ and-true (holds k (candidate p)))
-    key-non d s v (either a b) rest e f g = let z = is-kind 9 (length (code a ++ code b) ∷ ((code a ++ code b) ++ rest)) e in absurd (omega arith)
-    key-non d s v (group ks) rest e f g = let z = is-kind 10 (length (codes ks) ∷ (codes ks ++ rest)) e in absurd (omega arith)
+  module _ (stop : ℕ) (facts : List ℕ) (o : Outcome) where
+    module _ (h : kind < 8) where
+      pub key-test : (p : Probe) → TestsTest cells at (o .after) p (o .holds) → TestsKey cells at (o .after) p (o .holds)
+      unfolding code holds Proper
+      key-test p t (test u) rest e f g = t u rest e f g
+      key-test p t (non k) rest e f g = let z = is-kind 8 (length (code k) ∷ (code k ++ rest)) e in absurd (omega arith)
+      key-test p t (either a b) rest e f g = let z = is-kind 9 (length (code a ++ code b) ∷ ((code a ++ code b) ++ rest)) e in absurd (omega arith)
+      key-test p t (group ks) rest e f g = let z = is-kind 10 (length (codes ks) ∷ (codes ks ++ rest)) e in absurd (omega arith)
 
-    pub key-other : (kind ≡ 8 → ⊥) → TestsKey cells at stop p r
-    unfolding code holds holdsSome Proper
-    key-other d (test u) rest e f g = let z = low u rest e in absurd (omega arith)
-    key-other d (non k) rest e f g = absurd (d (is-kind 8 (length (code k) ∷ (code k ++ rest)) e))
-    key-other d (either a b) rest e f g =
-        let z = is-kind 9 (length (code a ++ code b) ∷ ((code a ++ code b) ++ rest)) e in
-        let o = others cells at 9 (length (code a ++ code b)) ((code a ++ code b) ++ rest) e in
-        let n = ap (λ (l : List ℕ). code a ++ l) (append-nil (code b)) in
-        among true (ap (λ (x : ℕ). eqb x 9) z) (more a (more b end)) rest (o ∙ ap (λ (l : List ℕ). l ++ rest) (sym n)) (f ∙ (let l = ap length n in omega arith)) (g .0, (g .1, tt)) ∙ ap (λ (x : Bool). holds a (candidate p) || x) (or-false (holds b (candidate p)))
-    key-other d (group ks) rest e f g =
-        let z = is-kind 10 (length (codes ks) ∷ (codes ks ++ rest)) e in
-        among false (ap (λ (x : ℕ). eqb x 9) z) ks rest (others cells at 10 (length (codes ks)) (codes ks ++ rest) e) (omega arith) g
+      pub answers-uids : kind ≡ 5 → Behind cells at stop (o .after) → TestsSet cells (at + 2) (o .after) (getD facts 3 0) (getD facts 2 0) (o .holds) → Answers cells at stop facts o
+      answers-uids d b s =
+          record {
+            after = b .after;
+            exact = b .exact;
+            tests = λ p w. key-test p (test-uids cells at (o .after) p kind q (o .holds) d (subst (λ (l : List ℕ). TestsSet cells (at + 2) (o .after) (getD l 3 0) (getD l 2 0) (o .holds)) w s));
+          }
 
-pub all-is : (cells : List ℕ) (used : ℕ) (p : Probe) (r : Bool) → used ≤ length cells → TestsKeys cells 0 used false p r → TestsAll cells used p r
-all-is cells used p r w t ks e g = t ks (drop used cells) (sym (take-append-drop used cells) ∙ ap (λ (l : List ℕ). l ++ drop used cells) e) (let h : used ≡ length (codes ks) = sym (length-take-le used cells w) ∙ ap length e in omega arith) g
+      pub answers-numbers : kind ≡ 6 → Behind cells at stop (o .after) → TestsSet cells (at + 2) (o .after) (getD facts 5 0) (getD facts 4 0) (o .holds) → Answers cells at stop facts o
+      answers-numbers d b s =
+          record {
+            after = b .after;
+            exact = b .exact;
+            tests = λ p w. key-test p (test-numbers cells at (o .after) p kind q (o .holds) d (subst (λ (l : List ℕ). TestsSet cells (at + 2) (o .after) (getD l 5 0) (getD l 4 0) (o .holds)) w s));
+          }
+
+      module _ (m : at < stop) (x y : ℕ) (u : x ≡ getD cells (at + 1) 0) (v : y ≡ getD cells (at + 2) 0) where
+        simple : (kind ≡ 5 → ⊥) → (kind ≡ 6 → ⊥) → o .after ≡ at + widthOf kind x (stop - at) → at < o .after → o .holds ≡ simpleOf kind x y (getD facts 0 0) (getD facts 1 0) → Answers cells at stop facts o
+        simple i j n a s =
+            record {
+              after = a;
+              exact = λ k rest e f. let z = width-is cells at stop kind x (stop - at) q u refl m k rest e f in omega arith;
+              tests = λ p w. key-test p (test-simple cells at (o .after) p kind q (o .holds) x y u v (s ∙ ap (λ (l : List ℕ). simpleOf kind x y (getD l 0 0) (getD l 1 0)) w) i j);
+            }
+
+        pub answers-kind : (k : ℕ) → kind ≡ k → k < 5 → o .after ≡ at + widthOf k x (stop - at) → at < o .after → o .holds ≡ simpleOf k x y (getD facts 0 0) (getD facts 1 0) → Answers cells at stop facts o
+        answers-kind k d i n a s =
+            simple (λ z. (let c : ⊥ = omega arith in c)) (λ z. (let c : ⊥ = omega arith in c))
+            (n ∙ ap (λ (k : ℕ). at + widthOf k x (stop - at)) (sym d)) a
+            (s ∙ ap (λ (k : ℕ). simpleOf k x y (getD facts 0 0) (getD facts 1 0)) (sym d))
+
+        pub answers-bare : (kind ≡ 5 → ⊥) → (kind ≡ 6 → ⊥) → (kind ≡ 2 → ⊥) → (kind ≡ 3 → ⊥) → (kind ≡ 4 → ⊥) → o .after ≡ at + 1 → o .holds ≡ eqb kind 1 → Answers cells at stop facts o
+        answers-bare i j a b d n s = simple i j (n ∙ ap (λ (w : ℕ). at + w) (simp (ne-eqb kind 2 a, ne-eqb kind 3 b, ne-eqb kind 4 d) (wide (ltb kind 5) refl))) (omega arith) (s ∙ simp (ne-eqb kind 2 a, ne-eqb kind 3 b, ne-eqb kind 4 d) (said (eqb kind 1)))
+          where
+            wide : (t : Bool) → ltb kind 5 ≡ t → 1 ≡ cond t 1 (cond (eqb kind 7) 1 (countedWidth kind x (stop - at)))
+            wide true t = refl
+            wide false t = sym (ap (λ (c : Bool). cond c 1 (countedWidth kind x (stop - at))) (eq-eqb kind 7 (let l = ltb-false kind 5 t in omega arith)))
+
+            said : (t : Bool) → t ≡ cond t true false
+            said true = refl
+            said false = refl
+
+    pub answers-nest : 8 ≤ kind → Behind cells at stop (o .after) → (r : Bool) → TestsKeysOn cells (at + 2) (o .after) (eqb kind 9) facts r → o .holds ≡ agrees (not (eqb kind 8)) r → Answers cells at stop facts o
+    answers-nest h b r t s =
+        record {
+          after = b .after;
+          exact = b .exact;
+          tests = λ p w k rest e f g. let x = inner h k rest e g in s ∙ (ap (agrees (not (eqb kind 8))) (t p w (x .keys) rest (x .is) (let z = x .size in omega arith) (x .proper)) ∙ sym (x .same (candidate p)));
+        }
+
+-- the keys that are left, from cell i on: the whole is what they come to, or, where `on` is false, the other
+pub record Left (cells : List ℕ) (i stop : ℕ) (any on : Bool) (p : Probe) (whole : Bool) : Type 0 where
+  pub keys : Keys
+  pub rest : List ℕ
+  pub is : drop i cells ≡ codes keys ++ rest
+  pub stops : stop ≡ i + length (codes keys)
+  pub proper : Propers keys
+  pub same : whole ≡ agrees on (folded any keys (candidate p))
+
+abbrev pub Going : List ℕ → ℕ → ℕ → Bool → List ℕ → ℕ → Bool → Bool → Type 0
+Going cells at stop first facts i any on = (p : Probe) → facts ≡ factsOf p → (ks : Keys) (rest : List ℕ) → drop at cells ≡ codes ks ++ rest → stop ≡ at + length (codes ks) → Propers ks → Left cells i stop any on p (folded first ks (candidate p))
+
+module _ (cells : List ℕ) (at stop : ℕ) (first : Bool) (facts : List ℕ) where
+  pub going-start : Going cells at stop first facts at first true
+  going-start p w ks rest e f g = record { keys = ks; rest = rest; is = e; stops = f; proper = g; same = refl }
+
+  module _ (i : ℕ) (any on : Bool) (go : Going cells at stop first facts i any on) where
+    module _ (h : i < stop) where
+      module _ (o : Outcome) (b : Answers cells i stop facts o) where
+        settled : agrees any (o .holds) ≡ true → (p : Probe) → facts ≡ factsOf p → (whole : Bool) (ks : Keys) (rest : List ℕ) → drop i cells ≡ codes ks ++ rest → stop ≡ i + length (codes ks) → Propers ks → whole ≡ agrees on (folded any ks (candidate p)) → agrees on any ≡ whole
+        unfolding code Proper
+        settled t p w whole end rest e f g s = absurd (let z : ⊥ = omega arith in z)
+        settled t p w whole (more k ks) rest e f g s =
+            let d : drop i cells ≡ code k ++ (codes ks ++ rest) = e ∙ append-assoc (code k) (codes ks) rest in
+            let l = length-append (code k) (codes ks) in
+            let n : o .after ≡ i + length (code k) = b .exact k (codes ks ++ rest) d (omega arith) in
+            ap (agrees on) (decided any (o .holds) k ks (candidate p) (b .tests p w k (codes ks ++ rest) d n (g .0)) t) ∙ sym s
+
+        pub going-decided : agrees any (o .holds) ≡ true → (r : Bool) → r ≡ agrees on any → TestsKeysOn cells at stop first facts r
+        going-decided t r v p w ks rest e f g = let l = go p w ks rest e f g in v ∙ settled t p w (folded first ks (candidate p)) (l .keys) (l .rest) (l .is) (l .stops) (l .proper) (l .same)
+
+        unsettled : agrees any (o .holds) ≡ false → (p : Probe) → facts ≡ factsOf p → (whole : Bool) (ks : Keys) (rest : List ℕ) → drop i cells ≡ codes ks ++ rest → stop ≡ i + length (codes ks) → Propers ks → whole ≡ agrees on (folded any ks (candidate p)) → Left cells (o .after) stop any on p whole
+        unfolding code Proper
+        unsettled t p w whole end rest e f g s = absurd (let z : ⊥ = omega arith in z)
+        unsettled t p w whole (more k ks) rest e f g s =
+            let d : drop i cells ≡ code k ++ (codes ks ++ rest) = e ∙ append-assoc (code k) (codes ks) rest in
+            let l = length-append (code k) (codes ks) in
+            let n : o .after ≡ i + length (code k) = b .exact k (codes ks ++ rest) d (omega arith) in
+            record {
+              keys = ks;
+              rest = rest;
+              is = ap (λ (z : ℕ). drop z cells) n ∙ past cells i (code k) (codes ks ++ rest) d;
+              stops = omega arith;
+              proper = g .1;
+              same = s ∙ ap (agrees on) (passed any (o .holds) k ks (candidate p) (b .tests p w k (codes ks ++ rest) d n (g .0)) t);
+            }
+
+        pub going-next : agrees any (o .holds) ≡ false → Going cells at stop first facts (o .after) any on
+        going-next t p w ks rest e f g = let l = go p w ks rest e f g in unsettled t p w (folded first ks (candidate p)) (l .keys) (l .rest) (l .is) (l .stops) (l .proper) (l .same)
+
+      module _ (kind : ℕ) (q : kind ≡ getD cells i 0) (m : 8 ≤ kind) (b : Behind cells i stop stop) where
+        into : (p : Probe) (whole : Bool) (ks : Keys) (rest : List ℕ) → drop i cells ≡ codes ks ++ rest → stop ≡ i + length (codes ks) → Propers ks → whole ≡ agrees on (folded any ks (candidate p)) → Left cells (i + 2) stop (eqb kind 9) (agrees (not (eqb kind 8)) on) p whole
+        unfolding code Proper
+        into p whole end rest e f g s = absurd (let z : ⊥ = omega arith in z)
+        into p whole (more k (more j ks)) rest e f g s =
+            let d : drop i cells ≡ code k ++ (codes (more j ks) ++ rest) = e ∙ append-assoc (code k) (codes (more j ks)) rest in
+            let l = length-append (code k) (codes (more j ks)) in
+            let n = b .exact k (codes (more j ks) ++ rest) d (omega arith) in
+            let a = length-append (code j) (codes ks) in
+            let z = code-some j in
+            absurd (let y : ⊥ = omega arith in y)
+        into p whole (more k end) rest e f g s =
+            let l = append-nil (code k) in
+            let x = inner cells i kind q m k rest (e ∙ ap (λ (l : List ℕ). l ++ rest) l) (g .0) in
+            record {
+              keys = x .keys;
+              rest = rest;
+              is = x .is;
+              stops = let a = ap length l in let z = x .size in omega arith;
+              proper = x .proper;
+              same = s ∙ (ap (agrees on) (single any k (candidate p) ∙ x .same (candidate p)) ∙ turned on (not (eqb kind 8)) (folded (eqb kind 9) (x .keys) (candidate p)));
+            }
+
+        pub going-in : (turn : Bool) → turn ≡ agrees (not (eqb kind 8)) on → Going cells at stop first facts (i + 2) (eqb kind 9) turn
+        going-in turn v p w ks rest e f g = let l = go p w ks rest e f g in rw v (into p (folded first ks (candidate p)) (l .keys) (l .rest) (l .is) (l .stops) (l .proper) (l .same))
+
+    module _ (h : stop ≤ i) where
+      last : (p : Probe) (whole : Bool) (ks : Keys) → stop ≡ i + length (codes ks) → whole ≡ agrees on (folded any ks (candidate p)) → agrees on (not any) ≡ whole
+      unfolding code
+      last p whole end f s = ap (agrees on) (none any (candidate p)) ∙ sym s
+      last p whole (more k ks) f s = let l = length-append (code k) (codes ks) in let z = code-some k in absurd (let y : ⊥ = omega arith in y)
+
+      pub going-end : (r : Bool) → r ≡ agrees on (not any) → TestsKeysOn cells at stop first facts r
+      going-end r v p w ks rest e f g = let l = go p w ks rest e f g in v ∙ last p (folded first ks (candidate p)) (l .keys) (l .stops) (l .same)
+
+pub all-is : (cells : List ℕ) (used : ℕ) (p : Probe) (r : Bool) → used ≤ length cells → TestsKeysOn cells 0 used false (factsOf p) r → TestsAll cells used p r
+all-is cells used p r w t ks e g = t p refl ks (drop used cells) (sym (take-append-drop used cells) ∙ ap (λ (l : List ℕ). l ++ drop used cells) e) (let h : used ≡ length (codes ks) = sym (length-take-le used cells w) ∙ ap length e in omega arith) g

@@ -23,12 +23,9 @@ use Rattle.model.specs.declared.Message.{Message}
 use Rattle.model.specs.declared.Session.{Session}
 use Rattle.model.specs.declared.Reply.{Reply}
 use Rattle.model.specs.declared.Reply.the-variants.{Bad, BadEvent, Unsupported, BadCharset, TooLarge, Accepted}
-use Rattle.out.specs.Put.{Put, _then_, put-as}
-use Rattle.read_notify.specs.Watched.{watchedBy}
-use Rattle.read_notify.specs.Ladder.{watched-accepted}
 use Rattle.read_commands.specs.Judging.{wordOf, judgedOf}
 use Rattle.read_commands.specs.declared.Judged.{Judged}
-use Rattle.answers.specs.Sizes.{replyBy, Whole, measured-length}
+use Rattle.answers.specs.Sizes.{Whole}
 use Rattle.answers.specs.Tagged.{word-verb}
 use Rattle.answers.specs.Effects.{effects-enqueue, effects-both, still-both, still-one, still-listing, still-found}
 
@@ -64,42 +61,15 @@ unfolding renderAll
 render-both [] b = refl
 render-both (x ∷ a) b = ap (λ (l : List ℕ). render x ++ l) (render-both a b) ∙ sym (append-assoc (render x) (renderAll a) (renderAll b))
 
-render-last : (a : List Line) (l : Line) → renderAll a ++ render l ≡ renderAll (a ++ (l ∷ []))
-unfolding renderAll
-render-last a l = sym (render-both a (l ∷ []) ∙ ap (λ (r : List ℕ). renderAll a ++ r) (append-nil (render l)))
-
-module _ (m : Memory) (tag : List ℕ) (p : ℕ) {q q₁ : List ℕ} {at lim e : ℕ} where
-  pub none-puts : Put q at lim (render (answer tag notify Accepted)) q₁ e → Put q at lim (renderAll (acceptedLines m tag (ok p notifyNone))) q₁ e
-  unfolding renderAll
-  none-puts x = put-as x (sym (append-nil (render (answer tag notify Accepted))))
-
-  pub set-puts : {q₂ q₃ : List ℕ} {a b : ℕ} (wanted : Bool) (gs : List Asked) → Put q at lim (renderAll (owed m 1)) q₂ a
-      → Put q₂ a lim (renderAll (listing m (watching (m .session) gs) wanted)) q₃ b → Put q₃ b lim (render (answer tag notify Accepted)) q₁ e
-      → Put q at lim (renderAll (acceptedLines m tag (ok p (notifySet wanted gs)))) q₁ e
-  set-puts wanted gs x y z =
-      let l : List Line = listing m (watching (m .session) gs) wanted in
-      put-as (_then_ (put-as (_then_ x y) (sym (render-both (owed m 1) l))) z) (render-last (owed m 1 ++ l) (answer tag notify Accepted))
-
-  pub search-puts : {q₂ : List ℕ} {a : ℕ} (s : Search) → Put q at lim (renderAll (foundLines m tag s)) q₂ a
-      → Put q₂ a lim (render (answer tag esearch Accepted)) q₁ e → Put q at lim (renderAll (acceptedLines m tag (ok p (search s)))) q₁ e
-  search-puts s x z = put-as (_then_ x z) (render-last (foundLines m tag s) (answer tag esearch Accepted))
-
 -- ---- the reply
 -- all that the command writes if it is accepted
 abbrev pub wholeText : Memory → List ℕ → List ℕ
 wholeText m t = renderAll (acceptedLines m (tagOf t) (commandOf t))
 
 module _ (m : Memory) (t : List ℕ) where
-  pub reply-is : reply m t ≡ replyBy (firstReply m t) (length (wholeText m t)) (length (m .queue) - 64)
-  reply-is = refl
-
   -- without its size: only an accepted command writes more than a line
   pub reply-first : isAccepted (firstReply m t) ≡ false → reply m t ≡ firstReply m t
   reply-first e = rw e
-
-  -- with the size that was measured
-  pub reply-measured : {q : List ℕ} {e : ℕ} → Put (m .queue) (filled m) 0 (wholeText m t) q e → replyBy (firstReply m t) (e - filled m) (length (m .queue) - 64) ≡ reply m t
-  reply-measured x = ap (λ (n : ℕ). replyBy (firstReply m t) n (length (m .queue) - 64)) (measured-length x)
 
   -- what the reader of commands answers: whose answer it is, and the reply before sizes
   pub judged-verb : (r : Judged) → r ≡ judgedOf limits (someSelected m) (commandOf t) → wordOf (r .verb) ≡ verb (commandOf t)
@@ -118,10 +88,6 @@ module _ (m : Memory) (t : List ℕ) where
       go BadCharset b e = tf false e refl
       go TooLarge b e = tf false e refl
       go Accepted b e = refl
-
-  -- the session that the code reads is the rule's
-  pub session-is : isAccepted (reply m t) ≡ true → (s : Session) → watchedBy (commandOf t) s ≡ sessionBy (commandOf t) s
-  session-is h s = watched-accepted (someSelected m) (commandOf t) s (first-accepted h)
 
   -- ---- what is written
   lines-accepted : isAccepted (reply m t) ≡ true → answerLines m t ≡ acceptedLines m (tagOf t) (commandOf t)

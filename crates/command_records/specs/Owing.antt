@@ -96,9 +96,6 @@ module _ (m : Memory) (law : Law m) where
         effects-keep m (owed m 1)
         ∙ ap (λ (j : Memory). leftAs m (j .entries) (j .counts .messages) (j .session) (m .queue) (filled m)) joined
 
-    text-ends : filled m + length (renderAll (owed m 1)) ≡ ended .filled
-    text-ends = ap (λ (j : Memory). filled j + length (renderAll (owed m 1))) (sym (effects-keep m (owed m 1))) ∙ ap (λ (j : Memory). filled j) joined
-
     text-is : ended .queue ≡ written (m .queue) (filled m) (renderAll (owed m 1))
     text-is = sym (ap (λ (j : Memory). written (j .queue) (filled j) (renderAll (owed m 1))) (sym (effects-keep m (owed m 1))) ∙ ap (λ (j : Memory). j .queue) joined)
 

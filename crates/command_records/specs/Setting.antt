@@ -13,7 +13,7 @@ use Rattle.model.specs.Memory.{withView, Memory, filled, selectedBox, bothRight
 use Rattle.model.specs.Lines.{Line, answer, render, renderAll}
 use Rattle.model.specs.View.{owed}
 use Rattle.model.specs.Listing.{listing, watching}
-use Rattle.model.specs.Answering.{someSelected, verb, acceptedLines, isAccepted, firstReply, reply, sessionBy, noRoom}
+use Rattle.model.specs.Answering.{verb, acceptedLines, isAccepted, firstReply, reply, noRoom}
 use Rattle.model.specs.declared.Counts.{Counts}
 use Rattle.model.specs.declared.Session.{Session}
 use Rattle.model.specs.declared.Reply.the-variants.{TooLarge, Accepted}

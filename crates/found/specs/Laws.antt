@@ -13,10 +13,8 @@ use Rattle.model.specs.Memory.{noMessage, uidOf, expunged}
 use Rattle.model.specs.Requests.{Keys}
 use Rattle.model.specs.Searching.{holdsAll, matching, lastUidOf, matches}
 use Rattle.model.specs.declared.Message.{Message}
-use Rattle.model.specs.declared.MessageNumber.{MessageNumber}
 use Rattle.model.specs.declared.Uid.{Uid}
-use Rattle.read_keys.specs.Table.{codes}
-use Rattle.matching.specs.Tests.{candidate, Propers, TestsAll}
+use Rattle.matching.specs.Tests.{candidate, TestsAll}
 use Rattle.matching.specs.declared.Probe.{Probe}
 use Rattle.order.specs.Chosen.{chosen, chosen-more, chosen-set}
 use Rattle.found.specs.Finds.{uidsOf, Held, Pushed, Hits, Finds, Keeps}
@@ -134,9 +132,6 @@ module _ (es : List Message) (order : List ℕ) (n : ℕ) (cells : List ℕ) (us
           none ks = refl
 
 -- ---- the view
-abbrev told-by : ℕ → Message → Bool
-told-by told e = ltb (uidOf e) told
-
 pub record Keeping (es : List Message) (order : List ℕ) (n told : ℕ) (view₀ view : List ℕ) (i r : ℕ) : Type 0 where
   pub few : r ≤ i
   pub in-order : i ≤ n

@@ -3,13 +3,12 @@ use mathlib.Core.Path.{_≡_, refl, ap, ap₂, sym, _∙_}
 use mathlib.Core.Bool.{Bool, true, false, not, cond, _&&_}
 use mathlib.Core.List.{List, [], _∷_, _++_}
 use Prim.Native.Nat.{ℕ, zero, suc, _+_, _-_, _%_, _<_, _≤_}
-use native.Mathlib.Numerals.{add-one}
 use native.Mathlib.Omega.{arith}
 use borrow.Author.Tests.{leb-true, leb-false, eqb-true}
 use lib.Dec.{eqb, leb, ltb}
-use lib.ListN.{length, take, drop, getD, set, length-drop}
-use lib.Seq.{length-take-le, take-nil, take-take, take-append-le, drop-append-le, drop-at, getD-set-same, getD-set-other}
-use Rattle.model.specs.Memory.{Memory, mails, messagesOf, isSelected, uidOf}
+use lib.ListN.{length, take, drop, getD, set}
+use lib.Seq.{length-take-le, take-nil, take-take, take-append-le, drop-at, getD-set-same, getD-set-other}
+use Rattle.model.specs.Memory.{Memory, mails, messagesOf, uidOf}
 use Rattle.model.specs.View.{view}
 use Rattle.model.specs.Requests.{Keys}
 use Rattle.model.specs.Searching.{matches, candidates}

@@ -1,18 +1,16 @@
 -- What the search of one mailbox finds, and that it is the definition's. Assumes nothing.
-use mathlib.Core.Path.{_≡_, refl, ap, sym, _∙_}
+use mathlib.Core.Path.{_≡_, refl, ap, _∙_}
 use mathlib.Core.Bool.{Bool, true, false, cond}
 use mathlib.Core.List.{List, [], _∷_}
-use Prim.Native.Nat.{ℕ, zero, suc, _+_, _≤_}
+use Prim.Native.Nat.{ℕ, zero, suc, _≤_}
 use native.Mathlib.Omega.{arith}
 use lib.Dec.{ltb}
 use lib.ListN.{length, take, length-take}
 use Rattle.model.specs.Lists.{filterb, keep, insert, sorted}
-use Rattle.model.specs.Memory.{Memory, mails, uidOf, byUid, inMailbox, messagesOf, isSelected}
-use Rattle.model.specs.View.{view}
+use Rattle.model.specs.Memory.{uidOf, byUid, inMailbox, messagesOf}
 use Rattle.model.specs.Requests.{Keys}
-use Rattle.model.specs.Searching.{matches, candidates}
+use Rattle.model.specs.Searching.{matches}
 use Rattle.model.specs.declared.Message.{Message}
-use Rattle.model.specs.declared.Mailbox.{Mailbox}
 use Rattle.order.specs.Chosen.{chosen}
 use Rattle.found.specs.Finds.{uidsOf, Held, Finds, Keeps}
 
@@ -67,9 +65,3 @@ module _ (es : List Message) (used id : ℕ) (order : List ℕ) (n : ℕ) (e : c
   view-searched below view₀ view′ v k cells filled uids uids′ r f = let a = order-few in let b = f .few in let c = k .few in let g = chosen-length es view′ v in let h = ap length (k .exact ∙ ap (told below) e) in record { few = omega arith; short = omega arith; exact = λ ks h. f .exact ks h ∙ ap (matches ks) (k .exact ∙ ap (told below) e) }
 
 -- ---- these are the candidates of a mailbox
-module _ (m : Memory) (x : Mailbox) where
-  pub candidates-box : isSelected m (x .id) ≡ false → candidates m x ≡ messagesOf (x .id) (mails m)
-  candidates-box e = ap (λ (b : Bool). cond b (view m) (messagesOf (x .id) (mails m))) e
-
-  pub candidates-view : isSelected m (x .id) ≡ true → candidates m x ≡ told (m .session .told) (messagesOf (m .session .selected) (mails m))
-  candidates-view e = ap (λ (b : Bool). cond b (view m) (messagesOf (x .id) (mails m))) e

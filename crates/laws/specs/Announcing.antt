@@ -1,20 +1,20 @@
 -- New messages announced at once: several lines are told together, EXISTS announces all, and a FETCH of a new message ends nothing. Assumes nothing.
 use mathlib.Core.Path.{_≡_, refl, ap, ap₂, sym, _∙_}
-use mathlib.Core.Bool.{Bool, true, false, not, cond, _&&_, _||_}
+use mathlib.Core.Bool.{Bool, true, false, not, cond, _&&_}
 use mathlib.Core.List.{List, [], _∷_, _++_, map}
-use Prim.Native.Nat.{ℕ, suc, _+_, _<_, _≤_}
+use Prim.Native.Nat.{ℕ, _+_, _<_, _≤_}
 use native.Mathlib.Omega.{arith}
 use lib.Dec.{eqb, leb, ltb}
-use lib.ListN.{length, take, drop, take-append-drop}
-use borrow.Author.Tests.{eqb-true, leb-true, le-ltb, ltb-false}
-use Rattle.model.specs.Laws.{and-l, and-r, tf, all-filtered, all-passed}
-use Rattle.model.specs.Lists.{filterb, allb, insert, sorted, keep}
-use Rattle.model.specs.Memory.{Memory, mails, noMessage, uidOf, inMailbox, isMessage, byUid, withStates, refill, withMails, changeMails}
-use Rattle.model.specs.Lines.{Line, fetch, exists, overflow, Item, render, renderAll}
-use Rattle.model.specs.Queue.{room, fits, enqueue, announce, showsFlags, unmark, effect, effects, say}
+use lib.ListN.{length, drop, take-append-drop}
+use borrow.Author.Tests.{eqb-true, le-ltb, ltb-false}
+use Rattle.model.specs.Laws.{and-l, and-r, tf}
+use Rattle.model.specs.Lists.{filterb, allb, sorted}
+use Rattle.model.specs.Memory.{Memory, mails, noMessage, uidOf, inMailbox, isMessage, byUid, withStates, withMails, changeMails}
+use Rattle.model.specs.Lines.{Line, overflow, render, renderAll}
+use Rattle.model.specs.Queue.{room, enqueue, announce, showsFlags, unmark, effects, say}
 use Rattle.model.specs.View.{existsLine, newLines, shownItems}
 use Rattle.model.specs.Events.{Event, silence, tellings, settled}
-use Rattle.model.specs.Rules.{Outcome, told}
+use Rattle.model.specs.Rules.{told}
 use Rattle.model.specs.Lawful.{stateOk}
 use Rattle.model.specs.declared.Message.{Message}
 use Rattle.model.specs.declared.Session.{Session}

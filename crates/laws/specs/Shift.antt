@@ -1,12 +1,12 @@
 -- An element is taken out of a list by moving the later ones down, one store a turn: `over w l j` is l with its first j elements
 -- replaced by those of w, and w is `without i l`. Assumes nothing.
-use mathlib.Core.Path.{_≡_, refl, ap, sym, _∙_}
-use mathlib.Core.List.{List, [], _∷_, _++_, append-assoc}
-use Prim.Native.Nat.{ℕ, suc, _+_, _-_, _<_, _≤_, min}
+use mathlib.Core.Path.{_≡_, ap, sym, _∙_}
+use mathlib.Core.List.{List, _++_}
+use Prim.Native.Nat.{ℕ, suc, _+_, _-_, _<_, _≤_}
 use native.Mathlib.Omega.{arith}
 use native.Mathlib.Numerals.{add-one}
-use lib.ListN.{length, take, drop, getD, set, length-append, length-take, length-drop, take-append-drop}
-use lib.Seq.{take-append-le, take-take, drop-cons, take-suc, set-at, append-snoc, length-take-le, getD-append-add, getD-drop, take-add, take-at, take-append-add, drop-at}
+use lib.ListN.{length, take, drop, getD, set, length-append, length-drop, take-append-drop}
+use lib.Seq.{drop-cons, take-suc, set-at, append-snoc, length-take-le, getD-append-add, getD-drop, take-at}
 
 module _ {A : Type 0} where
   abbrev pub without : ℕ → List A → List A

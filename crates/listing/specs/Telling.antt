@@ -5,7 +5,7 @@ use mathlib.Core.List.{List, [], _∷_, _++_, append-assoc}
 use Prim.Native.Nat.{ℕ, zero, suc, _+_, _-_, _<_, _≤_, _%_}
 use native.Mathlib.Numerals.{add-one}
 use native.Mathlib.Omega.{arith}
-use lib.ListN.{length, take, getD}
+use lib.ListN.{length, getD}
 use Rattle.model.specs.Lists.{concatMap, when, sorted, filterb}
 use Rattle.model.specs.Lines.{Line, list, statusAtSet, noAccess, render, renderAll}
 use Rattle.model.specs.Memory.{Memory, boxes, mails, nameOf, noMailbox, mayRead, mayList, isSelected, existing}

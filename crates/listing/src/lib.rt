@@ -1,10 +1,9 @@
 // What NOTIFY SET tells: a line for each mailbox, by name.
 use notices::Mark;
-ghost use mathlib.Core.Path.{_≡_};
 ghost use mathlib.Core.Bool.{Bool, _&&_};
 ghost use mathlib.Core.List.{List};
-ghost use Prim.Native.Nat.{ℕ, _+_, _*_, _≤_, _<_};
-ghost use lib.ListN.{length, getD};
+ghost use Prim.Native.Nat.{_+_, _*_, _≤_, _<_};
+ghost use lib.ListN.{length};
 ghost use Rattle.model.specs.Lines.{Line, renderAll};
 ghost use Rattle.model.specs.Lists.{concatMap};
 ghost use Rattle.model.specs.Memory.{Memory, boxes, mayList};
@@ -12,7 +11,6 @@ ghost use Rattle.model.specs.Listing.{concerns, listingLine, listing};
 ghost use Rattle.model.specs.declared.Mailbox.{Mailbox};
 ghost use Rattle.model.specs.declared.Session.{Session};
 ghost use Rattle.out.specs.Put.{Put};
-ghost use Rattle.rows.specs.Columns.{nameAt};
 ghost use Rattle.byname.specs.Named.{chosen, Ordered, Below};
 ghost use Rattle.listing.specs.Telling.{lineBy, lineAt, Shown, Tells};
 

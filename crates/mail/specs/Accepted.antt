@@ -1,11 +1,11 @@
 -- What the code leaves is what the rules say of `XP`. Assumes nothing.
-use mathlib.Core.Path.{_≡_, refl, ap, ap₂, sym, _∙_}
-use mathlib.Core.Bool.{Bool, true, false, not, cond, _&&_, _||_}
-use mathlib.Core.List.{List, [], _∷_, _++_}
+use mathlib.Core.Path.{_≡_, refl, ap, sym, _∙_}
+use mathlib.Core.Bool.{Bool, true, false, not, cond, _&&_}
+use mathlib.Core.List.{List, []}
 use Prim.Native.Nat.{ℕ, _+_, _-_, _<_, _≤_}
 use native.Mathlib.Omega.{arith}
-use lib.Dec.{eqb, leb, ltb}
-use lib.ListN.{length, take, getD, set}
+use lib.Dec.{eqb, leb}
+use lib.ListN.{length, take, getD}
 use borrow.Author.Tests.{leb-true, leb-false, le-leb, lt-leb, eqb-true}
 use Rattle.model.specs.Laws.{and-l, and-r, and-false}
 use Rattle.model.specs.Lists.{when}
@@ -22,12 +22,12 @@ use Rattle.model.specs.declared.Mailbox.{Mailbox}
 use Rattle.model.specs.declared.Message.{Message}
 use Rattle.laws.specs.Changing.{setEntry, change-at}
 use Rattle.laws.specs.Telling.{told-none, told-one, told-over}
-use Rattle.out.specs.Says.{hasRoom, spoken}
+use Rattle.out.specs.Says.{hasRoom}
 use Rattle.entries.specs.Taken.{shut}
-use Rattle.fetches.specs.Counts.{countText, expungeWord, expunge-text}
-use Rattle.mailboxes.specs.Heard.{Heard, heard}
+use Rattle.fetches.specs.Counts.{expunge-text}
+use Rattle.mailboxes.specs.Heard.{heard}
 use Rattle.mail.specs.Taken.{tablesAre, drop-at}
-use Rattle.mail.specs.After.{After, statusText, dropAfter, waitAfter, onceAfter, removeAfter}
+use Rattle.mail.specs.After.{After, dropAfter, waitAfter, onceAfter, removeAfter}
 
 -- memory with what was left, and these rows
 abbrev pub left : Memory → List Mailbox → After → Memory

@@ -1,8 +1,8 @@
 -- What `XP` and `ME` leave: entries, how many of them, queue, session and F. Assumes nothing.
-use mathlib.Core.Path.{_≡_, refl, ap, ap₂, sym, _∙_}
-use mathlib.Core.Bool.{Bool, true, false, not, cond, _&&_}
-use mathlib.Core.List.{List, [], _∷_, _++_, append-assoc}
-use Prim.Native.Nat.{ℕ, _+_, _*_, _-_, _<_, _≤_}
+use mathlib.Core.Path.{_≡_, refl, ap, _∙_}
+use mathlib.Core.Bool.{Bool, true, false, cond}
+use mathlib.Core.List.{List}
+use Prim.Native.Nat.{ℕ, _+_, _*_, _-_, _≤_}
 use lib.ListN.{length, take, getD, set}
 use Rattle.model.specs.Queue.{written}
 use Rattle.model.specs.Memory.{noMessage, nameOf, existing, messagesOf, withFlags, withStates, withView, silenced}

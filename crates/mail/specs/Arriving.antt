@@ -1,15 +1,15 @@
 -- What the code leaves is what the rules say of `ME`: elsewhere, waiting, or announced at once. Assumes nothing.
 use mathlib.Core.Path.{_≡_, refl, ap, ap₂, sym, _∙_}
-use mathlib.Core.Bool.{Bool, true, false, not, cond, _&&_, _||_}
+use mathlib.Core.Bool.{Bool, true, false, not, cond, _&&_}
 use mathlib.Core.List.{List, [], _∷_, _++_, append-assoc}
 use Prim.Native.Nat.{ℕ, zero, suc, _+_, _-_, _<_, _≤_, max}
 use native.Mathlib.Omega.{arith}
 use lib.Dec.{eqb, leb, ltb}
-use lib.ListN.{length, take, drop, getD, set, replicate, length-append}
+use lib.ListN.{length, take, drop, getD, set, length-append}
 use lib.Seq.{length-take-le, set-split, getD-set-same}
 use borrow.Author.Tests.{leb-true, eqb-true, eq-eqb, le-ltb}
 use Rattle.model.specs.Laws.{tf, and-l, and-r, all-passed}
-use Rattle.model.specs.Lists.{when, allb, filterb, sorted}
+use Rattle.model.specs.Lists.{when, allb}
 use Rattle.model.specs.Memory.{Memory, boxes, mails, filled, nameOf, noMailbox, noMessage, place, theMailbox, bothRights, isSelected, existing, messagesOf, inMailbox, uidOf, selectedBox, withNext, withSession, withView, refill, putBox, addMail}
 use Rattle.model.specs.Groups.{askedOf, asksNew}
 use Rattle.model.specs.Lines.{Line, status, overflow, render, renderAll}
@@ -31,7 +31,7 @@ use Rattle.fetches.specs.declared.Shows.{Shows}
 use Rattle.fetches.specs.Items.{shown}
 use Rattle.fetches.specs.Whole.{newsText, news-text}
 use Rattle.mail.specs.Taken.{tablesAre}
-use Rattle.mail.specs.After.{After, newsOf, newsAfter, statusAfter, arriveAfter}
+use Rattle.mail.specs.After.{newsOf, newsAfter, statusAfter, arriveAfter}
 use Rattle.mail.specs.Accepted.{left, told-tables, room-same}
 
 -- an entry is put behind the last

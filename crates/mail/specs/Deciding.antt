@@ -1,16 +1,15 @@
 -- What code finds by itself before it serves a record about a message: is it in the view, at which place, is it told at once, who is told. Assumes nothing.
 use mathlib.Core.Path.{_≡_, refl, ap, ap₂, sym, _∙_}
-use mathlib.Core.Bool.{Bool, true, false, not, cond, _&&_, _||_}
+use mathlib.Core.Bool.{Bool, true, false, not, cond, _&&_}
 use mathlib.Core.List.{List, map}
-use Prim.Native.Nat.{ℕ, _+_, _-_, _<_, _≤_}
-use native.Mathlib.Omega.{arith}
+use Prim.Native.Nat.{ℕ, _+_, _-_, _<_}
 use lib.Dec.{eqb, ltb}
-use lib.ListN.{length, take, getD}
+use lib.ListN.{take, getD}
 use borrow.Author.Tests.{eqb-true}
 use Rattle.model.specs.Laws.{and-l, and-r, tf}
 use Rattle.model.specs.Lists.{anyb}
 use Rattle.model.specs.Memory.{Memory, boxes, mails, filled, noMessage, uidOf, known, theMailbox, selectedBox, bothRights, isSelected, isMessage}
-use Rattle.model.specs.Groups.{groupOf, groupsOf, askedOf, selectedAsks, immediateAsks, asksExpunge, asksFlags}
+use Rattle.model.specs.Groups.{groupOf, groupsOf, askedOf, selectedAsks, immediateAsks}
 use Rattle.model.specs.View.{view, placeOf, expungeAtOnce, flagsAtOnce, flagsWait}
 use Rattle.model.specs.Events.{inView}
 use Rattle.model.specs.Rules.{accepted}

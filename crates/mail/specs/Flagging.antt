@@ -1,24 +1,21 @@
 -- What the code leaves is what the rule says of `FL`. Assumes nothing.
-use mathlib.Core.Path.{_≡_, refl, ap, ap₂, sym, _∙_}
-use mathlib.Core.Bool.{Bool, true, false, cond, _&&_, _||_}
-use mathlib.Core.List.{List, [], _∷_, _++_}
-use Prim.Native.Nat.{ℕ, _+_, _-_, _<_, _≤_}
-use native.Mathlib.Omega.{arith}
+use mathlib.Core.Path.{_≡_, refl, ap, ap₂, _∙_}
+use mathlib.Core.Bool.{Bool, true, false, _&&_}
+use Prim.Native.Nat.{ℕ, _-_, _<_, _≤_}
 use lib.Dec.{eqb, leb}
-use lib.ListN.{length, getD, set}
-use borrow.Author.Tests.{leb-true, leb-false, le-leb, lt-leb, eqb-true}
-use Rattle.model.specs.Laws.{and-l, and-r, tf}
-use Rattle.model.specs.Memory.{Memory, filled, noMessage, uidOf, isMessage, withFlags, withStates}
-use Rattle.model.specs.Lines.{Line, overflow, render}
-use Rattle.model.specs.Queue.{room, enqueue}
+use lib.ListN.{length, getD}
+use borrow.Author.Tests.{eqb-true}
+use Rattle.model.specs.Laws.{and-r}
+use Rattle.model.specs.Memory.{Memory, filled, noMessage, uidOf, isMessage}
+use Rattle.model.specs.Lines.{Line, render}
+use Rattle.model.specs.Queue.{room}
 use Rattle.model.specs.View.{view, placeOf, flagsAtOnce, flagsWait, flagsLine}
 use Rattle.model.specs.Events.{inView, message}
 use Rattle.model.specs.Rules.{Outcome, accepted}
 use Rattle.model.specs.Records.{reflag}
 use Rattle.demands.specs.Lasting.Law.{Law}
-use Rattle.model.specs.declared.Message.{Message}
 use Rattle.laws.specs.Reflagging.{fl-plain, fl-waits, fl-told, fl-over}
-use Rattle.out.specs.Says.{hasRoom, spoken}
+use Rattle.out.specs.Says.{hasRoom}
 use Rattle.fetches.specs.Fetch.{fetchText, fetch-text}
 use Rattle.mailboxes.specs.Heard.{heard}
 use Rattle.mail.specs.Flagged.{flagAfter}

@@ -1,7 +1,7 @@
 -- In lawful memory whoever is told finds the last 64 octets free: the premises of the two laws. Assumes nothing.
-use mathlib.Core.Path.{_≡_, refl, ap, sym, _∙_}
-use mathlib.Core.Bool.{Bool, true, false, not, cond, _&&_, _||_}
-use mathlib.Core.List.{List, map}
+use mathlib.Core.Path.{_≡_, refl, ap}
+use mathlib.Core.Bool.{Bool, true, false, not, _&&_, _||_}
+use mathlib.Core.List.{map}
 use Prim.Native.Nat.{ℕ, _+_, _-_, _≤_}
 use lib.Dec.{eqb, leb}
 use lib.ListN.{length, take}
@@ -9,7 +9,7 @@ use borrow.Author.Tests.{eqb-true, leb-true}
 use Rattle.model.specs.Laws.{and-r, tf}
 use Rattle.model.specs.Lists.{anyb}
 use Rattle.model.specs.Memory.{Memory, filled, selectedBox, bothRights, isSelected}
-use Rattle.model.specs.Groups.{groupOf, groupsOf, asked, askedOf, asksNew, asksExpunge}
+use Rattle.model.specs.Groups.{groupOf, groupsOf, askedOf, asksNew, asksExpunge}
 use Rattle.model.specs.View.{newAtOnce, expungeAtOnce, flagsAtOnce}
 use Rattle.model.specs.Events.{inView}
 use Rattle.demands.specs.Lasting.Law.{Law}
@@ -49,10 +49,6 @@ module _ (m : Memory) (law : Law m) where
 
   pub new-free : (i : ℕ) (y : Mailbox) → newTold m i y ≡ true → filled m ≤ length (m .queue) - 64
   new-free i y h = group-free _ (and-r (bothRights y) _ (and-r (not (isSelected m i)) (bothRights y && askedOf (m .session) y asksNew) h))
-
--- what the code's tests and counts are in the rules' words
-pub told-gone : (m : Memory) (i : ℕ) (x : Mailbox) → (not (isSelected m i) && (bothRights x && askedOf (m .session) x (asksBit 1))) ≡ goneTold m i x
-told-gone m i x = refl
 
 pub told-new : (m : Memory) (i : ℕ) (y : Mailbox) → (not (isSelected m i) && (bothRights y && askedOf (m .session) y (asksBit 0))) ≡ newTold m i y
 told-new m i y = refl

@@ -1,12 +1,12 @@
 -- The message table of memory with an entry taken out of it: what the code makes is what the rules say. Assumes nothing.
 use mathlib.Core.Path.{_≡_, refl, ap, ap₂, sym, _∙_}
-use mathlib.Core.Bool.{Bool, true, false, not, cond, _&&_, _||_}
+use mathlib.Core.Bool.{Bool, true, false, not, _&&_, _||_}
 use mathlib.Core.List.{List, [], _∷_, _++_}
 use Prim.Native.Nat.{ℕ, zero, suc, _+_, _-_, _<_, _≤_, max}
 use native.Mathlib.Omega.{arith}
-use lib.Dec.{eqb, leb}
-use lib.ListN.{length, take, drop, getD, set, replicate}
-use lib.Seq.{length-take-le, getD-take, take-take, take-add, take-append-add, drop-cons, set-at, drop-at as dropped-at}
+use lib.Dec.{eqb}
+use lib.ListN.{length, take, drop, getD}
+use lib.Seq.{length-take-le, getD-take, take-take, take-add, take-append-add, drop-at as dropped-at}
 use borrow.Author.Tests.{eqb-true, leb-true, not-true}
 use Rattle.model.specs.Laws.{and-l, and-r, or-l, or-r, tf}
 use Rattle.model.specs.Lists.{filterb, keep, anyb, apart}

@@ -12,7 +12,7 @@ ghost use mathlib.Core.Path.{_≡_};
 ghost use mathlib.Core.Bool.{true, false, not, _&&_};
 ghost use Prim.Native.Nat.{_*_, _-_, _≤_};
 ghost use lib.ListN.{length, take};
-ghost use Rattle.model.specs.Memory.{nameOf, bothRights};
+ghost use Rattle.model.specs.Memory.{bothRights};
 ghost use Rattle.model.specs.Groups.{askedOf, selectedAsks};
 ghost use Rattle.model.specs.Lines.{status, render};
 ghost use Rattle.out.specs.Says.{Says};

@@ -5,19 +5,16 @@ use mathlib.Core.List.{List, [], _∷_}
 use Prim.Native.Nat.{ℕ, zero, suc, _+_, _-_, _*_, _<_, _≤_}
 use native.Mathlib.Nat.{add-zero}
 use native.Mathlib.Omega.{arith}
-use borrow.Author.Tests.{ltb-true, ltb-false, leb-true, eqb-false, eq-eqb}
-use lib.Dec.{eqb, leb, ltb}
-use lib.ListN.{length, take, drop, getD, length-append, length-drop}
+use borrow.Author.Tests.{ltb-true, ltb-false, leb-true, eqb-false}
+use lib.Dec.{leb, ltb}
+use lib.ListN.{length, take, drop, getD}
 use lib.Seq.{getD-drop, sets, sets-eq, take-append-seam}
 use Rattle.model.specs.Octets.{digit}
-use Rattle.model.specs.Requests.{Bound, number, star, Part, Test, all, unsupported, flagged, larger, smaller, uids, numbers, Key, test, non, either, group, Keys, end, more}
+use Rattle.model.specs.Requests.{Bound, number, Part, Test, all, unsupported, flagged, larger, smaller, uids, numbers, Key, non, either, group, Keys, more}
 use Rattle.model.specs.Limits.{partsOf}
-use Rattle.model.specs.Reading.{Parsed, bad, ok, andThen, octetAt, stands, afterBy, after, runLength, endOf, piece, runAt, atomAt, is, isOf, valueFrom, small, numberAt, positiveAt, astringAt, dateAt, Next, another, over, neither, rowBy, rowAt, Ending, closing, lineEnd, nextAt, boundAt, partBy, partAt, setAt}
+use Rattle.model.specs.Reading.{Parsed, bad, ok, andThen, octetAt, stands, afterBy, after, runLength, endOf, piece, atomAt, is, isOf, valueFrom, small, numberAt, positiveAt, astringAt, dateAt, Next, another, over, neither, rowBy, rowAt, Ending, closing, lineEnd, nextAt, boundAt, partBy, partAt, setAt}
 use Rattle.model.specs.SearchGrammar.{Keyword, bare, above, below, uidSet, string, keyword, date, header, negated, alternatives, strange, flagWord, unsupportedWord, keywordOf, Start, single, negation, alternation, opening, wrong, singleOf, argued, startBy, startOf, startAt, keyBy, keysBy, keyAt, keysAt, programAt}
 use Rattle.read_keys.specs.Table.{codes}
-use Rattle.read_keys.specs.Keys.{keysFound, WroteKeys, WritesProgram}
-use Rattle.read_keys.specs.declared.Read.{Read}
-use Rattle.read_keys.specs.declared.Read.the-variants.{Found}
 use Rattle.matching.specs.Tests.{ProperBound, ProperParts, Proper, Propers}
 
 -- what was read is such, if anything was
@@ -246,16 +243,3 @@ module _ (b b′ : List ℕ) (ks : Keys) (w : b′ ≡ sets b 0 (codes ks)) (u :
   read-cells =
       let z : u ≡ length (codes ks) = omega arith in
       ap₂ (λ (n : ℕ) (l : List ℕ). take n l) z (w ∙ sets-eq (codes ks) b 0 (omega arith)) ∙ take-append-seam (codes ks) (drop (0 + length (codes ks)) b)
-
-  pub read-room : u ≤ length b′
-  read-room = let l = ap length (w ∙ sets-eq (codes ks) b 0 (omega arith)) in let a = length-append (codes ks) (drop (0 + length (codes ks)) b) in let d = length-drop (0 + length (codes ks)) b in omega arith
-
--- the answer of the program's reader, where the cells had room: the cells hold the keys, and these are proper
-pub read-holds : (s : List ℕ) (at p u k d m : ℕ) (x : Bool) (b b′ : List ℕ) → WritesProgram s at b b′ (Found p u k d x m) → u ≤ length b → (ks : Keys) (q : ℕ) → programAt s at ≡ ok q ks → (take u b′ ≡ codes ks) × Propers ks
-read-holds s at p u k d m x b b′ w h ks q e =
-    let v : WroteKeys (Found p u k d x m) b b′ 0 (ok q ks) = rw e at (w .exact) in
-    let f : u ≡ 0 + length (codes ks) = used (v .0) in
-    (read-cells b b′ ks (v .1) u f h, read-proper s at q ks e)
-  where
-    used : Found p u k d x m ≡ keysFound 0 q ks → u ≡ 0 + length (codes ks)
-    used g = cc

@@ -2,7 +2,7 @@
 use mathlib.Core.Path.{_≡_, refl, ap, ap₂, sym, _∙_}
 use mathlib.Core.Bool.{Bool, true, false, not, _||_}
 use mathlib.Core.List.{List}
-use Prim.Native.Nat.{ℕ, _-_, _/_, _<_, _≤_}
+use Prim.Native.Nat.{ℕ, _-_, _<_, _≤_}
 use native.Mathlib.Omega.{arith}
 use lib.Dec.{eqb, leb, ltb}
 use lib.ListN.{length, take, getD, set}
@@ -19,7 +19,7 @@ use Rattle.model.specs.declared.Counts.{Counts}
 use Rattle.model.specs.declared.Session.{Session}
 use Rattle.model.specs.declared.Answer.the-variants.{Done}
 use Rattle.laws.specs.Changing.{used-long}
-use Rattle.entries.specs.Words.{messages, messages-count}
+use Rattle.entries.specs.Words.{messages}
 use Rattle.entries.specs.Laid.{laid}
 use Rattle.entries.specs.Found.{stands, first, first-any, first-passes}
 use Rattle.mailboxes.specs.Free.{Room}
@@ -42,10 +42,6 @@ some-free q f s room some = go (eqb (s .groupcount) 0) refl (and-r (leb f q) (eq
     go false e z = leb-true f (q - 64) z
 
 module _ (m : Memory) (ws : List ℕ) (k : Counts) (s : Session) (q : List ℕ) (lent : Lends m ws k s q) where
-  -- lawful memory has as many entries as `ME` may count
-  pub words-few : Law m → length ws / 5 ≤ 1024
-  words-few law = rw (sym (messages-count ws)) (rw (sym (lent .entries)) (leb-true (length (m .entries)) 1024 (law .entries)))
-
   -- ---- done: what was left is what the rule says
   module _ (o : Outcome) (a : After) (ws′ : List ℕ) (n : ℕ) (q′ : List ℕ) (s′ : Session) (f : ℕ) (d : o .answer ≡ Done) (l : Leaves a ws ws′ n q′ s′ f) where
     counts-left : (rs : List Mailbox) → o .after ≡ left m rs a → countsOf k n f ≡ o .after .counts

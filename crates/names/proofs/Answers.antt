@@ -1,8 +1,8 @@
 -- What the tests that a function made say of its answer. Assumes nothing.
-use mathlib.Core.Path.{_≡_, refl, ap, sym, _∙_}
-use mathlib.Core.Bool.{Bool, true, false, not, cond, _&&_, _||_}
+use mathlib.Core.Path.{_≡_, refl, ap, _∙_}
+use mathlib.Core.Bool.{Bool, true, false, not, cond, _&&_}
 use mathlib.Core.List.{List, [], _∷_}
-use Prim.Native.Nat.{ℕ, _+_, _-_, _<_, _≤_}
+use Prim.Native.Nat.{ℕ, _+_, _-_, _≤_}
 use native.Mathlib.Omega.{arith}
 use lib.Dec.{eqb, leb}
 use lib.ListN.{length, take, drop, length-drop}
@@ -13,7 +13,6 @@ use Rattle.model.specs.Text.{sameWord}
 use Rattle.model.specs.Names.{printable, noPartEmpty, valid, inbox, fold, leads, beneath, subtree, subtreeOne}
 use Rattle.model.specs.Listing.{lendName}
 use Rattle.model.specs.Lawful.{zeros}
-use Rattle.model.specs.declared.LentName.{LentName}
 use Rattle.names.specs.Kept.{keptName, nameBy}
 
 -- ---- beneath

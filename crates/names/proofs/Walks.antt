@@ -1,17 +1,17 @@
 -- What each test on names says from a place on: the way to the next place, and the ways out. Assumes nothing.
 use mathlib.Core.Path.{_≡_, refl, ap, sym, _∙_}
-use mathlib.Core.Bool.{Bool, true, false, not, cond, _&&_, _||_}
+use mathlib.Core.Bool.{Bool, true, false, cond}
 use mathlib.Core.List.{List, [], _∷_, _++_, map}
-use Prim.Native.Nat.{ℕ, zero, suc, _+_, _-_, _<_, _≤_}
+use Prim.Native.Nat.{ℕ, suc, _+_, _-_, _<_, _≤_}
 use native.Mathlib.Numerals.{add-one}
 use native.Mathlib.Omega.{arith}
-use lib.Dec.{eqb, leb, ltb}
+use lib.Dec.{eqb, ltb}
 use lib.ListN.{length, take, drop, getD, set, replicate, length-map, drop-of-length-le}
 use lib.Seq.{drop-cons, take-suc, take-all, set-at, append-snoc, length-take-le}
-use borrow.Author.Tests.{eq-eqb, ne-eqb, lt-leb, le-leb, le-ltb}
-use Rattle.model.specs.Lists.{same, anyb, allb}
+use borrow.Author.Tests.{eq-eqb, ne-eqb, le-ltb}
+use Rattle.model.specs.Lists.{same, anyb}
 use Rattle.model.specs.Text.{upper, sameWord}
-use Rattle.model.specs.Names.{printable, noPartEmpty, leads, before}
+use Rattle.model.specs.Names.{leads, before}
 use Rattle.model.specs.declared.LentName.{LentName}
 use Rattle.names.specs.Kept.{keptName}
 

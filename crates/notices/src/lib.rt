@@ -1,11 +1,10 @@
 // The notices about mailboxes: LIST lines, STATUS lines. A line is written, or else the overflow line.
 use out::Said;
-ghost use mathlib.Core.Path.{_≡_};
-ghost use mathlib.Core.List.{[], _∷_, _++_};
+ghost use mathlib.Core.List.{_++_};
 ghost use Prim.Native.Nat.{_+_, _*_, _-_, _≤_, _<_};
 ghost use lib.ListN.{length};
 ghost use Rattle.model.specs.Text.{decimal};
-ghost use Rattle.model.specs.Lines.{Line, list, renamed, status, statusAtSet, markText, render};
+ghost use Rattle.model.specs.Lines.{list, renamed, status, statusAtSet, markText, render};
 ghost use Rattle.out.specs.Put.{Put};
 ghost use Rattle.out.specs.Says.{Says};
 ghost use Rattle.notices.specs.Texts.{markOf, listed};

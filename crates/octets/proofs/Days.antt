@@ -1,15 +1,15 @@
 -- The parts of a date. Assumes nothing.
-use mathlib.Core.Path.{_≡_, refl, sym, ap, _∙_}
+use mathlib.Core.Path.{_≡_, refl, ap}
 use mathlib.Core.List.{List, [], _∷_, _++_, map}
 use mathlib.Core.Bool.{Bool, true, false, cond, _&&_, _||_, false≢true}
-use Prim.Native.Nat.{ℕ, zero, suc, _+_, _-_, _≤_, _<_}
+use Prim.Native.Nat.{ℕ, _+_, _-_, _≤_, _<_}
 use Prim.Native.String.{String}
 use native.Mathlib.Omega.{arith}
 use lib.Dec.{eqb, leb}
 use lib.ListN.{length, getD, drop, length-map, length-take, length-drop}
 use borrow.Author.Tests.{le-leb, lt-leb, leb-true, eq-eqb, ne-eqb}
 use Rattle.model.specs.Lists.{same, anyb, allb}
-use Rattle.model.specs.Text.{octets, upper, sameWord}
+use Rattle.model.specs.Text.{octets, upper}
 use Rattle.model.specs.Octets.{digit}
 use Rattle.model.specs.Reading.{runLength, endOf, piece, is, isOf, months, digitsAt, monthAt, bareDateAt, dateAt}
 use Rattle.octets.specs.Found.{nextOf}

@@ -2,18 +2,16 @@
 use mathlib.Core.Path.{_≡_, refl, sym, ap, _∙_}
 use mathlib.Core.List.{List, [], _∷_, _++_, append-assoc, append-nil}
 use mathlib.Core.Bool.{Bool, true, false, cond}
-use Prim.Native.Nat.{ℕ, zero, suc, _+_, _-_, _≤_, _<_}
-use native.Mathlib.Numerals.{add-one}
+use Prim.Native.Nat.{ℕ, _+_, _-_, _≤_, _<_}
 use native.Mathlib.Omega.{arith}
 use lib.Dec.{eqb, ltb}
-use lib.ListN.{length, getD, take, drop, set, length-append, length-take, length-drop}
+use lib.ListN.{length, getD, drop, set, length-append}
 use lib.Seq.{take-nil, drop-nil, sets}
 use borrow.Author.Tests.{ltb-false, eqb-true, eqb-false}
 use Rattle.model.specs.Reading.{Parsed, bad, ok, andThen, Quoting, closes, escapes, belongs, fails, quoting, unquoteBy, unquote, endOf, piece, runAt, quotedAt}
 use Rattle.octets.specs.Found.{nextOf}
 use Rattle.octets.specs.Quotes.{stepOf, kept}
 use Rattle.octets.specs.Values.{valueOf, fill}
-use Rattle.octets.specs.declared.Next.{Next}
 use Rattle.octets.specs.declared.Next.the-variants.{At, Bad}
 use Rattle.octets.proofs.Pieces.{piece-over}
 use Rattle.octets.proofs.Strings.{quote-at, quote-goes, quote-fails, quote-begins, quote-none}

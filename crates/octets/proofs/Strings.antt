@@ -1,7 +1,7 @@
 -- Quoted strings, one octet at a time. Assumes nothing.
 use mathlib.Core.Path.{_≡_, refl, sym, ap, _∙_}
-use mathlib.Core.List.{List, [], _∷_, _++_}
-use mathlib.Core.Bool.{Bool, true, false, cond}
+use mathlib.Core.List.{List, [], _∷_}
+use mathlib.Core.Bool.{Bool, false}
 use Prim.Native.Nat.{ℕ, zero, suc, _+_, _-_, _≤_, _<_, zero-le, suc-le-suc}
 use native.Mathlib.Numerals.{add-one}
 use native.Mathlib.Omega.{arith}
@@ -12,7 +12,6 @@ use borrow.Author.Tests.{eq-eqb, ne-eqb}
 use Rattle.model.specs.Reading.{Parsed, bad, ok, andThen, Quoting, closes, escapes, belongs, fails, quoting, unquoteBy, unquote, quotedAt, runAt, textAt}
 use Rattle.octets.specs.Found.{nextOf}
 use Rattle.octets.specs.Quotes.{stepOf}
-use Rattle.octets.specs.declared.Next.{Next}
 use Rattle.octets.specs.declared.Next.the-variants.{At, Bad}
 
 -- an octet that is not 0 stands in the text

@@ -3,15 +3,15 @@ use model::LentGroup;
 use model::LentName;
 use model::Session;
 ghost use mathlib.Core.Path.{_≡_};
-ghost use mathlib.Core.List.{[], _∷_, _++_};
+ghost use mathlib.Core.List.{[], _∷_};
 ghost use mathlib.Core.Bool.{false, cond};
 ghost use Prim.Native.Nat.{_+_, _*_, _-_, _≤_, _<_};
-ghost use lib.ListN.{length, take};
+ghost use lib.ListN.{length};
 ghost use Rattle.out.specs.Wrote.{Wrote};
 ghost use Rattle.out.specs.Put.{Put};
 ghost use Rattle.model.specs.Memory.{silenced};
 ghost use Rattle.model.specs.Lines.{overflow, render};
-ghost use Rattle.model.specs.Text.{decimal, escapeOctet, escape, quoted};
+ghost use Rattle.model.specs.Text.{decimal, escapeOctet, quoted};
 
 fn copy(queue: &mut [u8], at: usize, text: &[u8]) -> usize
     requires { ⌜ at + length (now text) ≤ length (now queue) ⌝ }

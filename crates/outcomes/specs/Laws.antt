@@ -1,31 +1,26 @@
 -- What every kind of record needs to say that it comes to what the rules say. Assumes nothing.
 use mathlib.Core.Path.{_≡_, refl, ap, sym, _∙_}
-use mathlib.Core.Bool.{Bool, true, false, not}
+use mathlib.Core.Bool.{Bool, true, false}
 use mathlib.Core.List.{List}
-use Prim.Native.Nat.{ℕ, _*_, _+_, _/_, _<_, _≤_}
-use native.Mathlib.Omega.{arith}
+use Prim.Native.Nat.{ℕ, _<_, _≤_}
 use lib.Dec.{ltb}
-use lib.ListN.{length, getD, take}
-use lib.Seq.{length-take-le}
-use borrow.Author.Tests.{leb-true, ltb-true, not-false}
+use lib.ListN.{length, getD}
+use borrow.Author.Tests.{leb-true}
 use Rattle.model.specs.Records.{isRecord, recordOf}
-use Rattle.model.specs.Memory.{Memory, boxes, noMailbox, place, known, theMailbox}
+use Rattle.model.specs.Memory.{Memory, boxes, noMailbox, place, known}
 use Rattle.model.specs.Lawful.{lawful}
 use Rattle.model.specs.Rules.{Outcome}
 use Rattle.model.specs.Call.{refuse, call}
 use Rattle.model.specs.declared.Mailbox.{Mailbox}
-use Rattle.model.specs.declared.Message.{Message}
 use Rattle.model.specs.declared.Counts.{Counts}
 use Rattle.model.specs.declared.Session.{Session}
 use Rattle.model.specs.declared.Refusal.{Refusal}
 use Rattle.model.specs.declared.Refusal.the-variants.{UnlawfulMemory, BadRecord}
 use Rattle.demands.specs.Lasting.Law.{Law}
-use Rattle.entries.specs.Words.{messages, messages-count}
 use Rattle.entries.specs.Laid.{laid, laid-own}
 use Rattle.rows.specs.Walks.{row-at}
 use Rattle.rows.specs.Rows.{boxes-long}
-use Rattle.mailboxes.specs.Free.{law-room}
-use Rattle.outcomes.specs.Coming.{Lends, Ready, Placed, Comes, refusal, ladder}
+use Rattle.outcomes.specs.Coming.{Lends, Placed, Comes, refusal, ladder}
 use Rattle.outcomes.specs.declared.Outcome.{Outcome as Came}
 
 -- ---- a call, rung by rung

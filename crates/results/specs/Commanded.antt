@@ -1,39 +1,31 @@
 -- What a command line that is a search gives to the code: its keys in the cells, its sources in the list. Assumes nothing.
 use mathlib.Core.Path.{_≡_, refl, ap, ap₂, sym, _∙_, subst}
-use mathlib.Core.Bool.{Bool, true, false, cond, _&&_, _||_}
-use mathlib.Core.List.{List, [], _∷_, _++_}
-use Prim.Native.Nat.{ℕ, _+_, _≤_, _<_}
+use mathlib.Core.Bool.{Bool, true, false, cond, _||_}
+use mathlib.Core.List.{List, [], _∷_}
+use Prim.Native.Nat.{ℕ, _+_, _≤_}
 use native.Mathlib.Omega.{arith}
 use borrow.Author.Tests.{ltb-false}
 use lib.Dec.{eqb, ltb}
-use lib.ListN.{length, take, length-append}
+use lib.ListN.{length, length-append}
 use lib.Seq.{sets}
-use Rattle.model.specs.Requests.{Filter, selected, namesOf, Keys, Search, Command, search, esearch}
+use Rattle.model.specs.Requests.{Filter, namesOf, Search, Command, search, esearch}
 use Rattle.model.specs.Limits.{limits, nameCount, tooManyFilters, tooManyKeys, tooLarge}
-use Rattle.model.specs.Reading.{Parsed, bad, ok, andThen, stands, afterBy, after, listAt}
-use Rattle.model.specs.NotifyGrammar.{filterAt}
-use Rattle.model.specs.SearchGrammar.{programAt, returnsAt, charsetAt, optionAt, searchFor, searchAt}
+use Rattle.model.specs.Reading.{Parsed, bad, ok, andThen, stands, afterBy}
+use Rattle.model.specs.SearchGrammar.{programAt, searchFor, searchAt}
 use Rattle.model.specs.Commands.{commandBy, wholeLine}
-use Rattle.model.specs.Lists.{anyb}
-use Rattle.model.specs.Memory.{Memory, mayRead}
-use Rattle.model.specs.Searching.{admits, orSelected}
-use Rattle.model.specs.declared.Mailbox.{Mailbox}
+use Rattle.model.specs.Searching.{orSelected}
 use Rattle.read_options.specs.declared.Returns.{Returns}
 use Rattle.read_keys.specs.Table.{codes}
 use Rattle.read_search.specs.Parts.{inAt, returnAt, charsetPartAt}
 use Rattle.read_search.specs.Searched.{Cells, readSearch, askedOf}
 use Rattle.read_search.specs.Listing.{allNames, nothingListed, addAll, keptSources}
 use Rattle.read_search.specs.declared.Asked.{Asked}
-use Rattle.read_search.specs.declared.Listed.{Listed}
 use Rattle.read_search.specs.declared.ListedRead.{ListedRead}
 use Rattle.read_search.specs.declared.SearchRead.{SearchRead}
 use Rattle.read_search.specs.declared.SearchRead.the-variants.{Is}
-use Rattle.matching.specs.Tests.{Propers}
 use Rattle.matching.specs.Read.{read-proper, read-cells}
 use Rattle.found.specs.Finds.{Held}
 use Rattle.sources.specs.Admitting.{Few}
-use Rattle.rows.specs.Columns.{Column, Names}
-use Rattle.sources.specs.Picking.{Noted, Picks, picks-searched}
 use Rattle.results.specs.declared.Wanted.{Wanted}
 use Rattle.results.specs.Line.{wanted}
 
@@ -132,13 +124,6 @@ few-of (f ∷ fs) h =
 
 pub few-read : (q : Search) → tooLarge limits (search q) ≡ false → Few (orSelected (q .sources))
 few-read q h = few-of (q .sources) (or-left (tooManyFilters limits (q .sources)) (tooManyKeys limits (q .keys)) h)
-
--- the rows that are noted for the sources that were read are those that the definition searches
-pub picks-read : (m : Memory) (s : List ℕ) (at p : ℕ) (q : Search) → searchAt s at ≡ ok p (search q) → tooLarge limits (search q) ≡ false → (r : ListedRead) → r ≡ keptSources (inAt s at)
-    → (l : List Mailbox) (ids attributes lens names picked : List ℕ) → Column (λ x. x .id) l ids → Column (λ x. x .attributes) l attributes → Column (λ x. x .namelen) l lens → Names l names
-    → Noted (r .listed) (m .session .selected) ids attributes lens names (length l) picked → Picks (λ (x : Mailbox). mayRead x && anyb (admits m x) (orSelected (q .sources))) l picked
-picks-read m s at p q e few r h l ids attributes lens names picked ci ca cl cn n =
-    picks-searched (orSelected (q .sources)) (few-read q few) (r .listed) (listed-read s p q at e r h) m l ids attributes lens names picked ci ca cl cn n
 
 -- what it is to return
 abbrev pub wantedBy : Returns → Wanted

@@ -1,24 +1,18 @@
 -- The line of what was found, as it is written piece by piece. Assumes nothing.
-use mathlib.Core.Path.{_≡_, refl, ap, ap₂, sym, _∙_}
-use mathlib.Core.Bool.{Bool, true, false, cond}
-use mathlib.Core.List.{List, [], _∷_, _++_, map, append-assoc, append-nil}
-use Prim.Native.Nat.{ℕ, zero, suc, _+_, _-_, _*_, _<_, _≤_}
-use native.Mathlib.Numerals.{add-one}
-use native.Mathlib.Omega.{arith}
-use borrow.Author.Tests.{eq-eqb, ne-eqb}
-use lib.Dec.{eqb}
-use lib.ListN.{length, take, drop, getD, drop-of-length-le, length-map}
-use lib.Seq.{drop-cons, getD-take, length-take-le}
+use mathlib.Core.Path.{_≡_, refl, sym}
+use mathlib.Core.Bool.{cond}
+use mathlib.Core.List.{List, [], _∷_, _++_, map, append-nil}
+use Prim.Native.Nat.{ℕ, _+_, _-_, _*_}
+use lib.ListN.{length}
 use Rattle.model.specs.Lists.{concatMap, lastOr}
 use Rattle.model.specs.Text.{octets, decimal, quoted}
 use Rattle.model.specs.Names.{Name}
 use Rattle.model.specs.Memory.{nameOf}
 use Rattle.model.specs.Requests.{Search}
-use Rattle.model.specs.Lines.{Line, found, Result, min, max, all as allOf, count, crlf, runText, runsText, setText, resultText, render, renderAll}
+use Rattle.model.specs.Lines.{found, Result, min, max, all as allOf, count, resultText, render, renderAll}
 use Rattle.model.specs.Searching.{results, foundLine}
 use Rattle.model.specs.declared.Mailbox.{Mailbox}
 use Rattle.model.specs.declared.Uid.{Uid}
-use Rattle.out.specs.Put.{Put, put-none, put-as, _then_}
 use Rattle.results.specs.declared.Wanted.{Wanted}
 
 abbrev pub uidsOf : List ℕ → List Uid

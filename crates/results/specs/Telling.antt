@@ -1,6 +1,6 @@
 -- The lines of several mailboxes, one after the other, and that they are the definition's. Assumes nothing.
 use mathlib.Core.Path.{_≡_, refl, ap, ap₂, sym, _∙_}
-use mathlib.Core.Bool.{Bool, true, false, cond, _&&_}
+use mathlib.Core.Bool.{true, _&&_}
 use mathlib.Core.List.{List, [], _∷_, _++_, append-assoc}
 use Prim.Native.Nat.{ℕ, zero, suc, _+_, _-_, _%_, _<_, _≤_}
 use native.Mathlib.Omega.{arith}
@@ -10,18 +10,17 @@ use Rattle.model.specs.Lists.{anyb, apart, filterb, sorted, concatMap}
 use Rattle.model.specs.Lawful.{clash}
 use Rattle.model.specs.Lines.{Line, render, renderAll}
 use Rattle.model.specs.Names.{Name}
-use Rattle.model.specs.Memory.{Memory, boxes, mails, nameOf, mayRead, noMailbox}
+use Rattle.model.specs.Memory.{Memory, boxes, mails, mayRead, noMailbox}
 use Rattle.model.specs.Requests.{Search}
-use Rattle.model.specs.Searching.{matches, candidates, admits, orSelected, searched, foundLine, foundLines}
+use Rattle.model.specs.Searching.{matches, candidates, admits, orSelected, foundLine, foundLines}
 use Rattle.model.specs.Listing.{byName}
 use Rattle.model.specs.declared.Mailbox.{Mailbox}
-use Rattle.model.specs.declared.Message.{Message}
 use Rattle.model.specs.declared.Uid.{Uid}
 use Rattle.out.specs.Put.{Put, put-none, put-as, _then_}
 use Rattle.rows.specs.Columns.{Column, Names}
 use Rattle.sources.specs.Picking.{nameAt}
 use Rattle.found.specs.Finds.{Held}
-use Rattle.found.specs.Runs.{sought, sought-is, idAt, sizes, runAt, Found}
+use Rattle.found.specs.Runs.{sought, sought-is, idAt, runAt, Found}
 use Rattle.results.specs.declared.Wanted.{Wanted}
 use Rattle.results.specs.Line.{uidsOf, lineText, wanted, line-is}
 use Rattle.results.specs.Room.{sizes-fit}

@@ -1,7 +1,7 @@
 -- The pieces of the line are the line. Assumes nothing.
 use mathlib.Core.Path.{_≡_, refl, ap, ap₂, sym, _∙_}
 use mathlib.Core.Bool.{Bool, true, false, cond}
-use mathlib.Core.List.{List, [], _∷_, _++_, map, append-assoc, append-nil}
+use mathlib.Core.List.{List, [], _∷_, _++_, append-assoc, append-nil}
 use Prim.Native.Nat.{ℕ, zero, suc, _+_, _-_, _*_, _<_, _≤_}
 use native.Mathlib.Numerals.{add-one}
 use native.Mathlib.Omega.{arith}
@@ -11,7 +11,6 @@ use lib.ListN.{length, take, drop, getD, drop-of-length-le, length-map}
 use lib.Seq.{drop-cons, getD-take, length-take-le}
 use Rattle.model.specs.Lists.{concatMap, lastOr}
 use Rattle.model.specs.Text.{octets, decimal, quoted}
-use Rattle.model.specs.Names.{Name}
 use Rattle.model.specs.Lines.{Result, min, max, all as allOf, count, crlf, runText, runsText, setText, resultText, render}
 use Rattle.model.specs.declared.Uid.{Uid}
 use Rattle.out.specs.Put.{Put, put-none, put-as, _then_}

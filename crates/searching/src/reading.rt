@@ -3,7 +3,6 @@ use super::Question;
 use read_options::VerbRead;
 use read_search::SearchRead;
 use results::Wanted;
-ghost use mathlib.Core.Path.{_≡_};
 ghost use Prim.Native.Nat.{_≤_};
 ghost use lib.ListN.{length};
 ghost use Rattle.searching.specs.Headed.{Behind, Tags};

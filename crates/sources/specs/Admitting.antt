@@ -6,20 +6,20 @@ use Prim.Native.Nat.{ℕ, zero, suc, _+_, _-_, _<_, _≤_}
 use native.Mathlib.Omega.{arith}
 use borrow.Author.Tests.{eq-eqb, ne-eqb}
 use lib.Dec.{eqb}
-use lib.ListN.{length, take, drop, getD, replicate, length-append, length-map, length-replicate}
-use lib.Seq.{take-nil, sets, sets-eq, take-all, take-append-seam, drop-append-add, drop-drop, take-at}
+use lib.ListN.{length, take, drop, replicate, length-map, length-replicate}
+use lib.Seq.{take-nil, sets-eq, take-all, take-append-seam, drop-append-add, drop-drop, take-at}
 use Rattle.model.specs.Lists.{anyb, same}
 use Rattle.model.specs.Names.{Name, argument, subtree as beneathOrSame, subtreeOne as oneLevelOrSame}
 use Rattle.model.specs.Text.{bit}
 use Rattle.model.specs.Requests.{Filter, selected, delayed, inboxes, personal, subscribed, subtree, subtreeOne, mailboxes, namesOf}
-use Rattle.model.specs.Memory.{Memory, nameOf, isSelected, mayRead, stored, noName}
+use Rattle.model.specs.Memory.{Memory, nameOf, isSelected, mayRead, noName}
 use Rattle.model.specs.Groups.{lentName}
 use Rattle.model.specs.Listing.{lendName}
 use Rattle.model.specs.Searching.{admits}
 use Rattle.model.specs.declared.Mailbox.{Mailbox}
 use Rattle.model.specs.declared.LentName.{LentName}
 use Rattle.read_filters.specs.Scopes.{scopeFor}
-use Rattle.read_search.specs.Listing.{scopeNumber, sourceFrom, sourcesFrom, allNames, nothingListed, addAll, wholeList}
+use Rattle.read_search.specs.Listing.{scopeNumber, sourceFrom, sourcesFrom, allNames, nothingListed, addAll}
 use Rattle.read_search.specs.declared.Source.{Source}
 use Rattle.read_search.specs.declared.Listed.{Listed}
 use Rattle.read_search.proofs.Folding.{listed-all}

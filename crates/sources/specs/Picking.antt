@@ -1,6 +1,6 @@
 -- Which rows are searched, noted by columns, and that these are the definition's. Assumes nothing.
 use mathlib.Core.Path.{_≡_, refl, ap, ap₂, sym, _∙_}
-use mathlib.Core.Bool.{Bool, true, false, not, cond, _&&_}
+use mathlib.Core.Bool.{Bool, true, false, not, _&&_}
 use mathlib.Core.List.{List}
 use Prim.Native.Nat.{ℕ, _+_, _-_, _*_, _<_, _≤_}
 use native.Mathlib.Omega.{arith}
@@ -11,7 +11,7 @@ use lib.Seq.{take-take, getD-set-same, getD-set-other}
 use Rattle.model.specs.Lists.{anyb}
 use Rattle.model.specs.Names.{Name}
 use Rattle.model.specs.Requests.{Filter}
-use Rattle.model.specs.Memory.{Memory, nameOf, isSelected, mayRead, noMailbox}
+use Rattle.model.specs.Memory.{Memory, mayRead, noMailbox}
 use Rattle.model.specs.Searching.{admits}
 use Rattle.model.specs.declared.Mailbox.{Mailbox}
 use Rattle.read_search.specs.Listing.{nothingListed, addAll}

@@ -1,10 +1,9 @@
 -- `answer_by`: by the verb. Assumes nothing.
 use borrow.Author.Needs.{needs}
-use mathlib.Core.Path.{_≡_, refl, ap, sym, _∙_}
+use mathlib.Core.Path.{refl, ap, sym, _∙_}
 use mathlib.Core.Bool.{not}
 use native.Mathlib.Omega.{arith}
 use lib.Dec.{eqb}
-use Rattle.model.specs.Commands.{commandOf}
 use Rattle.model.specs.Limits.{limits}
 use Rattle.model.specs.declared.Reply.the-variants.{Bad}
 use Rattle.read_options.specs.declared.Verb.{Verb}

@@ -12,7 +12,7 @@ use Rattle.model.specs.Laws.{tf, and-l, and-r, and-false, filter-every, map-non
 use Rattle.model.specs.Memory.{uidOf, expunged, marked, isMessage, inMailbox, withStates}
 use Rattle.model.specs.Lines.{Line, exists, expunge}
 use Rattle.model.specs.Queue.{unmark}
-use Rattle.model.specs.View.{announced, view, expungeLines, markedLines, flagsLine, existsLine, owed}
+use Rattle.model.specs.View.{expungeLines, markedLines, flagsLine, existsLine}
 use Rattle.model.specs.declared.Message.{Message}
 use Rattle.model.specs.declared.MessageNumber.{MessageNumber}
 use Rattle.model.specs.declared.Uid.{Uid}

@@ -8,7 +8,7 @@ use Rattle.found.specs.Laws.{Sought, find-none, sought-start, sought-nex
 use Rattle.entries.specs.Words.{messages}
 use Rattle.model.specs.declared.Message.{Message}
 use native.Mathlib.Omega.{arith}
-use mathlib.Core.Path.{_≡_, refl, sym, ap, _∙_}
+use mathlib.Core.Path.{ap}
 use borrow.Author.Needs.{needs}
 
 abbrev Inv-loop : tie.InvT-loop

@@ -5,10 +5,10 @@ use Rattle.found.proofs.find_runs.Lts as lts
 use Rattle.found.proofs.search_row.Reads as search-row-reads
 use Rattle.found.proofs.within.Reads as within-reads
 use Rattle.order.proofs.links.link.Reads as link-reads
-use mathlib.Core.Path.{_≡_, refl, sym, ap, _∙_}
+use mathlib.Core.Path.{_≡_, refl, _∙_}
 use native.Mathlib.Omega.{arith}
-use Prim.Native.Nat.{ℕ, _≤_, _-_, _<_, _+_}
-use lib.ListN.{length, take, drop, length-set, length-drop}
+use Prim.Native.Nat.{_≤_, _-_}
+use lib.ListN.{length, take, drop}
 use Rattle.entries.specs.Words.{messages}
 use Rattle.found.specs.Runs.{Finding, finding-start, finding-next, finding-end, row-longer, idAt}
 use borrow.Author.Needs.{needs}

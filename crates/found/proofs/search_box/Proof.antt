@@ -5,7 +5,7 @@ use Rattle.found.proofs.search_box.Reads as reads
 use Rattle.found.proofs.search_box.Lts as lts
 use Rattle.found.proofs.find.Reads as find-reads
 use Rattle.order.proofs.links.by_uid.Reads as by-uid-reads
-use Rattle.found.specs.Searched.{order-few, box-searched, view-searched}
+use Rattle.found.specs.Searched.{order-few, box-searched}
 use Rattle.entries.specs.Words.{messages}
 use native.Mathlib.Omega.{arith}
 

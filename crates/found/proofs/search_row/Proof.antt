@@ -6,8 +6,6 @@ use Rattle.found.proofs.search_row.Lts as lts
 use Rattle.found.proofs.search_box.Reads as search-box-reads
 use Rattle.found.proofs.search_view.Reads as search-view-reads
 use Rattle.sources.proofs.is_selected.Reads as is-selected-reads
-use mathlib.Core.Path.{_≡_}
-use native.Mathlib.Omega.{arith}
 use lib.ListN.{take}
 use Rattle.entries.specs.Words.{messages}
 use Rattle.found.specs.Runs.{row-viewed, row-boxed}

@@ -7,8 +7,7 @@ use Rattle.found.specs.Laws.{Keeping, keeping-start, keeping-next, keepi
 use Rattle.entries.specs.Words.{messages}
 use native.Mathlib.Omega.{arith}
 use Prim.Native.Nat.{_-_}
-use lib.ListN.{getD}
-use mathlib.Core.Path.{_≡_, refl, sym, ap, _∙_}
+use mathlib.Core.Path.{refl}
 use borrow.Author.Needs.{needs}
 
 abbrev Inv-loop : tie.InvT-loop

@@ -6,7 +6,6 @@ use Rattle.listing.proofs.put_line.Lts as lts
 use Rattle.notices.proofs.put_list.Reads as put-list-reads
 use Rattle.notices.proofs.put_status_at_set.Reads as put-status-at-set-reads
 use Rattle.rows.proofs.has.Reads as has-reads
-use mathlib.Core.Path.{_≡_, refl, sym, _∙_}
 use native.Mathlib.Omega.{arith}
 use borrow.Author.Tests.{not-true, not-false}
 use Rattle.out.specs.Put.{put-none, put-as}

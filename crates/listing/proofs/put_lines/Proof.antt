@@ -3,9 +3,8 @@ use Rattle.listing.proofs.put_lines.Tie as tie
 use Rattle.listing.proofs.put_lines.Reads as reads
 use Rattle.listing.proofs.put_lines.Lts as lts
 use Rattle.listing.proofs.put_row.Reads as put-row-reads
-use mathlib.Core.Path.{_≡_, refl, sym, _∙_}
-use mathlib.Core.List.{List}
-use Prim.Native.Nat.{ℕ, _≤_, _+_, _*_, _-_, _<_}
+use mathlib.Core.Path.{_≡_, refl, _∙_}
+use Prim.Native.Nat.{_≤_, _+_, _*_, _-_}
 use native.Mathlib.Omega.{arith}
 use lib.ListN.{length}
 use Rattle.out.specs.Put.{put-as}

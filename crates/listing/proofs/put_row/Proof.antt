@@ -5,7 +5,7 @@ use Rattle.listing.proofs.put_row.Reads as reads
 use Rattle.listing.proofs.put_row.Lts as lts
 use Rattle.listing.proofs.put_line.Reads as put-line-reads
 use Rattle.rows.proofs.name_end.Reads as name-end-reads
-use mathlib.Core.Path.{_≡_, refl, sym, _∙_, ap}
+use mathlib.Core.Path.{_≡_, ap}
 use mathlib.Core.List.{List}
 use Prim.Native.Nat.{ℕ}
 use native.Mathlib.Omega.{arith}

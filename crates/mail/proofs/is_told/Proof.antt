@@ -5,11 +5,8 @@ use Rattle.mail.proofs.is_told.Reads as reads
 use Rattle.mail.proofs.is_told.Lts as lts
 use Rattle.mailboxes.proofs.both.Reads as both-reads
 use Rattle.told.proofs.is_asked_of.Reads as is-asked-of-reads
-use mathlib.Core.Path.{_≡_, refl, sym, _∙_, ap}
-use mathlib.Core.Bool.{Bool, true, false, not, _&&_}
+use mathlib.Core.Path.{sym, _∙_}
 use borrow.Author.Tests.{not-true, not-false}
-use Rattle.model.specs.Memory.{bothRights}
-use Rattle.model.specs.Groups.{askedOf}
 
 -- src/lib.rt:162:9
 returns : tie.Need-returns

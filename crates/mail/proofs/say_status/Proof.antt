@@ -3,11 +3,8 @@ use Rattle.mail.proofs.say_status.Statement.{statement}
 use Rattle.mail.proofs.say_status.Tie as tie
 use Rattle.mail.proofs.say_status.Reads as reads
 use Rattle.mail.proofs.say_status.Lts as lts
-use mathlib.Core.Path.{_≡_, refl, sym, _∙_, ap}
-use mathlib.Core.Bool.{Bool, true, false, not, cond, _&&_}
+use mathlib.Core.Path.{refl}
 use native.Mathlib.Omega.{arith}
-use borrow.Author.Tests.{not-true, not-false}
-use Rattle.entries.specs.Words.{messages}
 use Rattle.out.specs.Says.{says-fits, says-over}
 
 sub-limit : tie.Need-sub-limit

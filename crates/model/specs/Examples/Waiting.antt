@@ -1,6 +1,6 @@
 -- What waits through NOTIFY NONE and through a right that is missing for a while, and what is dropped (01, Written, 17 to 20).
 use mathlib.Core.Path.{refl}
-use mathlib.Core.List.{List, [], _∷_}
+use mathlib.Core.List.{[], _∷_}
 use Rattle.model.specs.Examples.Stream.{mb, rt, me, xp, fl, se, ce, cm, Prints, computed}
 
 -- message 1 goes before r is lost, message 3 comes after it; nothing is written until r is back

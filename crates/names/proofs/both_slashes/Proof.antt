@@ -2,7 +2,6 @@ use Rattle.names.proofs.both_slashes.Statement.{statement}
 use Rattle.names.proofs.both_slashes.Tie as tie
 use Prim.Native.Nat.{_-_}
 use borrow.Author.Tests.{eq-eqb, ne-eqb}
-use borrow.Author.Needs.{needs}
 
 -- src/lib.rt:34:1
 returns : tie.Need-returns

@@ -5,14 +5,8 @@ use Rattle.notices.proofs.put_counted.Reads as reads
 use Rattle.notices.proofs.put_counted.Lts as lts
 use Rattle.out.proofs.put.Reads as put-reads
 use Rattle.out.proofs.put_number.Reads as put-number-reads
-use mathlib.Core.Path.{_≡_, refl, sym, _∙_, ap}
-use mathlib.Core.List.{List, [], _∷_, _++_}
-use Prim.Native.Nat.{ℕ, _≤_, _+_}
 use native.Mathlib.Omega.{arith}
-use Rattle.model.specs.Lines.{render}
-use Rattle.out.specs.Put.{_then_, put-as}
-use Rattle.out.specs.Says.{says-fits, says-over}
-use Rattle.notices.specs.Texts.{markOf, listed, list-text, renamed-text, status-text, at-set-text}
+use Rattle.out.specs.Put.{_then_}
 
 -- src/lib.rt:77:9
 put-requires : tie.Need-put-requires

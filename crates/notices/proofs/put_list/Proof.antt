@@ -5,14 +5,9 @@ use Rattle.notices.proofs.put_list.Reads as reads
 use Rattle.notices.proofs.put_list.Lts as lts
 use Rattle.notices.proofs.put_listed.Reads as put-listed-reads
 use Rattle.out.proofs.put.Reads as put-reads
-use mathlib.Core.Path.{_≡_, refl, sym, _∙_, ap}
-use mathlib.Core.List.{List, [], _∷_, _++_}
-use Prim.Native.Nat.{ℕ, _≤_, _+_}
 use native.Mathlib.Omega.{arith}
-use Rattle.model.specs.Lines.{render}
 use Rattle.out.specs.Put.{_then_, put-as}
-use Rattle.out.specs.Says.{says-fits, says-over}
-use Rattle.notices.specs.Texts.{markOf, listed, list-text, renamed-text, status-text, at-set-text}
+use Rattle.notices.specs.Texts.{markOf, list-text}
 
 -- src/lib.rt:50:9
 put-listed-requires : tie.Need-put-listed-requires

@@ -4,14 +4,10 @@ use Rattle.notices.proofs.put_mark.Tie as tie
 use Rattle.notices.proofs.put_mark.Reads as reads
 use Rattle.notices.proofs.put_mark.Lts as lts
 use Rattle.out.proofs.put.Reads as put-reads
-use mathlib.Core.Path.{_≡_, refl, sym, _∙_, ap}
-use mathlib.Core.List.{List, [], _∷_, _++_}
-use Prim.Native.Nat.{ℕ, _≤_, _+_}
+use mathlib.Core.Path.{sym, ap}
 use native.Mathlib.Omega.{arith}
-use Rattle.model.specs.Lines.{render}
-use Rattle.out.specs.Put.{_then_, put-as}
-use Rattle.out.specs.Says.{says-fits, says-over}
-use Rattle.notices.specs.Texts.{markOf, listed, list-text, renamed-text, status-text, at-set-text}
+use Rattle.out.specs.Put.{put-as}
+use Rattle.notices.specs.Texts.{markOf}
 use Rattle.model.specs.Lines.{markText}
 use Rattle.notices.specs.declared.Mark.{Mark}
 

@@ -5,14 +5,9 @@ use Rattle.notices.proofs.say_renamed.Reads as reads
 use Rattle.notices.proofs.say_renamed.Lts as lts
 use Rattle.notices.proofs.put_renamed.Reads as put-renamed-reads
 use Rattle.out.proofs.overflow.Reads as overflow-reads
-use mathlib.Core.Path.{_≡_, refl, sym, _∙_, ap}
-use mathlib.Core.List.{List, [], _∷_, _++_}
-use Prim.Native.Nat.{ℕ, _≤_, _+_}
+use mathlib.Core.Path.{refl}
 use native.Mathlib.Omega.{arith}
-use Rattle.model.specs.Lines.{render}
-use Rattle.out.specs.Put.{_then_, put-as}
 use Rattle.out.specs.Says.{says-fits, says-over}
-use Rattle.notices.specs.Texts.{markOf, listed, list-text, renamed-text, status-text, at-set-text}
 
 -- src/lib.rt:145:17
 sub-limit : tie.Need-sub-limit

@@ -4,10 +4,9 @@ use Rattle.out.proofs.hear.Tie as tie
 use Rattle.out.proofs.hear.Reads as reads
 use Rattle.out.proofs.hear.Lts as lts
 use Rattle.out.proofs.silence.Reads as silence-reads
-use mathlib.Core.Path.{_≡_, refl, sym, _∙_, ap}
-use mathlib.Core.Bool.{Bool, true, false, cond}
+use mathlib.Core.Path.{refl, sym, _∙_, ap}
+use mathlib.Core.Bool.{Bool, cond}
 use Rattle.model.specs.Memory.{silenced}
-use Rattle.model.specs.declared.Session.{Session}
 
 -- src/lib.rt:148:9
 returns : tie.Need-returns

@@ -4,7 +4,7 @@ use Rattle.out.proofs.overflow.Tie as tie
 use Rattle.out.proofs.overflow.Reads as reads
 use Rattle.out.proofs.overflow.Lts as lts
 use Rattle.out.proofs.put.Reads as put-reads
-use mathlib.Core.Path.{_≡_, refl}
+use mathlib.Core.Path.{refl}
 use Rattle.model.specs.Lines.{render}
 
 -- src/lib.rt:107:36

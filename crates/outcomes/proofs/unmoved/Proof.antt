@@ -1,7 +1,6 @@
 -- `unmoved`: an answer, and no row changes. Assumes nothing.
 use borrow.Author.Needs.{needs}
 use mathlib.Core.Path.{ap}
-use Rattle.model.specs.declared.Mailbox.{Mailbox}
 use Rattle.outcomes.specs.Coming.{calm}
 use Rattle.outcomes.proofs.unmoved.Statement.{statement}
 use Rattle.outcomes.proofs.unmoved.Tie as tie

@@ -3,15 +3,6 @@ use Rattle.results.proofs.follows.Statement.{statement}
 use Rattle.results.proofs.follows.Tie as tie
 use Rattle.results.proofs.follows.Reads as reads
 use Rattle.results.proofs.follows.Lts as lts
-use mathlib.Core.Path.{_≡_, refl, sym, ap, _∙_}
-use native.Mathlib.Omega.{arith}
-use Rattle.out.specs.Put.{_then_, put-as, put-none}
-use borrow.Author.Tests.{not-true, not-false}
-use mathlib.Core.List.{_++_}
-use Rattle.model.specs.Text.{octets, decimal}
-use Rattle.model.specs.Lines.{setText}
-use Rattle.results.specs.Line.{uidsOf, tagText, boxText, resultsText, lineText}
-use lib.ListN.{take}
 use Rattle.results.specs.Writing.{follows-not, follows-by}
 
 -- src/lib.rt:18:9

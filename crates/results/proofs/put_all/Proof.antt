@@ -5,14 +5,13 @@ use Rattle.results.proofs.put_all.Reads as reads
 use Rattle.results.proofs.put_all.Lts as lts
 use Rattle.results.proofs.put_set.Reads as put-set-reads
 use Rattle.out.proofs.put.Reads as put-reads
-use mathlib.Core.Path.{_≡_, refl, sym, ap, _∙_}
 use native.Mathlib.Omega.{arith}
 use Rattle.out.specs.Put.{_then_, put-as, put-none}
 use borrow.Author.Tests.{not-true, not-false}
 use mathlib.Core.List.{_++_}
-use Rattle.model.specs.Text.{octets, decimal}
+use Rattle.model.specs.Text.{octets}
 use Rattle.model.specs.Lines.{setText}
-use Rattle.results.specs.Line.{uidsOf, tagText, boxText, resultsText, lineText}
+use Rattle.results.specs.Line.{uidsOf}
 use lib.ListN.{take}
 use Rattle.results.specs.Writing.{asked-not, asked}
 

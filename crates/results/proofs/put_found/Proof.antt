@@ -7,15 +7,8 @@ use Rattle.results.proofs.put_box.Reads as put-box-reads
 use Rattle.results.proofs.put_results.Reads as put-results-reads
 use Rattle.results.proofs.put_tag.Reads as put-tag-reads
 use Rattle.out.proofs.put.Reads as put-reads
-use mathlib.Core.Path.{_≡_, refl, sym, ap, _∙_}
 use native.Mathlib.Omega.{arith}
-use Rattle.out.specs.Put.{_then_, put-as, put-none}
-use borrow.Author.Tests.{not-true, not-false}
-use mathlib.Core.List.{_++_}
-use Rattle.model.specs.Text.{octets, decimal}
-use Rattle.model.specs.Lines.{setText}
-use Rattle.results.specs.Line.{uidsOf, tagText, boxText, resultsText, lineText}
-use lib.ListN.{take}
+use Rattle.out.specs.Put.{_then_, put-as}
 use Rattle.results.specs.Writing.{line-pieces}
 
 -- src/lib.rt:144:9

@@ -5,15 +5,11 @@ use Rattle.results.proofs.put_labelled.Reads as reads
 use Rattle.results.proofs.put_labelled.Lts as lts
 use Rattle.out.proofs.put.Reads as put-reads
 use Rattle.out.proofs.put_number.Reads as put-number-reads
-use mathlib.Core.Path.{_≡_, refl, sym, ap, _∙_}
 use native.Mathlib.Omega.{arith}
 use Rattle.out.specs.Put.{_then_, put-as, put-none}
 use borrow.Author.Tests.{not-true, not-false}
 use mathlib.Core.List.{_++_}
-use Rattle.model.specs.Text.{octets, decimal}
-use Rattle.model.specs.Lines.{setText}
-use Rattle.results.specs.Line.{uidsOf, tagText, boxText, resultsText, lineText}
-use lib.ListN.{take}
+use Rattle.model.specs.Text.{decimal}
 use Rattle.results.specs.Writing.{asked-not, asked}
 
 -- src/lib.rt:73:9

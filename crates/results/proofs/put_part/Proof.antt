@@ -5,15 +5,8 @@ use Rattle.results.proofs.put_part.Reads as reads
 use Rattle.results.proofs.put_part.Lts as lts
 use Rattle.results.proofs.put_run.Reads as put-run-reads
 use Rattle.out.proofs.put_byte.Reads as put-byte-reads
-use mathlib.Core.Path.{_≡_, refl, sym, ap, _∙_}
 use native.Mathlib.Omega.{arith}
-use Rattle.out.specs.Put.{_then_, put-as, put-none}
-use borrow.Author.Tests.{not-true, not-false}
-use mathlib.Core.List.{_++_}
-use Rattle.model.specs.Text.{octets, decimal}
-use Rattle.model.specs.Lines.{setText}
-use Rattle.results.specs.Line.{uidsOf, tagText, boxText, resultsText, lineText}
-use lib.ListN.{take}
+use Rattle.out.specs.Put.{_then_}
 
 -- src/lib.rt:40:9
 put-run-requires : tie.Need-put-run-requires

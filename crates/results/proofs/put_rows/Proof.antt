@@ -5,7 +5,7 @@ use Rattle.results.proofs.put_rows.Lts as lts
 use Rattle.results.proofs.put_row.Reads as put-row-reads
 use mathlib.Core.Path.{_≡_, refl, _∙_}
 use native.Mathlib.Omega.{arith}
-use Prim.Native.Nat.{ℕ, _+_, _-_, _*_, _≤_, _<_}
+use Prim.Native.Nat.{_+_, _-_, _*_, _≤_, _<_}
 use lib.ListN.{length}
 use Rattle.results.specs.Telling.{Goes, goes-next, goes-end}
 use borrow.Author.Needs.{needs}

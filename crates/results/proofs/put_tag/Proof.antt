@@ -4,15 +4,9 @@ use Rattle.results.proofs.put_tag.Tie as tie
 use Rattle.results.proofs.put_tag.Reads as reads
 use Rattle.results.proofs.put_tag.Lts as lts
 use Rattle.out.proofs.put.Reads as put-reads
-use mathlib.Core.Path.{_≡_, refl, sym, ap, _∙_}
 use native.Mathlib.Omega.{arith}
-use Rattle.out.specs.Put.{_then_, put-as, put-none}
-use borrow.Author.Tests.{not-true, not-false}
-use mathlib.Core.List.{_++_}
-use Rattle.model.specs.Text.{octets, decimal}
-use Rattle.model.specs.Lines.{setText}
-use Rattle.results.specs.Line.{uidsOf, tagText, boxText, resultsText, lineText}
-use lib.ListN.{take}
+use Rattle.out.specs.Put.{_then_}
+use Rattle.results.specs.Line.{tagText}
 
 -- src/lib.rt:114:40
 slice-aggregate-put : tie.Need-slice-aggregate-put

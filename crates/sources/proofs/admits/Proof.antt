@@ -2,7 +2,7 @@
 use borrow.Author.Needs.{needs}
 use Rattle.sources.proofs.admits.Statement.{statement}
 use Rattle.sources.proofs.admits.Tie as tie
-use mathlib.Core.Path.{sym, _∙_}
+use mathlib.Core.Path.{_∙_}
 use borrow.Author.Tests.{eq-eqb, ne-eqb}
 
 returns : tie.Need-returns

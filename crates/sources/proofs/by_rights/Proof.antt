@@ -3,7 +3,6 @@ use Rattle.sources.proofs.by_rights.Tie as tie
 use Rattle.sources.proofs.by_rights.Reads as reads
 use Rattle.sources.proofs.by_rights.Lts as lts
 use borrow.Author.Tests.{eq-eqb, ne-eqb, not-true, not-false}
-use borrow.Author.Needs.{needs}
 
 -- src/lib.rt:18:9
 returns : tie.Need-returns

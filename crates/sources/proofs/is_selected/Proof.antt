@@ -3,7 +3,6 @@ use Rattle.sources.proofs.is_selected.Tie as tie
 use Rattle.sources.proofs.is_selected.Reads as reads
 use Rattle.sources.proofs.is_selected.Lts as lts
 use Rattle.sources.specs.Picking.{selected-none, selected-some}
-use borrow.Author.Needs.{needs}
 
 -- src/lib.rt:180:9
 returns : tie.Need-returns

@@ -12,7 +12,7 @@ use lib.ListN.{length, take, drop}
 use lib.Seq.{length-take-le}
 use lib.ListN.{length-drop}
 use Rattle.sources.specs.Admitting.{searchedBy}
-use Rattle.sources.specs.Picking.{name-part, nameAt}
+use Rattle.sources.specs.Picking.{name-part}
 
 -- src/lib.rt:190:16
 mul-from : tie.Need-mul-from

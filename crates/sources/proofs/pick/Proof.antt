@@ -4,9 +4,9 @@ use Rattle.sources.proofs.pick.Reads as reads
 use Rattle.sources.proofs.pick.Lts as lts
 use Rattle.sources.proofs.is_selected.Reads as is-selected-reads
 use Rattle.sources.proofs.note.Reads as note-reads
-use mathlib.Core.Path.{_≡_, refl, sym, _∙_}
+use mathlib.Core.Path.{_≡_, refl, _∙_}
 use native.Mathlib.Omega.{arith}
-use Prim.Native.Nat.{ℕ, _≤_, _-_, _<_}
+use Prim.Native.Nat.{_≤_, _-_}
 use lib.ListN.{length, length-set}
 use Rattle.sources.specs.Picking.{Noted, noted-next}
 use borrow.Author.Needs.{needs}

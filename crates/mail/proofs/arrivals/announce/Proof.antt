@@ -1,6 +1,6 @@
 -- `announce`: the mailbox's entries by UID, and all lines of what is new among them. Assumes nothing.
 use borrow.Author.Needs.{needs}
-use mathlib.Core.Path.{_∙_, ap, ap₂}
+use mathlib.Core.Path.{ap₂}
 use native.Mathlib.Omega.{arith}
 use Rattle.entries.specs.Words.{messages}
 use Rattle.fetches.specs.Whole.{newsText}

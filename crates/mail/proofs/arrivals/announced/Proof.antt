@@ -3,13 +3,10 @@ use Rattle.mail.proofs.arrivals.announced.Statement.{statement}
 use Rattle.mail.proofs.arrivals.announced.Tie as tie
 use Rattle.mail.proofs.arrivals.announced.Reads as reads
 use Rattle.mail.proofs.arrivals.announced.Lts as lts
-use mathlib.Core.Path.{_≡_, refl, sym, _∙_, ap}
-use mathlib.Core.Bool.{Bool, true, false, not, cond, _&&_}
-use native.Mathlib.Omega.{arith}
+use mathlib.Core.Path.{sym, _∙_, ap}
+use mathlib.Core.Bool.{Bool, cond}
 use borrow.Author.Tests.{not-true, not-false}
-use Rattle.entries.specs.Words.{messages}
 use Rattle.model.specs.Memory.{withView, silenced}
-use Rattle.model.specs.declared.Session.{Session}
 
 silence-requires : tie.Need-silence-requires
 silence-requires c κs = search needs

@@ -3,12 +3,8 @@ use Rattle.mail.proofs.expunges.drop_now.Statement.{statement}
 use Rattle.mail.proofs.expunges.drop_now.Tie as tie
 use Rattle.mail.proofs.expunges.drop_now.Reads as reads
 use Rattle.mail.proofs.expunges.drop_now.Lts as lts
-use mathlib.Core.Path.{_≡_, refl, sym, _∙_, ap}
-use mathlib.Core.Bool.{Bool, true, false, not, cond, _&&_}
-use native.Mathlib.Omega.{arith}
-use borrow.Author.Tests.{not-true, not-false}
 use Rattle.entries.specs.Words.{messages}
-use Rattle.mail.specs.After.{Leaves, onceAfter, once-leaves}
+use Rattle.mail.specs.After.{once-leaves}
 
 say-expunge-requires : tie.Need-say-expunge-requires
 say-expunge-requires c κs = search needs

@@ -3,12 +3,8 @@ use Rattle.mail.proofs.expunges.take_out.Statement.{statement}
 use Rattle.mail.proofs.expunges.take_out.Tie as tie
 use Rattle.mail.proofs.expunges.take_out.Reads as reads
 use Rattle.mail.proofs.expunges.take_out.Lts as lts
-use mathlib.Core.Path.{_≡_, refl, sym, _∙_, ap}
-use mathlib.Core.Bool.{Bool, true, false, not, cond, _&&_}
 use native.Mathlib.Omega.{arith}
-use borrow.Author.Tests.{not-true, not-false}
-use Rattle.entries.specs.Words.{messages}
-use Rattle.mail.specs.After.{takenOut, taken-gone, taken-waits}
+use Rattle.mail.specs.After.{taken-gone, taken-waits}
 
 remove-requires : tie.Need-remove-requires
 remove-requires c κs = search needs

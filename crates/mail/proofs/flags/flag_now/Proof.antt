@@ -3,12 +3,9 @@ use Rattle.mail.proofs.flags.flag_now.Statement.{statement}
 use Rattle.mail.proofs.flags.flag_now.Tie as tie
 use Rattle.mail.proofs.flags.flag_now.Reads as reads
 use Rattle.mail.proofs.flags.flag_now.Lts as lts
-use mathlib.Core.Path.{_≡_, refl, sym, _∙_, ap}
-use mathlib.Core.Bool.{Bool, true, false, not, cond, _&&_}
-use native.Mathlib.Omega.{arith}
-use borrow.Author.Tests.{not-true, not-false}
-use Rattle.entries.specs.Words.{messages}
-use Rattle.mail.specs.Flagged.{flagAfter, flag-told}
+use mathlib.Core.Path.{refl}
+use mathlib.Core.Bool.{true, false}
+use Rattle.mail.specs.Flagged.{flag-told}
 
 get-requires : tie.Need-get-requires
 get-requires c κs = search needs

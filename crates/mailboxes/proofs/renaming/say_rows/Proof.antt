@@ -2,9 +2,8 @@
 use borrow.Author.Needs.{needs}
 use Rattle.mailboxes.proofs.renaming.say_rows.Statement.{statement}
 use Rattle.mailboxes.proofs.renaming.say_rows.Tie as tie
-use mathlib.Core.Path.{_≡_, sym}
+use mathlib.Core.Path.{sym}
 use native.Mathlib.Omega.{arith}
-use lib.ListN.{length, take}
 use lib.Seq.{length-take-le}
 
 name-end-requires : tie.Need-name-end-requires

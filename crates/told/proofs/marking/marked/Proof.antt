@@ -1,5 +1,4 @@
 -- `marked`: by the test. Assumes nothing.
-use borrow.Author.Needs.{needs}
 use mathlib.Core.Path.{sym, ap, _∙_}
 use mathlib.Core.Bool.{Bool, _||_}
 use Rattle.told.specs.Notes.{noted}

@@ -1,5 +1,4 @@
 -- `has_status`: its STATUS is told. Assumes nothing.
-use borrow.Author.Needs.{needs}
 use borrow.Author.Tests.{not-true, not-false}
 use Rattle.told.specs.Picked.{status-no, status-selected, status-asked}
 use Rattle.told.proofs.picking.has_status.Statement.{statement}

@@ -17,7 +17,7 @@ ghost use Rattle.rows.specs.Columns.{Laid, block};
 ghost use Rattle.quick.specs.Passing.{Owners, stateAt, entryOk, tablesOk};
 ghost use Rattle.quick.specs.Distinct.{Low};
 ghost use Rattle.lawful.specs.Fields.{numbersBy, nameBy, rowAt};
-ghost use Rattle.lawful.specs.Neighbours.{placed, misplaced, misplacedUp, Ended};
+ghost use Rattle.lawful.specs.Neighbours.{placed, misplaced, misplacedUp, Placed, Ended};
 ghost use Rattle.lawful.specs.Clashing.{Called, clashAt};
 ghost use Rattle.lawful.specs.Lent.{Lent, memory, filledBy, sizesBy, viewBy};
 
@@ -72,29 +72,18 @@ fn misplaced(a: u8, b: u8) -> u8
     if is_placed(a, b) { 0 } else { 1 }
 }
 
-// How many of the 64 octets from a place on are misplaced.
-fn misplaced_from(octets: &[u8], at: usize) -> u8
-    requires { ⌜ at + 65 ≤ length (now octets) ⌝ }
-    ensures { λ r. ⌜ r ≡ misplacedUp (now (octets .entry)) at 64 ⌝ }
+// How many of the n octets from a place on are misplaced.
+fn misplaced_from(octets: &[u8], at: usize, n: usize) -> u8
+    requires { ⌜ (n ≤ 255) × (at + n + 1 ≤ length (now octets)) ⌝ }
+    ensures { λ r. ⌜ r ≡ misplacedUp (now (octets .entry)) at n ⌝ }
 {
     let mut sum: u8 = 0;
     let mut i: usize = 0;
-    while i < 64 {
+    while i < n {
         sum += misplaced(octets[at + i], octets[at + i + 1]);
         i += 1;
     }
     sum
-}
-
-// One where a row ends in a zero and the next begins with a name: there a may stand before b.
-fn turn(a: u8, b: u8) -> u8
-    ensures { λ r. ⌜ r ≤ misplaced a b ⌝ }
-{
-    if a == 0 {
-        if b == 0 { 0 } else { 1 }
-    } else {
-        0
-    }
 }
 
 // The name of 1 to 63 octets begins and ends with an octet that is no slash, and a zero follows. It is not as long as INBOX.
@@ -125,20 +114,34 @@ fn ends_ok(octets: &[u8], from: usize, len: u8) -> bool
     octets[end] == 0
 }
 
-// The name of row k is seen to be in order: no octet is misplaced but where the row before it ends. A no says nothing.
+// None of the row's first 48 octets is misplaced, and zeros follow: two words, instead of octet by octet.
+fn short_seen(octets: &[u8], from: usize) -> bool
+    requires { ⌜ from + 64 ≤ length (now octets) ⌝ }
+    ensures { λ r. ⌜ (r ≡ true → Placed (now (octets .entry)) from 63) ⌝ }
+{
+    if misplaced_from(octets, from, 48) != 0 {
+        return false;
+    }
+    if quick::word(octets, from + 48) != 0 {
+        return false;
+    }
+    quick::word(octets, from + 56) == 0
+}
+
+// The name of row k is seen to be in order: none of the row's octets is misplaced. A no says nothing.
 fn name_seen(names: &[u8; 4096], k: usize, len: u8) -> bool
     requires { ⌜ k < 64 ⌝ }
     ensures { λ r. ⌜ (r ≡ true → nameBy len (block (now (names .entry)) k) ≡ true) ⌝ }
 {
-    if k < 1 {
-        return false;
-    }
     let all = &names[..];
     let from = 64 * k;
     if !ends_ok(all, from, len) {
         return false;
     }
-    misplaced_from(all, from - 1) == turn(names[from - 1], names[from])
+    if 47 < len {
+        return misplaced_from(all, from, 63) == 0;
+    }
+    short_seen(all, from)
 }
 
 // ---- the mailboxes

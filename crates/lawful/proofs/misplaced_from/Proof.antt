@@ -7,10 +7,10 @@ use Rattle.lawful.proofs.misplaced_from.Statement.{statement}
 use Rattle.lawful.proofs.misplaced_from.Tie as tie
 
 abbrev Inv-loop : tie.InvT-loop
-Inv-loop octets at sum₀ i₀ sum i = (i ≤ 64) × (sum ≤ i) × (sum ≡ misplacedUp octets at i)
+Inv-loop octets at n sum₀ i₀ sum i = (i ≤ n) × (sum ≤ i) × (sum ≡ misplacedUp octets at i)
 
 abbrev μ-loop : tie.MeasureT-loop
-μ-loop octets at sum₀ i₀ sum i = 64 - i
+μ-loop octets at n sum₀ i₀ sum i = n - i
 
 loop-holds : tie.Need-loop-holds Inv-loop μ-loop
 unfolding misplacedUp
@@ -50,7 +50,7 @@ loop-again c =
     (search needs, search needs, misplaced-next (args .octets .now) (args .at) (turn .i) (turn .sum) (c .misplaced .result) (turn .inv .2) (c .misplaced .ensures .0))
 
 returns : tie.Need-returns Inv-loop μ-loop
-returns c = let e : c .before .loop .i ≡ 64 = omega arith in rw e at (c .before .loop .inv .2)
+returns c = let e : c .before .loop .i ≡ c .before .before .before .args .n = omega arith in rw e at (c .before .loop .inv .2)
 
 pub misplaced-from-spec : {M : Type 1} → statement M
 misplaced-from-spec =

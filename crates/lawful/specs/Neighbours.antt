@@ -1,14 +1,14 @@
--- A name's octets tested by neighbours: where none of 64 is misplaced, and both ends are right, the name is in order. Assumes nothing.
+-- A name's octets tested by neighbours: where none of a row's is misplaced, and both ends are right, the name is in order. Assumes nothing.
 use mathlib.Core.Path.{_≡_, refl, ap, sym, _∙_}
 use mathlib.Core.Bool.{Bool, true, false, not, cond, _&&_, _||_}
 use mathlib.Core.List.{List, [], _∷_}
 use Prim.Native.Nat.{ℕ, zero, suc, _+_, _-_, _*_, _<_, _≤_}
 use native.Mathlib.Numerals.{add-one}
 use native.Mathlib.Omega.{arith}
-use lib.Dec.{eqb, leb}
+use lib.Dec.{eqb, leb, ltb}
 use lib.ListN.{length, take, drop, getD, length-drop}
 use lib.Seq.{getD-take, getD-drop, length-take-le}
-use borrow.Author.Tests.{eq-eqb, ne-eqb, eqb-true, eqb-false, leb-true, not-true}
+use borrow.Author.Tests.{eq-eqb, ne-eqb, eqb-true, leb-true, ltb-true, ltb-false, not-true}
 use Rattle.model.specs.Laws.{tf, and-l, and-r}
 use Rattle.model.specs.Text.{sameWord, upper}
 use Rattle.model.specs.Names.{Name, printable, inbox}
@@ -16,8 +16,9 @@ use Rattle.model.specs.Lawful.{zeros}
 use Rattle.names.specs.Once.{textOk, textFrom, text-next, text-past, some-octets}
 use Rattle.names.specs.Folding.{folded-other}
 use Rattle.rows.specs.Walks.{mapped-length}
-use Rattle.rows.specs.Columns.{block, below-other}
+use Rattle.rows.specs.Columns.{block, all-below}
 use Rattle.quick.specs.Distinct.{same-equal}
+use Rattle.quick.specs.Digest.{word}
 use Rattle.lawful.specs.Fields.{nameBy}
 
 -- a zero stands before a zero; an octet of a name before any, but no slash before a slash
@@ -36,45 +37,55 @@ pub misplaced-next : (l : List ℕ) (at i s x : ℕ) → s ≡ misplacedUp l at 
 unfolding misplacedUp
 misplaced-next l at i s x e f = rw (add-one, e, f)
 
--- where no more are misplaced than the first may be, no other is
-module _ (l : List ℕ) (at : ℕ) where
-  abbrev here : ℕ → ℕ
-  here i = misplaced (getD l (at + i) 0) (getD l (at + i + 1) 0)
-
-  first-counts : (i : ℕ) → 1 ≤ i → here 0 ≤ misplacedUp l at i
-  unfolding misplacedUp
-  first-counts zero h = absurd (omega arith)
-  first-counts (suc zero) h = omega arith
-  first-counts (suc (suc i)) h = let z = first-counts (suc i) (omega arith) in omega arith
-
-  both-count : (i j : ℕ) → 1 ≤ j → j < i → here 0 + here j ≤ misplacedUp l at i
-  unfolding misplacedUp
-  both-count zero j a b = absurd (omega arith)
-  both-count (suc i) j a b = go (eqb j i) refl (both-count i j a)
-    where
-      go : (c : Bool) → eqb j i ≡ c → (j < i → here 0 + here j ≤ misplacedUp l at i) → here 0 + here j ≤ misplacedUp l at i + here i
-      go true e r = let z = first-counts i (omega (arith, eqb-true j i e)) in rw (eqb-true j i e) (omega arith)
-      go false e r = let z = r (below-other j i (omega arith) (eqb-false j i e)) in omega arith
-
-  none-misplaced : (a b : ℕ) → misplaced a b ≡ 0 → placed a b ≡ true
-  unfolding misplaced
-  none-misplaced a b h = go (placed a b) h
-    where
-      go : (c : Bool) → _≡_ {A = ℕ} (cond c 0 1) 0 → c ≡ true
-      go true q = refl
-      go false q = absurd (let z : _≡_ {A = ℕ} 1 0 = q in omega arith)
-
-  -- x is the first, where a row ends and the next begins
-  pub others-placed : (x f : ℕ) → f ≡ at + 1 → x ≤ misplaced (getD l at 0) (getD l f 0) → misplacedUp l at 64 ≡ x → (j : ℕ) → 1 ≤ j → j < 64 → placed (getD l (at + j) 0) (getD l (at + j + 1) 0) ≡ true
-  others-placed x f e h g j a b =
-      let s : at + 0 ≡ at = omega arith in
-      let y : here 0 ≡ misplaced (getD l at 0) (getD l f 0) = rw (s, e) in
-      let z = both-count 64 j a b in
-      none-misplaced (getD l (at + j) 0) (getD l (at + j + 1) 0) (omega arith)
-
-pub turned : (a b : ℕ) → a ≡ 0 → (b ≡ 0 → ⊥) → 1 ≤ misplaced a b
+none-misplaced : (a b : ℕ) → misplaced a b ≡ 0 → placed a b ≡ true
 unfolding misplaced
-turned a b e n = rw (e, ne-eqb b 0 n) (omega arith)
+none-misplaced a b h = go (placed a b) h
+  where
+    go : (c : Bool) → _≡_ {A = ℕ} (cond c 0 1) 0 → c ≡ true
+    go true q = refl
+    go false q = absurd (let z : _≡_ {A = ℕ} 1 0 = q in omega arith)
+
+-- the n octets from a place on are placed
+abbrev pub Placed : List ℕ → ℕ → ℕ → Type 0
+Placed l at n = (i : ℕ) → i < n → placed (getD l (at + i) 0) (getD l (at + i + 1) 0) ≡ true
+
+pub all-placed : (l : List ℕ) (at n : ℕ) → misplacedUp l at n ≡ 0 → Placed l at n
+unfolding misplacedUp
+all-placed l at zero h i a = absurd (omega arith)
+all-placed l at (suc n) h i a =
+    let e = none-misplaced (getD l (at + n) 0) (getD l (at + n + 1) 0) (omega arith) in
+    all-below (λ (j : ℕ). placed (getD l (at + j) 0) (getD l (at + j + 1) 0) ≡ true) n (all-placed l at n (omega arith)) e i (omega arith)
+
+-- the octets of a word that is zero
+word-zero : (l : List ℕ) (at : ℕ) → word l at ≡ 0 → (i : ℕ) → i < 8 → getD l (at + i) 0 ≡ 0
+word-zero l at h zero a = let e : at + 0 ≡ at = omega arith in rw e (omega arith)
+word-zero l at h (suc zero) a = omega arith
+word-zero l at h (suc (suc zero)) a = omega arith
+word-zero l at h (suc (suc (suc zero))) a = omega arith
+word-zero l at h (suc (suc (suc (suc zero)))) a = omega arith
+word-zero l at h (suc (suc (suc (suc (suc zero))))) a = omega arith
+word-zero l at h (suc (suc (suc (suc (suc (suc zero)))))) a = omega arith
+word-zero l at h (suc (suc (suc (suc (suc (suc (suc zero))))))) a = omega arith
+word-zero l at h (suc (suc (suc (suc (suc (suc (suc (suc i)))))))) a = absurd (omega arith)
+
+-- a row of which 48 octets are placed, where two words of zeros follow
+module _ (l : List ℕ) (at : ℕ) (p : Placed l at 48) (v : word l (at + 48) ≡ 0) (w : word l (at + 56) ≡ 0) where
+  behind-zero : (i : ℕ) → 48 ≤ i → i < 64 → getD l (at + i) 0 ≡ 0
+  behind-zero i a b = go (ltb i 56) refl
+    where
+      go : (c : Bool) → ltb i 56 ≡ c → getD l (at + i) 0 ≡ 0
+      go true q = let e : at + i ≡ at + 48 + (i - 48) = omega arith in rw e (word-zero l (at + 48) v (i - 48) (omega (arith, ltb-true i 56 q)))
+      go false q = let e : at + i ≡ at + 56 + (i - 56) = omega (arith, ltb-false i 56 q) in rw e (word-zero l (at + 56) w (i - 56) (omega (arith, ltb-false i 56 q)))
+
+  pub short-placed : Placed l at 63
+  short-placed i a = go (ltb i 48) refl
+    where
+      go : (c : Bool) → ltb i 48 ≡ c → placed (getD l (at + i) 0) (getD l (at + i + 1) 0) ≡ true
+      go true q = p i (ltb-true i 48 q)
+      go false q =
+          let h = ltb-false i 48 q in
+          let e : at + i + 1 ≡ at + suc i = omega arith in
+          rw (e, behind-zero i h (omega arith), behind-zero (suc i) (omega arith) (omega arith))
 
 -- the ends of a name of 1 to 63 octets that is not as long as INBOX
 pub record Ended (l : List ℕ) (from len : ℕ) : Type 0 where
@@ -101,8 +112,7 @@ all-at [] p = refl
 all-at (x ∷ l) p = rw (eq-eqb 0 x (sym (p 0 (omega arith)))) (all-at l (λ i h. p (suc i) (omega arith)))
 
 -- the octets o of row k
-module _ (l : List ℕ) (k len : ℕ) (w : length l ≡ 4096) (p : 1 ≤ k) (h : k < 64) (e : Ended l (64 * k) len)
-    (q : (j : ℕ) → 1 ≤ j → j < 64 → placed (getD l (64 * k - 1 + j) 0) (getD l (64 * k - 1 + j + 1) 0) ≡ true) where
+module _ (l : List ℕ) (k len : ℕ) (w : length l ≡ 4096) (h : k < 64) (e : Ended l (64 * k) len) (q : Placed l (64 * k) 63) where
   abbrev o : Name
   o = block l k
 
@@ -113,7 +123,7 @@ module _ (l : List ℕ) (k len : ℕ) (w : length l ≡ 4096) (p : 1 ≤ k) (h :
   octet i j a b = rw (b, getD-take 64 (drop (64 * k) l) i 0 a, getD-drop (64 * k) l i 0)
 
   pair : (i : ℕ) → suc i < 64 → placed (getD o i 0) (getD o (suc i) 0) ≡ true
-  pair i a = rw (octet i (64 * k - 1 + suc i) (omega arith) (omega arith), octet (suc i) (64 * k - 1 + suc i + 1) a (omega arith)) (q (suc i) (omega arith) a)
+  pair i a = rw (octet i (64 * k + i) (omega arith) refl, octet (suc i) (64 * k + i + 1) a (omega arith)) (q i (omega arith))
 
   zero-run : (m i : ℕ) → i + m < 64 → getD o i 0 ≡ 0 → getD o (i + m) 0 ≡ 0
   zero-run zero i a z = let n : i + 0 ≡ i = omega arith in rw n z

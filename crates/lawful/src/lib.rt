@@ -1,27 +1,32 @@
 // Refusal 1: whether all that is lent is lawful. The rows come by columns; the quick tests decide where they can, the exact ones behind them.
+mod exact;
+mod naming;
+
+use exact::mail_apart;
+use exact::mail_ok;
+use exact::rows_apart;
 use model::Counts;
-use model::Message;
 use model::Session;
 use model::Uid;
+use naming::name_ok;
+use naming::name_seen;
 ghost use mathlib.Core.Path.{_≡_};
 ghost use mathlib.Core.Bool.{true, _&&_};
 ghost use mathlib.Core.List.{List};
-ghost use Prim.Native.Nat.{ℕ, _+_, _*_, _≤_, _<_};
-ghost use lib.ListN.{length, take, drop, getD, replicate};
-ghost use Rattle.model.specs.Lists.{apart, anyb, allb, every};
-ghost use Rattle.model.specs.Memory.{noMailbox};
-ghost use Rattle.model.specs.Lawful.{clash, twin, owned, messageOk, mailboxOk, contentsOk, lawful};
+ghost use Prim.Native.Nat.{ℕ, _*_, _≤_, _<_};
+ghost use lib.ListN.{length, take, replicate};
+ghost use Rattle.model.specs.Lists.{apart, allb, every};
+ghost use Rattle.model.specs.Lawful.{clash, twin, mailboxOk, contentsOk, lawful};
 ghost use Rattle.model.specs.declared.Mailbox.{Mailbox};
 ghost use Rattle.entries.specs.Words.{messages};
-ghost use Rattle.rows.specs.Columns.{Laid, block};
-ghost use Rattle.quick.specs.Passing.{Owners, stateAt, entryOk, tablesOk};
+ghost use Rattle.rows.specs.Columns.{Laid};
+ghost use Rattle.quick.specs.Passing.{Owners, entryOk, tablesOk};
 ghost use Rattle.quick.specs.Distinct.{Low};
-ghost use Rattle.lawful.specs.Fields.{numbersBy, nameBy, rowAt};
-ghost use Rattle.lawful.specs.Neighbours.{placed, misplaced, misplacedUp, Ended};
-ghost use Rattle.lawful.specs.Clashing.{Called, clashAt};
+ghost use Rattle.lawful.specs.Fields.{numbersBy, rowAt};
+ghost use Rattle.lawful.specs.Clashing.{Called};
 ghost use Rattle.lawful.specs.Lent.{Lent, memory, filledBy, sizesBy, viewBy};
 
-// ---- the fields of a mailbox
+// ---- the mailboxes
 
 // The numbers of a row are in their ranges.
 fn numbers_ok(id: u64, attributes: u8, len: u8, validity: u64, next: u64) -> bool
@@ -41,107 +46,6 @@ fn numbers_ok(id: u64, attributes: u8, len: u8, validity: u64, next: u64) -> boo
     }
     len <= 64
 }
-
-// The name of row k is valid and folded, and zeros stand behind it.
-fn name_ok(names: &[u8; 4096], k: usize, len: u8) -> bool
-    requires { ⌜ (k < 64) × (len ≤ 64) ⌝ }
-    ensures { λ r. ⌜ r ≡ nameBy len (block (now (names .entry)) k) ⌝ }
-{
-    let all = &names[..];
-    let from = 64 * k;
-    let stop = from + 64;
-    names::is_kept(&all[from..stop], len as usize)
-}
-
-// ---- a name's octets by neighbours, without a branch: sixteen are tested at once
-
-// a may stand before b: a zero before a zero, an octet of a name before any, but no slash before a slash.
-fn is_placed(a: u8, b: u8) -> bool
-    ensures { λ r. ⌜ r ≡ placed a b ⌝ }
-{
-    let zeros = session::both(a == 0, b == 0);
-    let empty = session::both(a == b'/', b == b'/');
-    let printable = session::both(0x20 <= a, a <= 0x7e);
-    session::either(zeros, session::both(!empty, printable))
-}
-
-// One where a may not stand before b.
-fn misplaced(a: u8, b: u8) -> u8
-    ensures { λ r. ⌜ (r ≡ misplaced a b) × (r ≤ 1) ⌝ }
-{
-    if is_placed(a, b) { 0 } else { 1 }
-}
-
-// How many of the 64 octets from a place on are misplaced.
-fn misplaced_from(octets: &[u8], at: usize) -> u8
-    requires { ⌜ at + 65 ≤ length (now octets) ⌝ }
-    ensures { λ r. ⌜ r ≡ misplacedUp (now (octets .entry)) at 64 ⌝ }
-{
-    let mut sum: u8 = 0;
-    let mut i: usize = 0;
-    while i < 64 {
-        sum += misplaced(octets[at + i], octets[at + i + 1]);
-        i += 1;
-    }
-    sum
-}
-
-// One where a row ends in a zero and the next begins with a name: there a may stand before b.
-fn turn(a: u8, b: u8) -> u8
-    ensures { λ r. ⌜ r ≤ misplaced a b ⌝ }
-{
-    if a == 0 {
-        if b == 0 { 0 } else { 1 }
-    } else {
-        0
-    }
-}
-
-// The name of 1 to 63 octets begins and ends with an octet that is no slash, and a zero follows. It is not as long as INBOX.
-fn ends_ok(octets: &[u8], from: usize, len: u8) -> bool
-    requires { ⌜ from + 64 ≤ length (now octets) ⌝ }
-    ensures { λ r. ⌜ (r ≡ true → Ended (now (octets .entry)) from len) ⌝ }
-{
-    if len < 1 {
-        return false;
-    }
-    if 63 < len {
-        return false;
-    }
-    if len == 5 {
-        return false;
-    }
-    if octets[from] == b'/' {
-        return false;
-    }
-    let end = from + len as usize;
-    let last = octets[end - 1];
-    if last == 0 {
-        return false;
-    }
-    if last == b'/' {
-        return false;
-    }
-    octets[end] == 0
-}
-
-// The name of row k is seen to be in order: no octet is misplaced but where the row before it ends. A no says nothing.
-fn name_seen(names: &[u8; 4096], k: usize, len: u8) -> bool
-    requires { ⌜ k < 64 ⌝ }
-    ensures { λ r. ⌜ (r ≡ true → nameBy len (block (now (names .entry)) k) ≡ true) ⌝ }
-{
-    if k < 1 {
-        return false;
-    }
-    let all = &names[..];
-    let from = 64 * k;
-    if !ends_ok(all, from, len) {
-        return false;
-    }
-    misplaced_from(all, from - 1) == turn(names[from - 1], names[from])
-}
-
-// ---- the mailboxes
 
 // Row k is in order: its name is seen to be, or tested.
 fn row_ok(
@@ -182,186 +86,6 @@ fn rows_ok(
     let mut i: usize = 0;
     while i < n {
         if !row_ok(ids, attributes, lens, validities, nexts, names, i) {
-            return false;
-        }
-        i += 1;
-    }
-    true
-}
-
-// ---- exactly, for tables in any order: ids and names
-
-// Rows j and k share an id or a name.
-fn do_clash(ids: &[u64; 64], lens: &[u8; 64], names: &[u8; 4096], j: usize, k: usize) -> bool
-    requires { ⌜ (j < 64) × (k < 64) ⌝ }
-    ensures { λ r. ⌜ r ≡ clashAt (now (ids .entry)) (now (lens .entry)) (now (names .entry)) j k ⌝ }
-{
-    if ids[j] == ids[k] {
-        return true;
-    }
-    let all = &names[..];
-    let from = 64 * k;
-    let end = rows::name_end(lens, k);
-    rows::has_name(lens, names, j, &all[from..end])
-}
-
-// Row j clashes with one of the rows from a place up to n.
-fn any_clash(
-    ids: &[u64; 64],
-    lens: &[u8; 64],
-    names: &[u8; 4096],
-    n: usize,
-    from: usize,
-    j: usize,
-) -> bool
-    requires { ⌜ (n ≤ 64) × (from ≤ n) × (j < n) ⌝ }
-    ensures { λ r. ⌜ ((l : List Mailbox) → length l ≡ n → Called l (now (ids .entry)) (now (lens .entry)) (now (names .entry)) → r ≡ anyb (clash (getD l j noMailbox)) (drop from l)) ⌝ }
-{
-    let mut i = from;
-    while i < n {
-        if do_clash(ids, lens, names, j, i) {
-            return true;
-        }
-        i += 1;
-    }
-    false
-}
-
-// No two of the first n rows clash.
-fn rows_apart(ids: &[u64; 64], lens: &[u8; 64], names: &[u8; 4096], n: usize) -> bool
-    requires { ⌜ n ≤ 64 ⌝ }
-    ensures { λ r. ⌜ ((l : List Mailbox) → length l ≡ n → Called l (now (ids .entry)) (now (lens .entry)) (now (names .entry)) → r ≡ apart clash l) ⌝ }
-{
-    let mut i: usize = 0;
-    while i < n {
-        if any_clash(ids, lens, names, n, i + 1, i) {
-            return false;
-        }
-        i += 1;
-    }
-    true
-}
-
-// ---- exactly: messages
-
-// Two entries are of one mailbox and have one UID.
-fn are_twins(d: Message, e: Message) -> bool
-    ensures { λ r. ⌜ r ≡ twin d e ⌝ }
-{
-    if d.mailbox == e.mailbox {
-        return d.uid.0 == e.uid.0;
-    }
-    false
-}
-
-// The entry has a twin among those from a place up to n.
-fn any_twin(words: &[u64], n: usize, from: usize, d: Message) -> bool
-    requires { ⌜ (n * 5 ≤ length (now words)) × (from ≤ n) ⌝ }
-    ensures { λ r. ⌜ r ≡ anyb (twin d) (drop from (take n (messages (now (words .entry))))) ⌝ }
-{
-    let mut i = from;
-    while i < n {
-        if are_twins(d, entries::get(words, i)) {
-            return true;
-        }
-        i += 1;
-    }
-    false
-}
-
-// No two of the first n entries are twins.
-fn mail_apart(words: &[u64], n: usize) -> bool
-    requires { ⌜ n * 5 ≤ length (now words) ⌝ }
-    ensures { λ r. ⌜ r ≡ apart twin (take n (messages (now (words .entry)))) ⌝ }
-{
-    let mut i: usize = 0;
-    while i < n {
-        if any_twin(words, n, i + 1, entries::get(words, i)) {
-            return false;
-        }
-        i += 1;
-    }
-    true
-}
-
-// The entry's mailbox is known, and its UID below the mailbox's UIDNEXT.
-fn is_owned(ids: &[u64; 64], nexts: &[u64; 64], n: usize, e: Message) -> bool
-    requires { ⌜ n ≤ 64 ⌝ }
-    ensures { λ r. ⌜ ((l : List Mailbox) → length l ≡ n → Owners l (now (ids .entry)) (now (nexts .entry)) → r ≡ owned l e) ⌝ }
-{
-    let k = rows::find(ids, n, e.mailbox);
-    if n <= k {
-        return false;
-    }
-    e.uid.0 < nexts[k]
-}
-
-// The entry's fields are in their ranges.
-fn message_ok(e: Message) -> bool
-    ensures { λ r. ⌜ r ≡ messageOk e ⌝ }
-{
-    if e.uid.0 < 1 {
-        return false;
-    }
-    if 31 < e.flags {
-        return false;
-    }
-    if 4294967295 < e.size {
-        return false;
-    }
-    e.states <= 2
-}
-
-// An entry that is expunged or marked lies in the view.
-fn state_ok(e: Message, selected: u64, told: Uid) -> bool
-    ensures { λ r. ⌜ r ≡ stateAt selected (told .0) e ⌝ }
-{
-    if e.states == 0 {
-        return true;
-    }
-    if e.mailbox == selected {
-        return e.uid.0 < told.0;
-    }
-    false
-}
-
-// The entry is in order by itself.
-fn entry_ok(
-    ids: &[u64; 64],
-    nexts: &[u64; 64],
-    n: usize,
-    e: Message,
-    selected: u64,
-    told: Uid,
-) -> bool
-    requires { ⌜ n ≤ 64 ⌝ }
-    ensures { λ r. ⌜ ((l : List Mailbox) → length l ≡ n → Owners l (now (ids .entry)) (now (nexts .entry)) → r ≡ entryOk l selected (told .0) e) ⌝ }
-{
-    if !message_ok(e) {
-        return false;
-    }
-    if !is_owned(ids, nexts, n, e) {
-        return false;
-    }
-    state_ok(e, selected, told)
-}
-
-// Every used entry is in order by itself.
-fn mail_ok(
-    ids: &[u64; 64],
-    nexts: &[u64; 64],
-    n: usize,
-    words: &[u64],
-    used: usize,
-    selected: u64,
-    told: Uid,
-) -> bool
-    requires { ⌜ (n ≤ 64) × (used * 5 ≤ length (now words)) ⌝ }
-    ensures { λ r. ⌜ ((l : List Mailbox) → length l ≡ n → Owners l (now (ids .entry)) (now (nexts .entry)) → r ≡ allb (entryOk l selected (told .0)) (take used (messages (now (words .entry))))) ⌝ }
-{
-    let mut i: usize = 0;
-    while i < used {
-        if !entry_ok(ids, nexts, n, entries::get(words, i), selected, told) {
             return false;
         }
         i += 1;

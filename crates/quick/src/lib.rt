@@ -194,7 +194,7 @@ pub fn all_fit(
 // ---- names
 
 // Eight octets as one number, the first the least: one load.
-fn word(octets: &[u8], at: usize) -> u64
+pub fn word(octets: &[u8], at: usize) -> u64
     requires { ⌜ at + 8 ≤ length (now octets) ⌝ }
     ensures { λ r. ⌜ r ≡ word (now (octets .entry)) at ⌝ }
 {

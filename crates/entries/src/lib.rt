@@ -11,6 +11,7 @@ ghost use lib.ListN.{length, take, drop, getD, set, replicate};
 ghost use Rattle.model.specs.Memory.{noMessage, marked, existing, refill, withFlags, withStates};
 ghost use Rattle.model.specs.Events.{message};
 ghost use Rattle.laws.specs.Counting.{countb};
+ghost use Rattle.laws.specs.Shift.{over};
 ghost use Rattle.entries.specs.Words.{messages, stored};
 ghost use Rattle.entries.specs.Laid.{laid};
 ghost use Rattle.entries.specs.Taken.{shut};
@@ -193,18 +194,26 @@ pub fn place_of(words: &[u64], used: usize, mailbox: u64, told: Uid, uid: Uid) -
 }
 
 // ---- an entry taken out
+// n words move down by five places: the ones from the sixth on, to the front.
+fn move_up(words: &mut [u64], n: usize)
+    requires { ⌜ n + 5 ≤ length (now words) ⌝ }
+    ensures { λ _. ⌜ now (words .exit) ≡ over (drop 5 (now (words .entry))) (now (words .entry)) n ⌝ }
+{
+    let mut i = 0;
+    while i < n {
+        words[i] = words[i + 5];
+        i += 1;
+    }
+}
+
 // Entry k leaves: those behind it move up, and the last becomes nothing.
 pub fn remove(words: &mut [u64], used: usize, k: usize)
     requires { ⌜ (k < used) × (used * 5 ≤ length (now words)) ⌝ }
     ensures { λ _. ⌜ now (words .exit) ≡ laid (now (words .entry)) (shut k used (messages (now (words .entry)))) ⌝ }
 {
-    let mut i = k;
-    while i + 1 < used {
-        let e = get(words, i + 1);
-        put(words, i, e);
-        i += 1;
-    }
-    put(words, i, nothing());
+    let last = used - 1;
+    move_up(&mut words[k * 5..], 5 * (last - k));
+    put(words, last, nothing());
 }
 
 // ---- a pass over all

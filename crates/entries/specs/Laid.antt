@@ -3,7 +3,7 @@ use mathlib.Core.Path.{_≡_, refl, ap, ap₂, sym, _∙_}
 use mathlib.Core.List.{List, [], _∷_, _++_}
 use Prim.Native.Nat.{ℕ, zero, suc, _+_, _*_, _<_, _≤_}
 use native.Mathlib.Omega.{arith}
-use lib.ListN.{length, set}
+use lib.ListN.{length, take, drop, set}
 use Rattle.model.specs.declared.Message.{Message}
 use Rattle.entries.specs.Words.{row, messages, at, at-is, stored, messages-stored}
 
@@ -84,6 +84,30 @@ behind-stored ws i m h =
     let e₃ : suc (suc (suc (at i))) ≡ i * 5 + 3 = omega arith in
     let e₄ : suc (suc (suc (suc (at i)))) ≡ i * 5 + 4 = omega arith in
     rw (← e₄, ← e₃, ← e₂, ← e₁, ← e) (behind-set i ws (m .mailbox) (m .uid .0) (m .flags) (m .size) (m .states) (omega arith))
+
+-- ---- the first n entries' words, and the words behind them
+pub flat-append : (ds es : List Message) (ws : List ℕ) → flat ds ++ (flat es ++ ws) ≡ flat (ds ++ es) ++ ws
+unfolding flat
+flat-append [] es ws = refl
+flat-append (d ∷ ds) es ws = ap (λ (l : List ℕ). d .mailbox ∷ d .uid .0 ∷ d .flags ∷ d .size ∷ d .states ∷ l) (flat-append ds es ws)
+
+front : (n : ℕ) (es : List Message) (ws : List ℕ) → n ≤ length es → take (at n) (flat es ++ ws) ≡ flat (take n es)
+unfolding flat
+front zero es ws h = refl
+front (suc n) [] ws h = absurd (omega arith)
+front (suc n) (e ∷ es) ws h = ap (λ (l : List ℕ). e .mailbox ∷ e .uid .0 ∷ e .flags ∷ e .size ∷ e .states ∷ l) (front n es ws (omega arith))
+
+rest : (n : ℕ) (es : List Message) (ws : List ℕ) → n ≤ length es → drop (at n) (flat es ++ ws) ≡ flat (drop n es) ++ ws
+unfolding flat
+rest zero es ws h = refl
+rest (suc n) [] ws h = absurd (omega arith)
+rest (suc n) (e ∷ es) ws h = rest n es ws (omega arith)
+
+pub flat-take : (n : ℕ) (es : List Message) (ws : List ℕ) → n ≤ length es → take (n * 5) (flat es ++ ws) ≡ flat (take n es)
+flat-take n es ws h = rw (← at-is n) (front n es ws h)
+
+pub flat-drop : (n : ℕ) (es : List Message) (ws : List ℕ) → n ≤ length es → drop (n * 5) (flat es ++ ws) ≡ flat (drop n es) ++ ws
+flat-drop n es ws h = rw (← at-is n) (rest n es ws h)
 
 -- ---- what code cites
 -- nothing was changed

@@ -94,10 +94,6 @@ kept-idle (Told id gone shown) l h = same l
 kept-idle (Deleted id) l h = tf false h refl
 
 module _ (sweep : Sweep) where
-  pub kept-none : kept sweep [] ≡ []
-  unfolding kept
-  kept-none = refl
-
   kept-snoc : (l : List Message) (e : Message) → kept sweep (l ++ (e ∷ [])) ≡ kept sweep l ++ kept sweep (e ∷ [])
   unfolding kept
   kept-snoc l e = ap (map (calm sweep)) (filter-append (λ (x : Message). not (goes sweep x)) l (e ∷ [])) ∙ map-append (calm sweep) (filterb (λ (x : Message). not (goes sweep x)) l) (filterb (λ (x : Message). not (goes sweep x)) (e ∷ []))

@@ -1,15 +1,15 @@
 -- An entry taken out: those behind it move up, and the freed one holds zeros. Assumes nothing.
-use mathlib.Core.Path.{_≡_, refl, ap, sym, _∙_}
-use mathlib.Core.List.{List, [], _∷_, _++_}
+use mathlib.Core.Path.{_≡_, refl, ap, ap₂, sym, _∙_}
+use mathlib.Core.List.{List, [], _∷_, _++_, append-assoc, append-nil}
 use Prim.Native.Nat.{ℕ, suc, _+_, _*_, _-_, _<_, _≤_}
 use native.Mathlib.Omega.{arith}
-use lib.ListN.{length, take, drop, getD, set}
-use lib.Seq.{length-take-le, drop-cons, set-at}
+use lib.ListN.{length, take, drop, getD, set, length-drop, drop-of-length-le}
+use lib.Seq.{length-take-le, take-all, drop-cons, set-at, getD-drop, drop-drop, take-append-add}
 use Rattle.model.specs.Memory.{noMessage}
 use Rattle.model.specs.declared.Message.{Message}
-use Rattle.laws.specs.Shift.{without, over, length-without, over-start, shift-step}
-use Rattle.entries.specs.Words.{messages, stored}
-use Rattle.entries.specs.Laid.{laid, laid-own, laid-entries, laid-put}
+use Rattle.laws.specs.Shift.{without, over, over-read, over-step, length-without}
+use Rattle.entries.specs.Words.{messages, messages-length, stored}
+use Rattle.entries.specs.Laid.{flat, behind, laid, laid-own, laid-put, flat-append, flat-take, flat-drop}
 
 -- entry k of the first n taken out, and the freed one zeros
 abbrev pub shut : ℕ → ℕ → List Message → List Message
@@ -28,20 +28,76 @@ shift-end k n j l h w e =
     ∙ (set-at (take j (without k l)) (getD l j noMessage) (drop (suc j) l) noMessage j (length-take-le j (without k l) hw)
     ∙ rw (a, ← b))
 
--- ---- the loop, on words: vs before it, ws now, j entries stand as they will
-module _ (k : ℕ) (vs : List ℕ) where
-  abbrev pub closing : ℕ → List Message
-  closing j = over (without k (messages vs)) (messages vs) j
+-- ---- words that move down by five places
+pub down-start : (l : List ℕ) → l ≡ over (drop 5 l) l 0
+unfolding over
+down-start l = refl
 
-  pub closing-start : k ≤ length (messages vs) → vs ≡ laid vs (closing k)
-  closing-start h = laid-own vs ∙ ap (laid vs) (over-start k (messages vs) h)
+pub down-next : (l : List ℕ) (i : ℕ) → i + 5 < length l → set (over (drop 5 l) l i) i (getD (over (drop 5 l) l i) (i + 5) 0) ≡ over (drop 5 l) l (i + 1)
+down-next l i h =
+    let d = length-drop 5 l in
+    let e : i + 5 ≡ 5 + i = omega arith in
+    let r : getD (over (drop 5 l) l i) (i + 5) 0 ≡ getD (drop 5 l) i 0 = over-read (drop 5 l) l i 5 0 (omega arith) ∙ (ap (λ (n : ℕ). getD l n 0) e ∙ sym (getD-drop 5 l i 0)) in
+    ap (set (over (drop 5 l) l i) i) r ∙ over-step (drop 5 l) l i 0 (omega arith) (omega arith)
 
-  pub closing-next : (ws : List ℕ) (j : ℕ) (e : Message) → ws ≡ laid vs (closing j) → e ≡ getD (messages ws) (j + 1) noMessage → k ≤ j → j + 1 < length (messages vs) → (j + 1) * 5 ≤ length ws
-      → stored ws j e ≡ laid vs (closing (j + 1))
-  closing-next ws j e p q h w b =
-      laid-put vs ws (closing j) j e p b
-      ∙ ap (laid vs) (ap (set (closing j) j) (q ∙ ap (λ (l : List Message). getD l (j + 1) noMessage) (laid-entries vs ws (closing j) p)) ∙ shift-step k (messages vs) j noMessage h w)
+-- they are entries that move up by one
+down-entries : (es : List Message) (ws : List ℕ) (n : ℕ) → n < length es → over (drop 5 (flat es ++ ws)) (flat es ++ ws) (5 * n) ≡ flat (over (drop 1 es) es n) ++ ws
+unfolding over
+down-entries es ws n h =
+    let d = length-drop 1 es in
+    let e : 5 * n ≡ n * 5 = omega arith in
+    rw e
+    (ap₂ (λ (a b : List ℕ). a ++ b)
+    (ap (take (n * 5)) (flat-drop 1 es ws (omega arith)) ∙ flat-take n (drop 1 es) ws (omega arith))
+    (flat-drop n es ws (omega arith))
+    ∙ flat-append (take n (drop 1 es)) (drop n es) ws)
 
-  pub closing-end : (n : ℕ) (ws : List ℕ) (j : ℕ) (e : Message) → ws ≡ laid vs (closing j) → e ≡ noMessage → k < n → n ≤ length (messages vs) → j + 1 ≡ n → (j + 1) * 5 ≤ length ws
-      → stored ws j e ≡ laid vs (shut k n (messages vs))
-  closing-end n ws j e p q h w z b = laid-put vs ws (closing j) j e p b ∙ ap (laid vs) (ap (set (closing j) j) q ∙ shift-end k n j (messages vs) h w z)
+-- from entry k on
+from-entry : (k n : ℕ) (l : List Message) → k ≤ length l → take k l ++ over (drop 1 (drop k l)) (drop k l) n ≡ over (without k l) l (k + n)
+unfolding over
+from-entry k n l h =
+    let t = length-take-le k l h in
+    let s : k + 1 ≡ suc k = omega arith in
+    let a : take (k + n) (without k l) ≡ take k l ++ take n (drop (suc k) l) = ap (λ (i : ℕ). take (i + n) (without k l)) (sym t) ∙ take-append-add (take k l) (drop (suc k) l) n in
+    ap₂ (λ (x y : List Message). take k l ++ (take n x ++ y)) (drop-drop 1 k l ∙ ap (λ (i : ℕ). drop i l) s) (drop-drop n k l)
+    ∙ (sym (append-assoc (take k l) (take n (drop (suc k) l)) (drop (k + n) l))
+    ∙ ap (λ (x : List Message). x ++ drop (k + n) l) (sym a))
+
+-- ---- what is lent from place p on is all the rest
+rest-lent : (p : ℕ) (l : List ℕ) → take (length l - p) (drop p l) ≡ drop p l
+rest-lent p l = let d = length-drop p l in take-all (length l - p) (drop p l) (omega arith)
+
+none-behind : (p : ℕ) (l : List ℕ) → drop (length l - p) (drop p l) ≡ []
+none-behind p l = let d = length-drop p l in drop-of-length-le (drop p l) {i = length l - p} (omega arith)
+
+-- ---- the code: vs before it, rest the words lent from entry k on, and then the last entry put
+module _ (k used : ℕ) (vs rest : List ℕ) where
+  abbrev part : List ℕ
+  part = take (length vs - k * 5) (drop (k * 5) vs)
+
+  abbrev joined : List ℕ
+  joined = take (k * 5) vs ++ (rest ++ drop (length vs - k * 5) (drop (k * 5) vs))
+
+  moved : k < used → used ≤ length (messages vs) → rest ≡ over (drop 5 part) part (5 * (used - 1 - k)) → joined ≡ laid vs (over (without k (messages vs)) (messages vs) (used - 1))
+  unfolding laid
+  moved h w e =
+      let es = messages vs in
+      let n : ℕ = used - 1 - k in
+      let own : vs ≡ flat es ++ behind vs = laid-own vs in
+      let d = length-drop k es in
+      let front : take (k * 5) vs ≡ flat (take k es) = ap (take (k * 5)) own ∙ flat-take k es (behind vs) (omega arith) in
+      let back : drop (k * 5) vs ≡ flat (drop k es) ++ behind vs = ap (drop (k * 5)) own ∙ flat-drop k es (behind vs) (omega arith) in
+      let m : rest ≡ flat (over (drop 1 (drop k es)) (drop k es) n) ++ behind vs = e ∙ (ap (λ (l : List ℕ). over (drop 5 l) l (5 * n)) (rest-lent (k * 5) vs ∙ back) ∙ down-entries (drop k es) (behind vs) n (omega arith)) in
+      let z : k + n ≡ used - 1 = omega arith in
+      ap (λ (l : List ℕ). take (k * 5) vs ++ (rest ++ l)) (none-behind (k * 5) vs)
+      ∙ (ap₂ (λ (a b : List ℕ). a ++ b) front (append-nil rest ∙ m)
+      ∙ (flat-append (take k es) (over (drop 1 (drop k es)) (drop k es) n) (behind vs)
+      ∙ ap (λ (l : List Message). flat l ++ behind vs) (from-entry k n es (omega arith) ∙ ap (over (without k es) es) z)))
+
+  pub taken : (e : Message) → k < used → used * 5 ≤ length vs → rest ≡ over (drop 5 part) part (5 * (used - 1 - k)) → e ≡ noMessage → (used - 1 + 1) * 5 ≤ length joined
+      → stored joined (used - 1) e ≡ laid vs (shut k used (messages vs))
+  taken e h w p q b =
+      let es = messages vs in
+      let n = messages-length used vs w in
+      laid-put vs joined (over (without k es) es (used - 1)) (used - 1) e (moved h n p) b
+      ∙ ap (laid vs) (ap (set (over (without k es) es (used - 1)) (used - 1)) q ∙ shift-end k used (used - 1) es h n (omega arith))

@@ -4,7 +4,7 @@ use mathlib.Core.List.{List, [], _∷_}
 use Prim.Native.Nat.{ℕ, zero, suc, _+_, _*_, _/_, _<_, _≤_}
 use native.Mathlib.Nat.{not-suc-le-zero}
 use native.Mathlib.Omega.{arith}
-use lib.ListN.{length, take, getD, set, length-set}
+use lib.ListN.{length, take, getD, set}
 use Rattle.model.specs.declared.Message.{Message}
 use Rattle.model.specs.Memory.{noMessage}
 
@@ -90,10 +90,6 @@ messages-stored ws i m =
     let e₃ : suc (suc (suc (at i))) ≡ i * 5 + 3 = omega arith in
     let e₄ : suc (suc (suc (suc (at i)))) ≡ i * 5 + 4 = omega arith in
     rw (← e₄, ← e₃, ← e₂, ← e₁, ← e) (put i ws (m .mailbox) (m .uid .0) (m .flags) (m .size) (m .states))
-
--- as many words as before
-pub length-stored : (ws : List ℕ) (i : ℕ) (m : Message) → length (stored ws i m) ≡ length ws
-length-stored ws i m = simp length-set
 
 -- how many whole entries there are
 pub messages-count : (ws : List ℕ) → length (messages ws) ≡ length ws / 5

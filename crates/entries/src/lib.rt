@@ -1,22 +1,26 @@
 // The message table: a lent slice of words, five to an entry. Entries are read, put, found, counted, taken out and swept.
+mod sweeping;
+
 use model::Message;
 use model::MessageNumber;
 use model::Uid;
+use sweeping::compact;
+use sweeping::is_idle;
+use sweeping::wipe;
 ghost use mathlib.Core.Path.{_≡_};
-ghost use mathlib.Core.Bool.{cond, _&&_};
-ghost use mathlib.Core.List.{_++_};
-ghost use Prim.Native.Nat.{_+_, _*_, _-_, _≤_, _<_};
-ghost use lib.Dec.{eqb, ltb};
-ghost use lib.ListN.{length, take, drop, getD, set, replicate};
-ghost use Rattle.model.specs.Memory.{noMessage, marked, existing, refill, withFlags, withStates};
+ghost use mathlib.Core.Bool.{cond};
+ghost use Prim.Native.Nat.{_+_, _*_, _≤_, _<_};
+ghost use lib.ListN.{length, take, drop, getD};
+ghost use Rattle.model.specs.Memory.{noMessage, existing, refill, withFlags, withStates};
 ghost use Rattle.model.specs.Events.{message};
 ghost use Rattle.laws.specs.Counting.{countb};
+ghost use Rattle.laws.specs.Shift.{over};
 ghost use Rattle.entries.specs.Words.{messages, stored};
 ghost use Rattle.entries.specs.Laid.{laid};
 ghost use Rattle.entries.specs.Taken.{shut};
 ghost use Rattle.entries.specs.Found.{stands, first};
 ghost use Rattle.entries.specs.Counted.{lives, before};
-ghost use Rattle.entries.specs.Swept.{goes, calm, idle, kept, Moves};
+ghost use Rattle.entries.specs.Swept.{kept};
 
 // ---- one entry
 // Entry i.
@@ -193,18 +197,26 @@ pub fn place_of(words: &[u64], used: usize, mailbox: u64, told: Uid, uid: Uid) -
 }
 
 // ---- an entry taken out
+// n words move down by five places: the ones from the sixth on, to the front.
+fn move_up(words: &mut [u64], n: usize)
+    requires { ⌜ n + 5 ≤ length (now words) ⌝ }
+    ensures { λ _. ⌜ now (words .exit) ≡ over (drop 5 (now (words .entry))) (now (words .entry)) n ⌝ }
+{
+    let mut i = 0;
+    while i < n {
+        words[i] = words[i + 5];
+        i += 1;
+    }
+}
+
 // Entry k leaves: those behind it move up, and the last becomes nothing.
 pub fn remove(words: &mut [u64], used: usize, k: usize)
     requires { ⌜ (k < used) × (used * 5 ≤ length (now words)) ⌝ }
     ensures { λ _. ⌜ now (words .exit) ≡ laid (now (words .entry)) (shut k used (messages (now (words .entry)))) ⌝ }
 {
-    let mut i = k;
-    while i + 1 < used {
-        let e = get(words, i + 1);
-        put(words, i, e);
-        i += 1;
-    }
-    put(words, i, nothing());
+    let last = used - 1;
+    move_up(&mut words[k * 5..], 5 * (last - k));
+    put(words, last, nothing());
 }
 
 // ---- a pass over all
@@ -214,112 +226,6 @@ pub enum Sweep {
     Rested,
     Told(u64, Uid, Uid),
     Deleted(u64),
-}
-
-fn both(a: bool, b: bool) -> bool
-    ensures { λ r. ⌜ r ≡ (a && b) ⌝ }
-{
-    if a {
-        return b;
-    }
-    false
-}
-
-// Whether it is of the mailbox and below a UID.
-fn is_below(e: Message, mailbox: u64, bound: Uid) -> bool
-    ensures { λ r. ⌜ r ≡ (eqb (e .mailbox) mailbox && ltb (e .uid .0) (bound .0)) ⌝ }
-{
-    both(e.mailbox == mailbox, e.uid.0 < bound.0)
-}
-
-// Whether an entry goes.
-fn is_gone(e: Message, sweep: Sweep) -> bool
-    ensures { λ r. ⌜ r ≡ goes sweep e ⌝ }
-{
-    match sweep {
-        Sweep::Rested => e.states % 2 == 1,
-        Sweep::Told(mailbox, gone, _) => {
-            let low = is_below(e, mailbox, gone);
-            both(e.states % 2 == 1, low)
-        }
-        Sweep::Deleted(mailbox) => e.mailbox == mailbox,
-    }
-}
-
-// An entry whose FETCH was written waits no more.
-fn shown_one(e: Message, mailbox: u64, shown: Uid) -> Message
-    ensures { λ r. ⌜ r ≡ cond (marked e && (eqb (e .mailbox) mailbox && ltb (e .uid .0) (shown .0))) (withStates e 0) e ⌝ }
-{
-    let low = is_below(e, mailbox, shown);
-    if both(e.states / 2 % 2 == 1, low) {
-        return changed(e, e.flags, 0);
-    }
-    e
-}
-
-// What an entry that stays becomes.
-fn calmed(e: Message, sweep: Sweep) -> Message
-    ensures { λ r. ⌜ r ≡ calm sweep e ⌝ }
-{
-    match sweep {
-        Sweep::Rested => changed(e, e.flags, 0),
-        Sweep::Told(mailbox, _, shown) => shown_one(e, mailbox, shown),
-        Sweep::Deleted(_) => e,
-    }
-}
-
-// Entry i goes, or moves up to o; one that stays as it is where it is is not written.
-fn move_one(words: &mut [u64], i: usize, o: usize, sweep: Sweep) -> usize
-    requires { ⌜ (o ≤ i) × ((i + 1) * 5 ≤ length (now words)) ⌝ }
-    ensures { λ r. ⌜ Moves sweep (now (words .entry)) i o (now (words .exit)) r ⌝ }
-{
-    let e = get(words, i);
-    if is_gone(e, sweep) {
-        return o;
-    }
-    let c = calmed(e, sweep);
-    if both(o == i, c.states == e.states) {
-        return o + 1;
-    }
-    put(words, o, c);
-    o + 1
-}
-
-// Those that stay move up.
-fn compact(words: &mut [u64], used: usize, sweep: Sweep) -> usize
-    requires { ⌜ used * 5 ≤ length (now words) ⌝ }
-    ensures { λ r. ⌜ (now (words .exit) ≡ laid (now (words .entry)) (kept sweep (take used (messages (now (words .entry)))) ++ drop r (messages (now (words .entry))))) × (r ≡ length (kept sweep (take used (messages (now (words .entry)))))) × (r ≤ used) ⌝ }
-{
-    let mut o = 0;
-    let mut i = 0;
-    while i < used {
-        o = move_one(words, i, o, sweep);
-        i += 1;
-    }
-    o
-}
-
-// Whether no line was told: nothing goes, and nothing changes.
-fn is_idle(sweep: Sweep) -> bool
-    ensures { λ r. ⌜ r ≡ idle sweep ⌝ }
-{
-    match sweep {
-        Sweep::Rested => false,
-        Sweep::Told(_, gone, shown) => both(gone.0 == 0, shown.0 == 0),
-        Sweep::Deleted(_) => false,
-    }
-}
-
-// Entries become nothing.
-fn wipe(words: &mut [u64], from: usize, upto: usize)
-    requires { ⌜ (from ≤ upto) × (upto * 5 ≤ length (now words)) ⌝ }
-    ensures { λ _. ⌜ now (words .exit) ≡ laid (now (words .entry)) (take from (messages (now (words .entry))) ++ (replicate (upto - from) noMessage ++ drop upto (messages (now (words .entry))))) ⌝ }
-{
-    let mut j = from;
-    while j < upto {
-        put(words, j, nothing());
-        j += 1;
-    }
 }
 
 // One pass: what goes is dropped, what stays moves up and is changed, what was freed is nothing. Answers how many stay.

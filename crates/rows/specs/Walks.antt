@@ -3,12 +3,12 @@
 use mathlib.Core.Path.{_≡_, refl, ap, sym, _∙_}
 use mathlib.Core.Bool.{Bool, true, false, not, cond, _&&_, _||_}
 use mathlib.Core.List.{List, [], _∷_, map}
-use Prim.Native.Nat.{ℕ, zero, suc, _+_, _-_, _<_, _≤_}
+use Prim.Native.Nat.{ℕ, zero, suc, _+_, _<_, _≤_}
 use native.Mathlib.Numerals.{add-one}
 use native.Mathlib.Omega.{arith}
 use lib.Dec.{eqb, leb}
-use lib.ListN.{length, take, drop, getD, length-map, length-drop, drop-of-length-le}
-use lib.Seq.{drop-cons, getD-take, length-take-le, take-all}
+use lib.ListN.{length, take, drop, getD, length-map, drop-of-length-le}
+use lib.Seq.{drop-cons, getD-take, length-take-le}
 use borrow.Author.Tests.{eq-eqb, ne-eqb, lt-ltb, le-ltb, le-leb}
 use Rattle.model.specs.Lists.{anyb, allb, apart, every}
 use Rattle.model.specs.Memory.{place, noMailbox, known, theMailbox}
@@ -144,7 +144,3 @@ module _ (a b c : Bool) where
 
 pub ok-last : (u f z s : ℕ) → 1 ≤ u → f ≤ 31 → z ≤ 4294967295 → leb s 2 ≡ every (leb 1 u ∷ leb f 31 ∷ leb z 4294967295 ∷ leb s 2 ∷ [])
 ok-last u f z s a b c = rw (le-leb 1 u a, le-leb f 31 b, le-leb z 4294967295 c) (and-true (leb s 2))
-
--- the rest of an array as code takes it
-pub rest-all : (l : List ℕ) (n k : ℕ) → length l ≡ k → n ≤ k → take (k - n) (drop n l) ≡ drop n l
-rest-all l n k e h = take-all (k - n) (drop n l) (let z = length-drop n l in omega arith)

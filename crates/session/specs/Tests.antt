@@ -8,7 +8,7 @@ use native.Mathlib.Omega.{arith}
 use lib.Dec.{eqb, leb, ltb}
 use lib.ListN.{length, take, drop, getD, drop-of-length-le}
 use lib.Seq.{drop-cons}
-use borrow.Author.Tests.{eq-eqb, ne-eqb, eqb-true, eqb-false, le-leb, lt-leb}
+use borrow.Author.Tests.{eq-eqb, ne-eqb, eqb-true, eqb-false, ltb-true, ltb-false, le-leb, lt-leb}
 use Rattle.model.specs.Laws.{tf, and-l, and-r, and-true, and-false, all-hold}
 use Rattle.model.specs.Lists.{anyb, allb, apart, every, same}
 use Rattle.model.specs.Text.{bit, one}
@@ -145,6 +145,41 @@ module _ {A : Type 0} (p : A → Bool) (l : List A) (i : ℕ) where
 
   pub rest-past : length l ≤ i → allb p (drop i l) ≡ true
   rest-past h = rw (drop-of-length-le l {i = i} h)
+
+-- ---- one test of the first n, and another of those behind: as one walk, passed up to i
+module _ {A : Type 0} (p q : A → Bool) where
+  abbrev pub split : ℕ → List A → Bool
+  split n l = allb p (take n l) && allb q (drop n l)
+
+  module _ (l : List A) (n i : ℕ) where
+    turn : (d : A) → i < length l → split (n - i) (drop i l) ≡ (cond (ltb i n) (p (getD l i d)) (q (getD l i d)) && split (n - (i + 1)) (drop (i + 1) l))
+    turn d h = rw (add-one i, drop-cons l i d h) (go (ltb i n) refl)
+      where
+        x : A
+        x = getD l i d
+
+        t : List A
+        t = drop (suc i) l
+
+        go : (b : Bool) → ltb i n ≡ b → split (n - i) (x ∷ t) ≡ (cond b (p x) (q x) && split (n - suc i) t)
+        go true e =
+            let z = ltb-true i n e in
+            let k : n - i ≡ suc (n - suc i) = omega arith in
+            rw k (and-assoc (p x) (allb p (take (n - suc i) t)) (allb q (drop (n - suc i) t)))
+        go false e =
+            let z = ltb-false i n e in
+            let k : n - i ≡ 0 = omega arith in
+            let k′ : n - suc i ≡ 0 = omega arith in
+            rw (k, k′)
+
+    pub split-next : (d : A) → i < length l → cond (ltb i n) (p (getD l i d)) (q (getD l i d)) ≡ true → split (n - i) (drop i l) ≡ split (n - (i + 1)) (drop (i + 1) l)
+    split-next d h e = turn d h ∙ rw e
+
+    pub split-here : (d : A) → i < length l → cond (ltb i n) (p (getD l i d)) (q (getD l i d)) ≡ false → split (n - i) (drop i l) ≡ false
+    split-here d h e = turn d h ∙ rw e
+
+    pub split-past : length l ≤ i → n ≤ i → split (n - i) (drop i l) ≡ true
+    split-past h k = let z : n - i ≡ 0 = omega arith in rw (drop-of-length-le l {i = i} h, z)
 
 -- zeros by how many octets are none
 module _ (l : List ℕ) (i s : ℕ) where

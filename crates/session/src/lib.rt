@@ -240,22 +240,25 @@ fn blank_name(x: LentName) -> bool
     both(x.len == 0, filled(&octets) == 0)
 }
 
+// A name that is used is in order, and one that is not is zero.
+fn name_fits(x: LentName, used: bool) -> bool
+    ensures { λ r. ⌜ r ≡ cond used (lentNameOk x) (blankName x) ⌝ }
+{
+    if used {
+        return lent_name_ok(x);
+    }
+    blank_name(x)
+}
+
 // The first names, those in use, are in order, and the others are zero. One function for both: each that takes the names copies them.
 fn names_fit(names: [LentName; 16], used: usize) -> bool
     requires { ⌜ used ≤ 16 ⌝ }
     ensures { λ r. ⌜ r ≡ (allb lentNameOk (take used names) && allb blankName (drop used names)) ⌝ }
 {
     let mut i: usize = 0;
-    while i < used {
-        let x = names[i];
-        if !lent_name_ok(x) {
-            return false;
-        }
-        i += 1;
-    }
     while i < 16 {
         let x = names[i];
-        if !blank_name(x) {
+        if !name_fits(x, i < used) {
             return false;
         }
         i += 1;

@@ -1,7 +1,7 @@
 -- `move_one`: an entry goes, or stands where it is as it is, or is put where it moves to. Assumes nothing.
 use borrow.Author.Needs.{needs}
-use Rattle.entries.proofs.move_one.Statement.{statement}
-use Rattle.entries.proofs.move_one.Tie as tie
+use Rattle.entries.proofs.sweeping.move_one.Statement.{statement}
+use Rattle.entries.proofs.sweeping.move_one.Tie as tie
 use mathlib.Core.Path.{sym, _∙_}
 use native.Mathlib.Omega.{arith}
 use lib.Dec.{eqb}

@@ -1,10 +1,10 @@
 use borrow.Author.Needs.{needs}
-use Rattle.entries.proofs.calmed.Statement.{statement}
-use Rattle.entries.proofs.calmed.Tie as tie
-use Rattle.entries.proofs.calmed.Reads as reads
-use Rattle.entries.proofs.calmed.Lts as lts
+use Rattle.entries.proofs.sweeping.calmed.Statement.{statement}
+use Rattle.entries.proofs.sweeping.calmed.Tie as tie
+use Rattle.entries.proofs.sweeping.calmed.Reads as reads
+use Rattle.entries.proofs.sweeping.calmed.Lts as lts
 use Rattle.entries.proofs.changed.Reads as changed-reads
-use Rattle.entries.proofs.shown_one.Reads as shown-one-reads
+use Rattle.entries.proofs.sweeping.shown_one.Reads as shown-one-reads
 use mathlib.Core.Path.{_≡_, refl, sym, _∙_, ap}
 use mathlib.Core.Bool.{Bool}
 use Rattle.model.specs.declared.Message.{Message}

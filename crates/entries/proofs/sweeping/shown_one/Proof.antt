@@ -1,11 +1,11 @@
 use borrow.Author.Needs.{needs}
-use Rattle.entries.proofs.shown_one.Statement.{statement}
-use Rattle.entries.proofs.shown_one.Tie as tie
-use Rattle.entries.proofs.shown_one.Reads as reads
-use Rattle.entries.proofs.shown_one.Lts as lts
-use Rattle.entries.proofs.both.Reads as both-reads
+use Rattle.entries.proofs.sweeping.shown_one.Statement.{statement}
+use Rattle.entries.proofs.sweeping.shown_one.Tie as tie
+use Rattle.entries.proofs.sweeping.shown_one.Reads as reads
+use Rattle.entries.proofs.sweeping.shown_one.Lts as lts
+use Rattle.entries.proofs.sweeping.both.Reads as both-reads
 use Rattle.entries.proofs.changed.Reads as changed-reads
-use Rattle.entries.proofs.is_below.Reads as is-below-reads
+use Rattle.entries.proofs.sweeping.is_below.Reads as is-below-reads
 use mathlib.Core.Path.{_≡_, refl, sym, _∙_, ap}
 use mathlib.Core.Bool.{Bool, true, false, cond, _&&_}
 use Rattle.model.specs.Memory.{marked, withStates}

@@ -1,10 +1,10 @@
 use borrow.Author.Needs.{needs}
-use Rattle.entries.proofs.is_gone.Statement.{statement}
-use Rattle.entries.proofs.is_gone.Tie as tie
-use Rattle.entries.proofs.is_gone.Reads as reads
-use Rattle.entries.proofs.is_gone.Lts as lts
-use Rattle.entries.proofs.both.Reads as both-reads
-use Rattle.entries.proofs.is_below.Reads as is-below-reads
+use Rattle.entries.proofs.sweeping.is_gone.Statement.{statement}
+use Rattle.entries.proofs.sweeping.is_gone.Tie as tie
+use Rattle.entries.proofs.sweeping.is_gone.Reads as reads
+use Rattle.entries.proofs.sweeping.is_gone.Lts as lts
+use Rattle.entries.proofs.sweeping.both.Reads as both-reads
+use Rattle.entries.proofs.sweeping.is_below.Reads as is-below-reads
 use mathlib.Core.Path.{_≡_, refl, sym, _∙_, ap}
 use mathlib.Core.Bool.{Bool, _&&_}
 use Rattle.model.specs.Memory.{expunged}

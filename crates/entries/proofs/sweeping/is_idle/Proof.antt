@@ -2,8 +2,8 @@
 use borrow.Author.Needs.{needs}
 use mathlib.Core.Path.{sym, _∙_, ap}
 use Rattle.entries.specs.Swept.{idle}
-use Rattle.entries.proofs.is_idle.Statement.{statement}
-use Rattle.entries.proofs.is_idle.Tie as tie
+use Rattle.entries.proofs.sweeping.is_idle.Statement.{statement}
+use Rattle.entries.proofs.sweeping.is_idle.Tie as tie
 
 enum-told : tie.Need-enum-told
 enum-told c = search needs

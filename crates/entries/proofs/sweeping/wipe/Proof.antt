@@ -1,7 +1,7 @@
-use Rattle.entries.proofs.wipe.Statement.{statement}
-use Rattle.entries.proofs.wipe.Tie as tie
-use Rattle.entries.proofs.wipe.Reads as reads
-use Rattle.entries.proofs.wipe.Lts as lts
+use Rattle.entries.proofs.sweeping.wipe.Statement.{statement}
+use Rattle.entries.proofs.sweeping.wipe.Tie as tie
+use Rattle.entries.proofs.sweeping.wipe.Reads as reads
+use Rattle.entries.proofs.sweeping.wipe.Lts as lts
 use Rattle.entries.proofs.nothing.Reads as nothing-reads
 use Rattle.entries.proofs.put.Reads as put-reads
 use mathlib.Core.Path.{_≡_, refl, sym, _∙_, ap}

@@ -1,8 +1,8 @@
-use Rattle.entries.proofs.compact.Statement.{statement}
-use Rattle.entries.proofs.compact.Tie as tie
-use Rattle.entries.proofs.compact.Reads as reads
-use Rattle.entries.proofs.compact.Lts as lts
-use Rattle.entries.proofs.move_one.Reads as move-one-reads
+use Rattle.entries.proofs.sweeping.compact.Statement.{statement}
+use Rattle.entries.proofs.sweeping.compact.Tie as tie
+use Rattle.entries.proofs.sweeping.compact.Reads as reads
+use Rattle.entries.proofs.sweeping.compact.Lts as lts
+use Rattle.entries.proofs.sweeping.move_one.Reads as move-one-reads
 use mathlib.Core.Path.{_≡_, refl, sym, _∙_, ap}
 use mathlib.Core.List.{List, _++_}
 use Prim.Native.Nat.{_≤_, _-_, _<_, _+_}

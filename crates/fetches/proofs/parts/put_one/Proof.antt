@@ -1,11 +1,11 @@
 use borrow.Author.Needs.{needs}
-use Rattle.fetches.proofs.put_one.Statement.{statement}
-use Rattle.fetches.proofs.put_one.Tie as tie
-use Rattle.fetches.proofs.put_one.Reads as reads
-use Rattle.fetches.proofs.put_one.Lts as lts
-use Rattle.fetches.proofs.put_fresh.Reads as put-fresh-reads
-use Rattle.fetches.proofs.put_gone.Reads as put-gone-reads
-use Rattle.fetches.proofs.put_marked.Reads as put-marked-reads
+use Rattle.fetches.proofs.parts.put_one.Statement.{statement}
+use Rattle.fetches.proofs.parts.put_one.Tie as tie
+use Rattle.fetches.proofs.parts.put_one.Reads as reads
+use Rattle.fetches.proofs.parts.put_one.Lts as lts
+use Rattle.fetches.proofs.parts.put_fresh.Reads as put-fresh-reads
+use Rattle.fetches.proofs.parts.put_gone.Reads as put-gone-reads
+use Rattle.fetches.proofs.parts.put_marked.Reads as put-marked-reads
 use mathlib.Core.Path.{_≡_, refl, sym, _∙_, ap}
 use mathlib.Core.Bool.{Bool, true, false, cond, _&&_, _||_}
 use mathlib.Core.List.{List, [], _∷_, _++_}

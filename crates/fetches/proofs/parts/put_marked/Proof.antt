@@ -1,8 +1,8 @@
 use borrow.Author.Needs.{needs}
-use Rattle.fetches.proofs.put_marked.Statement.{statement}
-use Rattle.fetches.proofs.put_marked.Tie as tie
-use Rattle.fetches.proofs.put_marked.Reads as reads
-use Rattle.fetches.proofs.put_marked.Lts as lts
+use Rattle.fetches.proofs.parts.put_marked.Statement.{statement}
+use Rattle.fetches.proofs.parts.put_marked.Tie as tie
+use Rattle.fetches.proofs.parts.put_marked.Reads as reads
+use Rattle.fetches.proofs.parts.put_marked.Lts as lts
 use Rattle.fetches.proofs.put_fetch.Reads as put-fetch-reads
 use mathlib.Core.Path.{_≡_, refl, sym, _∙_, ap}
 use mathlib.Core.Bool.{Bool, true, false, cond, _&&_, _||_}

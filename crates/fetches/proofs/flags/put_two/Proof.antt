@@ -1,10 +1,10 @@
 use borrow.Author.Needs.{needs}
-use Rattle.fetches.proofs.put_two.Statement.{statement}
-use Rattle.fetches.proofs.put_two.Tie as tie
-use Rattle.fetches.proofs.put_two.Reads as reads
-use Rattle.fetches.proofs.put_two.Lts as lts
-use Rattle.fetches.proofs.either.Reads as either-reads
-use Rattle.fetches.proofs.put_flag.Reads as put-flag-reads
+use Rattle.fetches.proofs.flags.put_two.Statement.{statement}
+use Rattle.fetches.proofs.flags.put_two.Tie as tie
+use Rattle.fetches.proofs.flags.put_two.Reads as reads
+use Rattle.fetches.proofs.flags.put_two.Lts as lts
+use Rattle.fetches.proofs.flags.either.Reads as either-reads
+use Rattle.fetches.proofs.flags.put_flag.Reads as put-flag-reads
 use mathlib.Core.Path.{_≡_, refl, sym, _∙_, ap}
 use mathlib.Core.List.{_∷_, [], _++_}
 use mathlib.Core.Bool.{Bool, true, false, _||_}

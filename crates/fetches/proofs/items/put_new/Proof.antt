@@ -1,9 +1,9 @@
 use borrow.Author.Needs.{needs}
-use Rattle.fetches.proofs.put_new.Statement.{statement}
-use Rattle.fetches.proofs.put_new.Tie as tie
-use Rattle.fetches.proofs.put_new.Reads as reads
-use Rattle.fetches.proofs.put_new.Lts as lts
-use Rattle.fetches.proofs.put_items.Reads as put-items-reads
+use Rattle.fetches.proofs.items.put_new.Statement.{statement}
+use Rattle.fetches.proofs.items.put_new.Tie as tie
+use Rattle.fetches.proofs.items.put_new.Reads as reads
+use Rattle.fetches.proofs.items.put_new.Lts as lts
+use Rattle.fetches.proofs.items.put_items.Reads as put-items-reads
 use Rattle.out.proofs.put.Reads as put-reads
 use Rattle.out.proofs.put_number.Reads as put-number-reads
 use mathlib.Core.Path.{_≡_, refl, sym, _∙_, ap}

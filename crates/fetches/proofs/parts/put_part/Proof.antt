@@ -1,9 +1,9 @@
-use Rattle.fetches.proofs.put_part.Statement.{statement}
-use Rattle.fetches.proofs.put_part.Tie as tie
-use Rattle.fetches.proofs.put_part.Reads as reads
-use Rattle.fetches.proofs.put_part.Lts as lts
+use Rattle.fetches.proofs.parts.put_part.Statement.{statement}
+use Rattle.fetches.proofs.parts.put_part.Tie as tie
+use Rattle.fetches.proofs.parts.put_part.Reads as reads
+use Rattle.fetches.proofs.parts.put_part.Lts as lts
 use Rattle.entries.proofs.entry.Reads as entry-reads
-use Rattle.fetches.proofs.put_one.Reads as put-one-reads
+use Rattle.fetches.proofs.parts.put_one.Reads as put-one-reads
 use mathlib.Core.Path.{_≡_, refl, sym, _∙_, ap}
 use mathlib.Core.Bool.{Bool, true, false, cond, _&&_, _||_}
 use mathlib.Core.List.{List, [], _∷_, _++_}

@@ -1,11 +1,11 @@
 use borrow.Author.Needs.{needs}
-use Rattle.fetches.proofs.put_items.Statement.{statement}
-use Rattle.fetches.proofs.put_items.Tie as tie
-use Rattle.fetches.proofs.put_items.Reads as reads
-use Rattle.fetches.proofs.put_items.Lts as lts
-use Rattle.fetches.proofs.either.Reads as either-reads
-use Rattle.fetches.proofs.put_counted.Reads as put-counted-reads
-use Rattle.fetches.proofs.put_flag_item.Reads as put-flag-item-reads
+use Rattle.fetches.proofs.items.put_items.Statement.{statement}
+use Rattle.fetches.proofs.items.put_items.Tie as tie
+use Rattle.fetches.proofs.items.put_items.Reads as reads
+use Rattle.fetches.proofs.items.put_items.Lts as lts
+use Rattle.fetches.proofs.flags.either.Reads as either-reads
+use Rattle.fetches.proofs.items.put_counted.Reads as put-counted-reads
+use Rattle.fetches.proofs.items.put_flag_item.Reads as put-flag-item-reads
 use mathlib.Core.Path.{_≡_, refl, sym, _∙_, ap}
 use mathlib.Core.Bool.{Bool, true, false, cond, _&&_, _||_}
 use mathlib.Core.List.{List, [], _∷_, _++_}

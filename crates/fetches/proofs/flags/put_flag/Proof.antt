@@ -1,8 +1,8 @@
 use borrow.Author.Needs.{needs}
-use Rattle.fetches.proofs.put_flag.Statement.{statement}
-use Rattle.fetches.proofs.put_flag.Tie as tie
-use Rattle.fetches.proofs.put_flag.Reads as reads
-use Rattle.fetches.proofs.put_flag.Lts as lts
+use Rattle.fetches.proofs.flags.put_flag.Statement.{statement}
+use Rattle.fetches.proofs.flags.put_flag.Tie as tie
+use Rattle.fetches.proofs.flags.put_flag.Reads as reads
+use Rattle.fetches.proofs.flags.put_flag.Lts as lts
 use Rattle.out.proofs.put.Reads as put-reads
 use Rattle.out.proofs.put_byte.Reads as put-byte-reads
 use mathlib.Core.Path.{_≡_, refl, sym, _∙_, ap}

@@ -1,8 +1,8 @@
 use borrow.Author.Needs.{needs}
-use Rattle.fetches.proofs.put_gone.Statement.{statement}
-use Rattle.fetches.proofs.put_gone.Tie as tie
-use Rattle.fetches.proofs.put_gone.Reads as reads
-use Rattle.fetches.proofs.put_gone.Lts as lts
+use Rattle.fetches.proofs.parts.put_gone.Statement.{statement}
+use Rattle.fetches.proofs.parts.put_gone.Tie as tie
+use Rattle.fetches.proofs.parts.put_gone.Reads as reads
+use Rattle.fetches.proofs.parts.put_gone.Lts as lts
 use Rattle.fetches.proofs.put_expunge.Reads as put-expunge-reads
 use mathlib.Core.Path.{_≡_, refl, sym, _∙_, ap}
 use mathlib.Core.Bool.{Bool, true, false, cond, _&&_, _||_}

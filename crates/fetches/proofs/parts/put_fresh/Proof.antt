@@ -1,9 +1,9 @@
 use borrow.Author.Needs.{needs}
-use Rattle.fetches.proofs.put_fresh.Statement.{statement}
-use Rattle.fetches.proofs.put_fresh.Tie as tie
-use Rattle.fetches.proofs.put_fresh.Reads as reads
-use Rattle.fetches.proofs.put_fresh.Lts as lts
-use Rattle.fetches.proofs.put_new.Reads as put-new-reads
+use Rattle.fetches.proofs.parts.put_fresh.Statement.{statement}
+use Rattle.fetches.proofs.parts.put_fresh.Tie as tie
+use Rattle.fetches.proofs.parts.put_fresh.Reads as reads
+use Rattle.fetches.proofs.parts.put_fresh.Lts as lts
+use Rattle.fetches.proofs.items.put_new.Reads as put-new-reads
 use mathlib.Core.Path.{_≡_, refl, sym, _∙_, ap}
 use mathlib.Core.Bool.{Bool, true, false, cond, _&&_, _||_}
 use mathlib.Core.List.{List, [], _∷_, _++_}

@@ -1,8 +1,8 @@
 use borrow.Author.Needs.{needs}
-use Rattle.fetches.proofs.put_gap.Statement.{statement}
-use Rattle.fetches.proofs.put_gap.Tie as tie
-use Rattle.fetches.proofs.put_gap.Reads as reads
-use Rattle.fetches.proofs.put_gap.Lts as lts
+use Rattle.fetches.proofs.items.put_gap.Statement.{statement}
+use Rattle.fetches.proofs.items.put_gap.Tie as tie
+use Rattle.fetches.proofs.items.put_gap.Reads as reads
+use Rattle.fetches.proofs.items.put_gap.Lts as lts
 use Rattle.out.proofs.put_byte.Reads as put-byte-reads
 use mathlib.Core.Path.{_≡_, refl, sym, _∙_, ap}
 use mathlib.Core.Bool.{Bool, true, false, cond, _&&_, _||_}

@@ -1,9 +1,9 @@
 use borrow.Author.Needs.{needs}
-use Rattle.fetches.proofs.put_counted.Statement.{statement}
-use Rattle.fetches.proofs.put_counted.Tie as tie
-use Rattle.fetches.proofs.put_counted.Reads as reads
-use Rattle.fetches.proofs.put_counted.Lts as lts
-use Rattle.fetches.proofs.put_gap.Reads as put-gap-reads
+use Rattle.fetches.proofs.items.put_counted.Statement.{statement}
+use Rattle.fetches.proofs.items.put_counted.Tie as tie
+use Rattle.fetches.proofs.items.put_counted.Reads as reads
+use Rattle.fetches.proofs.items.put_counted.Lts as lts
+use Rattle.fetches.proofs.items.put_gap.Reads as put-gap-reads
 use Rattle.out.proofs.put.Reads as put-reads
 use Rattle.out.proofs.put_number.Reads as put-number-reads
 use mathlib.Core.Path.{_≡_, refl, sym, _∙_, ap}

@@ -1,10 +1,10 @@
 use borrow.Author.Needs.{needs}
-use Rattle.fetches.proofs.put_flag_item.Statement.{statement}
-use Rattle.fetches.proofs.put_flag_item.Tie as tie
-use Rattle.fetches.proofs.put_flag_item.Reads as reads
-use Rattle.fetches.proofs.put_flag_item.Lts as lts
-use Rattle.fetches.proofs.put_flags.Reads as put-flags-reads
-use Rattle.fetches.proofs.put_gap.Reads as put-gap-reads
+use Rattle.fetches.proofs.items.put_flag_item.Statement.{statement}
+use Rattle.fetches.proofs.items.put_flag_item.Tie as tie
+use Rattle.fetches.proofs.items.put_flag_item.Reads as reads
+use Rattle.fetches.proofs.items.put_flag_item.Lts as lts
+use Rattle.fetches.proofs.flags.put_flags.Reads as put-flags-reads
+use Rattle.fetches.proofs.items.put_gap.Reads as put-gap-reads
 use Rattle.out.proofs.put.Reads as put-reads
 use mathlib.Core.Path.{_≡_, refl, sym, _∙_, ap}
 use mathlib.Core.Bool.{Bool, true, false, cond, _&&_, _||_}

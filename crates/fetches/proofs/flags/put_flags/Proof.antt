@@ -1,11 +1,11 @@
 use borrow.Author.Needs.{needs}
-use Rattle.fetches.proofs.put_flags.Statement.{statement}
-use Rattle.fetches.proofs.put_flags.Tie as tie
-use Rattle.fetches.proofs.put_flags.Reads as reads
-use Rattle.fetches.proofs.put_flags.Lts as lts
-use Rattle.fetches.proofs.either.Reads as either-reads
-use Rattle.fetches.proofs.put_three.Reads as put-three-reads
-use Rattle.fetches.proofs.put_two.Reads as put-two-reads
+use Rattle.fetches.proofs.flags.put_flags.Statement.{statement}
+use Rattle.fetches.proofs.flags.put_flags.Tie as tie
+use Rattle.fetches.proofs.flags.put_flags.Reads as reads
+use Rattle.fetches.proofs.flags.put_flags.Lts as lts
+use Rattle.fetches.proofs.flags.either.Reads as either-reads
+use Rattle.fetches.proofs.flags.put_three.Reads as put-three-reads
+use Rattle.fetches.proofs.flags.put_two.Reads as put-two-reads
 use mathlib.Core.Path.{_≡_, refl, sym, _∙_, ap}
 use mathlib.Core.List.{_∷_, [], _++_}
 use mathlib.Core.Bool.{Bool, true, false, _||_}

@@ -1,12 +1,12 @@
 use borrow.Author.Needs.{needs}
-use Rattle.ending.proofs.mark_one.Statement.{statement}
-use Rattle.ending.proofs.mark_one.Tie as tie
-use Rattle.ending.proofs.mark_one.Reads as reads
-use Rattle.ending.proofs.mark_one.Lts as lts
-use Rattle.ending.proofs.advanced.Reads as advanced-reads
-use Rattle.ending.proofs.both.Reads as both-reads
+use Rattle.ending.proofs.view.mark_one.Statement.{statement}
+use Rattle.ending.proofs.view.mark_one.Tie as tie
+use Rattle.ending.proofs.view.mark_one.Reads as reads
+use Rattle.ending.proofs.view.mark_one.Lts as lts
+use Rattle.ending.proofs.lines.advanced.Reads as advanced-reads
+use Rattle.ending.proofs.view.both.Reads as both-reads
 use Rattle.entries.proofs.entry.Reads as entry-reads
-use Rattle.ending.proofs.say_fetch.Reads as say-fetch-reads
+use Rattle.ending.proofs.lines.say_fetch.Reads as say-fetch-reads
 use mathlib.Core.Path.{_≡_, refl, sym, _∙_, ap}
 use mathlib.Core.Bool.{Bool, true, false, not, cond, _&&_}
 use Prim.Native.Nat.{ℕ, _≤_, _<_, _+_, _-_}

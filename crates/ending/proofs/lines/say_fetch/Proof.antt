@@ -1,9 +1,9 @@
 use borrow.Author.Needs.{needs}
-use Rattle.ending.proofs.say_fetch.Statement.{statement}
-use Rattle.ending.proofs.say_fetch.Tie as tie
-use Rattle.ending.proofs.say_fetch.Reads as reads
-use Rattle.ending.proofs.say_fetch.Lts as lts
-use Rattle.ending.proofs.refused.Reads as refused-reads
+use Rattle.ending.proofs.lines.say_fetch.Statement.{statement}
+use Rattle.ending.proofs.lines.say_fetch.Tie as tie
+use Rattle.ending.proofs.lines.say_fetch.Reads as reads
+use Rattle.ending.proofs.lines.say_fetch.Lts as lts
+use Rattle.ending.proofs.lines.refused.Reads as refused-reads
 use Rattle.fetches.proofs.put_fetch.Reads as put-fetch-reads
 use mathlib.Core.Path.{_≡_, refl, sym, _∙_, ap}
 use Prim.Native.Nat.{ℕ, _≤_, _+_}

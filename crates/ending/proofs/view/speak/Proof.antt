@@ -1,12 +1,12 @@
 use borrow.Author.Needs.{needs}
-use Rattle.ending.proofs.speak.Statement.{statement}
-use Rattle.ending.proofs.speak.Tie as tie
-use Rattle.ending.proofs.speak.Reads as reads
-use Rattle.ending.proofs.speak.Lts as lts
-use Rattle.ending.proofs.begun.Reads as begun-reads
-use Rattle.ending.proofs.marks.Reads as marks-reads
-use Rattle.ending.proofs.say_exists.Reads as say-exists-reads
-use Rattle.ending.proofs.say_first.Reads as say-first-reads
+use Rattle.ending.proofs.view.speak.Statement.{statement}
+use Rattle.ending.proofs.view.speak.Tie as tie
+use Rattle.ending.proofs.view.speak.Reads as reads
+use Rattle.ending.proofs.view.speak.Lts as lts
+use Rattle.ending.proofs.lines.begun.Reads as begun-reads
+use Rattle.ending.proofs.view.marks.Reads as marks-reads
+use Rattle.ending.proofs.lines.say_exists.Reads as say-exists-reads
+use Rattle.ending.proofs.view.say_first.Reads as say-first-reads
 use Rattle.order.proofs.staying.Reads as staying-reads
 use Rattle.order.proofs.unseen.Reads as unseen-reads
 use mathlib.Core.Path.{_≡_, refl, sym, _∙_, ap}

@@ -1,9 +1,9 @@
 use borrow.Author.Needs.{needs}
-use Rattle.ending.proofs.say_first.Statement.{statement}
-use Rattle.ending.proofs.say_first.Tie as tie
-use Rattle.ending.proofs.say_first.Reads as reads
-use Rattle.ending.proofs.say_first.Lts as lts
-use Rattle.ending.proofs.expunges.Reads as expunges-reads
+use Rattle.ending.proofs.view.say_first.Statement.{statement}
+use Rattle.ending.proofs.view.say_first.Tie as tie
+use Rattle.ending.proofs.view.say_first.Reads as reads
+use Rattle.ending.proofs.view.say_first.Lts as lts
+use Rattle.ending.proofs.view.expunges.Reads as expunges-reads
 use mathlib.Core.Path.{_≡_, refl, sym, _∙_, ap}
 use mathlib.Core.Bool.{Bool, true, false, not, cond, _&&_}
 use Prim.Native.Nat.{ℕ, _≤_, _<_, _+_, _-_}

@@ -1,8 +1,8 @@
-use Rattle.ending.proofs.expunges.Statement.{statement}
-use Rattle.ending.proofs.expunges.Tie as tie
-use Rattle.ending.proofs.expunges.Reads as reads
-use Rattle.ending.proofs.expunges.Lts as lts
-use Rattle.ending.proofs.expunge_one.Reads as expunge-one-reads
+use Rattle.ending.proofs.view.expunges.Statement.{statement}
+use Rattle.ending.proofs.view.expunges.Tie as tie
+use Rattle.ending.proofs.view.expunges.Reads as reads
+use Rattle.ending.proofs.view.expunges.Lts as lts
+use Rattle.ending.proofs.view.expunge_one.Reads as expunge-one-reads
 use mathlib.Core.Path.{_≡_, refl, sym, _∙_, ap}
 use mathlib.Core.Bool.{Bool, true, false, not, cond, _&&_}
 use Prim.Native.Nat.{ℕ, _≤_, _<_, _+_, _-_}

@@ -1,10 +1,10 @@
 use borrow.Author.Needs.{needs}
-use Rattle.ending.proofs.say_count.Statement.{statement}
-use Rattle.ending.proofs.say_count.Tie as tie
-use Rattle.ending.proofs.say_count.Reads as reads
-use Rattle.ending.proofs.say_count.Lts as lts
+use Rattle.ending.proofs.lines.say_count.Statement.{statement}
+use Rattle.ending.proofs.lines.say_count.Tie as tie
+use Rattle.ending.proofs.lines.say_count.Reads as reads
+use Rattle.ending.proofs.lines.say_count.Lts as lts
 use Rattle.fetches.proofs.put_count.Reads as put-count-reads
-use Rattle.ending.proofs.refused.Reads as refused-reads
+use Rattle.ending.proofs.lines.refused.Reads as refused-reads
 use mathlib.Core.Path.{_≡_, refl, sym, _∙_, ap}
 use Prim.Native.Nat.{ℕ, _≤_, _+_}
 use native.Mathlib.Omega.{arith}

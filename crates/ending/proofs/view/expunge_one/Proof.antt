@@ -1,11 +1,11 @@
 use borrow.Author.Needs.{needs}
-use Rattle.ending.proofs.expunge_one.Statement.{statement}
-use Rattle.ending.proofs.expunge_one.Tie as tie
-use Rattle.ending.proofs.expunge_one.Reads as reads
-use Rattle.ending.proofs.expunge_one.Lts as lts
-use Rattle.ending.proofs.advanced.Reads as advanced-reads
+use Rattle.ending.proofs.view.expunge_one.Statement.{statement}
+use Rattle.ending.proofs.view.expunge_one.Tie as tie
+use Rattle.ending.proofs.view.expunge_one.Reads as reads
+use Rattle.ending.proofs.view.expunge_one.Lts as lts
+use Rattle.ending.proofs.lines.advanced.Reads as advanced-reads
 use Rattle.entries.proofs.entry.Reads as entry-reads
-use Rattle.ending.proofs.say_count.Reads as say-count-reads
+use Rattle.ending.proofs.lines.say_count.Reads as say-count-reads
 use mathlib.Core.Path.{_≡_, refl, sym, _∙_, ap}
 use mathlib.Core.Bool.{Bool, true, false, not, cond, _&&_}
 use Prim.Native.Nat.{ℕ, _≤_, _<_, _+_, _-_}

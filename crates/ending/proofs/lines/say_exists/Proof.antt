@@ -1,9 +1,9 @@
 use borrow.Author.Needs.{needs}
-use Rattle.ending.proofs.say_exists.Statement.{statement}
-use Rattle.ending.proofs.say_exists.Tie as tie
-use Rattle.ending.proofs.say_exists.Reads as reads
-use Rattle.ending.proofs.say_exists.Lts as lts
-use Rattle.ending.proofs.say_count.Reads as say-count-reads
+use Rattle.ending.proofs.lines.say_exists.Statement.{statement}
+use Rattle.ending.proofs.lines.say_exists.Tie as tie
+use Rattle.ending.proofs.lines.say_exists.Reads as reads
+use Rattle.ending.proofs.lines.say_exists.Lts as lts
+use Rattle.ending.proofs.lines.say_count.Reads as say-count-reads
 use mathlib.Core.Path.{_≡_, refl, sym, _∙_, ap}
 use mathlib.Core.Bool.{Bool, true, false, not, cond, _&&_}
 use Prim.Native.Nat.{ℕ, _≤_, _<_, _+_, _-_}

@@ -1,8 +1,8 @@
-use Rattle.ending.proofs.marks.Statement.{statement}
-use Rattle.ending.proofs.marks.Tie as tie
-use Rattle.ending.proofs.marks.Reads as reads
-use Rattle.ending.proofs.marks.Lts as lts
-use Rattle.ending.proofs.mark_one.Reads as mark-one-reads
+use Rattle.ending.proofs.view.marks.Statement.{statement}
+use Rattle.ending.proofs.view.marks.Tie as tie
+use Rattle.ending.proofs.view.marks.Reads as reads
+use Rattle.ending.proofs.view.marks.Lts as lts
+use Rattle.ending.proofs.view.mark_one.Reads as mark-one-reads
 use mathlib.Core.Path.{_≡_, refl, sym, _∙_, ap}
 use mathlib.Core.Bool.{Bool, true, false, not, cond, _&&_}
 use Prim.Native.Nat.{ℕ, _≤_, _<_, _+_, _-_}

@@ -1,13 +1,13 @@
--- `octets::classes::run_end` meets its contract: the end of the run from the start is its end from here. Assumes nothing.
-use Rattle.octets.proofs.classes.run_end.Statement.{statement}
-use Rattle.octets.proofs.classes.run_end.Tie as tie
+-- `octets::runs::run_end` meets its contract: the end of the run from the start is its end from here. Assumes nothing.
+use Rattle.octets.proofs.runs.run_end.Statement.{statement}
+use Rattle.octets.proofs.runs.run_end.Tie as tie
 use mathlib.Core.Path.{_≡_, refl, sym, _∙_}
 use native.Mathlib.Omega.{arith}
 use Prim.Native.Nat.{_≤_, _+_, _-_}
 use lib.ListN.{length}
 use Rattle.model.specs.Reading.{endOf}
 use Rattle.octets.specs.Classes.{inClass}
-use Rattle.octets.proofs.Runs.{run-past, run-stops, run-goes}
+use Rattle.octets.proofs.Ends.{run-past, run-stops, run-goes}
 use borrow.Author.Needs.{needs}
 
 abbrev Inv-loop : tie.InvT-loop

@@ -1,9 +1,9 @@
--- `octets::classes::run_at` meets its contract: by the end of the run. Assumes nothing.
+-- `octets::runs::run_at` meets its contract: by the end of the run. Assumes nothing.
 use borrow.Author.Needs.{needs}
-use Rattle.octets.proofs.classes.run_at.Statement.{statement}
-use Rattle.octets.proofs.classes.run_at.Tie as tie
+use Rattle.octets.proofs.runs.run_at.Statement.{statement}
+use Rattle.octets.proofs.runs.run_at.Tie as tie
 use native.Mathlib.Omega.{arith}
-use Rattle.octets.proofs.Runs.{run-found, run-none}
+use Rattle.octets.proofs.Ends.{run-found, run-none}
 
 run-end-requires : tie.Need-run-end-requires
 run-end-requires c κs = search needs

@@ -1,6 +1,6 @@
 -- Lemmas on plain values, for the proofs of this crate.
 mod Table
-mod Runs
+mod Ends
 mod Pieces
 mod Digits
 mod Strings

@@ -1,12 +1,8 @@
-// Classes of octets: one table of 256 numbers, a bit for each class, and runs of one class.
+// Classes of octets: one table of 256 numbers, a bit for each class.
 use super::Class;
-use super::Next;
 ghost use mathlib.Core.Path.{_≡_};
-ghost use Prim.Native.Nat.{_+_, _-_, _<_};
 ghost use lib.ListN.{getD};
-ghost use Rattle.model.specs.Reading.{runAt};
-ghost use Rattle.octets.specs.Classes.{inClass, maskOf, Ends};
-ghost use Rattle.octets.specs.Found.{nextOf, Reads};
+ghost use Rattle.octets.specs.Classes.{inClass, maskOf};
 
 // The classes of each octet, a bit a class.
 const CLASSES: [u8; 256] = [
@@ -295,27 +291,4 @@ pub fn octet_at(text: &[u8], at: usize) -> u8
     ensures { λ r. ⌜ r ≡ getD (now (text .entry)) at 0 ⌝ }
 {
     if at < text.len() { text[at] } else { 0 }
-}
-
-// Where the run of a class that begins at a position ends.
-pub fn run_end(text: &[u8], at: usize, c: Class) -> usize
-    ensures { λ r. ⌜ Ends (inClass c) (now (text .entry)) at r ⌝ }
-{
-    let mut p = at;
-    while p < text.len() {
-        if in_class(text[p], c) {
-            p += 1;
-        } else {
-            return p;
-        }
-    }
-    p
-}
-
-// One octet or more of a class.
-pub fn run_at(text: &[u8], at: usize, c: Class) -> Next
-    ensures { λ r. ⌜ Reads (now (text .entry)) at (nextOf (runAt (inClass c) (now (text .entry)) at)) r ⌝ }
-{
-    let end = run_end(text, at, c);
-    if at < end { Next::At(end) } else { Next::Bad }
 }

@@ -2,7 +2,7 @@
 use super::Class;
 use super::Next;
 use super::classes::octet_at;
-use super::classes::run_end;
+use super::runs::run_end;
 use super::words::is_word;
 ghost use mathlib.Core.Path.{_≡_};
 ghost use Prim.Native.Nat.{_+_, _-_, _<_};

@@ -2,17 +2,18 @@
 pub mod classes;
 pub mod dates;
 pub mod numbers;
+pub mod runs;
 pub mod texts;
 pub mod words;
 
 pub use classes::in_class;
 pub use classes::octet_at;
-pub use classes::run_at;
-pub use classes::run_end;
 pub use dates::date_at;
 pub use numbers::little;
 pub use numbers::number_at;
 pub use numbers::positive_at;
+pub use runs::run_at;
+pub use runs::run_end;
 pub use texts::quoted_at;
 pub use texts::text_at;
 pub use texts::value_of;

@@ -1,6 +1,6 @@
 // Words, in letters of any case.
 use super::Class;
-use super::classes::run_end;
+use super::runs::run_end;
 ghost use mathlib.Core.Path.{_≡_};
 ghost use Prim.Native.Nat.{_+_, _-_, _<_};
 ghost use Rattle.model.specs.Octets.{atomOctet};

@@ -5,7 +5,7 @@ use Rattle.ending.proofs.end_command.Reads as reads
 use Rattle.ending.proofs.end_command.Lts as lts
 use Rattle.ending.proofs.announced.Reads as announced-reads
 use Rattle.entries.proofs.settle.Reads as settle-reads
-use Rattle.ending.proofs.speak.Reads as speak-reads
+use Rattle.ending.proofs.view.speak.Reads as speak-reads
 use Rattle.order.proofs.by_uid.Reads as by-uid-reads
 use mathlib.Core.Path.{_≡_, refl, sym, _∙_, ap}
 use mathlib.Core.Bool.{Bool, true, false, not, cond, _&&_}

@@ -3,7 +3,7 @@ use Rattle.fetches.proofs.put_fetch.Statement.{statement}
 use Rattle.fetches.proofs.put_fetch.Tie as tie
 use Rattle.fetches.proofs.put_fetch.Reads as reads
 use Rattle.fetches.proofs.put_fetch.Lts as lts
-use Rattle.fetches.proofs.put_flags.Reads as put-flags-reads
+use Rattle.fetches.proofs.flags.put_flags.Reads as put-flags-reads
 use Rattle.out.proofs.put.Reads as put-reads
 use Rattle.out.proofs.put_number.Reads as put-number-reads
 use mathlib.Core.Path.{_≡_, refl, sym, _∙_, ap}

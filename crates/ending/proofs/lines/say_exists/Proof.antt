@@ -1,0 +1,57 @@
+use borrow.Author.Needs.{needs}
+use Rattle.ending.proofs.lines.say_exists.Statement.{statement}
+use Rattle.ending.proofs.lines.say_exists.Tie as tie
+use Rattle.ending.proofs.lines.say_exists.Reads as reads
+use Rattle.ending.proofs.lines.say_exists.Lts as lts
+use Rattle.ending.proofs.lines.say_count.Reads as say-count-reads
+use mathlib.Core.Path.{_≡_, refl, sym, _∙_, ap}
+use mathlib.Core.Bool.{Bool, true, false, not, cond, _&&_}
+use Prim.Native.Nat.{ℕ, _≤_, _<_, _+_, _-_}
+use native.Mathlib.Omega.{arith}
+use lib.Dec.{eqb, ltb}
+use lib.ListN.{length, getD}
+use Rattle.model.specs.Lists.{filterb}
+use Rattle.model.specs.Memory.{noMessage, uidOf, expunged}
+use Rattle.model.specs.declared.Message.{Message}
+use Rattle.entries.specs.Words.{messages}
+use Rattle.order.specs.Chosen.{chosen}
+use Rattle.ending.specs.declared.Going.{Going}
+use Rattle.fetches.specs.Counts.{countText, existsWord, expungeWord}
+use Rattle.order.specs.Counts.{stays, fresh}
+use Rattle.ending.specs.Saying.{State, runE, runM, stepE, stepM, sayExists}
+use Rattle.ending.specs.Coded.{stateOf, e-off, e-gone, e-stay, m-off, m-skip, m-mark, m-plain, more-as, more-is, exists-none, exists-some, runE-next, runE-end, runM-next, runM-end}
+
+-- src/lib.rt:416:9
+returns : tie.Need-returns
+returns c = (exists-none (c .before .before .args .limit) (c .before .before .args .k) (c .before .before .args .n) (stateOf (c .before .before .args .queue .now) (c .before .before .args .g)) (c .if1 .taken), omega arith, omega arith, refl)
+
+-- src/lib.rt:418:32
+add-t10 : tie.Need-add-t10
+add-t10 c = search needs
+
+-- src/lib.rt:418:39
+slice-aggregate-say-count : tie.Need-slice-aggregate-say-count
+slice-aggregate-say-count c = search needs
+
+-- src/lib.rt:418:5
+say-count-requires : tie.Need-say-count-requires
+say-count-requires c κs = search needs
+
+-- src/lib.rt:411:1
+same-length : tie.Need-same-length
+same-length c = search needs
+
+-- src/lib.rt:411:1
+returns-2 : tie.Need-returns-2
+returns-2 c = (exists-some (c .before .before .before .before .before .before .before .args .limit) (c .before .before .before .before .before .before .before .args .k) (c .before .before .before .before .before .before .before .args .n) (stateOf (c .before .before .before .before .before .before .before .args .queue .now) (c .before .before .before .before .before .before .before .args .g)) _ (c .before .before .before .before .before .if1 .left) (c .before .before .say-count .ensures .0), c .before .before .say-count .ensures .1, c .before .before .say-count .ensures .2, omega (arith, c .before .before .say-count .ok))
+
+pub say-exists-spec : {M : Type 1} → statement M
+say-exists-spec =
+    tie.close
+    (tie.spec
+    returns
+    add-t10
+    slice-aggregate-say-count
+    say-count-requires
+    same-length
+    returns-2)

@@ -1,0 +1,41 @@
+use borrow.Author.Needs.{needs}
+use Rattle.ending.proofs.view.say_first.Statement.{statement}
+use Rattle.ending.proofs.view.say_first.Tie as tie
+use Rattle.ending.proofs.view.say_first.Reads as reads
+use Rattle.ending.proofs.view.say_first.Lts as lts
+use Rattle.ending.proofs.view.expunges.Reads as expunges-reads
+use mathlib.Core.Path.{_≡_, refl, sym, _∙_, ap}
+use mathlib.Core.Bool.{Bool, true, false, not, cond, _&&_}
+use Prim.Native.Nat.{ℕ, _≤_, _<_, _+_, _-_}
+use native.Mathlib.Omega.{arith}
+use lib.Dec.{eqb, ltb}
+use lib.ListN.{length, getD, take}
+use borrow.Author.Tests.{eq-eqb, ne-eqb, not-true, not-false}
+use Rattle.model.specs.Memory.{withView}
+use Rattle.model.specs.declared.Session.{Session}
+use Rattle.entries.specs.Words.{messages}
+use Rattle.order.specs.Chosen.{chosen}
+use Rattle.ending.specs.declared.Going.{Going}
+use Rattle.ending.specs.Saying.{State, runE, firstPart}
+use Rattle.order.specs.Counts.{order-short}
+use Rattle.ending.specs.Coded.{stateOf}
+use Rattle.ending.specs.Ending.{Speaks, speaks, Leaves, leaves-none, leaves-some, endAfter, endRest}
+
+-- src/lib.rt:427:9
+expunges-requires : tie.Need-expunges-requires
+expunges-requires c κs = search needs
+
+-- src/lib.rt:427:9
+same-length : tie.Need-same-length
+same-length c = search needs
+
+-- src/lib.rt:427:9
+returns : tie.Need-returns
+returns c = (c .before .before .expunges .ensures .0 ∙ sym (ap (λ (b : Bool). firstPart (c .before .before .before .before .before .before .before .before .args .told .0) b (c .before .before .before .before .before .before .before .before .args .limit) (chosen (messages (c .before .before .before .before .before .before .before .before .args .words .now)) (c .before .before .before .before .before .before .before .before .args .order .now) (c .before .before .before .before .before .before .before .before .args .n)) (stateOf (c .before .before .before .before .before .before .before .before .args .queue .now) (c .before .before .before .before .before .before .before .before .args .g))) (c .before .before .before .before .if1 .taken)), c .before .before .expunges .ensures .1, c .before .before .expunges .ensures .2, omega (arith, c .before .before .expunges .ok))
+
+-- src/lib.rt:422:1
+returns-2 : tie.Need-returns-2
+returns-2 c = (sym (ap (λ (b : Bool). firstPart (c .before .before .before .before .args .told .0) b (c .before .before .before .before .args .limit) (chosen (messages (c .before .before .before .before .args .words .now)) (c .before .before .before .before .args .order .now) (c .before .before .before .before .args .n)) (stateOf (c .before .before .before .before .args .queue .now) (c .before .before .before .before .args .g))) (c .if1 .left)), omega arith, omega arith, refl)
+
+pub say-first-spec : {M : Type 1} → statement M
+say-first-spec = tie.close (tie.spec expunges-requires same-length returns returns-2)

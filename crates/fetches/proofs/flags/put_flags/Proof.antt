@@ -1,0 +1,52 @@
+use borrow.Author.Needs.{needs}
+use Rattle.fetches.proofs.flags.put_flags.Statement.{statement}
+use Rattle.fetches.proofs.flags.put_flags.Tie as tie
+use Rattle.fetches.proofs.flags.put_flags.Reads as reads
+use Rattle.fetches.proofs.flags.put_flags.Lts as lts
+use Rattle.fetches.proofs.flags.either.Reads as either-reads
+use Rattle.fetches.proofs.flags.put_three.Reads as put-three-reads
+use Rattle.fetches.proofs.flags.put_two.Reads as put-two-reads
+use mathlib.Core.Path.{_≡_, refl, sym, _∙_, ap}
+use mathlib.Core.List.{_∷_, [], _++_}
+use mathlib.Core.Bool.{Bool, true, false, _||_}
+use Prim.Native.Nat.{_≤_, _+_}
+use native.Mathlib.Omega.{arith}
+use borrow.Author.Tests.{not-true, not-false}
+use Rattle.out.specs.Put.{_then_, put-as, put-none}
+use Rattle.fetches.specs.Fetch.{piece, firstThree, lastTwo, flagsText, fetchText, piece-off, piece-first, piece-more, flags-pieces}
+use Rattle.model.specs.Text.{octets, bit}
+
+-- src/lib.rt:75:9
+put-three-requires : tie.Need-put-three-requires
+put-three-requires c κs = search needs
+
+-- src/lib.rt:76:24
+either-requires : tie.Need-either-requires
+either-requires c κs = search needs
+
+-- src/lib.rt:76:9
+either-requires-2 : tie.Need-either-requires-2
+either-requires-2 c κs = search needs
+
+-- src/lib.rt:77:5
+put-two-requires : tie.Need-put-two-requires
+put-two-requires c κs = search needs
+
+-- src/lib.rt:64:1
+same-length : tie.Need-same-length
+same-length c = search needs
+
+-- src/lib.rt:64:1
+returns : tie.Need-returns
+returns c = (put-as (_then_ (c .before .before .before .before .before .before .before .before .put-three .ensures .0) (put-as (c .before .before .put-two .ensures .0) (ap (λ (b : Bool). lastTwo b (bit 3 (c .before .before .before .before .before .before .before .before .before .before .before .args .flags)) (bit 4 (c .before .before .before .before .before .before .before .before .before .before .before .args .flags))) (c .before .before .before .before .either2 .ensures ∙ ap (λ (b : Bool). b || bit 2 (c .before .before .before .before .before .before .before .before .before .before .before .args .flags)) (c .before .before .before .before .before .either .ensures))))) (flags-pieces (c .before .before .before .before .before .before .before .before .before .before .before .args .flags)), omega (arith, c .before .before .before .before .before .before .before .before .put-three .ensures .1, c .before .before .put-two .ensures .1))
+
+pub put-flags-spec : {M : Type 1} → statement M
+put-flags-spec =
+    tie.close
+    (tie.spec
+    put-three-requires
+    either-requires
+    either-requires-2
+    put-two-requires
+    same-length
+    returns)

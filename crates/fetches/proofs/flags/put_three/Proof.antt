@@ -1,0 +1,66 @@
+use borrow.Author.Needs.{needs}
+use Rattle.fetches.proofs.flags.put_three.Statement.{statement}
+use Rattle.fetches.proofs.flags.put_three.Tie as tie
+use Rattle.fetches.proofs.flags.put_three.Reads as reads
+use Rattle.fetches.proofs.flags.put_three.Lts as lts
+use Rattle.fetches.proofs.flags.either.Reads as either-reads
+use Rattle.fetches.proofs.flags.put_flag.Reads as put-flag-reads
+use mathlib.Core.Path.{_≡_, refl, sym, _∙_, ap}
+use mathlib.Core.List.{_∷_, [], _++_}
+use mathlib.Core.Bool.{Bool, true, false, _||_}
+use Prim.Native.Nat.{_≤_, _+_}
+use native.Mathlib.Omega.{arith}
+use borrow.Author.Tests.{not-true, not-false}
+use Rattle.out.specs.Put.{_then_, put-as, put-none}
+use Rattle.fetches.specs.Fetch.{piece, firstThree, lastTwo, flagsText, fetchText, piece-off, piece-first, piece-more, flags-pieces}
+use Rattle.model.specs.Text.{octets, bit}
+
+-- src/lib.rt:48:50
+slice-aggregate-put-flag : tie.Need-slice-aggregate-put-flag
+slice-aggregate-put-flag c = search needs
+
+-- src/lib.rt:48:9
+put-flag-requires : tie.Need-put-flag-requires
+put-flag-requires c κs = search needs
+
+-- src/lib.rt:49:45
+slice-aggregate-put-flag-2 : tie.Need-slice-aggregate-put-flag-2
+slice-aggregate-put-flag-2 c = search needs
+
+-- src/lib.rt:49:9
+put-flag-requires-2 : tie.Need-put-flag-requires-2
+put-flag-requires-2 c κs = search needs
+
+-- src/lib.rt:50:9
+either-requires : tie.Need-either-requires
+either-requires c κs = search needs
+
+-- src/lib.rt:51:41
+slice-aggregate-put-flag-3 : tie.Need-slice-aggregate-put-flag-3
+slice-aggregate-put-flag-3 c = search needs
+
+-- src/lib.rt:51:5
+put-flag-requires-3 : tie.Need-put-flag-requires-3
+put-flag-requires-3 c κs = search needs
+
+-- src/lib.rt:44:1
+same-length : tie.Need-same-length
+same-length c = search needs
+
+-- src/lib.rt:44:1
+returns : tie.Need-returns
+returns c = (_then_ (_then_ (c .before .before .before .before .before .before .before .before .before .before .before .before .before .put-flag .ensures .0) (c .before .before .before .before .before .before .before .before .put-flag2 .ensures .0)) (put-as (c .before .before .put-flag3 .ensures .0) (ap (λ (b : Bool). piece (c .before .before .before .before .before .before .before .before .before .before .before .before .before .before .before .before .before .args .c) b (octets "\\Deleted")) (c .before .before .before .before .before .either .ensures))), omega (arith, c .before .before .before .before .before .before .before .before .before .before .before .before .before .put-flag .ensures .1, c .before .before .before .before .before .before .before .before .put-flag2 .ensures .1, c .before .before .put-flag3 .ensures .1))
+
+pub put-three-spec : {M : Type 1} → statement M
+put-three-spec =
+    tie.close
+    (tie.spec
+    slice-aggregate-put-flag
+    put-flag-requires
+    slice-aggregate-put-flag-2
+    put-flag-requires-2
+    either-requires
+    slice-aggregate-put-flag-3
+    put-flag-requires-3
+    same-length
+    returns)

@@ -1,0 +1,72 @@
+use borrow.Author.Needs.{needs}
+use Rattle.fetches.proofs.items.put_new.Statement.{statement}
+use Rattle.fetches.proofs.items.put_new.Tie as tie
+use Rattle.fetches.proofs.items.put_new.Reads as reads
+use Rattle.fetches.proofs.items.put_new.Lts as lts
+use Rattle.fetches.proofs.items.put_items.Reads as put-items-reads
+use Rattle.out.proofs.put.Reads as put-reads
+use Rattle.out.proofs.put_number.Reads as put-number-reads
+use mathlib.Core.Path.{_≡_, refl, sym, _∙_, ap}
+use mathlib.Core.Bool.{Bool, true, false, cond, _&&_, _||_}
+use mathlib.Core.List.{List, [], _∷_, _++_}
+use Prim.Native.Nat.{ℕ, _≤_, _<_, _+_, _-_, _*_}
+use native.Mathlib.Omega.{arith}
+use borrow.Author.Tests.{not-true, not-false}
+use Rattle.out.specs.Put.{Put, _then_, put-as, put-none}
+use Rattle.fetches.specs.Items.{newText}
+
+-- src/lib.rt:237:40
+slice-aggregate-put : tie.Need-slice-aggregate-put
+slice-aggregate-put c = search needs
+
+-- src/lib.rt:237:9
+put-requires : tie.Need-put-requires
+put-requires c κs = search needs
+
+-- src/lib.rt:238:9
+put-number-requires : tie.Need-put-number-requires
+put-number-requires c κs = search needs
+
+-- src/lib.rt:239:39
+slice-aggregate-put-2 : tie.Need-slice-aggregate-put-2
+slice-aggregate-put-2 c = search needs
+
+-- src/lib.rt:239:9
+put-requires-2 : tie.Need-put-requires-2
+put-requires-2 c κs = search needs
+
+-- src/lib.rt:240:9
+put-items-requires : tie.Need-put-items-requires
+put-items-requires c κs = search needs
+
+-- src/lib.rt:241:31
+slice-aggregate-put-3 : tie.Need-slice-aggregate-put-3
+slice-aggregate-put-3 c = search needs
+
+-- src/lib.rt:241:5
+put-requires-3 : tie.Need-put-requires-3
+put-requires-3 c κs = search needs
+
+-- src/lib.rt:233:1
+same-length : tie.Need-same-length
+same-length c = search needs
+
+-- src/lib.rt:233:1
+returns : tie.Need-returns
+unfolding newText
+returns c = (_then_ (_then_ (_then_ (_then_ (c .before .before .before .before .before .before .before .before .before .before .before .before .before .before .before .before .before .before .before .before .put .ensures) (c .before .before .before .before .before .before .before .before .before .before .before .before .before .before .before .before .put-number .ensures .0)) (c .before .before .before .before .before .before .before .before .before .before .before .put2 .ensures)) (c .before .before .before .before .before .before .before .put-items .ensures .0)) (c .before .before .put3 .ensures), omega (arith, c .before .before .before .before .before .before .before .before .before .before .before .before .before .before .before .before .before .before .before .before .put .ensures .next, c .before .before .before .before .before .before .before .before .before .before .before .before .before .before .before .before .put-number .ensures .1, c .before .before .before .before .before .before .before .before .before .before .before .put2 .ensures .next, c .before .before .before .before .before .before .before .put-items .ensures .1, c .before .before .put3 .ensures .next))
+
+pub put-new-spec : {M : Type 1} → statement M
+put-new-spec =
+    tie.close
+    (tie.spec
+    slice-aggregate-put
+    put-requires
+    put-number-requires
+    slice-aggregate-put-2
+    put-requires-2
+    put-items-requires
+    slice-aggregate-put-3
+    put-requires-3
+    same-length
+    returns)

@@ -1,0 +1,39 @@
+use borrow.Author.Needs.{needs}
+use Rattle.fetches.proofs.parts.put_fresh.Statement.{statement}
+use Rattle.fetches.proofs.parts.put_fresh.Tie as tie
+use Rattle.fetches.proofs.parts.put_fresh.Reads as reads
+use Rattle.fetches.proofs.parts.put_fresh.Lts as lts
+use Rattle.fetches.proofs.items.put_new.Reads as put-new-reads
+use mathlib.Core.Path.{_≡_, refl, sym, _∙_, ap}
+use mathlib.Core.Bool.{Bool, true, false, cond, _&&_, _||_}
+use mathlib.Core.List.{List, [], _∷_, _++_}
+use Prim.Native.Nat.{ℕ, _≤_, _<_, _+_, _-_, _*_}
+use native.Mathlib.Omega.{arith}
+use borrow.Author.Tests.{not-true, not-false}
+use Rattle.out.specs.Put.{Put, _then_, put-as, put-none}
+use Rattle.fetches.specs.Parts.{Puts, textOf, nextOf, puts-none, puts-some, off-gone, off-gone-next, is-gone, is-gone-next, is-live, is-live-next, off-marked, off-marked-next, gone-marked, gone-marked-next, live-marked-next, is-marked, not-marked, not-new, not-new-next, is-new, is-new-next}
+
+-- src/lib.rt:300:9
+returns : tie.Need-returns
+returns c = let a = c .before .before .before .before .args in
+    puts-none _ _ _ _ _ _ (c .before .before .before .before .pre .0) refl (not-new (a .told .0) (a .n .0) (a .e) (a .w) (c .if1 .taken)) (not-new-next (a .told .0) (a .n .0) (a .e) (a .w) (c .if1 .taken))
+
+-- src/lib.rt:302:16
+add-more : tie.Need-add-more
+add-more c = search needs
+
+-- src/lib.rt:303:9
+put-new-requires : tie.Need-put-new-requires
+put-new-requires c κs = search needs
+
+-- src/lib.rt:295:1
+same-length : tie.Need-same-length
+same-length c = search needs
+
+-- src/lib.rt:295:1
+returns-2 : tie.Need-returns-2
+returns-2 c = let a = c .before .before .before .before .before .before .before .before .before .args in
+    puts-some _ _ _ _ _ _ _ _ (c .before .before .put-new .ensures .0) (omega (arith, c .before .before .put-new .ensures .1)) (is-new (a .told .0) (a .n .0) (a .e) (a .w) (c .before .before .before .before .before .if1 .left)) (is-new-next (a .told .0) (a .n .0) (a .e) (a .w) (c .before .before .before .before .before .if1 .left))
+
+pub put-fresh-spec : {M : Type 1} → statement M
+put-fresh-spec = tie.close (tie.spec returns add-more put-new-requires same-length returns-2)

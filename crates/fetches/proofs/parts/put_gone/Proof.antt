@@ -1,0 +1,45 @@
+use borrow.Author.Needs.{needs}
+use Rattle.fetches.proofs.parts.put_gone.Statement.{statement}
+use Rattle.fetches.proofs.parts.put_gone.Tie as tie
+use Rattle.fetches.proofs.parts.put_gone.Reads as reads
+use Rattle.fetches.proofs.parts.put_gone.Lts as lts
+use Rattle.fetches.proofs.put_expunge.Reads as put-expunge-reads
+use mathlib.Core.Path.{_≡_, refl, sym, _∙_, ap}
+use mathlib.Core.Bool.{Bool, true, false, cond, _&&_, _||_}
+use mathlib.Core.List.{List, [], _∷_, _++_}
+use Prim.Native.Nat.{ℕ, _≤_, _<_, _+_, _-_, _*_}
+use native.Mathlib.Omega.{arith}
+use borrow.Author.Tests.{not-true, not-false}
+use Rattle.out.specs.Put.{Put, _then_, put-as, put-none}
+use Rattle.fetches.specs.Parts.{Puts, textOf, nextOf, puts-none, puts-some, off-gone, off-gone-next, is-gone, is-gone-next, is-live, is-live-next, off-marked, off-marked-next, gone-marked, gone-marked-next, live-marked-next, is-marked, not-marked, not-new, not-new-next, is-new, is-new-next}
+
+-- src/lib.rt:264:9
+returns : tie.Need-returns
+returns c = let a = c .before .before .before .before .args in
+    puts-none _ _ _ _ _ _ (c .before .before .before .before .pre .0) refl (off-gone (a .told .0) (a .n .0) (a .e) (c .if1 .taken)) (off-gone-next (a .told .0) (a .n .0) (a .e) (c .if1 .taken))
+
+-- src/lib.rt:267:13
+put-expunge-requires : tie.Need-put-expunge-requires
+put-expunge-requires c κs = search needs
+
+-- src/lib.rt:268:9
+same-length : tie.Need-same-length
+same-length c = search needs
+
+-- src/lib.rt:268:9
+returns-2 : tie.Need-returns-2
+returns-2 c = let a = c .before .before .before .before .before .before .before .before .before .before .args in
+    puts-some _ _ _ _ _ _ _ _ (c .before .before .put-expunge .ensures .0) (omega (arith, c .before .before .put-expunge .ensures .1)) (is-gone (a .told .0) (a .n .0) (a .e) (c .before .before .before .before .before .before .if1 .left) (c .before .before .before .before .if2 .taken)) (is-gone-next (a .told .0) (a .n .0) (a .e) (c .before .before .before .before .before .before .if1 .left) (c .before .before .before .before .if2 .taken))
+
+-- src/lib.rt:270:16
+add-more : tie.Need-add-more
+add-more c = search needs
+
+-- src/lib.rt:259:1
+returns-3 : tie.Need-returns-3
+returns-3 c = let a = c .before .before .before .before .before .before .before .args in
+    puts-none _ _ _ _ _ _ (c .before .before .before .before .before .before .before .pre .0) refl (is-live (a .told .0) (a .n .0) (a .e) (c .before .before .before .if1 .left) (c .before .if2 .left)) (is-live-next (a .told .0) (a .n .0) (a .e) (c .before .before .before .if1 .left) (c .before .if2 .left))
+
+pub put-gone-spec : {M : Type 1} → statement M
+put-gone-spec =
+    tie.close (tie.spec returns put-expunge-requires same-length returns-2 add-more returns-3)

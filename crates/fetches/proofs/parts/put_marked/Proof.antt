@@ -1,0 +1,51 @@
+use borrow.Author.Needs.{needs}
+use Rattle.fetches.proofs.parts.put_marked.Statement.{statement}
+use Rattle.fetches.proofs.parts.put_marked.Tie as tie
+use Rattle.fetches.proofs.parts.put_marked.Reads as reads
+use Rattle.fetches.proofs.parts.put_marked.Lts as lts
+use Rattle.fetches.proofs.put_fetch.Reads as put-fetch-reads
+use mathlib.Core.Path.{_≡_, refl, sym, _∙_, ap}
+use mathlib.Core.Bool.{Bool, true, false, cond, _&&_, _||_}
+use mathlib.Core.List.{List, [], _∷_, _++_}
+use Prim.Native.Nat.{ℕ, _≤_, _<_, _+_, _-_, _*_}
+use native.Mathlib.Omega.{arith}
+use borrow.Author.Tests.{not-true, not-false}
+use Rattle.out.specs.Put.{Put, _then_, put-as, put-none}
+use Rattle.fetches.specs.Parts.{Puts, textOf, nextOf, puts-none, puts-some, off-gone, off-gone-next, is-gone, is-gone-next, is-live, is-live-next, off-marked, off-marked-next, gone-marked, gone-marked-next, live-marked-next, is-marked, not-marked, not-new, not-new-next, is-new, is-new-next}
+
+-- src/lib.rt:280:9
+returns : tie.Need-returns
+returns c = let a = c .before .before .before .before .args in
+    puts-none _ _ _ _ _ _ (c .before .before .before .before .pre .0) refl (off-marked (a .told .0) (a .n .0) (a .e) (c .if1 .taken)) (off-marked-next (a .told .0) (a .n .0) (a .e) (c .if1 .taken))
+
+-- src/lib.rt:283:9
+returns-2 : tie.Need-returns-2
+returns-2 c = let a = c .before .before .before .before .before .before .args in
+    puts-none _ _ _ _ _ _ (c .before .before .before .before .before .before .pre .0) refl (gone-marked (a .told .0) (a .n .0) (a .e) (c .before .before .if1 .left) (c .if2 .taken)) (gone-marked-next (a .told .0) (a .n .0) (a .e) (c .before .before .if1 .left) (c .if2 .taken))
+
+-- src/lib.rt:285:16
+add-more : tie.Need-add-more
+add-more c = search needs
+
+-- src/lib.rt:288:13
+put-fetch-requires : tie.Need-put-fetch-requires
+put-fetch-requires c κs = search needs
+
+-- src/lib.rt:289:9
+same-length : tie.Need-same-length
+same-length c = search needs
+
+-- src/lib.rt:289:9
+returns-3 : tie.Need-returns-3
+returns-3 c = let a = c .before .before .before .before .before .before .before .before .before .before .before .before .before .before .args in
+    puts-some _ _ _ _ _ _ _ _ (c .before .before .put-fetch .ensures .0) (omega (arith, c .before .before .put-fetch .ensures .1)) (is-marked (a .told .0) (a .n .0) (a .e) (c .before .before .before .before .before .before .before .before .before .before .if1 .left) (c .before .before .before .before .before .before .before .before .if2 .left) (c .before .before .before .before .before .if3 .taken)) (live-marked-next (a .told .0) (a .n .0) (a .e) (c .before .before .before .before .before .before .before .before .before .before .if1 .left) (c .before .before .before .before .before .before .before .before .if2 .left))
+
+-- src/lib.rt:275:1
+returns-4 : tie.Need-returns-4
+returns-4 c = let a = c .before .before .before .before .before .before .before .before .before .args in
+    puts-none _ _ _ _ _ _ (c .before .before .before .before .before .before .before .before .before .pre .0) refl (not-marked (a .told .0) (a .n .0) (a .e) (c .before .before .before .before .before .if1 .left) (c .before .before .before .if2 .left) (c .if3 .left)) (live-marked-next (a .told .0) (a .n .0) (a .e) (c .before .before .before .before .before .if1 .left) (c .before .before .before .if2 .left))
+
+pub put-marked-spec : {M : Type 1} → statement M
+put-marked-spec =
+    tie.close
+    (tie.spec returns returns-2 add-more put-fetch-requires same-length returns-3 returns-4)

@@ -1,0 +1,96 @@
+// The FETCH line of a new message, with the items that are asked.
+use super::Shows;
+use super::flags::either;
+use super::flags::put_flags;
+use model::Message;
+use model::MessageNumber;
+ghost use mathlib.Core.List.{_++_};
+ghost use Prim.Native.Nat.{_+_, _≤_};
+ghost use lib.ListN.{length};
+ghost use Rattle.model.specs.Text.{decimal};
+ghost use Rattle.out.specs.Put.{Put};
+ghost use Rattle.fetches.specs.Fetch.{piece};
+ghost use Rattle.fetches.specs.Items.{gap, flagItem, itemsText, newText};
+
+// A space, where something stands before.
+fn put_gap(queue: &mut [u8], at: usize, limit: usize, began: bool) -> usize
+    requires { ⌜ (limit ≤ length (now queue)) × (at ≤ 67108864) ⌝ }
+    ensures { λ r. ⌜ (Put (now (queue .entry)) at limit (gap began) (now (queue .exit)) r) × (r ≤ at + 1) ⌝ }
+{
+    if !began {
+        return at;
+    }
+    out::put_byte(queue, at, limit, 32)
+}
+
+// A word and a number, where they are asked.
+fn put_counted(
+    queue: &mut [u8],
+    at: usize,
+    limit: usize,
+    on: bool,
+    began: bool,
+    word: &[u8],
+    n: u64,
+) -> usize
+    requires { ⌜ (limit ≤ length (now queue)) × (at ≤ 33554432) × (length (now word) ≤ 16) ⌝ }
+    ensures { λ r. ⌜ (Put (now (queue .entry)) at limit (piece on began (now (word .entry) ++ decimal n)) (now (queue .exit)) r) × (r ≤ at + 37) ⌝ }
+{
+    if !on {
+        return at;
+    }
+    let a = put_gap(queue, at, limit, began);
+    let b = out::put(queue, a, limit, word);
+    out::put_number(queue, b, limit, n)
+}
+
+// The flags, where they are asked.
+fn put_flag_item(
+    queue: &mut [u8],
+    at: usize,
+    limit: usize,
+    on: bool,
+    began: bool,
+    flags: u64,
+) -> usize
+    requires { ⌜ (limit ≤ length (now queue)) × (at ≤ 16777300) ⌝ }
+    ensures { λ r. ⌜ (Put (now (queue .entry)) at limit (piece on began (flagItem flags)) (now (queue .exit)) r) × (r ≤ at + 94) ⌝ }
+{
+    if !on {
+        return at;
+    }
+    let a = put_gap(queue, at, limit, began);
+    let b = out::put(queue, a, limit, b"FLAGS (");
+    let c = put_flags(queue, b, limit, flags);
+    out::put(queue, c, limit, b")")
+}
+
+// What is asked of a message, in the order UID, FLAGS, RFC822.SIZE.
+fn put_items(queue: &mut [u8], at: usize, limit: usize, w: Shows, e: Message) -> usize
+    requires { ⌜ (limit ≤ length (now queue)) × (at ≤ 16777250) ⌝ }
+    ensures { λ r. ⌜ (Put (now (queue .entry)) at limit (itemsText w e) (now (queue .exit)) r) × (r ≤ at + 168) ⌝ }
+{
+    let a = put_counted(queue, at, limit, w.uid, false, b"UID ", e.uid.0);
+    let b = put_flag_item(queue, a, limit, w.flags, w.uid, e.flags);
+    let began = either(w.uid, w.flags);
+    put_counted(queue, b, limit, w.size, began, b"RFC822.SIZE ", e.size)
+}
+
+// `* n FETCH (..)` of a new message.
+pub fn put_new(
+    queue: &mut [u8],
+    at: usize,
+    limit: usize,
+    w: Shows,
+    n: MessageNumber,
+    e: Message,
+) -> usize
+    requires { ⌜ (limit ≤ length (now queue)) × (at ≤ 16777216) ⌝ }
+    ensures { λ r. ⌜ (Put (now (queue .entry)) at limit (newText w (n .0) e) (now (queue .exit)) r) × (r ≤ at + 201) ⌝ }
+{
+    let a = out::put(queue, at, limit, b"* ");
+    let b = out::put_number(queue, a, limit, n.0);
+    let c = out::put(queue, b, limit, b" FETCH (");
+    let d = put_items(queue, c, limit, w, e);
+    out::put(queue, d, limit, b")\r\n")
+}

@@ -1,0 +1,56 @@
+-- `octets::runs::run_end` meets its contract: the end of the run from the start is its end from here. Assumes nothing.
+use Rattle.octets.proofs.runs.run_end.Statement.{statement}
+use Rattle.octets.proofs.runs.run_end.Tie as tie
+use mathlib.Core.Path.{_≡_, refl, sym, _∙_}
+use native.Mathlib.Omega.{arith}
+use Prim.Native.Nat.{_≤_, _+_, _-_}
+use lib.ListN.{length}
+use Rattle.model.specs.Reading.{endOf}
+use Rattle.octets.specs.Classes.{inClass}
+use Rattle.octets.proofs.Ends.{run-past, run-stops, run-goes}
+use borrow.Author.Needs.{needs}
+
+abbrev Inv-loop : tie.InvT-loop
+Inv-loop text at c p₀ p = (at ≤ p) × (p ≤ at + (length text - at)) × (endOf (inClass c) text at ≡ endOf (inClass c) text p)
+
+abbrev μ-loop : tie.MeasureT-loop
+μ-loop text at c p₀ p = length text - p
+
+loop-holds : tie.Need-loop-holds Inv-loop μ-loop
+loop-holds c = (omega arith, omega arith, refl)
+
+shared-slice-read-in-class : tie.Need-shared-slice-read-in-class Inv-loop μ-loop
+shared-slice-read-in-class c = search needs
+
+in-class-requires : tie.Need-in-class-requires Inv-loop μ-loop
+in-class-requires c κs = search needs
+
+add-p : tie.Need-add-p Inv-loop μ-loop
+add-p c = search needs
+
+loop-less : tie.Need-loop-less Inv-loop μ-loop
+loop-less c = search needs
+
+loop-again : tie.Need-loop-again Inv-loop μ-loop
+loop-again c = (omega arith, omega arith, c .before .before .before .before .loop .inv .2 ∙ run-goes (inClass (c .before .before .before .before .before .before .args .c)) (c .before .before .before .before .before .before .args .text .now) (c .before .before .before .before .loop .p) (omega arith) (sym (c .before .in-class .ensures) ∙ c .if1 .taken))
+
+returns : tie.Need-returns Inv-loop μ-loop
+returns c = record { exact = sym (c .before .before .before .before .loop .inv .2 ∙ run-stops (inClass (c .before .before .before .before .before .before .args .c)) (c .before .before .before .before .before .before .args .text .now) (c .before .before .before .before .loop .p) (omega arith) (sym (c .before .in-class .ensures) ∙ c .if1 .left)); from = omega arith; within = omega arith }
+
+returns-2 : tie.Need-returns-2 Inv-loop μ-loop
+returns-2 c = record { exact = sym (c .before .loop .inv .2 ∙ run-past (inClass (c .before .before .before .args .c)) (c .before .before .before .args .text .now) (c .before .loop .p) (omega arith)); from = omega arith; within = omega arith }
+
+pub run-end-spec : {M : Type 1} → statement M
+run-end-spec =
+    tie.close
+    (tie.spec
+    Inv-loop
+    μ-loop
+    loop-holds
+    shared-slice-read-in-class
+    in-class-requires
+    add-p
+    loop-less
+    loop-again
+    returns
+    returns-2)

@@ -1,7 +1,7 @@
 -- `records::tail_ok` meets its contract, for each tail. Assumes nothing.
 use borrow.Author.Needs.{needs}
-use Rattle.records.proofs.tail_ok.Statement.{statement}
-use Rattle.records.proofs.tail_ok.Tie as tie
+use Rattle.records.proofs.bodies.tail_ok.Statement.{statement}
+use Rattle.records.proofs.bodies.tail_ok.Tie as tie
 use Rattle.records.proofs.Frames.{tail-nothing, tail-name, tail-command}
 
 enum-told : tie.Need-enum-told

@@ -1,6 +1,6 @@
 -- `records::is_rights` meets its contract: one test, then the other. Assumes nothing.
-use Rattle.records.proofs.is_rights.Statement.{statement}
-use Rattle.records.proofs.is_rights.Tie as tie
+use Rattle.records.proofs.layouts.is_rights.Statement.{statement}
+use Rattle.records.proofs.layouts.is_rights.Tie as tie
 use Rattle.records.proofs.Letters.{both-first, both-none}
 use borrow.Author.Tests.{eq-eqb, ne-eqb}
 

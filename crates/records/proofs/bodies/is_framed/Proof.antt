@@ -1,7 +1,7 @@
 -- `records::is_framed` meets its contract: the length field, counted from the body on. Assumes nothing.
 use borrow.Author.Needs.{needs}
-use Rattle.records.proofs.is_framed.Statement.{statement}
-use Rattle.records.proofs.is_framed.Tie as tie
+use Rattle.records.proofs.bodies.is_framed.Statement.{statement}
+use Rattle.records.proofs.bodies.is_framed.Tie as tie
 use Rattle.records.proofs.Frames.{frame-short, frame-long}
 
 returns : tie.Need-returns

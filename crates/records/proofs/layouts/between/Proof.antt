@@ -1,6 +1,6 @@
 -- `records::between` meets its contract: one test, then the other. Assumes nothing.
-use Rattle.records.proofs.between.Statement.{statement}
-use Rattle.records.proofs.between.Tie as tie
+use Rattle.records.proofs.layouts.between.Statement.{statement}
+use Rattle.records.proofs.layouts.between.Tie as tie
 use Rattle.records.proofs.Letters.{both-first, both-none}
 use borrow.Author.Tests.{le-leb, lt-leb}
 

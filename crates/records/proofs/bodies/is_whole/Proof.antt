@@ -1,7 +1,7 @@
 -- `records::is_whole` meets its contract: one test after the other. Assumes nothing.
 use borrow.Author.Needs.{needs}
-use Rattle.records.proofs.is_whole.Statement.{statement}
-use Rattle.records.proofs.is_whole.Tie as tie
+use Rattle.records.proofs.bodies.is_whole.Statement.{statement}
+use Rattle.records.proofs.bodies.is_whole.Tie as tie
 use mathlib.Core.Path.{sym, _∙_}
 use borrow.Author.Tests.{not-true, not-false}
 use Rattle.records.proofs.Frames.{whole-unframed, whole-short, whole-tail}

@@ -1,6 +1,6 @@
 -- `records::fields_at` meets its contract: what all fields say is what the fields passed say, and the rest. Assumes nothing.
-use Rattle.records.proofs.fields_at.Statement.{statement}
-use Rattle.records.proofs.fields_at.Tie as tie
+use Rattle.records.proofs.bodies.fields_at.Statement.{statement}
+use Rattle.records.proofs.bodies.fields_at.Tie as tie
 use borrow.Author.Needs.{needs}
 use native.Mathlib.Omega.{arith}
 use Prim.Native.Nat.{_-_, _≤_}

@@ -1,7 +1,7 @@
 -- `records::in_range` meets its contract: each field's range. Assumes nothing.
 use borrow.Author.Needs.{needs}
-use Rattle.records.proofs.in_range.Statement.{statement}
-use Rattle.records.proofs.in_range.Tie as tie
+use Rattle.records.proofs.layouts.in_range.Statement.{statement}
+use Rattle.records.proofs.layouts.in_range.Tie as tie
 use mathlib.Core.Path.{_∙_}
 use Rattle.records.proofs.Letters.{range-as}
 

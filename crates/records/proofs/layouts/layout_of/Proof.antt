@@ -1,7 +1,7 @@
 -- `records::layout_of` meets its contract: each kind's row of the table. Assumes nothing.
 use borrow.Author.Needs.{needs}
-use Rattle.records.proofs.layout_of.Statement.{statement}
-use Rattle.records.proofs.layout_of.Tie as tie
+use Rattle.records.proofs.layouts.layout_of.Statement.{statement}
+use Rattle.records.proofs.layouts.layout_of.Tie as tie
 use mathlib.Core.Path.{sym, ap}
 use Rattle.records.specs.Layouts.{layoutFor}
 

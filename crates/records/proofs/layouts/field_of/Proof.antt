@@ -1,6 +1,6 @@
 -- `records::field_of` meets its contract: each letter's field is computed. Assumes nothing.
-use Rattle.records.proofs.field_of.Statement.{statement}
-use Rattle.records.proofs.field_of.Tie as tie
+use Rattle.records.proofs.layouts.field_of.Statement.{statement}
+use Rattle.records.proofs.layouts.field_of.Tie as tie
 use mathlib.Core.Path.{sym, ap}
 use Rattle.records.specs.Layouts.{fieldOf}
 use Rattle.records.proofs.Letters.{letter-other}

@@ -1,11 +1,11 @@
 -- `section_at`: the bracket, what it encloses, and `close_at` behind it.
 use borrow.Author.Needs.{needs}
-use Rattle.read_attributes.proofs.section_at.Statement.{statement}
-use Rattle.read_attributes.proofs.section_at.Tie as tie
+use Rattle.read_attributes.proofs.sections.section_at.Statement.{statement}
+use Rattle.read_attributes.proofs.sections.section_at.Tie as tie
 use mathlib.Core.Path.{sym, _∙_}
 use native.Mathlib.Omega.{arith}
 use Rattle.read_attributes.proofs.Rows.{within-from}
-use Rattle.read_attributes.proofs.Sections.{section-blank, section-none, section-close}
+use Rattle.read_attributes.proofs.Sectioning.{section-blank, section-none, section-close}
 use Rattle.octets.specs.Rows.{in-text}
 
 octet-at-requires : tie.Need-octet-at-requires

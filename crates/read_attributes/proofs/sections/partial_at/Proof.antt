@@ -1,11 +1,11 @@
 -- `partial_at`: an octet and a number, and `count_at` behind them.
 use borrow.Author.Needs.{needs}
-use Rattle.read_attributes.proofs.partial_at.Statement.{statement}
-use Rattle.read_attributes.proofs.partial_at.Tie as tie
+use Rattle.read_attributes.proofs.sections.partial_at.Statement.{statement}
+use Rattle.read_attributes.proofs.sections.partial_at.Tie as tie
 use mathlib.Core.Path.{sym, _∙_}
 use native.Mathlib.Omega.{arith}
 use Rattle.read_attributes.proofs.Rows.{within-from}
-use Rattle.read_attributes.proofs.Sections.{partial-blank, partial-none, partial-count}
+use Rattle.read_attributes.proofs.Sectioning.{partial-blank, partial-none, partial-count}
 use Rattle.octets.specs.Rows.{in-text}
 
 octet-at-requires : tie.Need-octet-at-requires

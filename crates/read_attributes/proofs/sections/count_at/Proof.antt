@@ -1,10 +1,10 @@
 -- `count_at`: an octet, a number and an octet, each as the definition has it.
 use borrow.Author.Needs.{needs}
-use Rattle.read_attributes.proofs.count_at.Statement.{statement}
-use Rattle.read_attributes.proofs.count_at.Tie as tie
+use Rattle.read_attributes.proofs.sections.count_at.Statement.{statement}
+use Rattle.read_attributes.proofs.sections.count_at.Tie as tie
 use mathlib.Core.Path.{sym, _∙_}
 use native.Mathlib.Omega.{arith}
-use Rattle.read_attributes.proofs.Sections.{count-blank, count-none, count-shut, count-open}
+use Rattle.read_attributes.proofs.Sectioning.{count-blank, count-none, count-shut, count-open}
 use Rattle.octets.specs.Rows.{in-text}
 
 octet-at-requires : tie.Need-octet-at-requires

@@ -1,13 +1,13 @@
 -- `fields_at`: the row behind the parenthesis is read with the fuel of `listAt`.
 use borrow.Author.Needs.{needs}
-use Rattle.read_attributes.proofs.fields_at.Statement.{statement}
-use Rattle.read_attributes.proofs.fields_at.Tie as tie
+use Rattle.read_attributes.proofs.sections.fields_at.Statement.{statement}
+use Rattle.read_attributes.proofs.sections.fields_at.Tie as tie
 use mathlib.Core.Path.{sym, _∙_}
 use native.Mathlib.Omega.{arith}
 use Prim.Native.Nat.{_+_}
 use lib.ListN.{length}
 use Rattle.read_attributes.proofs.Rows.{within-from}
-use Rattle.read_attributes.proofs.Sections.{fields-blank, fields-shut, fields-list}
+use Rattle.read_attributes.proofs.Sectioning.{fields-blank, fields-shut, fields-list}
 use Rattle.octets.specs.Rows.{in-text}
 
 octet-at-requires : tie.Need-octet-at-requires

@@ -1,10 +1,10 @@
 -- `section_spec_at`: the octet at the position decides.
 use borrow.Author.Needs.{needs}
-use Rattle.read_attributes.proofs.section_spec_at.Statement.{statement}
-use Rattle.read_attributes.proofs.section_spec_at.Tie as tie
+use Rattle.read_attributes.proofs.sections.section_spec_at.Statement.{statement}
+use Rattle.read_attributes.proofs.sections.section_spec_at.Tie as tie
 use mathlib.Core.Path.{sym, _∙_}
 use native.Mathlib.Omega.{arith}
-use Rattle.read_attributes.proofs.Sections.{within-onward, spec-empty, spec-part, spec-text}
+use Rattle.read_attributes.proofs.Sectioning.{within-onward, spec-empty, spec-part, spec-text}
 use Rattle.octets.specs.Rows.{in-text}
 
 octet-at-requires : tie.Need-octet-at-requires

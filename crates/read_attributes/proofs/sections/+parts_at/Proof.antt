@@ -2,14 +2,14 @@
 use Prim.Native.Nat.{ℕ, _<_}
 use borrow.Fn.Kinds.{In}
 use borrow.Fn.PlainCycle.{Measures, is, falls, and}
-use Rattle.read_attributes.proofs.parts_at.Reads as parts-at
-use Rattle.read_attributes.proofs.parts_at.Kinds as parts-at-kinds
-use Rattle.read_attributes.proofs.+parts_at.Lts-parts_at as parts-at-lts
+use Rattle.read_attributes.proofs.sections.parts_at.Reads as parts-at
+use Rattle.read_attributes.proofs.sections.parts_at.Kinds as parts-at-kinds
+use Rattle.read_attributes.proofs.sections.+parts_at.Lts-parts_at as parts-at-lts
 use Rattle.octets.proofs.classes.in_class.Reads as in-class-reads
 use Rattle.octets.proofs.classes.octet_at.Reads as octet-at-reads
 use Rattle.octets.proofs.numbers.positive_at.Reads as positive-at-reads
-use Rattle.read_attributes.proofs.+parts_at.{statement}
-use Rattle.read_attributes.proofs.+parts_at.Tie.{close}
+use Rattle.read_attributes.proofs.sections.+parts_at.{statement}
+use Rattle.read_attributes.proofs.sections.+parts_at.Tie.{close}
 use mathlib.Core.Path.{sym, _∙_}
 use native.Mathlib.Omega.{arith}
 use Prim.Native.Nat.{_+_, _-_}
@@ -17,7 +17,7 @@ use lib.ListN.{length}
 use Rattle.model.specs.Reading.{positiveAt}
 use Rattle.read_attributes.specs.Sections.{partNext}
 use Rattle.read_attributes.proofs.Rows.{number-found, number-lost, within-from, end-none, end-another, end-over}
-use Rattle.read_attributes.proofs.Sections.{part-another, part-letter, part-over}
+use Rattle.read_attributes.proofs.Sectioning.{part-another, part-letter, part-over}
 use borrow.Author.Needs.{needs}
 use Rattle.octets.specs.Rows.{in-text}
 

@@ -2,13 +2,13 @@
 use Prim.Native.Nat.{ℕ, _<_}
 use borrow.Fn.Kinds.{In}
 use borrow.Fn.PlainCycle.{Measures, is, falls, and}
-use Rattle.read_attributes.proofs.fields_to_close.Reads as fields-to-close
-use Rattle.read_attributes.proofs.fields_to_close.Kinds as fields-to-close-kinds
-use Rattle.read_attributes.proofs.+fields_to_close.Lts-fields_to_close as fields-to-close-lts
+use Rattle.read_attributes.proofs.sections.fields_to_close.Reads as fields-to-close
+use Rattle.read_attributes.proofs.sections.fields_to_close.Kinds as fields-to-close-kinds
+use Rattle.read_attributes.proofs.sections.+fields_to_close.Lts-fields_to_close as fields-to-close-lts
 use Rattle.octets.proofs.texts.text_at.Reads as text-at-reads
 use Rattle.octets.proofs.classes.octet_at.Reads as octet-at-reads
-use Rattle.read_attributes.proofs.+fields_to_close.{statement}
-use Rattle.read_attributes.proofs.+fields_to_close.Tie.{close}
+use Rattle.read_attributes.proofs.sections.+fields_to_close.{statement}
+use Rattle.read_attributes.proofs.sections.+fields_to_close.Tie.{close}
 use mathlib.Core.Path.{sym, _∙_}
 use native.Mathlib.Omega.{arith}
 use Prim.Native.Nat.{_+_, _-_}

@@ -1,13 +1,13 @@
 -- `section_text_at`: the run is what stands up to its end, and the word decides.
 use borrow.Author.Needs.{needs}
-use Rattle.read_attributes.proofs.section_text_at.Statement.{statement}
-use Rattle.read_attributes.proofs.section_text_at.Tie as tie
+use Rattle.read_attributes.proofs.sections.section_text_at.Statement.{statement}
+use Rattle.read_attributes.proofs.sections.section_text_at.Tie as tie
 use mathlib.Core.Path.{sym, ap, _∙_}
 use mathlib.Core.Bool.{Bool}
 use native.Mathlib.Omega.{arith}
-use Rattle.read_attributes.specs.declared.Wanted.the-variants.{Mime}
+use Rattle.read_attributes.specs.declared.sections.Wanted.the-variants.{Mime}
 use Rattle.read_attributes.proofs.Rows.{within-from}
-use Rattle.read_attributes.proofs.Sections.{wantedAt, text-none, text-by}
+use Rattle.read_attributes.proofs.Sectioning.{wantedAt, text-none, text-by}
 
 run-at-requires : tie.Need-run-at-requires
 run-at-requires c κs = search needs

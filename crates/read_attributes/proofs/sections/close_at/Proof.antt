@@ -1,12 +1,12 @@
 -- `close_at`: the bracket, and a partial where one begins.
 use borrow.Author.Needs.{needs}
-use Rattle.read_attributes.proofs.close_at.Statement.{statement}
-use Rattle.read_attributes.proofs.close_at.Tie as tie
+use Rattle.read_attributes.proofs.sections.close_at.Statement.{statement}
+use Rattle.read_attributes.proofs.sections.close_at.Tie as tie
 use mathlib.Core.Path.{sym, _∙_}
 use native.Mathlib.Omega.{arith}
 use Prim.Native.Nat.{_+_}
 use Rattle.read_attributes.proofs.Rows.{within-from}
-use Rattle.read_attributes.proofs.Sections.{close-blank, close-partial, close-alone}
+use Rattle.read_attributes.proofs.Sectioning.{close-blank, close-partial, close-alone}
 use Rattle.octets.specs.Rows.{in-text}
 
 octet-at-requires : tie.Need-octet-at-requires

@@ -1,13 +1,13 @@
 -- `section_part_at`: the parts are read with the fuel of the definition; a dot behind them has a text behind it.
 use borrow.Author.Needs.{needs}
-use Rattle.read_attributes.proofs.section_part_at.Statement.{statement}
-use Rattle.read_attributes.proofs.section_part_at.Tie as tie
+use Rattle.read_attributes.proofs.sections.section_part_at.Statement.{statement}
+use Rattle.read_attributes.proofs.sections.section_part_at.Tie as tie
 use mathlib.Core.Path.{sym, _∙_}
 use native.Mathlib.Omega.{arith}
 use Prim.Native.Nat.{_+_}
 use lib.ListN.{length}
 use Rattle.read_attributes.proofs.Rows.{within-from}
-use Rattle.read_attributes.proofs.Sections.{part-none, part-text, part-alone}
+use Rattle.read_attributes.proofs.Sectioning.{part-none, part-text, part-alone}
 use Rattle.octets.specs.Rows.{in-text}
 
 parts-at-requires : tie.Need-parts-at-requires

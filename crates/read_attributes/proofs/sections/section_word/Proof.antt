@@ -1,7 +1,7 @@
 -- `section_word`: each word is tested in the order of the definition.
 use borrow.Author.Needs.{needs}
-use Rattle.read_attributes.proofs.section_word.Statement.{statement}
-use Rattle.read_attributes.proofs.section_word.Tie as tie
+use Rattle.read_attributes.proofs.sections.section_word.Statement.{statement}
+use Rattle.read_attributes.proofs.sections.section_word.Tie as tie
 use mathlib.Core.Path.{sym, _∙_}
 use Rattle.model.specs.Attributes.{sectionWord}
 

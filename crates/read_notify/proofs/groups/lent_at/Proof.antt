@@ -4,8 +4,8 @@ use mathlib.Core.Path.{sym, _∙_}
 use Prim.Native.Nat.{_-_}
 use Rattle.read_notify.proofs.Lending.{lent-blank, lent-none, lent-odd, lent-by, within-lent}
 use borrow.Author.Needs.{needs}
-use Rattle.read_notify.proofs.watches.lent_at.Statement.{statement}
-use Rattle.read_notify.proofs.watches.lent_at.Tie as tie
+use Rattle.read_notify.proofs.groups.lent_at.Statement.{statement}
+use Rattle.read_notify.proofs.groups.lent_at.Tie as tie
 use Rattle.octets.specs.Rows.{in-text}
 
 octet-at-requires : tie.Need-octet-at-requires

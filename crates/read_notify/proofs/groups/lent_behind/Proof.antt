@@ -7,8 +7,8 @@ use Rattle.read_notify.specs.declared.Tally.{Tally}
 use Rattle.read_notify.proofs.Counting.{one-most}
 use Rattle.read_notify.proofs.Lending.{behind-blank, behind-none, behind-open, behind-lent}
 use Rattle.octets.specs.Rows.{in-text}
-use Rattle.read_notify.proofs.watches.lent_behind.Statement.{statement}
-use Rattle.read_notify.proofs.watches.lent_behind.Tie as tie
+use Rattle.read_notify.proofs.groups.lent_behind.Statement.{statement}
+use Rattle.read_notify.proofs.groups.lent_behind.Tie as tie
 
 octet-at-requires : tie.Need-octet-at-requires
 octet-at-requires c κs = search needs

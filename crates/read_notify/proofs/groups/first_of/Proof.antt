@@ -1,8 +1,8 @@
 -- `first_of`: by the test.
 use borrow.Author.Tests.{eq-eqb, ne-eqb}
 use borrow.Author.Needs.{needs}
-use Rattle.read_notify.proofs.watches.first_of.Statement.{statement}
-use Rattle.read_notify.proofs.watches.first_of.Tie as tie
+use Rattle.read_notify.proofs.groups.first_of.Statement.{statement}
+use Rattle.read_notify.proofs.groups.first_of.Tie as tie
 
 low-requires : tie.Need-low-requires
 low-requires c κs = search needs

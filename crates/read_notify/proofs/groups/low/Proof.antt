@@ -1,8 +1,8 @@
 -- `low`: by the test.
 use borrow.Author.Tests.{lt-ltb, le-ltb}
 use borrow.Author.Needs.{needs}
-use Rattle.read_notify.proofs.watches.low.Statement.{statement}
-use Rattle.read_notify.proofs.watches.low.Tie as tie
+use Rattle.read_notify.proofs.groups.low.Statement.{statement}
+use Rattle.read_notify.proofs.groups.low.Tie as tie
 
 cast-result : tie.Need-cast-result
 cast-result c = search needs

@@ -1,8 +1,8 @@
 -- `bit_below`: by the bit.
 use native.Mathlib.Omega.{arith}
 use borrow.Author.Needs.{needs}
-use Rattle.read_notify.proofs.watches.bit_below.Statement.{statement}
-use Rattle.read_notify.proofs.watches.bit_below.Tie as tie
+use Rattle.read_notify.proofs.groups.bit_below.Statement.{statement}
+use Rattle.read_notify.proofs.groups.bit_below.Tie as tie
 
 mul-result : tie.Need-mul-result
 mul-result c = search needs

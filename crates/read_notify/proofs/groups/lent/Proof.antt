@@ -1,7 +1,7 @@
 -- `lent`: as its calls say.
 use borrow.Author.Needs.{needs}
-use Rattle.read_notify.proofs.watches.lent.Statement.{statement}
-use Rattle.read_notify.proofs.watches.lent.Tie as tie
+use Rattle.read_notify.proofs.groups.lent.Statement.{statement}
+use Rattle.read_notify.proofs.groups.lent.Tie as tie
 
 first-of-requires : tie.Need-first-of-requires
 first-of-requires c κs = search needs

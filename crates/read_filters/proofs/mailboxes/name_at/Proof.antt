@@ -8,8 +8,8 @@ use Rattle.model.specs.Reading.{astringAt}
 use Rattle.model.specs.Listing.{lendName}
 use Rattle.octets.specs.Values.{valueOf}
 use Rattle.read_filters.proofs.Places.{front, front-length, too-long}
-use Rattle.read_filters.proofs.name_at.Statement.{statement}
-use Rattle.read_filters.proofs.name_at.Tie as tie
+use Rattle.read_filters.proofs.mailboxes.name_at.Statement.{statement}
+use Rattle.read_filters.proofs.mailboxes.name_at.Tie as tie
 
 slice-aggregate-value-of : tie.Need-slice-aggregate-value-of
 slice-aggregate-value-of c = search needs

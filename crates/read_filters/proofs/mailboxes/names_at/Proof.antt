@@ -5,8 +5,8 @@ use native.Mathlib.Omega.{arith}
 use Prim.Native.Nat.{_-_}
 use lib.ListN.{length}
 use Rattle.read_filters.proofs.Rows.{names-row, names-one, names-none, within-from}
-use Rattle.read_filters.proofs.names_at.Statement.{statement}
-use Rattle.read_filters.proofs.names_at.Tie as tie
+use Rattle.read_filters.proofs.mailboxes.names_at.Statement.{statement}
+use Rattle.read_filters.proofs.mailboxes.names_at.Tie as tie
 use Rattle.octets.specs.Rows.{in-text}
 
 octet-at-requires : tie.Need-octet-at-requires

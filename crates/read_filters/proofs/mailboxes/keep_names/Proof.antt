@@ -7,8 +7,8 @@ use lib.ListN.{length}
 use Rattle.read_filters.specs.Keeping.{withOne}
 use Rattle.read_filters.specs.declared.Kept.{Kept}
 use Rattle.read_filters.proofs.Storing.{kept-row, kept-none, kept-one, fits-from}
-use Rattle.read_filters.proofs.keep_names.Statement.{statement}
-use Rattle.read_filters.proofs.keep_names.Tie as tie
+use Rattle.read_filters.proofs.mailboxes.keep_names.Statement.{statement}
+use Rattle.read_filters.proofs.mailboxes.keep_names.Tie as tie
 use Rattle.octets.specs.Rows.{in-text}
 
 octet-at-requires : tie.Need-octet-at-requires

@@ -7,8 +7,8 @@ use lib.ListN.{length}
 use Rattle.read_filters.specs.Keeping.{withOne}
 use Rattle.read_filters.specs.declared.Kept.{Kept}
 use Rattle.read_filters.proofs.Storing.{Goes, goes-start, goes-none, goes-wrong, goes-last, goes-on}
-use Rattle.read_filters.proofs.keep_row.Statement.{statement}
-use Rattle.read_filters.proofs.keep_row.Tie as tie
+use Rattle.read_filters.proofs.mailboxes.keep_row.Statement.{statement}
+use Rattle.read_filters.proofs.mailboxes.keep_row.Tie as tie
 use Rattle.octets.specs.Rows.{in-text}
 
 abbrev Inv-loop : tie.InvT-loop

@@ -3,8 +3,8 @@ use borrow.Author.Needs.{needs}
 use mathlib.Core.Path.{sym, ap}
 use native.Mathlib.Omega.{arith}
 use Rattle.read_filters.specs.Counted.{oneMore}
-use Rattle.read_filters.proofs.one_more.Statement.{statement}
-use Rattle.read_filters.proofs.one_more.Tie as tie
+use Rattle.read_filters.proofs.mailboxes.one_more.Statement.{statement}
+use Rattle.read_filters.proofs.mailboxes.one_more.Tie as tie
 
 enum-known-r : tie.Need-enum-known-r
 enum-known-r c = search needs

@@ -2,8 +2,8 @@
 use borrow.Author.Needs.{needs}
 use native.Mathlib.Omega.{arith}
 use Rattle.read_filters.proofs.Places.{mapped, one-dropped}
-use Rattle.read_filters.proofs.keep_one.Statement.{statement}
-use Rattle.read_filters.proofs.keep_one.Tie as tie
+use Rattle.read_filters.proofs.mailboxes.keep_one.Statement.{statement}
+use Rattle.read_filters.proofs.mailboxes.keep_one.Tie as tie
 
 mul-names : tie.Need-mul-names
 mul-names c = search needs

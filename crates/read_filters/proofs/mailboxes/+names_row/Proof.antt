@@ -8,14 +8,14 @@ use Rattle.read_filters.specs.Counted.{oneMore}
 use Rattle.read_filters.proofs.Rows.{row-none, row-more, row-last, row-wrong, room, within-more}
 use borrow.Fn.Kinds.{In}
 use borrow.Fn.PlainCycle.{Measures, is, falls, and}
-use Rattle.read_filters.proofs.names_row.Reads as names-row
-use Rattle.read_filters.proofs.names_row.Kinds as names-row-kinds
-use Rattle.read_filters.proofs.+names_row.Lts-names_row as names-row-lts
-use Rattle.read_filters.proofs.one_more.Reads as one-more-reads
+use Rattle.read_filters.proofs.mailboxes.names_row.Reads as names-row
+use Rattle.read_filters.proofs.mailboxes.names_row.Kinds as names-row-kinds
+use Rattle.read_filters.proofs.mailboxes.+names_row.Lts-names_row as names-row-lts
+use Rattle.read_filters.proofs.mailboxes.one_more.Reads as one-more-reads
 use Rattle.octets.proofs.classes.octet_at.Reads as octet-at-reads
 use Rattle.octets.proofs.texts.text_at.Reads as text-at-reads
-use Rattle.read_filters.proofs.+names_row.{statement}
-use Rattle.read_filters.proofs.+names_row.Tie.{close}
+use Rattle.read_filters.proofs.mailboxes.+names_row.{statement}
+use Rattle.read_filters.proofs.mailboxes.+names_row.Tie.{close}
 use Rattle.octets.specs.Rows.{in-text}
 
 abbrev μ-names-row : Measures 1 names-row-kinds.ps ℕ

@@ -1,4 +1,4 @@
 -- Lemmas on plain values, for the proofs of this crate.
 pub mod Rows
-mod Sections
+mod Sectioning
 mod Asking

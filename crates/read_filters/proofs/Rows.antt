@@ -11,8 +11,8 @@ use Rattle.model.specs.NotifyGrammar.{namesAt}
 use Rattle.octets.specs.Found.{nextOf}
 use Rattle.octets.specs.declared.Next.the-variants.{At, Bad as Missing}
 use Rattle.read_filters.specs.Counted.{readNames, oneMore, Room, Within}
-use Rattle.read_filters.specs.declared.NamesRead.{NamesRead}
-use Rattle.read_filters.specs.declared.NamesRead.the-variants.{Is, Bad}
+use Rattle.read_filters.specs.declared.mailboxes.NamesRead.{NamesRead}
+use Rattle.read_filters.specs.declared.mailboxes.NamesRead.the-variants.{Is, Bad}
 use Rattle.octets.specs.Rows.{next-close, next-found, next-lost, next-neither, next-space, row-open}
 
 -- ---- the names of a row are counted

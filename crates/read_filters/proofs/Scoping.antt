@@ -15,7 +15,7 @@ use Rattle.octets.specs.Found.{nextOf}
 use Rattle.octets.specs.declared.Next.the-variants.{At, Bad as Missing}
 use Rattle.read_filters.specs.Counted.{readNames}
 use Rattle.read_filters.specs.Scopes.{scopeFor, Numbered, Grouped, wordFor, readFilter, Plain, Bears, Within, WithinBehind}
-use Rattle.read_filters.specs.declared.NamesRead.the-variants.{Is as Counted, Bad as Uncounted}
+use Rattle.read_filters.specs.declared.mailboxes.NamesRead.the-variants.{Is as Counted, Bad as Uncounted}
 use Rattle.read_filters.specs.declared.Scope.{Scope}
 use Rattle.read_filters.specs.declared.Scope.the-variants.{Selected, Delayed, Inboxes, Personal, Subscribed, Subtree, SubtreeOne, Mailboxes}
 use Rattle.read_filters.specs.declared.Word.the-variants.{Alone, Named, Unknown}

@@ -4,8 +4,8 @@ use mathlib.Core.List.{List}
 use Prim.Native.Nat.{ℕ, _+_, _-_, _≤_, _<_}
 use lib.ListN.{length}
 use Rattle.model.specs.Reading.{Parsed, bad, ok, rowAt, nextAt, closing, astringAt}
-use Rattle.read_filters.specs.declared.NamesRead.{NamesRead}
-use Rattle.read_filters.specs.declared.NamesRead.the-variants.{Is, Bad}
+use Rattle.read_filters.specs.declared.mailboxes.NamesRead.{NamesRead}
+use Rattle.read_filters.specs.declared.mailboxes.NamesRead.the-variants.{Is, Bad}
 
 abbrev pub readNames : Parsed (List (List ℕ)) → NamesRead
 readNames bad = Bad

@@ -1,4 +1,5 @@
 // NOTIFY behind its verb: what its groups come to, how it is answered, and the session that it sets.
+mod groups;
 pub mod tallies;
 pub mod watches;
 

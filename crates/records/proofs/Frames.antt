@@ -12,8 +12,8 @@ use Rattle.model.specs.Names.{valid}
 use Rattle.model.specs.Records.{Kind, framed, tailOk, kindOf, fieldsOf, startsWithId, about, layout}
 use Rattle.octets.specs.Widths.{Weighs}
 use Rattle.records.specs.Layouts.{tailFor}
-use Rattle.records.specs.declared.Tail.{Tail}
-use Rattle.records.specs.declared.Tail.the-variants.{Nothing, Name, Command}
+use Rattle.records.specs.declared.layouts.Tail.{Tail}
+use Rattle.records.specs.declared.layouts.Tail.the-variants.{Nothing, Name, Command}
 
 -- equal, counted from a place on
 module _ (a b k : ℕ) (h : k ≤ a) where

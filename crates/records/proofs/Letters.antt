@@ -5,7 +5,7 @@ use Prim.Native.Nat.{ℕ}
 use borrow.Author.Tests.{ne-eqb}
 use Rattle.model.specs.Records.{inRange, count}
 use Rattle.records.specs.Layouts.{fieldFor, fieldOf}
-use Rattle.records.specs.declared.Field.{Field}
+use Rattle.records.specs.declared.layouts.Field.{Field}
 
 -- c is not the letter k
 abbrev Not : ℕ → ℕ → Type 0

@@ -17,8 +17,8 @@ use Rattle.records.specs.Kinds.{kindFor}
 use Rattle.records.specs.Layouts.{fieldOf, fieldsFor, tailFor, layoutFor, Fits, layout-fits}
 use Rattle.records.specs.Reading.{FieldsRead, Bounds, Bounded, Following, Reads}
 use Rattle.records.specs.declared.Kind.{Kind as CodeKind}
-use Rattle.records.specs.declared.Layout.{Layout}
-use Rattle.records.specs.declared.Fields.{Fields}
+use Rattle.records.specs.declared.layouts.Layout.{Layout}
+use Rattle.records.specs.declared.bodies.Fields.{Fields}
 
 -- ---- tests
 -- each of two that hold

@@ -10,11 +10,11 @@ use Rattle.model.specs.Records.{Field as RecordField, id, idOrNone, attributes,
 use Rattle.records.specs.Kinds.{kindFor}
 use Rattle.records.specs.declared.Kind.{Kind}
 use Rattle.records.specs.declared.Kind.the-variants.{Create, Delete, Rename, Subscribe, Grant, Arrive, Expunge, Reflag, Select, Ended, Command, Drained, Unknown}
-use Rattle.records.specs.declared.Field.{Field}
-use Rattle.records.specs.declared.Field.the-variants.{Id, IdOrNone, Attributes, Quiet, Uidvalidity, Subscribed, Rights, Uid, Flags, Size, Class, Count}
-use Rattle.records.specs.declared.Tail.{Tail}
-use Rattle.records.specs.declared.Tail.the-variants.{Nothing, Name, Command as CommandText}
-use Rattle.records.specs.declared.Layout.{Layout}
+use Rattle.records.specs.declared.layouts.Field.{Field}
+use Rattle.records.specs.declared.layouts.Field.the-variants.{Id, IdOrNone, Attributes, Quiet, Uidvalidity, Subscribed, Rights, Uid, Flags, Size, Class, Count}
+use Rattle.records.specs.declared.layouts.Tail.{Tail}
+use Rattle.records.specs.declared.layouts.Tail.the-variants.{Nothing, Name, Command as CommandText}
+use Rattle.records.specs.declared.layouts.Layout.{Layout}
 
 -- ---- fields
 -- a field as the rules name it

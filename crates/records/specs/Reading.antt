@@ -9,7 +9,7 @@ use Rattle.model.specs.Names.{valid}
 use Rattle.model.specs.Records.{Field, id, idOrNone, attributes, quiet, uidvalidity, subscribed, rights, uid, flags, size, class, count, Tail, nothing, name, command, layout, widths, values, allInRange, kindOf, isRecord, recordBy, recordOf}
 use Rattle.records.specs.Kinds.{kindFor}
 use Rattle.records.specs.Layouts.{fieldsFor}
-use Rattle.records.specs.declared.Fields.{Fields}
+use Rattle.records.specs.declared.bodies.Fields.{Fields}
 use Rattle.records.specs.declared.Received.{Received}
 
 -- the fields of a text of letters, read from the fourth octet on: their values stand first

@@ -1,15 +1,19 @@
 // Records from the host: which octet strings are records, and what each says.
+mod bodies;
+mod layouts;
+
+use bodies::both;
+use bodies::fields_at;
+use bodies::is_whole;
+use layouts::layout_of;
 ghost use mathlib.Core.Path.{_≡_};
-ghost use mathlib.Core.Bool.{cond, _&&_};
+ghost use mathlib.Core.Bool.{cond};
 ghost use mathlib.Core.List.{[], _∷_};
-ghost use Prim.Native.Nat.{_≤_, _%_};
-ghost use lib.Dec.{eqb, leb};
-ghost use lib.ListN.{length, take, drop};
+ghost use lib.ListN.{take};
 ghost use Rattle.model.specs.Lists.{same};
-ghost use Rattle.model.specs.Records.{kindOf, width, inRange, isKnown, framed, tailOk, startsWithId, layout, about};
+ghost use Rattle.model.specs.Records.{kindOf, isKnown, startsWithId, layout, about};
 ghost use Rattle.records.specs.Kinds.{kindFor, laterKind};
-ghost use Rattle.records.specs.Layouts.{fieldFor, fieldOf, tailFor, layoutFor};
-ghost use Rattle.records.specs.Reading.{FieldsRead, Reads};
+ghost use Rattle.records.specs.Reading.{Reads};
 
 // ---- marks
 
@@ -97,212 +101,6 @@ fn is_known(k: Kind) -> bool
         Kind::Drained => true,
         Kind::Unknown => false,
     }
-}
-
-// ---- layouts
-
-// What follows the fields of a body.
-enum Tail {
-    Nothing,
-    Name,
-    Command,
-}
-
-// A layout: a letter for each field, how many there are, and what follows them.
-struct Layout([u8; 5], usize, Tail);
-
-// The layouts: i is an id, o an id or none, a attributes, q quiet, v UIDVALIDITY, s subscribed, r rights, u a UID, f flags, z a size,
-// c a class, n a count.
-fn layout_of(k: Kind) -> Layout
-    ensures { λ r. ⌜ r ≡ layoutFor k ⌝ }
-{
-    match k {
-        Kind::Create => Layout([b'i', b'a', b'q', b'v', 0], 4, Tail::Name),
-        Kind::Delete => Layout([b'i', b'q', 0, 0, 0], 2, Tail::Nothing),
-        Kind::Rename => Layout([b'i', b'q', 0, 0, 0], 2, Tail::Name),
-        Kind::Subscribe => Layout([b'i', b's', b'q', 0, 0], 3, Tail::Nothing),
-        Kind::Grant => Layout([b'i', b'r', 0, 0, 0], 2, Tail::Nothing),
-        Kind::Arrive => Layout([b'i', b'u', b'f', b'z', 0], 4, Tail::Nothing),
-        Kind::Expunge => Layout([b'i', b'u', 0, 0, 0], 2, Tail::Nothing),
-        Kind::Reflag => Layout([b'i', b'u', b'f', 0, 0], 3, Tail::Nothing),
-        Kind::Select => Layout([b'o', 0, 0, 0, 0], 1, Tail::Nothing),
-        Kind::Ended => Layout([b'c', 0, 0, 0, 0], 1, Tail::Nothing),
-        Kind::Command => Layout([0, 0, 0, 0, 0], 0, Tail::Command),
-        Kind::Drained => Layout([b'n', 0, 0, 0, 0], 1, Tail::Nothing),
-        Kind::Unknown => Layout([0, 0, 0, 0, 0], 0, Tail::Nothing),
-    }
-}
-
-// The fields that layouts are made of.
-enum Field {
-    Id,
-    IdOrNone,
-    Attributes,
-    Quiet,
-    Uidvalidity,
-    Subscribed,
-    Rights,
-    Uid,
-    Flags,
-    Size,
-    Class,
-    Count,
-}
-
-// The field of a letter.
-fn field_of(letter: u8) -> Field
-    ensures { λ r. ⌜ fieldFor r ≡ fieldOf letter ⌝ }
-{
-    match letter {
-        b'i' => Field::Id,
-        b'o' => Field::IdOrNone,
-        b'a' => Field::Attributes,
-        b'q' => Field::Quiet,
-        b'v' => Field::Uidvalidity,
-        b's' => Field::Subscribed,
-        b'r' => Field::Rights,
-        b'u' => Field::Uid,
-        b'f' => Field::Flags,
-        b'z' => Field::Size,
-        b'c' => Field::Class,
-        _ => Field::Count,
-    }
-}
-
-// How many octets a field has.
-fn width_of(f: Field) -> usize
-    ensures { λ r. ⌜ (r ≡ width (fieldFor f)) × (r ≤ 4) ⌝ }
-{
-    match f {
-        Field::Id => 2,
-        Field::IdOrNone => 2,
-        Field::Attributes => 1,
-        Field::Quiet => 1,
-        Field::Uidvalidity => 4,
-        Field::Subscribed => 1,
-        Field::Rights => 1,
-        Field::Uid => 4,
-        Field::Flags => 1,
-        Field::Size => 4,
-        Field::Class => 1,
-        Field::Count => 4,
-    }
-}
-
-// A number lies between two, both included.
-fn between(low: u64, v: u64, high: u64) -> bool
-    ensures { λ r. ⌜ r ≡ (leb low v && leb v high) ⌝ }
-{
-    if low <= v {
-        return v <= high;
-    }
-    false
-}
-
-// A number has no bit but 4 and 5.
-fn is_rights(v: u64) -> bool
-    ensures { λ r. ⌜ r ≡ (eqb (v % 16) 0 && leb v 48) ⌝ }
-{
-    if v % 16 == 0 {
-        return v <= 48;
-    }
-    false
-}
-
-// A field may have this value.
-fn in_range(f: Field, v: u64) -> bool
-    ensures { λ r. ⌜ r ≡ inRange (fieldFor f) v ⌝ }
-{
-    match f {
-        Field::Id => between(1, v, 65535),
-        Field::IdOrNone => v <= 65535,
-        Field::Attributes => v <= 63,
-        Field::Quiet => v <= 1,
-        Field::Uidvalidity => between(1, v, 4294967295),
-        Field::Subscribed => v <= 1,
-        Field::Rights => is_rights(v),
-        Field::Uid => between(1, v, 4294967294),
-        Field::Flags => v <= 31,
-        Field::Size => v <= 4294967295,
-        Field::Class => v <= 1,
-        Field::Count => v <= 4294967295,
-    }
-}
-
-// Both hold.
-fn both(a: bool, b: bool) -> bool
-    ensures { λ r. ⌜ r ≡ (a && b) ⌝ }
-{
-    if a {
-        return b;
-    }
-    false
-}
-
-// ---- bodies
-
-// The fields of a body: whether each is in its range, their values, and the place behind them.
-struct Fields {
-    all: bool,
-    values: [u64; 5],
-    end: usize,
-}
-
-// The fields of a layout, read from the fourth octet on, whether or not so many octets are there.
-fn fields_at(o: &[u8], letters: [u8; 5], count: usize) -> Fields
-    requires { ⌜ count ≤ 5 ⌝ }
-    ensures { λ r. ⌜ FieldsRead (now (o .entry)) (take count letters) r ⌝ }
-{
-    let mut all = true;
-    let mut values = [0; 5];
-    let mut end: usize = 4;
-    let mut i = 0;
-    while i < count {
-        let f = field_of(letters[i]);
-        let w = width_of(f);
-        let v = octets::little(o, end, w);
-        all = both(all, in_range(f, v));
-        values[i] = v;
-        end += w;
-        i += 1;
-    }
-    Fields { all, values, end }
-}
-
-// The octets are as many as their length field says.
-fn is_framed(o: &[u8]) -> bool
-    ensures { λ r. ⌜ r ≡ framed (now (o .entry)) ⌝ }
-{
-    if o.len() < 4 {
-        return false;
-    }
-    let body = octets::little(o, 2, 2);
-    (o.len() - 4) as u64 == body
-}
-
-// What stands from a place on may follow the fields.
-fn tail_ok(o: &[u8], at: usize, tail: Tail) -> bool
-    requires { ⌜ at ≤ length (now o) ⌝ }
-    ensures { λ r. ⌜ r ≡ tailOk (tailFor tail) (drop at (now (o .entry))) ⌝ }
-{
-    match tail {
-        Tail::Nothing => o.len() - at == 0,
-        Tail::Name => names::is_valid(&o[at..]),
-        Tail::Command => o.len() - at <= 1024,
-    }
-}
-
-// The octets hold what their length field says, all fields, and then what may follow them.
-fn is_whole(o: &[u8], end: usize, tail: Tail) -> bool
-    ensures { λ r. ⌜ r ≡ (framed (now (o .entry)) && (leb end (length (now (o .entry))) && tailOk (tailFor tail) (drop end (now (o .entry))))) ⌝ }
-{
-    if !is_framed(o) {
-        return false;
-    }
-    if o.len() < end {
-        return false;
-    }
-    tail_ok(o, end, tail)
 }
 
 // ---- records

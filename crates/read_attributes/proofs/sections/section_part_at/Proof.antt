@@ -1,0 +1,52 @@
+-- `section_part_at`: the parts are read with the fuel of the definition; a dot behind them has a text behind it.
+use borrow.Author.Needs.{needs}
+use Rattle.read_attributes.proofs.sections.section_part_at.Statement.{statement}
+use Rattle.read_attributes.proofs.sections.section_part_at.Tie as tie
+use mathlib.Core.Path.{sym, _∙_}
+use native.Mathlib.Omega.{arith}
+use Prim.Native.Nat.{_+_}
+use lib.ListN.{length}
+use Rattle.read_attributes.proofs.Rows.{within-from}
+use Rattle.read_attributes.proofs.Sectioning.{part-none, part-text, part-alone}
+use Rattle.octets.specs.Rows.{in-text}
+
+parts-at-requires : tie.Need-parts-at-requires
+parts-at-requires c κs = search needs
+
+enum-known-next : tie.Need-enum-known-next
+enum-known-next c = search needs
+
+octet-at-requires : tie.Need-octet-at-requires
+octet-at-requires c κs = search needs
+
+add-section-text-at : tie.Need-add-section-text-at
+add-section-text-at c = let i = in-text (c .before .before .before .before .before .before .before .args .text .now) (c .before .before .before .next .given .0 .0) (sym (c .before .octet-at .ensures) ∙ c .if1 .taken) (omega arith) in omega arith
+
+section-text-at-requires : tie.Need-section-text-at-requires
+section-text-at-requires c κs = search needs
+
+enum-told : tie.Need-enum-told
+enum-told c = search needs
+
+returns : tie.Need-returns
+returns c = let w = rw (c .before .before .before .before .next .given .1) at (c .before .before .before .before .before .before .parts-at .ensures .within) in record { exact = c .section-text-at .ensures .exact ∙ part-text (c .before .before .before .before .before .before .before .before .args .text .now) (c .before .before .before .before .before .before .before .before .args .at) (sym (c .before .before .before .before .next .given .1) ∙ c .before .before .before .before .before .before .parts-at .ensures .exact (length (c .before .before .before .before .before .before .before .before .args .text .now)) (omega arith)) (sym (c .before .before .octet-at .ensures) ∙ c .before .if1 .taken); within = within-from (c .before .before .before .before .before .before .before .before .args .text .now) (c .before .before .before .before .before .before .before .before .args .at) (c .before .before .before .before .next .given .0 .0 + 1) (c .section-text-at .result) (omega arith) (c .section-text-at .ensures .within) }
+
+returns-2 : tie.Need-returns-2
+returns-2 c = record { exact = part-alone (c .before .before .before .before .before .before .before .args .text .now) (c .before .before .before .before .before .before .before .args .at) (sym (c .before .before .before .next .given .1) ∙ c .before .before .before .before .before .parts-at .ensures .exact (length (c .before .before .before .before .before .before .before .args .text .now)) (omega arith)) (λ e. c .if1 .left (c .before .octet-at .ensures ∙ e)); within = rw (c .before .before .before .next .given .1) at (c .before .before .before .before .before .parts-at .ensures .within) }
+
+returns-3 : tie.Need-returns-3
+returns-3 c = record { exact = part-none (c .before .before .before .before .args .text .now) (c .before .before .before .before .args .at) (sym (c .enum-told .given .1) ∙ c .before .before .parts-at .ensures .exact (length (c .before .before .before .before .args .text .now)) (omega arith)); within = tt }
+
+pub section-part-at-spec : {M : Type 1} → statement M
+section-part-at-spec =
+    tie.close
+    (tie.spec
+    parts-at-requires
+    enum-known-next
+    octet-at-requires
+    add-section-text-at
+    section-text-at-requires
+    enum-told
+    returns
+    returns-2
+    returns-3)

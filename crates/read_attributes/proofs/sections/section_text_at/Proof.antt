@@ -1,0 +1,75 @@
+-- `section_text_at`: the run is what stands up to its end, and the word decides.
+use borrow.Author.Needs.{needs}
+use Rattle.read_attributes.proofs.sections.section_text_at.Statement.{statement}
+use Rattle.read_attributes.proofs.sections.section_text_at.Tie as tie
+use mathlib.Core.Path.{sym, ap, _∙_}
+use mathlib.Core.Bool.{Bool}
+use native.Mathlib.Omega.{arith}
+use Rattle.read_attributes.specs.declared.sections.Wanted.the-variants.{Mime}
+use Rattle.read_attributes.proofs.Rows.{within-from}
+use Rattle.read_attributes.proofs.Sectioning.{wantedAt, text-none, text-by}
+
+run-at-requires : tie.Need-run-at-requires
+run-at-requires c κs = search needs
+
+enum-known-end : tie.Need-enum-known-end
+enum-known-end c = search needs
+
+section-word-requires : tie.Need-section-word-requires
+section-word-requires c κs = search needs
+
+enum-told : tie.Need-enum-told
+enum-told c = search needs
+
+enum-told-2 : tie.Need-enum-told-2
+enum-told-2 c = search needs
+
+fields-at-requires : tie.Need-fields-at-requires
+fields-at-requires c κs = search needs
+
+enum-told-3 : tie.Need-enum-told-3
+enum-told-3 c = search needs
+
+enum-told-4 : tie.Need-enum-told-4
+enum-told-4 c = search needs
+
+enum-told-5 : tie.Need-enum-told-5
+enum-told-5 c = search needs
+
+returns : tie.Need-returns
+returns c = record { exact = text-by (c .before .before .before .before .before .before .before .before .args .part) (c .before .before .before .before .before .before .before .before .args .text .now) (c .before .before .before .before .before .before .before .before .args .at) (sym (c .before .before .before .before .end .given .1) ∙ c .before .before .before .before .before .before .run-at .ensures .exact) (c .enum-told .given .1) (c .before .before .section-word .ensures); within = rw (c .before .before .before .before .end .given .1) at (c .before .before .before .before .before .before .run-at .ensures .within) }
+
+returns-2 : tie.Need-returns-2
+returns-2 c = let w = rw (c .before .before .before .before .before .end .given .1) at (c .before .before .before .before .before .before .before .run-at .ensures .within) in record { exact = c .fields-at .ensures .exact ∙ text-by (c .before .before .before .before .before .before .before .before .before .args .part) (c .before .before .before .before .before .before .before .before .before .args .text .now) (c .before .before .before .before .before .before .before .before .before .args .at) (sym (c .before .before .before .before .before .end .given .1) ∙ c .before .before .before .before .before .before .before .run-at .ensures .exact) (c .before .enum-told2 .given .1) (c .before .before .before .section-word .ensures); within = within-from (c .before .before .before .before .before .before .before .before .before .args .text .now) (c .before .before .before .before .before .before .before .before .before .args .at) (c .before .before .before .before .before .end .given .0 .0) (c .fields-at .result) (omega arith) (c .fields-at .ensures .within) }
+
+returns-3 : tie.Need-returns-3
+returns-3 c = record { exact = sym (ap (λ (b : Bool). wantedAt Mime b (c .before .before .before .before .before .before .before .before .before .args .text .now) (c .before .before .before .before .before .end .given .0 .0)) (c .if1 .taken)) ∙ text-by (c .before .before .before .before .before .before .before .before .before .args .part) (c .before .before .before .before .before .before .before .before .before .args .text .now) (c .before .before .before .before .before .before .before .before .before .args .at) (sym (c .before .before .before .before .before .end .given .1) ∙ c .before .before .before .before .before .before .before .run-at .ensures .exact) (c .before .enum-told3 .given .1) (c .before .before .before .section-word .ensures); within = rw (c .before .before .before .before .before .end .given .1) at (c .before .before .before .before .before .before .before .run-at .ensures .within) }
+
+returns-4 : tie.Need-returns-4
+returns-4 c = record { exact = sym (ap (λ (b : Bool). wantedAt Mime b (c .before .before .before .before .before .before .before .before .before .args .text .now) (c .before .before .before .before .before .end .given .0 .0)) (c .if1 .left)) ∙ text-by (c .before .before .before .before .before .before .before .before .before .args .part) (c .before .before .before .before .before .before .before .before .before .args .text .now) (c .before .before .before .before .before .before .before .before .before .args .at) (sym (c .before .before .before .before .before .end .given .1) ∙ c .before .before .before .before .before .before .before .run-at .ensures .exact) (c .before .enum-told3 .given .1) (c .before .before .before .section-word .ensures); within = tt }
+
+returns-5 : tie.Need-returns-5
+returns-5 c = record { exact = text-by (c .before .before .before .before .before .before .before .before .args .part) (c .before .before .before .before .before .before .before .before .args .text .now) (c .before .before .before .before .before .before .before .before .args .at) (sym (c .before .before .before .before .end .given .1) ∙ c .before .before .before .before .before .before .run-at .ensures .exact) (c .enum-told4 .given .1) (c .before .before .section-word .ensures); within = tt }
+
+returns-6 : tie.Need-returns-6
+returns-6 c = record { exact = text-none (c .before .before .before .before .args .part) (c .before .before .before .before .args .text .now) (c .before .before .before .before .args .at) (sym (c .enum-told5 .given .1) ∙ c .before .before .run-at .ensures .exact); within = tt }
+
+pub section-text-at-spec : {M : Type 1} → statement M
+section-text-at-spec =
+    tie.close
+    (tie.spec
+    run-at-requires
+    enum-known-end
+    section-word-requires
+    enum-told
+    enum-told-2
+    fields-at-requires
+    enum-told-3
+    enum-told-4
+    enum-told-5
+    returns
+    returns-2
+    returns-3
+    returns-4
+    returns-5
+    returns-6)

@@ -1,0 +1,89 @@
+-- The names that are kept grow by one at each turn; what is left of the row says the same behind them.
+use borrow.Author.Needs.{needs}
+use mathlib.Core.Path.{sym, ap, _∙_}
+use native.Mathlib.Omega.{arith}
+use Prim.Native.Nat.{_-_}
+use lib.ListN.{length}
+use Rattle.read_filters.specs.Keeping.{withOne}
+use Rattle.read_filters.specs.declared.Kept.{Kept}
+use Rattle.read_filters.proofs.Storing.{Goes, goes-start, goes-none, goes-wrong, goes-last, goes-on}
+use Rattle.read_filters.proofs.mailboxes.keep_row.Statement.{statement}
+use Rattle.read_filters.proofs.mailboxes.keep_row.Tie as tie
+use Rattle.octets.specs.Rows.{in-text}
+
+abbrev Inv-loop : tie.InvT-loop
+Inv-loop text at kept more₀ p₀ more p = Goes text at kept more p
+
+abbrev μ-loop : tie.MeasureT-loop
+μ-loop text at kept more₀ p₀ more p = length text - p
+
+loop-holds : tie.Need-loop-holds Inv-loop μ-loop
+loop-holds c = goes-start (c .before .args .text .now) (c .before .args .at) (c .before .args .kept) (c .before .pre)
+
+text-at-requires : tie.Need-text-at-requires Inv-loop μ-loop
+text-at-requires c κs = search needs
+
+enum-known-q : tie.Need-enum-known-q Inv-loop μ-loop
+enum-known-q c = search needs
+
+enum-told : tie.Need-enum-told Inv-loop μ-loop
+enum-told c = search needs
+
+unread-requires : tie.Need-unread-requires Inv-loop μ-loop
+unread-requires c κs = search needs
+
+returns : tie.Need-returns Inv-loop μ-loop
+returns c = record { exact = λ n h. c .unread .ensures ∙ goes-none (c .before .before .before .before .before .before .args .text .now) (c .before .before .before .before .before .before .args .at) (c .before .before .before .before .before .before .args .kept) (c .before .before .before .before .loop .more) (c .before .before .before .before .loop .p) (c .before .before .before .before .loop .inv) (sym (c .before .enum-told .given .1) ∙ c .before .before .before .text-at .ensures .exact) n h; within = rw (c .unread .ensures) tt }
+
+name-at-requires : tie.Need-name-at-requires Inv-loop μ-loop
+name-at-requires c κs = search needs
+
+keep-one-requires : tie.Need-keep-one-requires Inv-loop μ-loop
+keep-one-requires c κs = let w = rw (c .before .before .q .given .1) at (c .before .before .before .before .text-at .ensures .within) in omega (arith, c .before .before .before .before .before .loop .inv .few)
+
+octet-at-requires : tie.Need-octet-at-requires Inv-loop μ-loop
+octet-at-requires c κs = search needs
+
+add-t12 : tie.Need-add-t12 Inv-loop μ-loop
+add-t12 c = let w = rw (c .before .before .before .before .before .q .given .1) at (c .before .before .before .before .before .before .before .text-at .ensures .within) in let i = in-text (c .before .before .before .before .before .before .before .before .before .before .args .text .now) (c .before .before .before .before .before .q .given .0 .0) (sym (c .before .octet-at .ensures) ∙ c .if1 .taken) (omega arith) in omega arith
+
+returns-2 : tie.Need-returns-2 Inv-loop μ-loop
+returns-2 c = let w = rw (c .before .before .before .before .before .q .given .1) at (c .before .before .before .before .before .before .before .text-at .ensures .within) in let i = in-text (c .before .before .before .before .before .before .before .before .before .before .args .text .now) (c .before .before .before .before .before .q .given .0 .0) (sym (c .before .octet-at .ensures) ∙ c .if1 .taken) (omega arith) in record { exact = λ n h. goes-last (c .before .before .before .before .before .before .before .before .before .before .args .text .now) (c .before .before .before .before .before .before .before .before .before .before .args .at) (c .before .before .before .before .before .before .before .before .before .before .args .kept) (c .before .before .before .before .before .before .before .before .loop .more) (c .before .before .before .before .before .before .before .before .loop .p) (c .before .before .before .before .before .before .before .before .loop .inv) (sym (c .before .before .before .before .before .q .given .1) ∙ c .before .before .before .before .before .before .before .text-at .ensures .exact) (c .before .before .keep-one .result) (c .before .before .keep-one .ensures ∙ ap (withOne (c .before .before .before .before .before .before .before .before .loop .more)) (c .before .before .before .name-at .ensures)) (sym (c .before .octet-at .ensures) ∙ c .if1 .taken) n h; within = (omega (arith, c .before .before .before .before .before .before .before .before .loop .inv .from), omega arith, omega (arith, c .before .before .before .before .before .before .before .before .loop .inv .few, ap (λ (m : Kept). m .count) (c .before .before .keep-one .ensures))) }
+
+unread-requires-2 : tie.Need-unread-requires-2 Inv-loop μ-loop
+unread-requires-2 c κs = search needs
+
+returns-3 : tie.Need-returns-3 Inv-loop μ-loop
+returns-3 c = record { exact = λ n h. c .unread2 .ensures ∙ goes-wrong (c .before .before .before .before .before .before .before .before .before .before .before .before .args .text .now) (c .before .before .before .before .before .before .before .before .before .before .before .before .args .at) (c .before .before .before .before .before .before .before .before .before .before .before .before .args .kept) (c .before .before .before .before .before .before .before .before .before .before .loop .more) (c .before .before .before .before .before .before .before .before .before .before .loop .p) (c .before .before .before .before .before .before .before .before .before .before .loop .inv) (sym (c .before .before .before .before .before .before .before .q .given .1) ∙ c .before .before .before .before .before .before .before .before .before .text-at .ensures .exact) (λ e. c .before .if2 .taken (c .before .before .before .octet-at .ensures ∙ e)) (λ e. c .before .before .if1 .left (c .before .before .before .octet-at .ensures ∙ e)) n h; within = rw (c .unread2 .ensures) tt }
+
+add-p : tie.Need-add-p Inv-loop μ-loop
+add-p c = let w = rw (c .before .before .before .before .before .before .q .given .1) at (c .before .before .before .before .before .before .before .before .text-at .ensures .within) in let i = in-text (c .before .before .before .before .before .before .before .before .before .before .before .args .text .now) (c .before .before .before .before .before .before .q .given .0 .0) (sym (c .before .before .octet-at .ensures) ∙ c .if2 .left) (omega arith) in omega arith
+
+loop-less : tie.Need-loop-less Inv-loop μ-loop
+loop-less c = let w = rw (c .before .before .before .before .before .before .q .given .1) at (c .before .before .before .before .before .before .before .before .text-at .ensures .within) in let i = in-text (c .before .before .before .before .before .before .before .before .before .before .before .args .text .now) (c .before .before .before .before .before .before .q .given .0 .0) (sym (c .before .before .octet-at .ensures) ∙ c .if2 .left) (omega arith) in omega arith
+
+loop-again : tie.Need-loop-again Inv-loop μ-loop
+loop-again c = let w = rw (c .before .before .before .before .before .before .q .given .1) at (c .before .before .before .before .before .before .before .before .text-at .ensures .within) in goes-on (c .before .before .before .before .before .before .before .before .before .before .before .args .text .now) (c .before .before .before .before .before .before .before .before .before .before .before .args .at) (c .before .before .before .before .before .before .before .before .before .before .before .args .kept) (c .before .before .before .before .before .before .before .before .before .loop .more) (c .before .before .before .before .before .before .before .before .before .loop .p) (c .before .before .before .before .before .before .before .before .before .loop .inv) (sym (c .before .before .before .before .before .before .q .given .1) ∙ c .before .before .before .before .before .before .before .before .text-at .ensures .exact) (c .before .before .before .keep-one .result) (c .before .before .before .keep-one .ensures ∙ ap (withOne (c .before .before .before .before .before .before .before .before .before .loop .more)) (c .before .before .before .before .name-at .ensures)) (omega arith) (sym (c .before .before .octet-at .ensures) ∙ c .if2 .left)
+
+pub keep-row-spec : {M : Type 1} → statement M
+keep-row-spec =
+    tie.close
+    (tie.spec
+    Inv-loop
+    μ-loop
+    loop-holds
+    text-at-requires
+    enum-known-q
+    enum-told
+    unread-requires
+    returns
+    name-at-requires
+    keep-one-requires
+    octet-at-requires
+    add-t12
+    returns-2
+    unread-requires-2
+    returns-3
+    add-p
+    loop-less
+    loop-again)

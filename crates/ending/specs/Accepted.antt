@@ -1,25 +1,24 @@
 -- What the end of a command leaves is what the rule says. Assumes nothing.
-use mathlib.Core.Path.{_≡_, refl, ap, ap₂, sym, _∙_}
-use mathlib.Core.Bool.{Bool, true, false, not, cond, _&&_, _||_}
-use mathlib.Core.List.{List, [], _∷_, _++_, map, append-assoc, append-nil}
-use Prim.Native.Nat.{ℕ, zero, suc, _+_, _-_, _<_, _≤_, min}
+use mathlib.Core.Path.{_≡_, refl, ap, sym, _∙_}
+use mathlib.Core.Bool.{Bool, true, false, not, cond, _&&_}
+use mathlib.Core.List.{List, [], _∷_, _++_, append-assoc}
+use Prim.Native.Nat.{ℕ, _+_, _-_, _≤_}
 use native.Mathlib.Omega.{arith}
-use lib.Dec.{eqb, leb, ltb}
-use lib.ListN.{length, take, drop, getD, length-append}
+use lib.Dec.{eqb}
+use lib.ListN.{length}
 use Rattle.model.specs.Lists.{filterb, keep}
-use Rattle.model.specs.Memory.{Memory, boxes, mails, filled, selectedBox, bothRights, uidOf, messagesOf, expunged, marked}
-use Rattle.model.specs.Lines.{Line, renderAll}
-use Rattle.model.specs.Queue.{room, fitting, written}
-use Rattle.model.specs.View.{view, unannounced, remainder, expungeLines, markedLines, existsLine, owedLines, owed}
-use Rattle.model.specs.Rules.{Outcome, accepted, endLines}
+use Rattle.model.specs.Memory.{Memory, mails, filled, selectedBox, bothRights, messagesOf, expunged, marked}
+use Rattle.model.specs.Lines.{Line}
+use Rattle.model.specs.Queue.{room, fitting}
+use Rattle.model.specs.View.{expungeLines, markedLines, existsLine, owed}
+use Rattle.model.specs.Rules.{accepted}
 use Rattle.model.specs.Records.{ended}
 use Rattle.model.specs.declared.Message.{Message}
-use Rattle.model.specs.declared.Answer.{Answer}
 use Rattle.model.specs.declared.Answer.the-variants.{Counted}
 use Rattle.order.specs.Counts.{stays, fresh}
-use Rattle.ending.specs.Saying.{State, part, start, firstPart}
+use Rattle.ending.specs.Saying.{part, start, firstPart}
 use Rattle.ending.specs.Ending.{endRest, first, second, third}
-use Rattle.ending.specs.Sunk.{Sunk, sunk-start, sunk-part, topOf}
+use Rattle.ending.specs.Sunk.{Sunk, sunk-start, sunk-part}
 use Rattle.ending.specs.Runs.{seen, viewOf, stayers, uids, zeros, runE-sunk, runM-sunk, exists-sunk}
 
 -- those that stay, counted in one go or in two

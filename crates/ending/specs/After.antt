@@ -1,16 +1,15 @@
 -- What the records leave: entries, how many of them, queue, session and F; and that the rules say so. Assumes nothing.
-use mathlib.Core.Path.{_≡_, refl, ap, ap₂, sym, _∙_}
-use mathlib.Core.Bool.{Bool, true, false, not, cond, _&&_, _||_}
-use mathlib.Core.List.{List, [], _∷_, _++_, map}
-use Prim.Native.Nat.{ℕ, _+_, _-_, _<_, _≤_}
+use mathlib.Core.Path.{_≡_, refl, ap, _∙_}
+use mathlib.Core.Bool.{not}
+use mathlib.Core.List.{List, map}
+use Prim.Native.Nat.{ℕ, _-_, _≤_}
 use native.Mathlib.Omega.{arith}
-use lib.ListN.{length, take, drop, replicate, length-map}
-use borrow.Author.Tests.{leb-true}
+use lib.ListN.{length, take, length-map}
 use Rattle.model.specs.Lists.{filterb}
-use Rattle.model.specs.Laws.{filter-length, and-true}
+use Rattle.model.specs.Laws.{filter-length}
 use Rattle.model.specs.Memory.{Memory, boxes, mails, filled, theMailbox, noMessage, expunged, refill, withMails, withSession, withView, dropMails, changeMails}
-use Rattle.model.specs.Queue.{shifted, dequeue}
-use Rattle.model.specs.Rules.{Outcome, accepted, rested, selecting}
+use Rattle.model.specs.Queue.{shifted}
+use Rattle.model.specs.Rules.{accepted, rested}
 use Rattle.model.specs.Records.{select, drained}
 use Rattle.demands.specs.Lasting.Law.{Law}
 use Rattle.demands.specs.Isolation.Alike.{mails-with}

@@ -1,22 +1,22 @@
 -- `CE`: what the code leaves is the memory that the rule gives. Assumes nothing.
 use mathlib.Core.Path.{_≡_, refl, ap, ap₂, sym, _∙_}
 use mathlib.Core.Bool.{Bool, true, false, not, cond, _&&_, _||_}
-use mathlib.Core.List.{List, [], _∷_, _++_, map, append-assoc, append-nil}
+use mathlib.Core.List.{List, [], _∷_, _++_, map, append-assoc}
 use Prim.Native.Nat.{ℕ, zero, suc, _+_, _-_, _<_, _≤_, _/_, _%_, min}
 use native.Mathlib.Omega.{arith}
 use lib.Dec.{eqb, leb, ltb}
-use lib.ListN.{length, take, drop, getD}
+use lib.ListN.{length, take, getD}
 use borrow.Author.Tests.{eqb-true, leb-true, le-ltb}
-use Rattle.model.specs.Lists.{filterb, keep, anyb, allb, sorted, apart}
+use Rattle.model.specs.Lists.{filterb, keep, anyb, allb}
 use Rattle.model.specs.Laws.{tf, and-l, and-r, and-false, each, filter-within, all-filtered, all-sorted}
 use Rattle.model.specs.Text.{bit}
 use Rattle.model.specs.Memory.{Memory, boxes, mails, filled, theMailbox, selectedBox, bothRights, noMessage, uidOf, isMessage, inMailbox, byUid, messagesOf, expunged, marked, withStates, withView, refill}
 use Rattle.model.specs.Lines.{Line, renderAll}
 use Rattle.model.specs.Queue.{room, fitting, written, enqueue, effects, say}
 use Rattle.model.specs.View.{expungeLines, markedLines, existsLine, owed}
-use Rattle.model.specs.Rules.{Outcome, accepted}
+use Rattle.model.specs.Rules.{accepted}
 use Rattle.model.specs.Records.{ended}
-use Rattle.model.specs.Lawful.{twin, stateOk, messageOk}
+use Rattle.model.specs.Lawful.{stateOk, messageOk}
 use Rattle.demands.specs.Lasting.Law.{Law}
 use Rattle.demands.specs.Lasting.Owing.{fitting-take}
 use Rattle.model.specs.declared.Message.{Message}
@@ -26,9 +26,9 @@ use Rattle.laws.specs.Telling.{say-none}
 use Rattle.laws.specs.Fitting.{size}
 use Rattle.entries.specs.Swept.{kept, goes, calm as calmTo}
 use Rattle.ending.specs.After.{toldTo}
-use Rattle.ending.specs.After.{After, left}
+use Rattle.ending.specs.After.{left}
 use Rattle.ending.specs.Ending.{endAfter, first, second, third}
-use Rattle.ending.specs.Sunk.{Sunk, topOf}
+use Rattle.ending.specs.Sunk.{topOf}
 use Rattle.order.specs.Counts.{stays}
 use Rattle.ending.specs.Saying.{State}
 use Rattle.ending.specs.Runs.{seen, viewOf, stayers, uids, zeros}

@@ -1,15 +1,11 @@
 -- What the code holds of a state, and the steps as the code takes them. Assumes nothing.
-use mathlib.Core.Path.{_≡_, refl, ap, ap₂, sym, _∙_}
-use mathlib.Core.Bool.{Bool, true, false, not, cond, _&&_, _||_}
-use mathlib.Core.List.{List, [], _∷_}
-use Prim.Native.Nat.{ℕ, zero, suc, _+_, _-_, _<_, _≤_, _/_, _%_}
-use native.Mathlib.Omega.{arith}
-use lib.Dec.{eqb, ltb}
-use lib.ListN.{length, take, getD, length-take}
+use mathlib.Core.Path.{_≡_, refl, ap, sym, _∙_}
+use mathlib.Core.Bool.{Bool, true, false, _&&_}
+use mathlib.Core.List.{List}
+use Prim.Native.Nat.{ℕ, _+_, _-_, _<_, _≤_, _/_, _%_}
+use lib.ListN.{getD}
 use borrow.Author.Tests.{lt-ltb, le-ltb, eq-eqb, ne-eqb}
-use Rattle.model.specs.Lists.{filterb, keep, insert, sorted}
-use Rattle.model.specs.Laws.{filter-length}
-use Rattle.model.specs.Memory.{noMessage, uidOf, expunged, marked, byUid, inMailbox, messagesOf}
+use Rattle.model.specs.Memory.{noMessage, uidOf, expunged}
 use Rattle.model.specs.declared.Message.{Message}
 use Rattle.order.specs.Chosen.{chosen}
 use Rattle.order.specs.Counts.{chosen-top}

@@ -1,26 +1,24 @@
 -- What lines end, many of them together. Assumes nothing.
 use mathlib.Core.Path.{_≡_, refl, ap, ap₂, sym, _∙_}
-use mathlib.Core.Bool.{Bool, true, false, not, cond, _&&_, _||_}
-use mathlib.Core.List.{List, [], _∷_, _++_, map, append-assoc, append-nil}
-use Prim.Native.Nat.{ℕ, zero, suc, _+_, _-_, _<_, _≤_, _/_, _%_, min}
+use mathlib.Core.Bool.{Bool, true, false, not, cond, _||_}
+use mathlib.Core.List.{List, [], _∷_, _++_, map}
+use Prim.Native.Nat.{ℕ, zero, suc, _+_, _-_, _≤_, min}
 use native.Mathlib.Omega.{arith}
-use lib.Dec.{eqb, leb, ltb}
-use lib.ListN.{length, take, drop, getD, length-append, length-map, length-take, take-append-drop}
-use lib.Seq.{take-all, take-nil, take-append-le, take-append-add}
-use borrow.Author.Tests.{eqb-true, leb-true, leb-false}
-use Rattle.model.specs.Lists.{filterb, keep, anyb, allb, sorted, apart}
-use Rattle.model.specs.Laws.{tf, and-l, and-r, and-true, or-l, filter-length, filter-within, all-filtered, all-sorted, cond-same}
-use Rattle.model.specs.Memory.{Memory, boxes, mails, filled, theMailbox, selectedBox, noMessage, uidOf, isMessage, inMailbox, byUid, messagesOf, expunged, marked, withStates, withMails, withSession, withView, dropMails, changeMails, refill}
-use Rattle.model.specs.Lines.{Line, exists, expunge, fetch, render, renderAll}
-use Rattle.model.specs.Queue.{room, fitting, enqueue, effect, effects, say, announce, unmark}
-use Rattle.model.specs.View.{view, selectedMessages, unannounced, remainder, expungeLines, markedLines, existsLine, flagsLine, owedLines, owed}
-use Rattle.model.specs.Lawful.{twin, stateOk, messageOk}
-use Rattle.demands.specs.Lasting.Law.{Law}
+use lib.Dec.{eqb, leb}
+use lib.ListN.{length, take, drop, length-append, length-map, length-take, take-append-drop}
+use lib.Seq.{take-all}
+use borrow.Author.Tests.{leb-true, leb-false}
+use Rattle.model.specs.Lists.{filterb, keep, anyb}
+use Rattle.model.specs.Laws.{filter-length, cond-same}
+use Rattle.model.specs.Memory.{Memory, boxes, mails, filled, theMailbox, noMessage, uidOf, isMessage, expunged, marked, withStates, withMails, withSession, withView, dropMails, changeMails}
+use Rattle.model.specs.Lines.{Line, expunge}
+use Rattle.model.specs.Queue.{fitting, effect, effects, unmark}
+use Rattle.model.specs.View.{expungeLines, markedLines, existsLine, flagsLine}
 use Rattle.demands.specs.Lasting.Owing.{fitting-take}
 use Rattle.demands.specs.Isolation.Alike.{mails-with}
 use Rattle.model.specs.declared.Message.{Message}
 use Rattle.model.specs.declared.Session.{Session}
-use Rattle.laws.specs.Changing.{used-long, refill-same}
+use Rattle.laws.specs.Changing.{refill-same}
 use Rattle.laws.specs.Fitting.{size, fitting-append}
 use Rattle.ending.specs.After.{with-shorter}
 use Rattle.ending.specs.Sunk.{topOf, fitting-all}

@@ -1,16 +1,14 @@
 -- NOTIFY SET's first part: where all that class 1 owes fits, its lines written together leave what the end of such a command leaves. Assumes nothing.
-use mathlib.Core.Path.{_≡_, refl, ap, sym, _∙_}
-use mathlib.Core.Bool.{Bool, true, false, cond}
+use mathlib.Core.Path.{_≡_, ap, sym, _∙_}
+use mathlib.Core.Bool.{Bool, true, cond}
 use mathlib.Core.List.{List, [], _++_, append-nil}
 use Prim.Native.Nat.{ℕ, _-_}
 use lib.Dec.{leb}
-use lib.ListN.{length}
 use Rattle.model.specs.Memory.{Memory, filled, selectedBox, bothRights}
 use Rattle.model.specs.Lines.{Line}
 use Rattle.model.specs.Queue.{room, fitting, say}
 use Rattle.model.specs.View.{owed, owedLines}
 use Rattle.model.specs.Rules.{accepted}
-use Rattle.model.specs.Records.{ended}
 use Rattle.demands.specs.Lasting.Law.{Law}
 use Rattle.laws.specs.Fitting.{size, fitting-append}
 use Rattle.fetches.specs.Whole.{owedText, owed-text}

@@ -2,7 +2,7 @@
 use mathlib.Core.Path.{_≡_, refl, ap, sym, _∙_}
 use mathlib.Core.Bool.{Bool, true, false, not, cond, _&&_, _||_}
 use mathlib.Core.List.{List, [], _∷_}
-use Prim.Native.Nat.{ℕ, zero, suc, _+_, _*_, _-_, _<_, _≤_}
+use Prim.Native.Nat.{ℕ, suc, _*_, _-_, _<_, _≤_}
 use native.Mathlib.Omega.{arith}
 use lib.Dec.{eqb, ltb}
 use lib.ListN.{length, take, getD}
@@ -17,12 +17,11 @@ use Rattle.model.specs.declared.Session.{Session}
 use Rattle.entries.specs.Words.{messages, messages-length}
 use Rattle.entries.specs.Laid.{laid-own}
 use Rattle.entries.specs.Swept.{unsettled}
-use Rattle.order.specs.Counts.{stays, fresh}
+use Rattle.order.specs.Counts.{fresh}
 use Rattle.ending.specs.Saying.{State, more, part, start, stepE, runE, stepM, runM, sayExists, firstPart}
 use Rattle.ending.specs.After.{toldTo}
 use Rattle.ending.specs.Ending.{first, second, third, Speaks, Leaves, endAfter, endRest, leaves-none, leaves-some}
 use Rattle.ending.specs.declared.Spoken.{Spoken}
-use Rattle.ending.specs.declared.Closed.{Closed}
 
 -- the client does not have it yet, or it is expunged or marked
 abbrev pub waits : ℕ → Message → Bool

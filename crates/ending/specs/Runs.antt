@@ -1,23 +1,20 @@
 -- The lines of the three parts, as the rule has them. Assumes nothing.
-use mathlib.Core.Path.{_≡_, refl, ap, ap₂, sym, _∙_}
-use mathlib.Core.Bool.{Bool, true, false, not, cond, _&&_, _||_}
+use mathlib.Core.Path.{_≡_, refl, ap, _∙_}
+use mathlib.Core.Bool.{Bool, true, false, not, cond, _&&_}
 use mathlib.Core.List.{List, [], _∷_, _++_, map, append-assoc, append-nil}
-use Prim.Native.Nat.{ℕ, zero, suc, _+_, _-_, _<_, _≤_}
+use Prim.Native.Nat.{ℕ, _+_, _-_, _≤_}
 use native.Mathlib.Omega.{arith}
-use lib.Dec.{eqb, ltb}
+use lib.Dec.{ltb}
 use lib.ListN.{length}
 use borrow.Author.Tests.{ne-eqb}
 use Rattle.model.specs.Lists.{filterb, keep}
 use Rattle.model.specs.Memory.{uidOf, expunged, marked}
-use Rattle.model.specs.Lines.{Line, exists, expunge, fetch, render}
+use Rattle.model.specs.Lines.{Line, exists, expunge, render}
 use Rattle.model.specs.View.{expungeLines, markedLines, flagsLine, existsLine}
-use Rattle.model.specs.Events.{message}
 use Rattle.model.specs.declared.Message.{Message}
-use Rattle.model.specs.declared.MessageNumber.{MessageNumber}
 use Rattle.fetches.specs.Fetch.{fetchText, fetch-text}
 use Rattle.fetches.specs.Counts.{countText, expungeWord, existsWord, expunge-text, exists-text}
-use Rattle.order.specs.Counts.{stays, fresh}
-use Rattle.ending.specs.Saying.{State, say, more, part, stepE, runE, stepM, runM, sayExists}
+use Rattle.ending.specs.Saying.{State, say, more, runE, runM, sayExists}
 use Rattle.ending.specs.Sunk.{Sunk, sunk-more, sunk-say}
 
 abbrev pub seen : ℕ → Message → Bool

@@ -1,20 +1,15 @@
 -- Lines that are offered one after the other: each is written if those before it were and it fits, else it is counted. Assumes nothing.
 use mathlib.Core.Path.{_≡_, refl, ap, ap₂, sym, _∙_}
-use mathlib.Core.Bool.{Bool, true, false, not, cond, _&&_, _||_}
-use mathlib.Core.List.{List, [], _∷_, _++_, append-assoc}
-use Prim.Native.Nat.{ℕ, zero, suc, _+_, _-_, _<_, _≤_}
+use mathlib.Core.Bool.{Bool, true, false, cond, _&&_}
+use mathlib.Core.List.{List, [], _∷_}
+use Prim.Native.Nat.{ℕ, _+_, _-_, _<_, _≤_}
 use native.Mathlib.Omega.{arith}
 use lib.Dec.{eqb, leb, ltb}
 use lib.ListN.{length}
 use borrow.Author.Tests.{le-leb, lt-leb}
-use Rattle.model.specs.Lists.{filterb}
-use Rattle.model.specs.Text.{octets, decimal}
 use Rattle.model.specs.Memory.{uidOf, expunged, marked}
-use Rattle.model.specs.Lines.{Line, exists, expunge, render, crlf}
 use Rattle.model.specs.Queue.{written}
 use Rattle.model.specs.declared.Message.{Message}
-use Rattle.model.specs.declared.MessageNumber.{MessageNumber}
-use Rattle.model.specs.declared.Uid.{Uid}
 use Rattle.out.specs.Put.{Put}
 use Rattle.fetches.specs.Fetch.{fetchText}
 use Rattle.fetches.specs.Counts.{countText, expungeWord, existsWord}

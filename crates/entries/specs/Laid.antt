@@ -1,11 +1,11 @@
 -- Words with other entries laid into them: the words behind the last whole entry stay as they were. Assumes nothing.
-use mathlib.Core.Path.{_≡_, refl, ap, ap₂, sym, _∙_}
+use mathlib.Core.Path.{_≡_, refl, ap, ap₂, _∙_}
 use mathlib.Core.List.{List, [], _∷_, _++_}
 use Prim.Native.Nat.{ℕ, zero, suc, _+_, _*_, _<_, _≤_}
 use native.Mathlib.Omega.{arith}
 use lib.ListN.{length, take, drop, set}
 use Rattle.model.specs.declared.Message.{Message}
-use Rattle.entries.specs.Words.{row, messages, at, at-is, stored, messages-stored}
+use Rattle.entries.specs.Words.{messages, at, at-is, stored, messages-stored}
 
 -- the words of entries, five each
 unfoldable pub flat : List Message → List ℕ

@@ -9,7 +9,7 @@ use lib.Dec.{eqb, ltb}
 use borrow.Author.Tests.{eqb-true, le-ltb}
 use lib.ListN.{length, take, drop, getD, set, replicate, take-append-drop, length-append, length-replicate}
 use lib.Seq.{take-suc, drop-cons, set-append-seam, set-getD, getD-append-add, getD-drop, take-at, length-take-le, drop-append-add, drop-drop}
-use Rattle.model.specs.Lists.{filterb, keep}
+use Rattle.model.specs.Lists.{filterb}
 use Rattle.model.specs.Laws.{tf, and-l, and-r, and-false, filter-append}
 use Rattle.model.specs.Memory.{noMessage, uidOf, inMailbox, expunged, marked, withStates, refill}
 use Rattle.model.specs.declared.Message.{Message}

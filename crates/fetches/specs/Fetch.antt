@@ -1,8 +1,8 @@
 -- The FETCH line of a message's flags, as it is written piece by piece. Assumes nothing.
-use mathlib.Core.Path.{_≡_, refl, ap, ap₂, sym, _∙_}
+use mathlib.Core.Path.{_≡_, refl, sym, _∙_}
 use mathlib.Core.Bool.{Bool, true, false, cond, _||_}
 use mathlib.Core.List.{List, [], _∷_, _++_, append-assoc, append-nil}
-use Prim.Native.Nat.{ℕ, _+_, _/_, _≤_}
+use Prim.Native.Nat.{ℕ, _+_}
 use Rattle.model.specs.Text.{octets, decimal, bit}
 use Rattle.model.specs.Lines.{render, spaced, space, crlf, flagNames}
 use Rattle.model.specs.View.{flagsLine}

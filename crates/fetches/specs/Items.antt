@@ -7,7 +7,6 @@ use Rattle.model.specs.Text.{octets, decimal}
 use Rattle.model.specs.Memory.{uidOf}
 use Rattle.model.specs.Lines.{fetch, Item, uid, flags, size, itemText, itemTexts, spaced, flagNames, render, crlf}
 use Rattle.model.specs.declared.Message.{Message}
-use Rattle.model.specs.declared.MessageNumber.{MessageNumber}
 use Rattle.fetches.specs.declared.Shows.{Shows}
 use Rattle.fetches.specs.Fetch.{piece, flagsText}
 

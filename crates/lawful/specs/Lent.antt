@@ -2,7 +2,7 @@
 use mathlib.Core.Path.{_≡_, refl, ap, sym, _∙_}
 use mathlib.Core.Bool.{Bool, true, false, cond, _&&_, _||_}
 use mathlib.Core.List.{List, [], _∷_}
-use Prim.Native.Nat.{ℕ, zero, suc, _+_, _*_, _-_, _/_, _<_, _≤_}
+use Prim.Native.Nat.{ℕ, _*_, _-_, _/_, _<_, _≤_}
 use native.Mathlib.Omega.{arith}
 use lib.Dec.{eqb, leb, ltb}
 use lib.ListN.{length, take, getD}
@@ -10,7 +10,7 @@ use lib.Seq.{length-take-le, take-take}
 use borrow.Author.Tests.{eq-eqb, ne-eqb, le-leb, lt-leb, leb-true}
 use Rattle.model.specs.Laws.{each}
 use Rattle.model.specs.Lists.{allb, apart, every}
-use Rattle.model.specs.Memory.{Memory, boxes, mails, known, theMailbox, place, uidOf, noMailbox}
+use Rattle.model.specs.Memory.{Memory, known, theMailbox, place, uidOf, noMailbox}
 use Rattle.rows.specs.Walks.{unknown-whole, known-whole}
 use Rattle.model.specs.Lawful.{mailboxOk, messageOk, clash, twin, owned, stateOk, viewOk, sessionOk, sizesOk, contentsOk, lawful}
 use Rattle.model.specs.declared.Mailbox.{Mailbox}

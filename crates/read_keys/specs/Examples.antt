@@ -13,6 +13,14 @@ abbrev tableOf : Parsed Keys → List ℕ
 tableOf bad = []
 tableOf (ok p ks) = codes ks
 
+nested : tableOf (programAt (octets "NOT (OR SEEN 5 UID 4:*)") 0) ≡ 8 ∷ 15 ∷ 10 ∷ 13 ∷ 9 ∷ 7 ∷ 2 ∷ 3 ∷ 1 ∷ 6 ∷ 1 ∷ 5 ∷ 5 ∷ 5 ∷ 1 ∷ 4 ∷ 0 ∷ []
+unfolding keyAt startAt keywordOf setAt rowAt numberAt runLength valueFrom same code
+nested = refl
+
 flat : tableOf (programAt (octets "larger 007 undraft SINCE 1-Feb-1994") 0) ≡ 3 ∷ 7 ∷ 2 ∷ 4 ∷ 0 ∷ 7 ∷ []
 unfolding keyAt startAt keywordOf setAt rowAt numberAt dateAt runLength valueFrom same code
 flat = refl
+
+unclosed : programAt (octets "(ALL") 0 ≡ bad
+unfolding keyAt startAt keywordOf setAt rowAt numberAt runLength valueFrom same code
+unclosed = refl

@@ -1,5 +1,5 @@
 -- Filters, events and the command, case by case, over plain values. Assumes nothing.
-use mathlib.Core.Path.{_≡_, refl, sym, ap, _∙_}
+use mathlib.Core.Path.{_≡_, refl}
 use mathlib.Core.Bool.{Bool, true, false, cond}
 use mathlib.Core.List.{List}
 use Prim.Native.Nat.{ℕ, _+_, _-_, _≤_}
@@ -7,7 +7,7 @@ use native.Mathlib.Omega.{arith}
 use lib.ListN.{length, getD}
 use borrow.Author.Tests.{eq-eqb, ne-eqb}
 use Rattle.model.specs.Octets.{atomOctet}
-use Rattle.model.specs.Requests.{Filter, namesOf, Event, Asked, Command, notifyNone, notifySet, search}
+use Rattle.model.specs.Requests.{Filter, namesOf, Event, Asked, Command, notifyNone, notifySet}
 use Rattle.model.specs.Reading.{Parsed, bad, ok, is, piece, endOf, wordAt}
 use Rattle.model.specs.NotifyGrammar.{groupsAt, setBy, notifyAt}
 use Rattle.read_filters.specs.Scopes.{scopeFor, readFilter}
@@ -17,7 +17,7 @@ use Rattle.read_events.specs.Gathered.{gatherEvents, readEvents}
 use Rattle.read_events.specs.declared.Events.{Events}
 use Rattle.read_events.specs.declared.EventsRead.the-variants.{Is as Evented, Bad as Eventless}
 use Rattle.read_notify.specs.Tallies.{readTally}
-use Rattle.read_notify.specs.Readings.{Within, tallyIn, Gathers, readNotify, setting, noteKept, bareOf, NotifyWithin, Keeps, KeepsAt}
+use Rattle.read_notify.specs.Readings.{Within, Gathers, readNotify, setting, noteKept, bareOf, NotifyWithin, KeepsAt}
 use Rattle.read_notify.specs.declared.Tally.{Tally}
 use Rattle.read_notify.specs.declared.Gathered.{Gathered}
 use Rattle.read_notify.specs.declared.NotifyRead.{NotifyRead}

@@ -1,11 +1,11 @@
 -- Rows of things and octets that must stand, one step of the definitions of `model` at a time, over plain values. Assumes nothing.
 use mathlib.Core.Path.{_≡_}
 use mathlib.Core.List.{List}
-use Prim.Native.Nat.{ℕ, _+_, _-_, _<_}
+use Prim.Native.Nat.{ℕ, _+_, _-_}
 use Prim.Native.Char.{Char, code}
 use lib.ListN.{length, getD}
 use borrow.Author.Tests.{eq-eqb, ne-eqb}
-use Rattle.model.specs.Reading.{Parsed, bad, ok, after, Next as RowNext, another, over, neither, lineEnd, nextAt}
+use Rattle.model.specs.Reading.{Parsed, bad, after, another, over, neither, lineEnd, nextAt}
 
 -- ---- an octet that must stand there
 

@@ -11,7 +11,7 @@ use Rattle.model.specs.Reading.{runLength, unquote, valueFrom, numberAt, rowAt,
 use Rattle.model.specs.NotifyGrammar.{scopeOf, filterAt}
 use Rattle.model.specs.SearchGrammar.{keywordOf, startAt, keyAt, returnsAt, charsetAt, searchAt}
 use Rattle.model.specs.declared.Reply.{Reply}
-use Rattle.model.specs.declared.Reply.the-variants.{Bad, BadCharset, TooLarge, Accepted}
+use Rattle.model.specs.declared.Reply.the-variants.{Bad, Unsupported, BadCharset, TooLarge, Accepted}
 use Rattle.read_keys.specs.Table.{code, partsMost}
 use Rattle.read_search.specs.Parts.{inAt}
 use Rattle.read_search.specs.Searched.{readSearch}
@@ -34,6 +34,11 @@ answered : (unselected "IN (personal mailboxes (a \"b c\")) RETURN (MIN COUNT) C
     × (selected "IN (inboxes inboxes inboxes inboxes inboxes inboxes inboxes inboxes inboxes) ALL" ≡ TooLarge)
 unfolding searchAt filterAt scopeOf returnsAt charsetAt keyAt startAt keywordOf setAt rowAt numberAt dateAt runLength unquote valueFrom same keyCount keyDepth someTest code partsMost
 answered = (refl, refl, refl, refl, refl, refl, refl)
+
+-- a key that is not supported is told before a charset that is not known
+unsupported-first : unselected "IN (personal) CHARSET x OLD" ≡ Unsupported
+unfolding searchAt filterAt scopeOf returnsAt charsetAt keyAt startAt keywordOf setAt rowAt numberAt dateAt runLength unquote valueFrom same keyCount keyDepth someTest code partsMost
+unsupported-first = refl
 
 -- ---- sources
 listed : take 3 (keptSources (inAt (octets "IN (personal mailboxes (a b) subtree c) ALL") 0) .listed .sources)

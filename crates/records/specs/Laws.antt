@@ -83,14 +83,8 @@ module _ {o vs : List ℕ} {tail : ℕ} where
   pub expunge-says : Says Expunge o vs tail → recordOf o ≡ expunge (getD vs 0 0) (getD vs 1 0)
   expunge-says s = s .says
 
-  pub expunge-bounds : Says Expunge o vs tail → (1 ≤ getD vs 0 0) × (getD vs 0 0 ≤ 65535) × (1 ≤ getD vs 1 0) × (getD vs 1 0 ≤ 4294967294)
-  expunge-bounds s = let b = s .bounds in (b .0 .0, b .0 .1, b .1 .0 .0, b .1 .0 .1)
-
   pub reflag-says : Says Reflag o vs tail → recordOf o ≡ reflag (getD vs 0 0) (getD vs 1 0) (getD vs 2 0)
   reflag-says s = s .says
-
-  pub reflag-bounds : Says Reflag o vs tail → (1 ≤ getD vs 0 0) × (getD vs 0 0 ≤ 65535) × (1 ≤ getD vs 1 0) × (getD vs 1 0 ≤ 4294967294) × (getD vs 2 0 ≤ 31)
-  reflag-bounds s = let b = s .bounds in (b .0 .0, b .0 .1, b .1 .0 .0, b .1 .0 .1, b .1 .1 .0)
 
   pub select-says : Says Select o vs tail → recordOf o ≡ select (getD vs 0 0)
   select-says s = s .says
@@ -101,9 +95,6 @@ module _ {o vs : List ℕ} {tail : ℕ} where
   pub ended-says : Says Ended o vs tail → recordOf o ≡ ended (getD vs 0 0)
   ended-says s = s .says
 
-  pub ended-bounds : Says Ended o vs tail → getD vs 0 0 ≤ 1
-  ended-bounds s = s .bounds .0
-
   pub command-says : Says Command o vs tail → recordOf o ≡ command (drop tail o)
   command-says s = s .says
 
@@ -112,6 +103,3 @@ module _ {o vs : List ℕ} {tail : ℕ} where
 
   pub drained-says : Says Drained o vs tail → recordOf o ≡ drained (getD vs 0 0)
   drained-says s = s .says
-
-  pub drained-bounds : Says Drained o vs tail → getD vs 0 0 ≤ 4294967295
-  drained-bounds s = s .bounds .0

@@ -1,5 +1,5 @@
 -- Bits of an octet, from one to the next below. Assumes nothing.
-use mathlib.Core.Path.{_≡_, refl}
+use mathlib.Core.Path.{_≡_}
 use Prim.Native.Nat.{ℕ, zero, suc, _-_, _/_, _<_}
 use native.Mathlib.Omega.{arith}
 use Rattle.model.specs.Text.{bit}

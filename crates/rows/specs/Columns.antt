@@ -6,7 +6,7 @@ use Prim.Native.Nat.{ℕ, zero, suc, _+_, _-_, _*_, _<_, _≤_}
 use native.Mathlib.Omega.{arith}
 use lib.Dec.{eqb, ltb}
 use lib.ListN.{length, take, drop, getD, set, replicate, length-drop, take-append-drop}
-use lib.Seq.{getD-set-same, getD-set-other, getD-take, length-take-le, take-take, take-at, drop-at, take-append-le, drop-append-le, take-all, paste}
+use lib.Seq.{getD-set-same, getD-set-other, length-take-le, take-take, take-at, drop-at, take-append-le, drop-append-le, take-all, paste}
 use borrow.Author.Tests.{eqb-true, eqb-false, ltb-true, ltb-false}
 use Rattle.model.specs.Memory.{noMailbox, nameOf}
 use Rattle.model.specs.declared.Mailbox.{Mailbox}

@@ -1,5 +1,5 @@
 -- How the columns are filled, a row after the other: what stands after i rows, and how a row more keeps it. Assumes nothing.
-use mathlib.Core.Path.{_≡_, refl, ap, sym, _∙_}
+use mathlib.Core.Path.{_≡_, ap, sym, _∙_}
 use mathlib.Core.List.{List}
 use Prim.Native.Nat.{ℕ, _+_, _*_, _<_, _≤_}
 use native.Mathlib.Omega.{arith}
@@ -7,7 +7,7 @@ use lib.ListN.{length, take, getD, set, length-set}
 use lib.Seq.{getD-take, length-take-le, paste}
 use Rattle.model.specs.Memory.{noMailbox}
 use Rattle.model.specs.declared.Mailbox.{Mailbox}
-use Rattle.rows.specs.Columns.{Laid, First, FirstNames, Column, Names, block, column-next, rest-next, names-next}
+use Rattle.rows.specs.Columns.{Laid, First, FirstNames, Column, column-next, rest-next, names-next}
 
 -- the columns when i rows are laid out
 pub record Filling (rows : List Mailbox) (i : ℕ) (ids attributes lens validities nexts names : List ℕ) : Type 0 where

@@ -1,18 +1,15 @@
 -- The writes of the mailbox table as code makes them: one row is set, one is put behind the last. Assumes nothing.
-use mathlib.Core.Path.{_≡_, refl, ap, ap₂, sym, _∙_}
-use mathlib.Core.Bool.{Bool, true, false, not, _&&_}
+use mathlib.Core.Path.{_≡_, ap, ap₂, sym, _∙_}
+use mathlib.Core.Bool.{Bool, not, _&&_}
 use mathlib.Core.List.{List, [], _∷_, _++_, append-assoc}
 use Prim.Native.Nat.{ℕ, suc, _+_, _-_, _<_, _≤_, max}
 use native.Mathlib.Omega.{arith}
-use native.Mathlib.Numerals.{add-one}
-use lib.Dec.{eqb, leb}
-use lib.ListN.{length, take, drop, getD, set, replicate, length-set, length-append}
+use lib.Dec.{eqb}
+use lib.ListN.{length, take, drop, getD, set, length-set, length-append}
 use lib.Seq.{length-take-le, set-split}
-use borrow.Author.Tests.{leb-true}
 use Rattle.model.specs.Lists.{same}
 use Rattle.model.specs.Names.{Name}
 use Rattle.model.specs.Memory.{Memory, boxes, nameOf, noMailbox, refill, withBoxes, putBox, addBox, place}
-use Rattle.demands.specs.Lasting.Law.{Law}
 use Rattle.model.specs.declared.Mailbox.{Mailbox}
 use Rattle.laws.specs.Changing.{refill-same, set-front}
 use Rattle.rows.specs.Columns.{Column, Names, nameAt, name-at}

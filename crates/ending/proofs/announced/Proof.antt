@@ -4,22 +4,10 @@ use Rattle.ending.proofs.announced.Tie as tie
 use Rattle.ending.proofs.announced.Reads as reads
 use Rattle.ending.proofs.announced.Lts as lts
 use Rattle.ending.proofs.viewed.Reads as viewed-reads
-use mathlib.Core.Path.{_≡_, refl, sym, _∙_, ap}
-use mathlib.Core.Bool.{Bool, true, false, not, cond, _&&_}
-use Prim.Native.Nat.{ℕ, _≤_, _<_, _+_, _-_}
-use native.Mathlib.Omega.{arith}
-use lib.Dec.{eqb, ltb}
-use lib.ListN.{length, getD, take}
-use borrow.Author.Tests.{eq-eqb, ne-eqb, not-true, not-false}
+use mathlib.Core.Path.{sym, _∙_, ap}
+use mathlib.Core.Bool.{Bool, cond}
+use Prim.Native.Nat.{_-_}
 use Rattle.model.specs.Memory.{withView}
-use Rattle.model.specs.declared.Session.{Session}
-use Rattle.entries.specs.Words.{messages}
-use Rattle.order.specs.Chosen.{chosen}
-use Rattle.ending.specs.declared.Going.{Going}
-use Rattle.ending.specs.Saying.{State, runE, firstPart}
-use Rattle.order.specs.Counts.{order-short}
-use Rattle.ending.specs.Coded.{stateOf}
-use Rattle.ending.specs.Ending.{Speaks, speaks, Leaves, leaves-none, leaves-some, endAfter, endRest}
 
 -- src/lib.rt:472:9
 viewed-requires : tie.Need-viewed-requires

@@ -7,23 +7,13 @@ use Rattle.ending.proofs.announced.Reads as announced-reads
 use Rattle.entries.proofs.settle.Reads as settle-reads
 use Rattle.ending.proofs.view.speak.Reads as speak-reads
 use Rattle.order.proofs.by_uid.Reads as by-uid-reads
-use mathlib.Core.Path.{_≡_, refl, sym, _∙_, ap}
-use mathlib.Core.Bool.{Bool, true, false, not, cond, _&&_}
-use Prim.Native.Nat.{ℕ, _≤_, _<_, _+_, _-_}
+use Prim.Native.Nat.{_-_}
 use native.Mathlib.Omega.{arith}
-use lib.Dec.{eqb, ltb}
-use lib.ListN.{length, getD, take}
-use borrow.Author.Tests.{eq-eqb, ne-eqb, not-true, not-false}
-use Rattle.model.specs.Memory.{withView}
-use Rattle.model.specs.declared.Session.{Session}
+use borrow.Author.Tests.{not-true, not-false}
 use Rattle.entries.specs.Words.{messages}
 use Rattle.entries.specs.Laid.{laid-own}
-use Rattle.order.specs.Chosen.{chosen}
-use Rattle.ending.specs.declared.Going.{Going}
-use Rattle.ending.specs.Saying.{State, runE, firstPart}
 use Rattle.order.specs.Counts.{order-short}
-use Rattle.ending.specs.Coded.{stateOf}
-use Rattle.ending.specs.Ending.{Speaks, speaks, Leaves, leaves-none, leaves-some, endAfter, endRest}
+use Rattle.ending.specs.Ending.{leaves-none, leaves-some}
 
 -- src/lib.rt:491:9
 returns : tie.Need-returns

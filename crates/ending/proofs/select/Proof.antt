@@ -5,7 +5,7 @@ use Rattle.ending.proofs.select.Reads as reads
 use Rattle.ending.proofs.select.Lts as lts
 use Rattle.entries.proofs.settle.Reads as settle-reads
 use Rattle.ending.proofs.viewed.Reads as viewed-reads
-use mathlib.Core.Path.{_≡_, refl, sym, _∙_, ap}
+use mathlib.Core.Path.{_∙_, ap}
 use mathlib.Core.List.{List}
 use lib.ListN.{take, length}
 use Rattle.model.specs.Memory.{noMessage, refill}
@@ -13,7 +13,7 @@ use Rattle.model.specs.declared.Message.{Message}
 use Rattle.entries.specs.Words.{messages}
 use lib.ListN.{length}
 use Rattle.entries.specs.Laid.{laid}
-use Rattle.ending.specs.After.{rests, kept-rests}
+use Rattle.ending.specs.After.{kept-rests}
 
 -- src/lib.rt:187:9
 settle-requires : tie.Need-settle-requires

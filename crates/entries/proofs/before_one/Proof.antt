@@ -4,7 +4,6 @@ use Rattle.entries.proofs.before_one.Tie as tie
 use Rattle.entries.proofs.before_one.Reads as reads
 use Rattle.entries.proofs.before_one.Lts as lts
 use Rattle.entries.proofs.get.Reads as get-reads
-use mathlib.Core.Path.{_≡_, refl, sym, _∙_, ap}
 use native.Mathlib.Omega.{arith}
 use Rattle.entries.specs.Counted.{before, off-other, off-new, off-late, on-before}
 

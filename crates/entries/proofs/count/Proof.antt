@@ -3,13 +3,13 @@ use Rattle.entries.proofs.count.Tie as tie
 use Rattle.entries.proofs.count.Reads as reads
 use Rattle.entries.proofs.count.Lts as lts
 use Rattle.entries.proofs.count_one.Reads as count-one-reads
-use mathlib.Core.Path.{_≡_, refl, sym, _∙_, ap}
-use Prim.Native.Nat.{ℕ, _≤_, _<_, _+_, _-_}
+use mathlib.Core.Path.{_≡_, refl}
+use Prim.Native.Nat.{_≤_, _-_}
 use native.Mathlib.Omega.{arith}
-use lib.ListN.{length, take, getD}
+use lib.ListN.{take}
 use Rattle.entries.specs.Words.{messages, messages-length}
 use Rattle.laws.specs.Counting.{countb}
-use Rattle.entries.specs.Counted.{lives, existing-count, count-next, count-end}
+use Rattle.entries.specs.Counted.{lives, count-next, count-end}
 use borrow.Author.Needs.{needs}
 
 abbrev Inv-loop : tie.InvT-loop

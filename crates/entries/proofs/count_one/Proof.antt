@@ -4,17 +4,8 @@ use Rattle.entries.proofs.count_one.Tie as tie
 use Rattle.entries.proofs.count_one.Reads as reads
 use Rattle.entries.proofs.count_one.Lts as lts
 use Rattle.entries.proofs.get.Reads as get-reads
-use mathlib.Core.Path.{_≡_, refl, sym, _∙_, ap}
-use mathlib.Core.Bool.{Bool, true, false, not, cond, _&&_}
-use Prim.Native.Nat.{ℕ, _≤_, _%_}
 use native.Mathlib.Omega.{arith}
-use lib.Dec.{eqb}
-use lib.ListN.{getD}
-use borrow.Author.Tests.{eq-eqb, ne-eqb}
-use Rattle.model.specs.Memory.{noMessage}
-use Rattle.model.specs.declared.Message.{Message}
-use Rattle.entries.specs.Words.{messages}
-use Rattle.entries.specs.Counted.{lives, one-other, one-gone, one-here}
+use Rattle.entries.specs.Counted.{one-other, one-gone, one-here}
 
 -- src/lib.rt:55:9
 get-requires : tie.Need-get-requires

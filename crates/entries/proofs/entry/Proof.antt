@@ -5,7 +5,7 @@ use Rattle.entries.proofs.entry.Reads as reads
 use Rattle.entries.proofs.entry.Lts as lts
 use Rattle.entries.proofs.nothing.Reads as nothing-reads
 use Rattle.entries.proofs.get.Reads as get-reads
-use mathlib.Core.Path.{_≡_, refl, sym, _∙_, ap}
+use mathlib.Core.Path.{sym, _∙_}
 use native.Mathlib.Omega.{arith}
 use Rattle.entries.specs.Words.{messages, messages-count, past}
 

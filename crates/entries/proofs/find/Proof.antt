@@ -3,15 +3,12 @@ use Rattle.entries.proofs.find.Tie as tie
 use Rattle.entries.proofs.find.Reads as reads
 use Rattle.entries.proofs.find.Lts as lts
 use Rattle.entries.proofs.is_message.Reads as is-message-reads
-use mathlib.Core.Path.{_≡_, refl, sym, _∙_, ap}
-use mathlib.Core.Bool.{Bool, true, false, not}
+use mathlib.Core.Path.{_≡_, sym, _∙_, ap}
 use Prim.Native.Nat.{_≤_, _+_, _-_}
 use native.Mathlib.Omega.{arith}
-use lib.ListN.{length, take, drop, getD}
+use lib.ListN.{take, drop}
 use lib.Seq.{length-take-le, getD-take}
-use borrow.Author.Tests.{not-true}
 use Rattle.model.specs.Memory.{noMessage}
-use Rattle.model.specs.declared.Message.{Message}
 use Rattle.entries.specs.Words.{messages, messages-length}
 use Rattle.entries.specs.Found.{stands, first, first-start, first-next, first-here, first-none}
 use borrow.Author.Needs.{needs}

@@ -4,10 +4,7 @@ use Rattle.entries.proofs.is_message.Tie as tie
 use Rattle.entries.proofs.is_message.Reads as reads
 use Rattle.entries.proofs.is_message.Lts as lts
 use Rattle.entries.proofs.get.Reads as get-reads
-use mathlib.Core.Path.{_≡_, refl, sym, _∙_, ap}
-use mathlib.Core.Bool.{Bool, true, false, not}
-use borrow.Author.Tests.{not-true, not-false}
-use Rattle.entries.specs.Found.{stands, other-box, other-uid, that-one}
+use Rattle.entries.specs.Found.{other-box, other-uid, that-one}
 
 -- src/lib.rt:107:9
 get-requires : tie.Need-get-requires

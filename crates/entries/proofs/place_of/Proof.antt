@@ -3,10 +3,10 @@ use Rattle.entries.proofs.place_of.Tie as tie
 use Rattle.entries.proofs.place_of.Reads as reads
 use Rattle.entries.proofs.place_of.Lts as lts
 use Rattle.entries.proofs.before_one.Reads as before-one-reads
-use mathlib.Core.Path.{_≡_, refl, sym, _∙_, ap}
-use Prim.Native.Nat.{ℕ, _≤_, _<_, _+_, _-_}
+use mathlib.Core.Path.{_≡_, refl}
+use Prim.Native.Nat.{_≤_, _-_}
 use native.Mathlib.Omega.{arith}
-use lib.ListN.{length, take, getD}
+use lib.ListN.{take}
 use Rattle.entries.specs.Words.{messages, messages-length}
 use Rattle.laws.specs.Counting.{countb}
 use Rattle.entries.specs.Counted.{before, count-next, place-end}

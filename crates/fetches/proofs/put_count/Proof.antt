@@ -5,9 +5,8 @@ use Rattle.fetches.proofs.put_count.Reads as reads
 use Rattle.fetches.proofs.put_count.Lts as lts
 use Rattle.out.proofs.put.Reads as put-reads
 use Rattle.out.proofs.put_number.Reads as put-number-reads
-use mathlib.Core.Path.{_≡_, refl, sym, _∙_, ap}
 use native.Mathlib.Omega.{arith}
-use Rattle.out.specs.Put.{_then_, put-as}
+use Rattle.out.specs.Put.{_then_}
 use Rattle.fetches.specs.Counts.{countText}
 
 -- src/lib.rt:249:40

@@ -4,14 +4,10 @@ use Rattle.fetches.proofs.put_exists.Tie as tie
 use Rattle.fetches.proofs.put_exists.Reads as reads
 use Rattle.fetches.proofs.put_exists.Lts as lts
 use Rattle.fetches.proofs.put_count.Reads as put-count-reads
-use mathlib.Core.Path.{_≡_, refl, sym, _∙_, ap}
-use mathlib.Core.Bool.{Bool, true, false, cond, _&&_, _||_}
-use mathlib.Core.List.{List, [], _∷_, _++_}
-use Prim.Native.Nat.{ℕ, _≤_, _<_, _+_, _-_, _*_}
+use Prim.Native.Nat.{_-_}
 use native.Mathlib.Omega.{arith}
-use borrow.Author.Tests.{not-true, not-false}
-use Rattle.out.specs.Put.{Put, _then_, put-as, put-none}
-use Rattle.fetches.specs.Counts.{countText, existsText, exists-none, exists-some}
+use Rattle.out.specs.Put.{put-as, put-none}
+use Rattle.fetches.specs.Counts.{exists-none, exists-some}
 
 -- src/lib.rt:133:9
 returns : tie.Need-returns

@@ -6,15 +6,9 @@ use Rattle.fetches.proofs.put_fetch.Lts as lts
 use Rattle.fetches.proofs.flags.put_flags.Reads as put-flags-reads
 use Rattle.out.proofs.put.Reads as put-reads
 use Rattle.out.proofs.put_number.Reads as put-number-reads
-use mathlib.Core.Path.{_≡_, refl, sym, _∙_, ap}
-use mathlib.Core.List.{_∷_, [], _++_}
-use mathlib.Core.Bool.{Bool, true, false, _||_}
-use Prim.Native.Nat.{_≤_, _+_}
 use native.Mathlib.Omega.{arith}
-use borrow.Author.Tests.{not-true, not-false}
-use Rattle.out.specs.Put.{_then_, put-as, put-none}
-use Rattle.fetches.specs.Fetch.{piece, firstThree, lastTwo, flagsText, fetchText, piece-off, piece-first, piece-more, flags-pieces}
-use Rattle.model.specs.Text.{octets, bit}
+use Rattle.out.specs.Put.{_then_}
+use Rattle.fetches.specs.Fetch.{fetchText}
 
 -- src/lib.rt:85:40
 slice-aggregate-put : tie.Need-slice-aggregate-put

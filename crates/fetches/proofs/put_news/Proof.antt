@@ -3,16 +3,11 @@ use Rattle.fetches.proofs.put_news.Statement.{statement}
 use Rattle.fetches.proofs.put_news.Tie as tie
 use Rattle.fetches.proofs.put_news.Reads as reads
 use Rattle.fetches.proofs.put_news.Lts as lts
-use mathlib.Core.Path.{_≡_, refl, sym, _∙_, ap}
-use mathlib.Core.Bool.{Bool, true, false, cond, _&&_, _||_}
-use mathlib.Core.List.{List, [], _∷_, _++_}
-use Prim.Native.Nat.{ℕ, _≤_, _<_, _+_, _-_, _*_}
+use Prim.Native.Nat.{_-_}
 use native.Mathlib.Omega.{arith}
 use borrow.Author.Tests.{not-true, not-false}
-use Rattle.out.specs.Put.{Put, _then_, put-as, put-none}
-use lib.ListN.{length}
-use Rattle.fetches.specs.Counts.{existsText}
-use Rattle.fetches.specs.Whole.{newsText, exists-as, news-bare, news-full}
+use Rattle.out.specs.Put.{_then_, put-as}
+use Rattle.fetches.specs.Whole.{news-bare, news-full}
 
 staying-requires : tie.Need-staying-requires
 staying-requires c κs = search needs

@@ -3,19 +3,9 @@ use Rattle.fetches.proofs.put_owed.Statement.{statement}
 use Rattle.fetches.proofs.put_owed.Tie as tie
 use Rattle.fetches.proofs.put_owed.Reads as reads
 use Rattle.fetches.proofs.put_owed.Lts as lts
-use mathlib.Core.Path.{_≡_, refl, sym, _∙_, ap}
-use mathlib.Core.Bool.{Bool, true, false, cond, _&&_, _||_}
-use mathlib.Core.List.{List, [], _∷_, _++_}
-use Prim.Native.Nat.{ℕ, _≤_, _<_, _+_, _-_, _*_}
+use Prim.Native.Nat.{_-_}
 use native.Mathlib.Omega.{arith}
-use borrow.Author.Tests.{not-true, not-false}
-use Rattle.out.specs.Put.{Put, _then_, put-as, put-none}
-use lib.ListN.{length}
-use Rattle.model.specs.Lists.{filterb}
-use Rattle.entries.specs.Words.{messages}
-use Rattle.order.specs.Chosen.{chosen}
-use Rattle.order.specs.Counts.{stays, fresh}
-use Rattle.fetches.specs.Counts.{existsText}
+use Rattle.out.specs.Put.{_then_, put-as}
 use Rattle.fetches.specs.Whole.{owedText, exists-as}
 
 put-part-requires : tie.Need-put-part-requires

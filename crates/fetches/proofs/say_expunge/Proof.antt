@@ -5,9 +5,8 @@ use Rattle.fetches.proofs.say_expunge.Reads as reads
 use Rattle.fetches.proofs.say_expunge.Lts as lts
 use Rattle.fetches.proofs.put_expunge.Reads as put-expunge-reads
 use Rattle.out.proofs.overflow.Reads as overflow-reads
-use mathlib.Core.Path.{_≡_, refl, sym, _∙_, ap}
+use mathlib.Core.Path.{refl}
 use native.Mathlib.Omega.{arith}
-use Rattle.model.specs.Lines.{render}
 use Rattle.out.specs.Says.{says-fits, says-over}
 
 -- src/lib.rt:168:17

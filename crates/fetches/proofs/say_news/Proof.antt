@@ -3,13 +3,9 @@ use Rattle.fetches.proofs.say_news.Statement.{statement}
 use Rattle.fetches.proofs.say_news.Tie as tie
 use Rattle.fetches.proofs.say_news.Reads as reads
 use Rattle.fetches.proofs.say_news.Lts as lts
-use mathlib.Core.Path.{_≡_, refl, sym, _∙_, ap}
-use mathlib.Core.Bool.{Bool, true, false, cond, _&&_, _||_}
-use mathlib.Core.List.{List, [], _∷_, _++_}
-use Prim.Native.Nat.{ℕ, _≤_, _<_, _+_, _-_, _*_}
+use mathlib.Core.Path.{refl}
+use Prim.Native.Nat.{_-_}
 use native.Mathlib.Omega.{arith}
-use borrow.Author.Tests.{not-true, not-false}
-use Rattle.out.specs.Put.{Put, _then_, put-as, put-none}
 use Rattle.out.specs.Says.{says-fits, says-over}
 
 sub-limit : tie.Need-sub-limit

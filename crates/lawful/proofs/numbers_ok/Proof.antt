@@ -1,7 +1,6 @@
 use Rattle.lawful.proofs.numbers_ok.Statement.{statement}
 use Rattle.lawful.proofs.numbers_ok.Tie as tie
 use Rattle.lawful.specs.Fields.{no-id, no-attributes, no-validity, no-next, last-number}
-use borrow.Author.Needs.{needs}
 
 -- src/lib.rt:29:9
 returns : tie.Need-returns

@@ -2,7 +2,6 @@ use Rattle.session.proofs.selector_of.Statement.{statement}
 use Rattle.session.proofs.selector_of.Tie as tie
 use Prim.Native.Nat.{_-_}
 use borrow.Author.Tests.{eq-eqb, ne-eqb}
-use borrow.Author.Needs.{needs}
 
 -- src/lib.rt:55:9
 returns : tie.Need-returns

@@ -5,11 +5,9 @@ use Rattle.ending.proofs.lines.say_count.Reads as reads
 use Rattle.ending.proofs.lines.say_count.Lts as lts
 use Rattle.fetches.proofs.put_count.Reads as put-count-reads
 use Rattle.ending.proofs.lines.refused.Reads as refused-reads
-use mathlib.Core.Path.{_≡_, refl, sym, _∙_, ap}
-use Prim.Native.Nat.{ℕ, _≤_, _+_}
+use mathlib.Core.Path.{refl, _∙_, ap}
 use native.Mathlib.Omega.{arith}
 use borrow.Author.Tests.{not-true, not-false}
-use Rattle.fetches.specs.Fetch.{fetchText}
 use Rattle.ending.specs.declared.Going.{Going}
 use Rattle.fetches.specs.Counts.{countText}
 use Rattle.ending.specs.Saying.{say-shut, say-over, say-fits}

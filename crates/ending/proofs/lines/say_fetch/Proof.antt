@@ -5,13 +5,11 @@ use Rattle.ending.proofs.lines.say_fetch.Reads as reads
 use Rattle.ending.proofs.lines.say_fetch.Lts as lts
 use Rattle.ending.proofs.lines.refused.Reads as refused-reads
 use Rattle.fetches.proofs.put_fetch.Reads as put-fetch-reads
-use mathlib.Core.Path.{_≡_, refl, sym, _∙_, ap}
-use Prim.Native.Nat.{ℕ, _≤_, _+_}
+use mathlib.Core.Path.{refl, _∙_, ap}
 use native.Mathlib.Omega.{arith}
 use borrow.Author.Tests.{not-true, not-false}
 use Rattle.fetches.specs.Fetch.{fetchText}
 use Rattle.ending.specs.declared.Going.{Going}
-use Rattle.fetches.specs.Counts.{countText}
 use Rattle.ending.specs.Saying.{say-shut, say-over, say-fits}
 use Rattle.ending.specs.Coded.{stateOf}
 

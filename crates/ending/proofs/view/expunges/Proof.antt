@@ -3,22 +3,14 @@ use Rattle.ending.proofs.view.expunges.Tie as tie
 use Rattle.ending.proofs.view.expunges.Reads as reads
 use Rattle.ending.proofs.view.expunges.Lts as lts
 use Rattle.ending.proofs.view.expunge_one.Reads as expunge-one-reads
-use mathlib.Core.Path.{_≡_, refl, sym, _∙_, ap}
-use mathlib.Core.Bool.{Bool, true, false, not, cond, _&&_}
-use Prim.Native.Nat.{ℕ, _≤_, _<_, _+_, _-_}
+use mathlib.Core.Path.{_≡_, refl}
+use Prim.Native.Nat.{_≤_, _+_, _-_}
 use native.Mathlib.Omega.{arith}
-use lib.Dec.{eqb, ltb}
-use lib.ListN.{length, getD}
-use Rattle.model.specs.Lists.{filterb}
-use Rattle.model.specs.Memory.{noMessage, uidOf, expunged}
-use Rattle.model.specs.declared.Message.{Message}
+use lib.ListN.{length}
 use Rattle.entries.specs.Words.{messages}
 use Rattle.order.specs.Chosen.{chosen}
-use Rattle.ending.specs.declared.Going.{Going}
-use Rattle.fetches.specs.Counts.{countText, existsWord, expungeWord}
-use Rattle.order.specs.Counts.{stays, fresh}
-use Rattle.ending.specs.Saying.{State, runE, runM, stepE, stepM, sayExists}
-use Rattle.ending.specs.Coded.{stateOf, e-off, e-gone, e-stay, m-off, m-skip, m-mark, m-plain, more-as, more-is, exists-none, exists-some, runE-next, runE-end, runM-next, runM-end}
+use Rattle.ending.specs.Saying.{runE}
+use Rattle.ending.specs.Coded.{stateOf, runE-next, runE-end}
 use borrow.Author.Needs.{needs}
 
 abbrev Inv-loop : tie.InvT-loop

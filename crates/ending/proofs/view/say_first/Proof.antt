@@ -4,22 +4,14 @@ use Rattle.ending.proofs.view.say_first.Tie as tie
 use Rattle.ending.proofs.view.say_first.Reads as reads
 use Rattle.ending.proofs.view.say_first.Lts as lts
 use Rattle.ending.proofs.view.expunges.Reads as expunges-reads
-use mathlib.Core.Path.{_≡_, refl, sym, _∙_, ap}
-use mathlib.Core.Bool.{Bool, true, false, not, cond, _&&_}
-use Prim.Native.Nat.{ℕ, _≤_, _<_, _+_, _-_}
+use mathlib.Core.Path.{refl, sym, _∙_, ap}
+use mathlib.Core.Bool.{Bool}
+use Prim.Native.Nat.{_-_}
 use native.Mathlib.Omega.{arith}
-use lib.Dec.{eqb, ltb}
-use lib.ListN.{length, getD, take}
-use borrow.Author.Tests.{eq-eqb, ne-eqb, not-true, not-false}
-use Rattle.model.specs.Memory.{withView}
-use Rattle.model.specs.declared.Session.{Session}
 use Rattle.entries.specs.Words.{messages}
 use Rattle.order.specs.Chosen.{chosen}
-use Rattle.ending.specs.declared.Going.{Going}
-use Rattle.ending.specs.Saying.{State, runE, firstPart}
-use Rattle.order.specs.Counts.{order-short}
+use Rattle.ending.specs.Saying.{firstPart}
 use Rattle.ending.specs.Coded.{stateOf}
-use Rattle.ending.specs.Ending.{Speaks, speaks, Leaves, leaves-none, leaves-some, endAfter, endRest}
 
 -- src/lib.rt:427:9
 expunges-requires : tie.Need-expunges-requires

@@ -9,22 +9,13 @@ use Rattle.ending.proofs.lines.say_exists.Reads as say-exists-reads
 use Rattle.ending.proofs.view.say_first.Reads as say-first-reads
 use Rattle.order.proofs.staying.Reads as staying-reads
 use Rattle.order.proofs.unseen.Reads as unseen-reads
-use mathlib.Core.Path.{_≡_, refl, sym, _∙_, ap}
-use mathlib.Core.Bool.{Bool, true, false, not, cond, _&&_}
-use Prim.Native.Nat.{ℕ, _≤_, _<_, _+_, _-_}
+use mathlib.Core.Path.{ap}
+use Prim.Native.Nat.{_-_}
 use native.Mathlib.Omega.{arith}
-use lib.Dec.{eqb, ltb}
-use lib.ListN.{length, getD, take}
-use borrow.Author.Tests.{eq-eqb, ne-eqb, not-true, not-false}
-use Rattle.model.specs.Memory.{withView}
-use Rattle.model.specs.declared.Session.{Session}
 use Rattle.entries.specs.Words.{messages}
 use Rattle.order.specs.Chosen.{chosen}
 use Rattle.ending.specs.declared.Going.{Going}
-use Rattle.ending.specs.Saying.{State, runE, firstPart}
-use Rattle.order.specs.Counts.{order-short}
-use Rattle.ending.specs.Coded.{stateOf}
-use Rattle.ending.specs.Ending.{Speaks, speaks, Leaves, leaves-none, leaves-some, endAfter, endRest}
+use Rattle.ending.specs.Ending.{speaks}
 
 -- src/lib.rt:453:9
 say-first-requires : tie.Need-say-first-requires

@@ -5,9 +5,7 @@ use Rattle.entries.proofs.sweeping.calmed.Reads as reads
 use Rattle.entries.proofs.sweeping.calmed.Lts as lts
 use Rattle.entries.proofs.changed.Reads as changed-reads
 use Rattle.entries.proofs.sweeping.shown_one.Reads as shown-one-reads
-use mathlib.Core.Path.{_≡_, refl, sym, _∙_, ap}
-use mathlib.Core.Bool.{Bool}
-use Rattle.model.specs.declared.Message.{Message}
+use mathlib.Core.Path.{sym, _∙_, ap}
 use Rattle.entries.specs.Swept.{calm}
 use Rattle.entries.specs.declared.Sweep.{Sweep}
 

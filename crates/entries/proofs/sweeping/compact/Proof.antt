@@ -3,14 +3,12 @@ use Rattle.entries.proofs.sweeping.compact.Tie as tie
 use Rattle.entries.proofs.sweeping.compact.Reads as reads
 use Rattle.entries.proofs.sweeping.compact.Lts as lts
 use Rattle.entries.proofs.sweeping.move_one.Reads as move-one-reads
-use mathlib.Core.Path.{_≡_, refl, sym, _∙_, ap}
-use mathlib.Core.List.{List, _++_}
-use Prim.Native.Nat.{_≤_, _-_, _<_, _+_}
+use mathlib.Core.Path.{_≡_}
+use Prim.Native.Nat.{_≤_, _-_}
 use native.Mathlib.Omega.{arith}
-use lib.ListN.{take, drop, length}
-use Rattle.model.specs.declared.Message.{Message}
-use Rattle.entries.specs.Words.{messages, messages-length}
-use Rattle.entries.specs.Swept.{kept, Passing, Moves, passing-start, passed}
+use lib.ListN.{length}
+use Rattle.entries.specs.Words.{messages-length}
+use Rattle.entries.specs.Swept.{Passing, passing-start, passed}
 use borrow.Author.Needs.{needs}
 
 abbrev Inv-loop : tie.InvT-loop

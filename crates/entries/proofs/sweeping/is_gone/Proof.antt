@@ -5,7 +5,7 @@ use Rattle.entries.proofs.sweeping.is_gone.Reads as reads
 use Rattle.entries.proofs.sweeping.is_gone.Lts as lts
 use Rattle.entries.proofs.sweeping.both.Reads as both-reads
 use Rattle.entries.proofs.sweeping.is_below.Reads as is-below-reads
-use mathlib.Core.Path.{_≡_, refl, sym, _∙_, ap}
+use mathlib.Core.Path.{sym, _∙_, ap}
 use mathlib.Core.Bool.{Bool, _&&_}
 use Rattle.model.specs.Memory.{expunged}
 use Rattle.entries.specs.Swept.{goes}

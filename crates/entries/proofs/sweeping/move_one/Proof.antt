@@ -7,7 +7,7 @@ use native.Mathlib.Omega.{arith}
 use lib.Dec.{eqb}
 use borrow.Author.Tests.{eqb-true}
 use Rattle.model.specs.Laws.{and-l, and-r}
-use Rattle.entries.specs.Swept.{Moves, passing-go, passing-rest, passing-stay}
+use Rattle.entries.specs.Swept.{passing-go, passing-rest, passing-stay}
 
 get-requires : tie.Need-get-requires
 get-requires c κs = search needs

@@ -6,10 +6,9 @@ use Rattle.entries.proofs.sweeping.shown_one.Lts as lts
 use Rattle.entries.proofs.sweeping.both.Reads as both-reads
 use Rattle.entries.proofs.changed.Reads as changed-reads
 use Rattle.entries.proofs.sweeping.is_below.Reads as is-below-reads
-use mathlib.Core.Path.{_≡_, refl, sym, _∙_, ap}
-use mathlib.Core.Bool.{Bool, true, false, cond, _&&_}
+use mathlib.Core.Path.{sym, _∙_, ap}
+use mathlib.Core.Bool.{Bool, cond, _&&_}
 use Rattle.model.specs.Memory.{marked, withStates}
-use Rattle.model.specs.declared.Message.{Message}
 
 -- src/lib.rt:252:9
 is-below-requires : tie.Need-is-below-requires

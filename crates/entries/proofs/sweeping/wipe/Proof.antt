@@ -4,11 +4,11 @@ use Rattle.entries.proofs.sweeping.wipe.Reads as reads
 use Rattle.entries.proofs.sweeping.wipe.Lts as lts
 use Rattle.entries.proofs.nothing.Reads as nothing-reads
 use Rattle.entries.proofs.put.Reads as put-reads
-use mathlib.Core.Path.{_≡_, refl, sym, _∙_, ap}
-use Prim.Native.Nat.{_≤_, _-_, _<_, _+_}
+use mathlib.Core.Path.{_≡_}
+use Prim.Native.Nat.{_≤_, _-_}
 use native.Mathlib.Omega.{arith}
-use lib.ListN.{take, drop, length}
-use Rattle.entries.specs.Words.{messages, messages-length, messages-stored}
+use lib.ListN.{length}
+use Rattle.entries.specs.Words.{messages-length}
 use Rattle.entries.specs.Swept.{Wiping, wiping-start, wiping-next, wiping-end}
 use borrow.Author.Needs.{needs}
 

@@ -5,15 +5,10 @@ use Rattle.fetches.proofs.flags.put_flag.Reads as reads
 use Rattle.fetches.proofs.flags.put_flag.Lts as lts
 use Rattle.out.proofs.put.Reads as put-reads
 use Rattle.out.proofs.put_byte.Reads as put-byte-reads
-use mathlib.Core.Path.{_≡_, refl, sym, _∙_, ap}
-use mathlib.Core.List.{_∷_, [], _++_}
-use mathlib.Core.Bool.{Bool, true, false, _||_}
-use Prim.Native.Nat.{_≤_, _+_}
 use native.Mathlib.Omega.{arith}
 use borrow.Author.Tests.{not-true, not-false}
 use Rattle.out.specs.Put.{_then_, put-as, put-none}
-use Rattle.fetches.specs.Fetch.{piece, firstThree, lastTwo, flagsText, fetchText, piece-off, piece-first, piece-more, flags-pieces}
-use Rattle.model.specs.Text.{octets, bit}
+use Rattle.fetches.specs.Fetch.{piece-off, piece-first, piece-more}
 
 -- src/lib.rt:26:9
 returns : tie.Need-returns

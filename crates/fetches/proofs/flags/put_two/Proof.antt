@@ -5,15 +5,12 @@ use Rattle.fetches.proofs.flags.put_two.Reads as reads
 use Rattle.fetches.proofs.flags.put_two.Lts as lts
 use Rattle.fetches.proofs.flags.either.Reads as either-reads
 use Rattle.fetches.proofs.flags.put_flag.Reads as put-flag-reads
-use mathlib.Core.Path.{_≡_, refl, sym, _∙_, ap}
-use mathlib.Core.List.{_∷_, [], _++_}
-use mathlib.Core.Bool.{Bool, true, false, _||_}
-use Prim.Native.Nat.{_≤_, _+_}
+use mathlib.Core.Path.{ap}
+use mathlib.Core.Bool.{Bool}
 use native.Mathlib.Omega.{arith}
-use borrow.Author.Tests.{not-true, not-false}
-use Rattle.out.specs.Put.{_then_, put-as, put-none}
-use Rattle.fetches.specs.Fetch.{piece, firstThree, lastTwo, flagsText, fetchText, piece-off, piece-first, piece-more, flags-pieces}
-use Rattle.model.specs.Text.{octets, bit}
+use Rattle.out.specs.Put.{_then_, put-as}
+use Rattle.fetches.specs.Fetch.{piece}
+use Rattle.model.specs.Text.{octets}
 
 -- src/lib.rt:58:50
 slice-aggregate-put-flag : tie.Need-slice-aggregate-put-flag

@@ -6,16 +6,14 @@ use Rattle.fetches.proofs.items.put_counted.Lts as lts
 use Rattle.fetches.proofs.items.put_gap.Reads as put-gap-reads
 use Rattle.out.proofs.put.Reads as put-reads
 use Rattle.out.proofs.put_number.Reads as put-number-reads
-use mathlib.Core.Path.{_≡_, refl, sym, _∙_, ap}
-use mathlib.Core.Bool.{Bool, true, false, cond, _&&_, _||_}
-use mathlib.Core.List.{List, [], _∷_, _++_}
-use Prim.Native.Nat.{ℕ, _≤_, _<_, _+_, _-_, _*_}
+use mathlib.Core.List.{_++_}
+use Prim.Native.Nat.{_+_, _-_}
 use native.Mathlib.Omega.{arith}
 use borrow.Author.Tests.{not-true, not-false}
-use Rattle.out.specs.Put.{Put, _then_, put-as, put-none}
+use Rattle.out.specs.Put.{_then_, put-as, put-none}
 use Rattle.model.specs.Text.{decimal}
-use Rattle.fetches.specs.Fetch.{piece, piece-off}
-use Rattle.fetches.specs.Items.{gap, piece-gap}
+use Rattle.fetches.specs.Fetch.{piece-off}
+use Rattle.fetches.specs.Items.{piece-gap}
 
 -- src/lib.rt:200:9
 returns : tie.Need-returns

@@ -6,15 +6,12 @@ use Rattle.fetches.proofs.items.put_flag_item.Lts as lts
 use Rattle.fetches.proofs.flags.put_flags.Reads as put-flags-reads
 use Rattle.fetches.proofs.items.put_gap.Reads as put-gap-reads
 use Rattle.out.proofs.put.Reads as put-reads
-use mathlib.Core.Path.{_≡_, refl, sym, _∙_, ap}
-use mathlib.Core.Bool.{Bool, true, false, cond, _&&_, _||_}
-use mathlib.Core.List.{List, [], _∷_, _++_}
-use Prim.Native.Nat.{ℕ, _≤_, _<_, _+_, _-_, _*_}
+use Prim.Native.Nat.{_-_}
 use native.Mathlib.Omega.{arith}
 use borrow.Author.Tests.{not-true, not-false}
-use Rattle.out.specs.Put.{Put, _then_, put-as, put-none}
-use Rattle.fetches.specs.Fetch.{piece, piece-off, flagsText}
-use Rattle.fetches.specs.Items.{gap, piece-gap, flagItem}
+use Rattle.out.specs.Put.{_then_, put-as, put-none}
+use Rattle.fetches.specs.Fetch.{piece-off}
+use Rattle.fetches.specs.Items.{piece-gap, flagItem}
 
 -- src/lib.rt:213:9
 returns : tie.Need-returns

@@ -4,14 +4,11 @@ use Rattle.fetches.proofs.items.put_gap.Tie as tie
 use Rattle.fetches.proofs.items.put_gap.Reads as reads
 use Rattle.fetches.proofs.items.put_gap.Lts as lts
 use Rattle.out.proofs.put_byte.Reads as put-byte-reads
-use mathlib.Core.Path.{_≡_, refl, sym, _∙_, ap}
-use mathlib.Core.Bool.{Bool, true, false, cond, _&&_, _||_}
-use mathlib.Core.List.{List, [], _∷_, _++_}
-use Prim.Native.Nat.{ℕ, _≤_, _<_, _+_, _-_, _*_}
+use Prim.Native.Nat.{_-_}
 use native.Mathlib.Omega.{arith}
 use borrow.Author.Tests.{not-true, not-false}
-use Rattle.out.specs.Put.{Put, _then_, put-as, put-none}
-use Rattle.fetches.specs.Items.{gap, gap-off, gap-on}
+use Rattle.out.specs.Put.{put-as, put-none}
+use Rattle.fetches.specs.Items.{gap-off, gap-on}
 
 -- src/lib.rt:181:9
 returns : tie.Need-returns

@@ -6,14 +6,11 @@ use Rattle.fetches.proofs.items.put_items.Lts as lts
 use Rattle.fetches.proofs.flags.either.Reads as either-reads
 use Rattle.fetches.proofs.items.put_counted.Reads as put-counted-reads
 use Rattle.fetches.proofs.items.put_flag_item.Reads as put-flag-item-reads
-use mathlib.Core.Path.{_≡_, refl, sym, _∙_, ap}
-use mathlib.Core.Bool.{Bool, true, false, cond, _&&_, _||_}
-use mathlib.Core.List.{List, [], _∷_, _++_}
-use Prim.Native.Nat.{ℕ, _≤_, _<_, _+_, _-_, _*_}
+use mathlib.Core.Path.{ap}
+use mathlib.Core.Bool.{Bool}
+use Prim.Native.Nat.{_-_}
 use native.Mathlib.Omega.{arith}
-use borrow.Author.Tests.{not-true, not-false}
-use Rattle.out.specs.Put.{Put, _then_, put-as, put-none}
-use Rattle.model.specs.Text.{octets, decimal}
+use Rattle.out.specs.Put.{_then_, put-as}
 use Rattle.fetches.specs.Fetch.{piece}
 use Rattle.fetches.specs.Items.{sizeText}
 

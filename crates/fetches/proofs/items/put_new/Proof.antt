@@ -6,13 +6,9 @@ use Rattle.fetches.proofs.items.put_new.Lts as lts
 use Rattle.fetches.proofs.items.put_items.Reads as put-items-reads
 use Rattle.out.proofs.put.Reads as put-reads
 use Rattle.out.proofs.put_number.Reads as put-number-reads
-use mathlib.Core.Path.{_≡_, refl, sym, _∙_, ap}
-use mathlib.Core.Bool.{Bool, true, false, cond, _&&_, _||_}
-use mathlib.Core.List.{List, [], _∷_, _++_}
-use Prim.Native.Nat.{ℕ, _≤_, _<_, _+_, _-_, _*_}
+use Prim.Native.Nat.{_-_}
 use native.Mathlib.Omega.{arith}
-use borrow.Author.Tests.{not-true, not-false}
-use Rattle.out.specs.Put.{Put, _then_, put-as, put-none}
+use Rattle.out.specs.Put.{_then_}
 use Rattle.fetches.specs.Items.{newText}
 
 -- src/lib.rt:237:40

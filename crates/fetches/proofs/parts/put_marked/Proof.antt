@@ -4,14 +4,10 @@ use Rattle.fetches.proofs.parts.put_marked.Tie as tie
 use Rattle.fetches.proofs.parts.put_marked.Reads as reads
 use Rattle.fetches.proofs.parts.put_marked.Lts as lts
 use Rattle.fetches.proofs.put_fetch.Reads as put-fetch-reads
-use mathlib.Core.Path.{_≡_, refl, sym, _∙_, ap}
-use mathlib.Core.Bool.{Bool, true, false, cond, _&&_, _||_}
-use mathlib.Core.List.{List, [], _∷_, _++_}
-use Prim.Native.Nat.{ℕ, _≤_, _<_, _+_, _-_, _*_}
+use mathlib.Core.Path.{refl}
+use Prim.Native.Nat.{_-_}
 use native.Mathlib.Omega.{arith}
-use borrow.Author.Tests.{not-true, not-false}
-use Rattle.out.specs.Put.{Put, _then_, put-as, put-none}
-use Rattle.fetches.specs.Parts.{Puts, textOf, nextOf, puts-none, puts-some, off-gone, off-gone-next, is-gone, is-gone-next, is-live, is-live-next, off-marked, off-marked-next, gone-marked, gone-marked-next, live-marked-next, is-marked, not-marked, not-new, not-new-next, is-new, is-new-next}
+use Rattle.fetches.specs.Parts.{puts-none, puts-some, off-marked, off-marked-next, gone-marked, gone-marked-next, live-marked-next, is-marked, not-marked}
 
 -- src/lib.rt:280:9
 returns : tie.Need-returns

@@ -6,13 +6,7 @@ use Rattle.fetches.proofs.parts.put_one.Lts as lts
 use Rattle.fetches.proofs.parts.put_fresh.Reads as put-fresh-reads
 use Rattle.fetches.proofs.parts.put_gone.Reads as put-gone-reads
 use Rattle.fetches.proofs.parts.put_marked.Reads as put-marked-reads
-use mathlib.Core.Path.{_≡_, refl, sym, _∙_, ap}
-use mathlib.Core.Bool.{Bool, true, false, cond, _&&_, _||_}
-use mathlib.Core.List.{List, [], _∷_, _++_}
-use Prim.Native.Nat.{ℕ, _≤_, _<_, _+_, _-_, _*_}
-use native.Mathlib.Omega.{arith}
-use borrow.Author.Tests.{not-true, not-false}
-use Rattle.out.specs.Put.{Put, _then_, put-as, put-none}
+use Prim.Native.Nat.{_-_}
 
 -- src/lib.rt:313:36
 enum-told : tie.Need-enum-told

@@ -4,18 +4,14 @@ use Rattle.fetches.proofs.parts.put_part.Reads as reads
 use Rattle.fetches.proofs.parts.put_part.Lts as lts
 use Rattle.entries.proofs.entry.Reads as entry-reads
 use Rattle.fetches.proofs.parts.put_one.Reads as put-one-reads
-use mathlib.Core.Path.{_≡_, refl, sym, _∙_, ap}
-use mathlib.Core.Bool.{Bool, true, false, cond, _&&_, _||_}
-use mathlib.Core.List.{List, [], _∷_, _++_}
-use Prim.Native.Nat.{ℕ, _≤_, _<_, _+_, _-_, _*_}
+use mathlib.Core.Path.{_≡_, refl, _∙_}
+use Prim.Native.Nat.{_≤_, _+_, _-_, _*_}
 use native.Mathlib.Omega.{arith}
-use borrow.Author.Tests.{not-true, not-false}
-use Rattle.out.specs.Put.{Put, _then_, put-as, put-none}
 use lib.ListN.{length}
 use Rattle.out.specs.Put.{Goes}
 use Rattle.entries.specs.Words.{messages}
 use Rattle.order.specs.Chosen.{chosen}
-use Rattle.fetches.specs.Parts.{Puts, partText, part-next, part-end, next-most}
+use Rattle.fetches.specs.Parts.{partText, part-next, part-end, next-most}
 use borrow.Author.Needs.{needs}
 
 abbrev Inv-loop : tie.InvT-loop

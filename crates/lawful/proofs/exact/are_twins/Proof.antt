@@ -2,7 +2,6 @@ use Rattle.lawful.proofs.exact.are_twins.Statement.{statement}
 use Rattle.lawful.proofs.exact.are_twins.Tie as tie
 use Prim.Native.Nat.{_-_}
 use borrow.Author.Tests.{eq-eqb, ne-eqb}
-use borrow.Author.Needs.{needs}
 
 -- src/lib.rt:319:9
 returns : tie.Need-returns

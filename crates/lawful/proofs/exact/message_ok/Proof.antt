@@ -4,7 +4,6 @@ use Prim.Native.Nat.{_-_}
 use native.Mathlib.Omega.{arith}
 use borrow.Author.Tests.{le-leb, lt-leb}
 use Rattle.rows.specs.Walks.{ok-last}
-use borrow.Author.Needs.{needs}
 
 -- src/lib.rt:384:9
 returns : tie.Need-returns

@@ -2,7 +2,6 @@ use Rattle.lawful.proofs.exact.state_ok.Statement.{statement}
 use Rattle.lawful.proofs.exact.state_ok.Tie as tie
 use Prim.Native.Nat.{_-_}
 use borrow.Author.Tests.{eq-eqb, ne-eqb}
-use borrow.Author.Needs.{needs}
 
 -- src/lib.rt:399:9
 returns : tie.Need-returns

@@ -1,7 +1,6 @@
 -- `keep_more`: no name, or those that the filter has. Assumes nothing.
 use borrow.Author.Needs.{needs}
-use Prim.Native.Nat.{_+_}
-use mathlib.Core.Path.{sym, _∙_}
+use mathlib.Core.Path.{_∙_}
 use Rattle.model.specs.NotifyGrammar.{filterAt}
 use Rattle.read_notify.proofs.Storing.{more-none, more-kept}
 use Rattle.read_notify.proofs.watches.keep_more.Statement.{statement}

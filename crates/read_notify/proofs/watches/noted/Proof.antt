@@ -1,5 +1,4 @@
 -- `noted`: by whether all groups fit. Assumes nothing.
-use borrow.Author.Needs.{needs}
 use Rattle.read_notify.proofs.watches.noted.Statement.{statement}
 use Rattle.read_notify.proofs.watches.noted.Tie as tie
 

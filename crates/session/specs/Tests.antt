@@ -135,17 +135,6 @@ apart-count (g ∷ l) = go (leb (g .selector) 1) refl (apart-count l)
     go true e ih = rw (none-left g l e, ih) (one-more (selectings l))
     go false e ih = let z : 0 + selectings l ≡ selectings l = omega arith in rw (no-pair g l e, ih, z)
 
--- ---- what lies behind a count
-module _ {A : Type 0} (p : A → Bool) (l : List A) (i : ℕ) where
-  pub rest-next : (d : A) → i < length l → p (getD l i d) ≡ true → allb p (drop i l) ≡ allb p (drop (i + 1) l)
-  rest-next d h e = rw (add-one, drop-cons l i d h, e)
-
-  pub rest-here : (d : A) → i < length l → p (getD l i d) ≡ false → allb p (drop i l) ≡ false
-  rest-here d h e = rw (drop-cons l i d h, e)
-
-  pub rest-past : length l ≤ i → allb p (drop i l) ≡ true
-  rest-past h = rw (drop-of-length-le l {i = i} h)
-
 -- ---- one test of the first n, and another of those behind: as one walk, passed up to i
 module _ {A : Type 0} (p q : A → Bool) where
   abbrev pub split : ℕ → List A → Bool

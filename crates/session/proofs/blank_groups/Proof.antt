@@ -8,8 +8,7 @@ use borrow.Author.Tests.{not-true, not-false}
 use Rattle.model.specs.Lists.{allb}
 use Rattle.model.specs.Lawful.{blankGroup}
 use Rattle.model.specs.Memory.{noGroup}
-use Rattle.rows.specs.Walks.{mapped-length}
-use Rattle.session.specs.Tests.{rest-next, rest-here, rest-past}
+use Rattle.rows.specs.Walks.{mapped-length, all-on, all-broken, all-over}
 use borrow.Author.Needs.{needs}
 
 abbrev Inv-loop : tie.InvT-loop
@@ -36,7 +35,7 @@ blank-group-requires c κs = search needs
 
 -- src/lib.rt:223:13
 returns : tie.Need-returns Inv-loop μ-loop
-returns c = let long : length (c .before .before .before .before .before .args .t1) ≡ 8 = search (needs, mapped-length) in sym (c .before .before .before .before .loop .inv .1 ∙ rest-here blankGroup (c .before .before .before .before .before .args .t1) (c .before .before .before .before .loop .i) noGroup (omega arith) (sym (c .before .blank-group .ensures) ∙ not-true _ (c .if1 .taken)))
+returns c = let long : length (c .before .before .before .before .before .args .t1) ≡ 8 = search (needs, mapped-length) in sym (c .before .before .before .before .loop .inv .1 ∙ all-broken blankGroup (c .before .before .before .before .before .args .t1) (c .before .before .before .before .loop .i) noGroup (omega arith) (sym (c .before .blank-group .ensures) ∙ not-true _ (c .if1 .taken)))
 
 -- src/lib.rt:225:9
 add-i : tie.Need-add-i Inv-loop μ-loop
@@ -48,11 +47,11 @@ loop-less c = search needs
 
 -- src/lib.rt:220:5
 loop-again : tie.Need-loop-again Inv-loop μ-loop
-loop-again c = let long : length (c .before .before .before .before .before .args .t1) ≡ 8 = search (needs, mapped-length) in (search needs, c .before .before .before .before .loop .inv .1 ∙ rest-next blankGroup (c .before .before .before .before .before .args .t1) (c .before .before .before .before .loop .i) noGroup (omega arith) (sym (c .before .blank-group .ensures) ∙ not-false _ (c .if1 .left)))
+loop-again c = let long : length (c .before .before .before .before .before .args .t1) ≡ 8 = search (needs, mapped-length) in (search needs, c .before .before .before .before .loop .inv .1 ∙ all-on blankGroup (c .before .before .before .before .before .args .t1) (c .before .before .before .before .loop .i) noGroup (omega arith) (sym (c .before .blank-group .ensures) ∙ not-false _ (c .if1 .left)))
 
 -- src/lib.rt:215:1
 returns-2 : tie.Need-returns-2 Inv-loop μ-loop
-returns-2 c = let long : length (c .before .before .args .t1) ≡ 8 = search (needs, mapped-length) in sym (c .before .loop .inv .1 ∙ rest-past blankGroup (c .before .before .args .t1) (c .before .loop .i) (omega arith))
+returns-2 c = let long : length (c .before .before .args .t1) ≡ 8 = search (needs, mapped-length) in sym (c .before .loop .inv .1 ∙ all-over blankGroup (c .before .before .args .t1) (c .before .loop .i) (omega arith))
 
 pub blank-groups-spec : {M : Type 1} → statement M
 blank-groups-spec =

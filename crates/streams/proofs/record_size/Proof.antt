@@ -2,10 +2,10 @@
 use native.Mathlib.Omega.{arith}
 use mathlib.Core.Path.{sym, _∙_}
 use lib.ListN.{drop, length-drop}
-use Rattle.push.specs.Cutting.{cuts, size-short, size-torn, size-entire, field-at}
+use Rattle.streams.specs.Cutting.{cuts, size-short, size-torn, size-entire, field-at}
 use borrow.Author.Needs.{needs}
-use Rattle.push.proofs.streams.record_size.Statement.{statement}
-use Rattle.push.proofs.streams.record_size.Tie as tie
+use Rattle.streams.proofs.record_size.Statement.{statement}
+use Rattle.streams.proofs.record_size.Tie as tie
 
 sub-left : tie.Need-sub-left
 sub-left c = search needs

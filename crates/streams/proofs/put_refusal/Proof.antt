@@ -5,10 +5,10 @@ use lib.ListN.{length}
 use Rattle.model.specs.Answers.{numberOf}
 use Rattle.model.specs.Pushrun.{refusalText}
 use Rattle.out.specs.Put.{put-none, put-as}
-use Rattle.push.specs.Printing.{refusal-text}
+use Rattle.streams.specs.Printing.{refusal-text}
 use borrow.Author.Needs.{needs}
-use Rattle.push.proofs.streams.put_refusal.Statement.{statement}
-use Rattle.push.proofs.streams.put_refusal.Tie as tie
+use Rattle.streams.proofs.put_refusal.Statement.{statement}
+use Rattle.streams.proofs.put_refusal.Tie as tie
 
 number-of-requires : tie.Need-number-of-requires
 number-of-requires c κs = search needs

@@ -1,10 +1,10 @@
 -- `take_out`: a row is taken out. Assumes nothing.
 use native.Mathlib.Omega.{arith}
 use mathlib.Core.Path.{_∙_}
-use Rattle.push.specs.Applying.{taken-none, taken-early, taken-late}
+use Rattle.streams.specs.Applying.{taken-none, taken-early, taken-late}
 use borrow.Author.Needs.{needs}
-use Rattle.push.proofs.streams.take_out.Statement.{statement}
-use Rattle.push.proofs.streams.take_out.Tie as tie
+use Rattle.streams.proofs.take_out.Statement.{statement}
+use Rattle.streams.proofs.take_out.Tie as tie
 
 few-requires : tie.Need-few-requires
 few-requires c κs = search needs

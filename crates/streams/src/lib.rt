@@ -18,8 +18,8 @@ ghost use Rattle.model.specs.Pushrun.{recordsOf, refusalText, printed, pushrun}
 ghost use Rattle.rows.specs.Shift.{closed};
 ghost use Rattle.out.specs.Put.{Put};
 ghost use Rattle.outcomes.specs.Coming.{changed};
-ghost use Rattle.push.specs.Cutting.{Cuts};
-ghost use Rattle.push.specs.Printing.{standing, Turns};
+ghost use Rattle.streams.specs.Cutting.{Cuts};
+ghost use Rattle.streams.specs.Printing.{standing, Turns};
 
 // ---- the table after an outcome
 
@@ -187,7 +187,7 @@ pub fn turn(
     let table = s.table;
     let counts = s.counts;
     let session = s.session;
-    let o = crate::step(table, 64, words, counts, session, queue, octets);
+    let o = push::step(table, 64, words, counts, session, queue, octets);
     let answer = o.answer;
     let at = put_refusal(out, s.end, answer);
     let end = put_held(out, at, queue, o.counts.filled);

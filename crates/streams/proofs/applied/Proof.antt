@@ -1,9 +1,9 @@
 -- `applied`: the table after an outcome. Assumes nothing.
 use mathlib.Core.Path.{_∙_}
-use Rattle.push.specs.Applying.{changed-nothing, changed-put, changed-taken}
+use Rattle.streams.specs.Applying.{changed-nothing, changed-put, changed-taken}
 use borrow.Author.Needs.{needs}
-use Rattle.push.proofs.streams.applied.Statement.{statement}
-use Rattle.push.proofs.streams.applied.Tie as tie
+use Rattle.streams.proofs.applied.Statement.{statement}
+use Rattle.streams.proofs.applied.Tie as tie
 
 enum-told : tie.Need-enum-told
 enum-told c = search needs

@@ -3,10 +3,10 @@ use native.Mathlib.Omega.{arith}
 use mathlib.Core.Path.{_≡_}
 use lib.ListN.{length}
 use Rattle.rows.specs.Walks.{mapped-length}
-use Rattle.push.specs.Printing.{table-few, turns}
+use Rattle.streams.specs.Printing.{table-few, turns}
 use borrow.Author.Needs.{needs}
-use Rattle.push.proofs.streams.turn.Statement.{statement}
-use Rattle.push.proofs.streams.turn.Tie as tie
+use Rattle.streams.proofs.turn.Statement.{statement}
+use Rattle.streams.proofs.turn.Tie as tie
 
 step-requires : tie.Need-step-requires
 step-requires c κs = search needs

@@ -3,8 +3,8 @@ use native.Mathlib.Omega.{arith}
 use mathlib.Core.Path.{sym}
 use lib.Seq.{set-out}
 use borrow.Author.Needs.{needs}
-use Rattle.push.proofs.streams.put_row.Statement.{statement}
-use Rattle.push.proofs.streams.put_row.Tie as tie
+use Rattle.streams.proofs.put_row.Statement.{statement}
+use Rattle.streams.proofs.put_row.Tie as tie
 
 put-row-requires : tie.Need-put-row-requires
 put-row-requires c κs = search needs

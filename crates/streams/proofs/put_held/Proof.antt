@@ -4,8 +4,8 @@ use mathlib.Core.Path.{sym}
 use lib.Seq.{take-all, length-take-le}
 use Rattle.out.specs.Put.{put-as}
 use borrow.Author.Needs.{needs}
-use Rattle.push.proofs.streams.put_held.Statement.{statement}
-use Rattle.push.proofs.streams.put_held.Tie as tie
+use Rattle.streams.proofs.put_held.Statement.{statement}
+use Rattle.streams.proofs.put_held.Tie as tie
 
 put-requires : tie.Need-put-requires
 put-requires c κs = search needs

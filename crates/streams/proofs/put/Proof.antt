@@ -2,10 +2,10 @@
 use native.Mathlib.Omega.{arith}
 use mathlib.Core.Path.{refl}
 use Rattle.out.specs.Put.{put-past}
-use Rattle.push.specs.Printing.{put-part}
+use Rattle.streams.specs.Printing.{put-part}
 use borrow.Author.Needs.{needs}
-use Rattle.push.proofs.streams.put.Statement.{statement}
-use Rattle.push.proofs.streams.put.Tie as tie
+use Rattle.streams.proofs.put.Statement.{statement}
+use Rattle.streams.proofs.put.Tie as tie
 
 add-end : tie.Need-add-end
 add-end c = search needs

@@ -1,10 +1,10 @@
 -- `run`: a whole stream on tables of the run's own. Assumes nothing.
 use native.Mathlib.Omega.{arith}
 use Rattle.out.specs.Put.{put-as}
-use Rattle.push.specs.Printing.{start-is}
+use Rattle.streams.specs.Printing.{start-is}
 use borrow.Author.Needs.{needs}
-use Rattle.push.proofs.streams.run.Statement.{statement}
-use Rattle.push.proofs.streams.run.Tie as tie
+use Rattle.streams.proofs.run.Statement.{statement}
+use Rattle.streams.proofs.run.Tie as tie
 
 returns : tie.Need-returns
 returns c = λ h. absurd (let z : ⊥ = omega arith in z)

@@ -3,8 +3,8 @@ use mathlib.Core.Path.{refl, ap}
 use lib.ListN.{replicate}
 use Rattle.model.specs.declared.Mailbox.{Mailbox}
 use borrow.Author.Needs.{needs}
-use Rattle.push.proofs.streams.start.Statement.{statement}
-use Rattle.push.proofs.streams.start.Tie as tie
+use Rattle.streams.proofs.start.Statement.{statement}
+use Rattle.streams.proofs.start.Tie as tie
 
 vacant-requires : tie.Need-vacant-requires
 vacant-requires c κs = search needs

@@ -7,9 +7,9 @@ use lib.ListN.{length, replicate}
 use Rattle.model.specs.Memory.{noMailbox}
 use Rattle.model.specs.Hidden.{noCounts, noSession}
 use Rattle.model.specs.Pushrun.{recordsOf, printed}
-use Rattle.push.specs.Printing.{standing, Running, running-start, running-next, running-end}
-use Rattle.push.proofs.streams.walk.Statement.{statement}
-use Rattle.push.proofs.streams.walk.Tie as tie
+use Rattle.streams.specs.Printing.{standing, Running, running-start, running-next, running-end}
+use Rattle.streams.proofs.walk.Statement.{statement}
+use Rattle.streams.proofs.walk.Tie as tie
 
 abbrev Inv-loop : tie.InvT-loop
 Inv-loop stream words₀ queue₀ out₀ s₀ i₀ words queue out s i =

@@ -2,8 +2,8 @@
 use borrow.Author.Needs.{needs}
 use mathlib.Core.Path.{refl}
 use borrow.Author.Tests.{lt-ltb, le-ltb}
-use Rattle.exported.proofs.last_row.Statement.{statement}
-use Rattle.exported.proofs.last_row.Tie as tie
+use Rattle.written.proofs.last_row.Statement.{statement}
+use Rattle.written.proofs.last_row.Tie as tie
 
 returns : tie.Need-returns
 returns c = let a = c .before .args in rw (lt-ltb 64 (a .lent) (c .if1 .taken)) refl

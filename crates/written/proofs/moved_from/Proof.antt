@@ -3,9 +3,9 @@ use borrow.Author.Needs.{needs}
 use mathlib.Core.Path.{refl, sym, _∙_, ap}
 use borrow.Author.Tests.{le-leb, lt-leb, lt-ltb, le-ltb}
 use Rattle.outcomes.specs.declared.Change.{Change}
-use Rattle.exported.specs.Written.{taken}
-use Rattle.exported.proofs.moved_from.Statement.{statement}
-use Rattle.exported.proofs.moved_from.Tie as tie
+use Rattle.written.specs.Places.{taken}
+use Rattle.written.proofs.moved_from.Statement.{statement}
+use Rattle.written.proofs.moved_from.Tie as tie
 
 returns : tie.Need-returns
 returns c = let a = c .before .args in rw (le-leb (a .lent) (a .k) (c .if1 .taken)) refl

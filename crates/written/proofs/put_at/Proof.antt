@@ -2,9 +2,9 @@
 use borrow.Author.Needs.{needs}
 use mathlib.Core.Path.{sym, _∙_, ap}
 use Rattle.outcomes.specs.declared.Change.{Change}
-use Rattle.exported.specs.Written.{placed}
-use Rattle.exported.proofs.put_at.Statement.{statement}
-use Rattle.exported.proofs.put_at.Tie as tie
+use Rattle.written.specs.Places.{placed}
+use Rattle.written.proofs.put_at.Statement.{statement}
+use Rattle.written.proofs.put_at.Tie as tie
 
 enum-told : tie.Need-enum-told
 enum-told c = search needs

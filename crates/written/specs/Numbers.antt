@@ -2,7 +2,7 @@
 use lib.ListN.{length, getD}
 use Rattle.model.specs.Answers.{numberOf, countsOf}
 use Rattle.model.specs.declared.Answer.{Answer}
-use Rattle.exported.specs.declared.Answered.{Answered}
+use Rattle.written.specs.declared.Answered.{Answered}
 
 -- the refusal's number or 0; how many counts are given, one or none; the count or 0
 abbrev pub numbersOf : Answer → Answered

@@ -1,9 +1,10 @@
+-- `numbers`: the answer of an outcome, in numbers. Assumes nothing.
 use borrow.Author.Needs.{needs}
-use Rattle.exported.proofs.numbers.Statement.{statement}
-use Rattle.exported.proofs.numbers.Tie as tie
+use Rattle.written.proofs.numbers.Statement.{statement}
+use Rattle.written.proofs.numbers.Tie as tie
 use mathlib.Core.Path.{sym, _∙_, ap}
 use Prim.Native.Nat.{ℕ}
-use Rattle.exported.specs.Numbers.{numbersOf}
+use Rattle.written.specs.Numbers.{numbersOf}
 
 enum-told : tie.Need-enum-told
 enum-told c = search needs

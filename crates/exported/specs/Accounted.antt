@@ -20,8 +20,8 @@ use Rattle.demands.specs.Ledger.Demand2.{demand2}
 use Rattle.entries.specs.Words.{messages}
 use Rattle.push.specs.Steps.{Lent, memoryOf, after-is}
 use Rattle.push.specs.Runs.{Begins}
-use Rattle.exported.specs.declared.Answered.{Answered}
-use Rattle.exported.specs.Numbers.{numbersOf}
+use Rattle.written.specs.declared.Answered.{Answered}
+use Rattle.written.specs.Numbers.{numbersOf}
 use Rattle.exported.specs.Hosts.{Hosted, Makes, HostRuns, lastOf, octetsOf, behind, HostsTold}
 
 -- ---- the memory behind a run

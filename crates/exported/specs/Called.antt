@@ -12,9 +12,10 @@ use Rattle.outcomes.specs.declared.Outcome.{Outcome as Came}
 use Rattle.push.specs.Steps.{Lent, Steps}
 use Rattle.push.specs.Served.{Stepped, lentAs}
 use Rattle.lent.specs.Rows.{loaded, lent-loaded}
-use Rattle.exported.specs.declared.Answered.{Answered}
-use Rattle.exported.specs.Numbers.{numbersOf}
-use Rattle.exported.specs.Written.{putAt, movedFrom, leftRow, left, written-back}
+use Rattle.written.specs.declared.Answered.{Answered}
+use Rattle.written.specs.Numbers.{numbersOf}
+use Rattle.written.specs.Places.{putAt, movedFrom, leftRow}
+use Rattle.exported.specs.Written.{left, written-back}
 
 -- a call with octets o on lent memory a answers the numbers r and leaves b
 pub record Calls (a : Lent) (o : List ℕ) (r : Answered) (b : Lent) : Type 0 where

@@ -15,8 +15,8 @@ use Rattle.model.specs.Seen.{apparent, seen, history, settingOf, settingBy, hel
 use Rattle.model.specs.Account.{front, settle, accountOf, fateAt, Exact, Occasion, losses, overflows, Rested}
 use Rattle.push.specs.Steps.{Lent, memoryOf}
 use Rattle.push.specs.Runs.{holds, Begins}
-use Rattle.exported.specs.declared.Answered.{Answered}
-use Rattle.exported.specs.Numbers.{numbersOf}
+use Rattle.written.specs.declared.Answered.{Answered}
+use Rattle.written.specs.Numbers.{numbersOf}
 use Rattle.exported.specs.Called.{Calls}
 
 -- a call that a host made: its octets, the numbers that it was answered, and what it lent as the call left it

@@ -12,7 +12,7 @@ use Rattle.model.specs.Hidden.{excepted}
 use Rattle.push.specs.Steps.{Lent}
 use Rattle.push.specs.Runs.{Made, Runs, holds, hiddenIn, others, freely, shows}
 use Rattle.push.specs.Isolated.{alike}
-use Rattle.exported.specs.declared.Answered.{Answered}
+use Rattle.written.specs.declared.Answered.{Answered}
 use Rattle.exported.specs.Hosts.{Hosted, HostRuns, octetsOf, hiddenOf, besides, unrefused, shown, HostsAlike}
 
 -- ---- the run of the step behind a host's

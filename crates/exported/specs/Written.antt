@@ -26,38 +26,8 @@ use Rattle.outcomes.specs.declared.Outcome.{Outcome as Came}
 use Rattle.push.specs.Steps.{memoryOf, Steps}
 use Rattle.push.specs.Served.{lentAs}
 use Rattle.lent.specs.Closing.{moved-none, closed-past}
+use Rattle.written.specs.Places.{placed, putAt, taken, movedFrom, written, leftRow}
 use Rattle.exported.specs.Kept.{call-rows}
-
--- the last of the used rows, if there are so many, and no more than 64; else the place behind the last of n rows
-abbrev pub lastOf : ℕ → ℕ → ℕ
-lastOf used n = cond (ltb 64 n) n (cond (ltb used 1) n (cond (ltb n used) n (used - 1)))
-
--- the row that is written: behind the last of n rows, if none is
-abbrev pub placed : Change → ℕ → ℕ → ℕ → ℕ
-placed Nothing at used n = n
-placed Put at used n = at
-placed Taken at used n = lastOf used n
-
-abbrev pub putAt : Came → ℕ → ℕ → ℕ
-putAt r used n = placed (r .change) (r .at) used n
-
--- whence the rows move up as far as row k: from row k, if none is taken out
-abbrev pub taken : Change → ℕ → ℕ → ℕ
-taken Nothing at k = k
-taken Put at k = k
-taken Taken at k = cond (ltb at k) at k
-
-abbrev pub movedFrom : Came → ℕ → ℕ → ℕ
-movedFrom r k n = cond (leb n k) k (taken (r .change) (r .at) k)
-
--- what is written there
-abbrev pub written : Change → Mailbox → Mailbox
-written Nothing x = x
-written Put x = x
-written Taken x = noMailbox
-
-abbrev pub leftRow : Came → Mailbox
-leftRow r = written (r .change) (r .row)
 
 -- the rows move up within the table
 taken-fits : (c : Change) (at k : ℕ) → taken c at k ≤ k

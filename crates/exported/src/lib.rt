@@ -1,130 +1,16 @@
 // What a host calls: the step on memory that it lends, and thin functions over its mailbox table. Each takes what the host keeps,
 // asks nothing, and says of every octet what becomes of it.
-use model::Answer;
 use model::Counts;
 use model::Mailbox;
-use model::Refusal;
 use model::Session;
-use outcomes::Change;
 use outcomes::Outcome;
+use written::Answered;
 ghost use mathlib.Core.Path.{_≡_};
 ghost use lib.ListN.{length, take, set};
-ghost use Rattle.model.specs.Answers.{refusalNumber};
 ghost use Rattle.model.specs.Memory.{place};
 ghost use Rattle.lent.specs.Rows.{loaded, placeNamed};
 ghost use Rattle.push.specs.Served.{Stepped, lentAs};
-ghost use Rattle.exported.specs.Numbers.{numbersOf};
-ghost use Rattle.exported.specs.Written.{lastOf, putAt, movedFrom, leftRow};
 ghost use Rattle.exported.specs.Called.{Calls};
-
-// ---- the answer
-
-// What a call answers, in numbers: the refusal's number or 0, whether a count is given (0 or 1), and the count or 0.
-#[repr(C)]
-pub struct Answered {
-    pub refusal: u32,
-    pub counted: u32,
-    pub count: u64,
-}
-
-// The number of a refusal.
-fn number(why: Refusal) -> u32
-    ensures { λ r. ⌜ r ≡ refusalNumber why ⌝ }
-{
-    match why {
-        Refusal::UnlawfulMemory => 1,
-        Refusal::BadRecord => 2,
-        Refusal::WrongId => 3,
-        Refusal::NameHeld => 4,
-        Refusal::WrongUid => 5,
-        Refusal::WrongState => 6,
-        Refusal::TableFull => 7,
-        Refusal::NoRoom => 8,
-    }
-}
-
-// The answer of an outcome, in numbers.
-fn numbers(out: Outcome) -> Answered
-    ensures { λ r. ⌜ r ≡ numbersOf (out .answer) ⌝ }
-{
-    let answer = out.answer;
-    match answer {
-        Answer::Done => Answered {
-            refusal: 0,
-            counted: 0,
-            count: 0,
-        },
-        Answer::Counted(n) => Answered {
-            refusal: 0,
-            counted: 1,
-            count: n,
-        },
-        Answer::Refused(why) => Answered {
-            refusal: number(why),
-            counted: 0,
-            count: 0,
-        },
-    }
-}
-
-// ---- what becomes of the table
-
-// The last used row, if there are so many, and no more than 64; or the place behind the last lent row.
-fn last_row(used: u64, lent: usize) -> usize
-    ensures { λ r. ⌜ r ≡ lastOf used lent ⌝ }
-{
-    if 64 < lent {
-        return lent;
-    }
-    if used < 1 {
-        return lent;
-    }
-    let rows = lent as u64;
-    if rows < used {
-        return lent;
-    }
-    used as usize - 1
-}
-
-// The row that is written: the place of one that is put, or the last used one, where one is taken out.
-fn put_at(out: Outcome, used: u64, lent: usize) -> usize
-    ensures { λ r. ⌜ r ≡ putAt out used lent ⌝ }
-{
-    let change = out.change;
-    match change {
-        Change::Nothing => lent,
-        Change::Put => out.at,
-        Change::Taken => last_row(used, lent),
-    }
-}
-
-// Whence the rows move up as far as row k: from the one that is taken out.
-fn moved_from(out: Outcome, k: usize, lent: usize) -> usize
-    ensures { λ r. ⌜ r ≡ movedFrom out k lent ⌝ }
-{
-    if lent <= k {
-        return k;
-    }
-    let at = out.at;
-    let change = out.change;
-    match change {
-        Change::Nothing => k,
-        Change::Put => k,
-        Change::Taken => if at < k { at } else { k },
-    }
-}
-
-// What is written there: the row that is put, or zeros, where one is taken out.
-fn left_row(out: Outcome) -> Mailbox
-    ensures { λ r. ⌜ r ≡ leftRow out ⌝ }
-{
-    let change = out.change;
-    match change {
-        Change::Nothing => out.row,
-        Change::Put => out.row,
-        Change::Taken => rows::vacant(),
-    }
-}
 
 // ---- the step
 
@@ -192,11 +78,11 @@ pub extern "C" fn borjavid_step(
     let out = served(rows, words, before, *session, queue, record);
     *counts = out.counts;
     *session = out.session;
-    let k = put_at(out, before.mailboxes, n);
-    let from = moved_from(out, k, n);
-    let x = left_row(out);
+    let k = written::put_at(out, before.mailboxes, n);
+    let from = written::moved_from(out, k, n);
+    let x = written::left_row(out);
     lent::write_back(rows, from, k, x);
-    numbers(out)
+    written::numbers(out)
 }
 
 // ---- the mailbox table

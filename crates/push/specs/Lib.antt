@@ -3,6 +3,3 @@ pub mod Served
 pub mod Kinds
 pub mod Runs
 pub mod Isolated
-pub mod Cutting
-pub mod Applying
-pub mod Printing

@@ -1,6 +1,4 @@
 // The step: one record on lent memory. Refusal 1 and 2 are judged here; then each kind of record has its own function.
-pub mod streams;
-
 use model::Counts;
 use model::Mailbox;
 use model::Refusal;

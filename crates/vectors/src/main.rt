@@ -39,7 +39,7 @@ fn run_calls(
 ) -> u64
     ensures { λ r. ⌜ r ≤ 2 ⌝ }
 {
-    let mut m = push::streams::start();
+    let mut m = streams::start();
     let mut verdict: u64 = 0;
     let mut i: u64 = 0;
     while i < calls {

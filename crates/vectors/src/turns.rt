@@ -4,7 +4,7 @@ use crate::differences::compared;
 use crate::reading::Expected;
 use crate::reading::next_expected;
 use model::Answer;
-use push::streams::Standing;
+use streams::Standing;
 
 // What a call leaves and answers.
 pub struct After {
@@ -24,7 +24,7 @@ pub fn stepped(
     let counts = m.counts;
     let session = m.session;
     let o = push::step(before, lent, words, counts, session, queue, octets);
-    let table = push::streams::applied(before, counts.mailboxes, o);
+    let table = streams::applied(before, counts.mailboxes, o);
     let after = o.counts;
     let left = o.session;
     let answer = o.answer;

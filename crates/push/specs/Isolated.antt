@@ -1,18 +1,17 @@
 -- Demand 3 at the code follows from demand 3 of the rules, since every call of a run is the rules' call. Assumes nothing.
-use mathlib.Core.Path.{_≡_, refl, ap, ap₂, sym, _∙_, subst}
+use mathlib.Core.Path.{_≡_, refl, ap, ap₂, sym, _∙_}
 use mathlib.Core.List.{List, [], _∷_, map}
 use mathlib.Core.Bool.{Bool, true, false, not, _&&_, _||_}
 use Prim.Native.Nat.{ℕ}
 use lib.Dec.{eqb}
-use lib.ListN.{length, take, getElem?}
+use lib.ListN.{getElem?}
 use Rattle.model.specs.Lists.{filterb, anyb, keep}
 use Rattle.model.specs.Records.{about}
 use Rattle.model.specs.Memory.{Memory}
-use Rattle.model.specs.Call.{call}
 use Rattle.model.specs.Hidden.{Octets, Called, calls, holdsRight, hidden, without, remaining, excepted, observed, Starts}
 use Rattle.demands.specs.Theorems.{isolated}
-use Rattle.push.specs.Steps.{Lent, memoryOf, Steps, after-is}
-use Rattle.push.specs.Runs.{Made, Runs, holds, ever, hiddenIn, others, freely, shows, Begins, Alike}
+use Rattle.push.specs.Steps.{Lent, memoryOf, after-is}
+use Rattle.push.specs.Runs.{Made, Runs, holds, hiddenIn, others, freely, shows, Begins, Alike}
 
 -- a call as the rules have it
 abbrev called : Made → Called

@@ -1,12 +1,12 @@
 -- What the function of each kind leaves is what the ladder says of the octets. Assumes nothing.
-use mathlib.Core.Path.{_≡_, refl, ap, sym, _∙_}
+use mathlib.Core.Path.{_≡_, ap, sym, _∙_}
 use mathlib.Core.Bool.{true, _&&_}
 use mathlib.Core.List.{List}
 use Prim.Native.Nat.{ℕ, _-_}
 use native.Mathlib.Omega.{arith}
 use lib.ListN.{length, getD, take, drop, length-drop}
 use lib.Seq.{take-all}
-use Rattle.model.specs.Records.{recordOf, kindOf, isKnown, framed, bodyOk, bodyOf, layout, create, delete, rename, subscribe, grant, arrive, expunge, reflag, select, ended, command, drained}
+use Rattle.model.specs.Records.{kindOf, isKnown, framed, bodyOk, bodyOf, layout, create, delete, rename, subscribe, grant, arrive, expunge, reflag, select, ended, command, drained}
 use Rattle.model.specs.Names.{valid, fold}
 use Rattle.model.specs.Memory.{Memory, boxes, theMailbox, selectedBox}
 use Rattle.model.specs.Laws.{tf, and-l}

@@ -2,21 +2,19 @@
 use mathlib.Core.Path.{_≡_, refl, ap, sym, _∙_}
 use mathlib.Core.Bool.{Bool, true, false}
 use mathlib.Core.List.{List}
-use Prim.Native.Nat.{ℕ, _*_, _/_, _≤_}
+use Prim.Native.Nat.{ℕ, _/_, _≤_}
 use native.Mathlib.Omega.{arith}
 use lib.Dec.{leb}
 use lib.ListN.{length, take, getD, replicate, length-replicate}
 use lib.Seq.{length-take-le, take-take}
-use borrow.Author.Tests.{leb-true, leb-false, le-leb}
+use borrow.Author.Tests.{leb-true, leb-false}
 use Rattle.model.specs.Records.{isRecord, recordOf}
-use Rattle.model.specs.Memory.{Memory, boxes, noMailbox, place, theMailbox}
+use Rattle.model.specs.Memory.{Memory, boxes, noMailbox, place}
 use Rattle.model.specs.Lawful.{lawful}
-use Rattle.model.specs.Call.{refuse, call}
-use Rattle.model.specs.Rules.{Outcome}
+use Rattle.model.specs.Call.{call}
 use Rattle.model.specs.declared.Mailbox.{Mailbox}
 use Rattle.model.specs.declared.Counts.{Counts}
 use Rattle.model.specs.declared.Session.{Session}
-use Rattle.model.specs.declared.Refusal.{Refusal}
 use Rattle.model.specs.declared.Refusal.the-variants.{UnlawfulMemory, BadRecord}
 use Rattle.demands.specs.Lasting.Law.{Law, law-out}
 use Rattle.entries.specs.Words.{messages, messages-count}
@@ -29,7 +27,7 @@ use Rattle.records.specs.declared.Kind.the-variants.{Create, Delete, Rename, Su
 use Rattle.outcomes.specs.Coming.{Lends, Ready, Placed, Comes, changed, refusal, ladder}
 use Rattle.outcomes.specs.Laws.{call-unlawful, call-bad, call-ladder, comes-refused}
 use Rattle.outcomes.specs.declared.Outcome.{Outcome as Came}
-use Rattle.push.specs.Steps.{Lent, memoryOf, Steps}
+use Rattle.push.specs.Steps.{Lent, Steps}
 
 -- whose mailbox a record needs: that of its id, or the selected one
 abbrev pub sought : Kind → ℕ → ℕ → ℕ

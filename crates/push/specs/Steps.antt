@@ -1,9 +1,8 @@
 -- One call over lent memory: what it answers and every octet that it leaves, beside the rules' call (01, Records, 21 to 31; Duties, 8). Assumes nothing.
-use mathlib.Core.Path.{_≡_, refl, ap, sym, _∙_}
+use mathlib.Core.Path.{_≡_}
 use mathlib.Core.List.{List}
 use Prim.Native.Nat.{ℕ}
 use Rattle.model.specs.Memory.{Memory}
-use Rattle.model.specs.Rules.{Outcome}
 use Rattle.model.specs.Call.{call}
 use Rattle.model.specs.declared.Mailbox.{Mailbox}
 use Rattle.model.specs.declared.Counts.{Counts}

@@ -19,7 +19,7 @@ ghost use Rattle.demands.specs.Lasting.Law.{Law};
 ghost use Rattle.records.specs.Kinds.{kindFor};
 ghost use Rattle.records.specs.Reading.{Reads};
 ghost use Rattle.records.specs.Laws.{Says};
-ghost use Rattle.outcomes.specs.Coming.{Lends, Ready, Placed, Comes, ladder};
+ghost use Rattle.outcomes.specs.Coming.{Lends, Ready, Comes, ladder};
 ghost use Rattle.lent.specs.Standing.{Stands};
 ghost use Rattle.push.specs.Served.{Seen, Stepped, Serves, sought};
 

@@ -1,11 +1,11 @@
 -- The mailbox table after an outcome, in an array of 64 rows: what is taken out where. Assumes nothing.
 use mathlib.Core.Path.{_≡_, refl, ap, ap₂, sym, _∙_}
 use mathlib.Core.Bool.{Bool, true, false}
-use mathlib.Core.List.{List, [], _∷_, _++_}
+use mathlib.Core.List.{List, _∷_, _++_}
 use Prim.Native.Nat.{ℕ, suc, _+_, _-_, _<_, _≤_, min}
 use native.Mathlib.Omega.{arith}
 use lib.Dec.{leb}
-use lib.ListN.{length, take, drop, set, length-append, length-take, length-drop, drop-of-length-le}
+use lib.ListN.{length, take, drop, set, length-append, length-take, drop-of-length-le}
 use lib.Seq.{take-all, take-append-le, take-take}
 use borrow.Author.Tests.{leb-true, leb-false}
 use Rattle.model.specs.Memory.{Memory, noMailbox}

@@ -23,7 +23,7 @@ use Rattle.out.specs.Put.{Put, _then_, put-as, put-none, put-wrote, Goes, goes-
 use Rattle.out.specs.Decimals.{decimal-small}
 use Rattle.outcomes.specs.Coming.{changed}
 use Rattle.outcomes.specs.declared.Outcome.{Outcome as Came}
-use Rattle.push.specs.Steps.{Lent, memoryOf, Steps, after-is}
+use Rattle.push.specs.Steps.{memoryOf, Steps, after-is}
 use Rattle.push.specs.Served.{Stepped, lentAs}
 use Rattle.streams.specs.Applying.{rows-few}
 use Rattle.streams.specs.Cutting.{firstSize, Cuts, shown, emptied, printed-first, printed-none}

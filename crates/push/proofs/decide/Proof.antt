@@ -2,7 +2,6 @@
 use borrow.Author.Needs.{needs}
 use borrow.Author.Tests.{not-true, not-false}
 use mathlib.Core.Path.{refl, sym, _∙_}
-use Rattle.rows.specs.Walks.{mapped-length}
 use Rattle.records.specs.Laws.{read-refused}
 use Rattle.push.specs.Served.{law-ready, steps-unlawful, steps-bad, steps-served}
 use Rattle.push.proofs.decide.Statement.{statement}

@@ -197,7 +197,7 @@ pub fn place_of(words: &[u64], used: usize, mailbox: u64, told: Uid, uid: Uid) -
 }
 
 // ---- an entry taken out
-// n words move down by five places: the ones from the sixth on, to the front.
+// n words move down by five places: the ones from the sixth on, to the front. From the front of a slice the compiler makes one block move of it.
 fn move_up(words: &mut [u64], n: usize)
     requires { ⌜ n + 5 ≤ length (now words) ⌝ }
     ensures { λ _. ⌜ now (words .exit) ≡ over (drop 5 (now (words .entry))) (now (words .entry)) n ⌝ }

@@ -9,7 +9,6 @@ use Rattle.model.specs.NotifyGrammar.{scopeOf, filterAt, eventOf, eventsAt, gro
 use Rattle.model.specs.Limits.{limits}
 use Rattle.model.specs.Memory.{noGroup}
 use Rattle.model.specs.Attributes.{labelOf, attributeAt}
-use Rattle.model.specs.declared.LentGroup.{LentGroup}
 use Rattle.model.specs.declared.Session.{Session}
 use Rattle.model.specs.declared.Reply.the-variants.{Bad as BadReply}
 use Rattle.read_notify.specs.Tallies.{replyByTally}

@@ -2,9 +2,10 @@
 use mathlib.Core.Path.{_≡_, refl, ap, sym, _∙_}
 use mathlib.Core.Bool.{Bool, true, false, not, cond, _&&_}
 use mathlib.Core.List.{List, [], _∷_, _++_}
-use Prim.Native.Nat.{ℕ, _+_, _%_, _<_, _≤_}
+use Prim.Native.Nat.{ℕ, _+_, _*_, _%_, _<_, _≤_}
 use native.Mathlib.Omega.{arith}
 use native.Mathlib.Numerals.{add-one}
+use lib.Bits.{bitOr}
 use lib.Dec.{eqb, ltb}
 use lib.ListN.{length, take, getD}
 use borrow.Author.Tests.{eq-eqb, ne-eqb, lt-ltb, le-ltb}
@@ -13,6 +14,8 @@ use Rattle.model.specs.Lists.{filterb}
 use Rattle.model.specs.Memory.{noMessage, uidOf, expunged, inMailbox, byUid, messagesOf, existing}
 use Rattle.model.specs.declared.Message.{Message}
 use Rattle.laws.specs.Counting.{countb, filter-count, filter-both, count-sorted}
+use Rattle.entries.specs.Words.{messages, messages-get, messages-length}
+use Rattle.entries.specs.Joined.{join-l, join-r}
 
 abbrev pub lives : ℕ → Message → Bool
 lives id e = inMailbox id e && not (expunged e)
@@ -52,6 +55,33 @@ module _ (id : ℕ) (e x : Message) (p : e ≡ x) where
 
   pub one-here : e .mailbox ≡ id → (e .states % 2 ≡ 1 → ⊥) → _≡_ {A = ℕ} 1 (cond (lives id x) 1 0)
   one-here h k = rw (← p, eq-eqb (e .mailbox) id h, ne-eqb (e .states % 2) 1 k)
+
+-- ---- the quick pass: the mailbox's entries, and all states joined bit by bit
+module _ (id : ℕ) (ws : List ℕ) (i : ℕ) (h : i * 5 + 4 < length ws) where
+  pub of-this : getD ws (i * 5) 0 ≡ id → _≡_ {A = ℕ} 1 (cond (inMailbox id (getD (messages ws) i noMessage)) 1 0)
+  of-this e = rw (messages-get i ws h, eq-eqb (getD ws (i * 5) 0) id e)
+
+  pub of-other : (getD ws (i * 5) 0 ≡ id → ⊥) → _≡_ {A = ℕ} 0 (cond (inMailbox id (getD (messages ws) i noMessage)) 1 0)
+  of-other e = rw (messages-get i ws h, ne-eqb (getD ws (i * 5) 0) id e)
+
+-- an entry without a state is not expunged
+at-rest : (id : ℕ) (x : Message) → x .states ≡ 0 → inMailbox id x ≡ lives id x
+at-rest id x h = let k : x .states % 2 ≡ 1 → ⊥ = λ z. omega arith in rw (ne-eqb (x .states % 2) 1 k) (all (inMailbox id x))
+  where
+    all : (b : Bool) → b ≡ (b && true)
+    all true = refl
+    all false = refl
+
+-- where the join is zero, so are the states so far and those of the entry
+pub tally-next : (id : ℕ) (ws : List ℕ) (i n r s : ℕ) → (i + 1) * 5 ≤ length ws → (s ≡ 0 → n ≡ countb (lives id) (take i (messages ws))) → r ≡ cond (inMailbox id (getD (messages ws) i noMessage)) 1 0 → bitOr s (getD ws (i * 5 + 4) 0) ≡ 0 → n + r ≡ countb (lives id) (take (i + 1) (messages ws))
+tally-next id ws i n r s h e q z =
+    let es = messages ws in
+    let x = getD es i noMessage in
+    let k = messages-length (i + 1) ws h in
+    let a = join-l s (getD ws (i * 5 + 4) 0) in
+    let b = join-r s (getD ws (i * 5 + 4) 0) in
+    let f : x .states ≡ getD ws (i * 5 + 4) 0 = ap (λ (m : Message). m .states) (messages-get i ws (omega arith)) in
+    count-next (lives id) es i n r (omega arith) (e (omega arith)) (q ∙ ap (λ (c : Bool). cond c 1 0) (at-rest id x (omega arith)))
 
 -- ---- a place in the view: one more than the mailbox's entries that are announced and have a lower UID
 abbrev pub before : ℕ → ℕ → ℕ → Message → Bool

@@ -11,7 +11,7 @@ ghost use mathlib.Core.Path.{_≡_};
 ghost use mathlib.Core.Bool.{cond};
 ghost use Prim.Native.Nat.{_+_, _*_, _≤_, _<_};
 ghost use lib.ListN.{length, take, drop, getD};
-ghost use Rattle.model.specs.Memory.{noMessage, existing, refill, withFlags, withStates};
+ghost use Rattle.model.specs.Memory.{noMessage, inMailbox, existing, refill, withFlags, withStates};
 ghost use Rattle.model.specs.Events.{message};
 ghost use Rattle.laws.specs.Counting.{countb};
 ghost use Rattle.laws.specs.Shift.{over};
@@ -134,6 +134,36 @@ pub fn find(words: &[u64], used: usize, mailbox: u64, uid: Uid) -> usize
 }
 
 // ---- counts
+// How many entries a mailbox has, and the states of all entries, joined bit by bit.
+struct Tally {
+    count: u64,
+    states: u64,
+}
+
+// One for an entry of the mailbox.
+fn of_one(words: &[u64], i: usize, mailbox: u64) -> u64
+    requires { ⌜ (i + 1) * 5 ≤ length (now words) ⌝ }
+    ensures { λ r. ⌜ (r ≡ cond (inMailbox mailbox (getD (messages (now (words .entry))) i noMessage)) 1 0) × (r ≤ 1) ⌝ }
+{
+    if words[i * 5] == mailbox { 1 } else { 0 }
+}
+
+// In one pass without a test of states.
+fn tally_all(words: &[u64], used: usize, mailbox: u64) -> Tally
+    requires { ⌜ used * 5 ≤ length (now words) ⌝ }
+    ensures { λ r. ⌜ (r .states ≡ 0 → r .count ≡ countb (lives mailbox) (take used (messages (now (words .entry))))) ⌝ }
+{
+    let mut count = 0;
+    let mut states = 0;
+    let mut i = 0;
+    while i < used {
+        count += of_one(words, i, mailbox);
+        states = states | words[i * 5 + 4];
+        i += 1;
+    }
+    Tally { count, states }
+}
+
 // One for an entry of the mailbox that exists.
 fn count_one(words: &[u64], i: usize, mailbox: u64) -> u64
     requires { ⌜ (i + 1) * 5 ≤ length (now words) ⌝ }
@@ -149,8 +179,8 @@ fn count_one(words: &[u64], i: usize, mailbox: u64) -> u64
     1
 }
 
-// How many messages of a mailbox exist.
-pub fn count(words: &[u64], used: usize, mailbox: u64) -> u64
+// How many messages of a mailbox exist, each tested.
+fn count_each(words: &[u64], used: usize, mailbox: u64) -> u64
     requires { ⌜ used * 5 ≤ length (now words) ⌝ }
     ensures { λ r. ⌜ r ≡ length (existing mailbox (take used (messages (now (words .entry))))) ⌝ }
 {
@@ -161,6 +191,18 @@ pub fn count(words: &[u64], used: usize, mailbox: u64) -> u64
         i += 1;
     }
     n
+}
+
+// How many messages of a mailbox exist. Where no entry has a state none is expunged, and the quick pass has the number.
+pub fn count(words: &[u64], used: usize, mailbox: u64) -> u64
+    requires { ⌜ used * 5 ≤ length (now words) ⌝ }
+    ensures { λ r. ⌜ r ≡ length (existing mailbox (take used (messages (now (words .entry))))) ⌝ }
+{
+    let t = tally_all(words, used, mailbox);
+    if t.states == 0 {
+        return t.count;
+    }
+    count_each(words, used, mailbox)
 }
 
 // One for an entry of the mailbox that is announced and has a lower UID.

@@ -1,61 +1,24 @@
+-- Where the join of the states is zero the tally has the number; else each entry is tested.
+use borrow.Author.Needs.{needs}
 use Rattle.entries.proofs.count.Statement.{statement}
 use Rattle.entries.proofs.count.Tie as tie
-use Rattle.entries.proofs.count.Reads as reads
-use Rattle.entries.proofs.count.Lts as lts
-use Rattle.entries.proofs.count_one.Reads as count-one-reads
-use mathlib.Core.Path.{_≡_, refl}
-use Prim.Native.Nat.{_≤_, _-_}
+use mathlib.Core.Path.{sym, _∙_}
 use native.Mathlib.Omega.{arith}
 use lib.ListN.{take}
-use Rattle.entries.specs.Words.{messages, messages-length}
-use Rattle.laws.specs.Counting.{countb}
-use Rattle.entries.specs.Counted.{lives, count-next, count-end}
-use borrow.Author.Needs.{needs}
+use Rattle.entries.specs.Words.{messages}
+use Rattle.entries.specs.Counted.{existing-count}
 
-abbrev Inv-loop : tie.InvT-loop
-Inv-loop words used mailbox n₀ i₀ n i = (i ≤ used) × (n ≤ i) × (n ≡ countb (lives mailbox) (take i (messages words)))
+tally-all-requires : tie.Need-tally-all-requires
+tally-all-requires c κs = search needs
 
-abbrev μ-loop : tie.MeasureT-loop
-μ-loop words used mailbox n₀ i₀ n i = used - i
+returns : tie.Need-returns
+returns c = let a = c .before .before .before .before .args in c .before .before .tally-all .ensures (omega arith) ∙ sym (existing-count (a .mailbox) (take (a .used) (messages (a .words .now))))
 
--- src/lib.rt:72:5
-loop-holds : tie.Need-loop-holds Inv-loop μ-loop
-loop-holds c = (search needs, search needs, refl)
+count-each-requires : tie.Need-count-each-requires
+count-each-requires c κs = search needs
 
--- src/lib.rt:73:14
-count-one-requires : tie.Need-count-one-requires Inv-loop μ-loop
-count-one-requires c κs = search needs
-
--- src/lib.rt:73:9
-add-n : tie.Need-add-n Inv-loop μ-loop
-add-n c = omega (arith, c .count-one .ensures .1)
-
--- src/lib.rt:74:9
-add-i : tie.Need-add-i Inv-loop μ-loop
-add-i c = search needs
-
--- src/lib.rt:72:5
-loop-less : tie.Need-loop-less Inv-loop μ-loop
-loop-less c = search needs
-
--- src/lib.rt:72:5
-loop-again : tie.Need-loop-again Inv-loop μ-loop
-loop-again c = (search needs, omega (arith, c .count-one .ensures .1, c .before .before .loop .inv .1), let k = messages-length (c .before .before .before .before .args .used) (c .before .before .before .before .args .words .now) (c .before .before .before .before .pre) in count-next (lives (c .before .before .before .before .args .mailbox)) (messages (c .before .before .before .before .args .words .now)) (c .before .before .loop .i) (c .before .before .loop .n) (c .count-one .result) (omega arith) (c .before .before .loop .inv .2) (c .count-one .ensures .0))
-
--- src/lib.rt:66:1
-returns : tie.Need-returns Inv-loop μ-loop
-returns c = count-end (c .before .before .before .args .mailbox) (messages (c .before .before .before .args .words .now)) (c .before .loop .i) (c .before .before .before .args .used) (c .before .loop .n) (omega arith) (c .before .loop .inv .2)
+returns-2 : tie.Need-returns-2
+returns-2 c = search needs
 
 pub count-spec : {M : Type 1} → statement M
-count-spec =
-    tie.close
-    (tie.spec
-    Inv-loop
-    μ-loop
-    loop-holds
-    count-one-requires
-    add-n
-    add-i
-    loop-less
-    loop-again
-    returns)
+count-spec = tie.close (tie.spec tally-all-requires returns count-each-requires returns-2)

@@ -5,7 +5,7 @@ use mathlib.Core.List.{List, [], _∷_, _++_}
 use Prim.Native.Nat.{ℕ, zero, suc, _+_, _*_, _/_, _%_, _<_, _≤_}
 use native.Mathlib.Omega.{arith}
 use lib.Dec.{eqb, leb, ltb}
-use lib.Bits.{bitOr, or-add-and, and-le-l, and-le-r}
+use lib.Bits.{bitOr}
 use lib.ListN.{length, take, getD, set}
 use lib.Seq.{take-suc, getD-set-same, getD-set-other}
 use borrow.Author.Tests.{eq-eqb, ne-eqb, lt-ltb, le-leb, leb-true, ltb-true, eqb-true, eqb-false}
@@ -16,6 +16,7 @@ use Rattle.model.specs.Lawful.{clash, messageOk, twin, owned}
 use Rattle.demands.specs.Lasting.Rows.{all-snoc, all-imp, any-none, apart-snoc}
 use Rattle.rows.specs.Columns.{Column}
 use Rattle.entries.specs.Words.{row, messages, messages-get, messages-length}
+use Rattle.entries.specs.Joined.{join-l, join-r}
 use Rattle.model.specs.declared.Mailbox.{Mailbox}
 use Rattle.model.specs.declared.Message.{Message}
 use Rattle.quick.specs.declared.Pass.{Pass}
@@ -68,13 +69,6 @@ module _ (e : Message) (flags size : ℕ) where
       let f = leb-true (e .flags) low (p .1 .0) in
       let z = leb-true (e .size) small (p .1 .1 .0) in
       ok-up-to (leb-true 1 (uidOf e) (p .0)) (omega arith) (omega arith) (leb-true (e .states) 2 (p .1 .1 .1 .0))
-
--- numbers are at most their join, bit by bit
-join-l : (a b : ℕ) → a ≤ bitOr a b
-join-l a b = omega (arith, or-add-and a b, and-le-r a b)
-
-join-r : (a b : ℕ) → b ≤ bitOr a b
-join-r a b = omega (arith, or-add-and a b, and-le-l a b)
 
 -- the last UIDs of n rows are below their UIDNEXTs
 abbrev pub Below : List ℕ → List ℕ → ℕ → Type 0

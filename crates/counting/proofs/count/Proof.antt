@@ -10,19 +10,15 @@ use Rattle.entries.specs.Words.{messages}
 use Rattle.rows.specs.Columns.{zero-at}
 use Rattle.counting.specs.Tally.{apart-ids, Apart}
 
--- src/lib.rt:93:17
 guesses-requires : tie.Need-guesses-requires
 guesses-requires c κs = search needs
 
--- src/lib.rt:95:44
 slice-aggregate-tally-all : tie.Need-slice-aggregate-tally-all
 slice-aggregate-tally-all c = search needs
 
--- src/lib.rt:95:5
 tally-all-requires : tie.Need-tally-all-requires
 tally-all-requires c κs = (c .before .before .before .before .pre .0, c .before .before .before .before .pre .1, c .before .before .before .before .pre .2, c .before .before .before .before .pre .2, λ k. zero-at 64 k)
 
--- src/lib.rt:89:1
 returns : tie.Need-returns
 returns c =
     let args = c .before .before .before .before .before .before .args in

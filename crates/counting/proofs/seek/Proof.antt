@@ -12,40 +12,32 @@ Inv-loop ids n id i₀ i = (i ≤ n) × Others ids i id
 abbrev μ-loop : tie.MeasureT-loop
 μ-loop ids n id i₀ i = n - i
 
--- src/lib.rt:15:5
 loop-holds : tie.Need-loop-holds Inv-loop μ-loop
 loop-holds c = (search needs, others-none (c .args .ids .now) (c .args .id))
 
--- src/lib.rt:16:12
 mul-if1 : tie.Need-mul-if1 Inv-loop μ-loop
 mul-if1 c = search needs
 
--- src/lib.rt:16:12
 element-copy-out-if1 : tie.Need-element-copy-out-if1 Inv-loop μ-loop
 element-copy-out-if1 c = search needs
 
--- src/lib.rt:17:13
 returns : tie.Need-returns Inv-loop μ-loop
 returns c =
     let args = c .before .before .before .before .args in
     found (args .ids .now) (args .n) (args .id) (c .before .before .before .loop .i) (omega arith) (c .if1 .taken)
 
--- src/lib.rt:19:9
 add-i : tie.Need-add-i Inv-loop μ-loop
 add-i c = search needs
 
--- src/lib.rt:15:5
 loop-less : tie.Need-loop-less Inv-loop μ-loop
 loop-less c = search needs
 
--- src/lib.rt:15:5
 loop-again : tie.Need-loop-again Inv-loop μ-loop
 loop-again c =
     let args = c .before .before .before .before .args in
     let turn = c .before .before .before .loop in
     (search needs, others-next (args .ids .now) (turn .i) (args .id) (turn .inv .1) (c .if1 .left))
 
--- src/lib.rt:10:1
 returns-2 : tie.Need-returns-2 Inv-loop μ-loop
 returns-2 c =
     let args = c .before .before .args in

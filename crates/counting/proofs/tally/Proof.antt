@@ -5,51 +5,40 @@ use Prim.Native.Nat.{_-_}
 use native.Mathlib.Omega.{arith}
 use Rattle.counting.specs.Tally.{tally-gone, tally-none, tally-one}
 
--- src/lib.rt:45:9
 get-requires : tie.Need-get-requires
 get-requires c κs = search needs
 
--- src/lib.rt:47:9
 returns : tie.Need-returns
 returns c =
     let args = c .before .before .before .before .before .args in
     rw (← c .before .before .get .ensures) (tally-gone (args .ids .now) (args .n) (c .before .before .get .result) (args .i) (args .counts .now) (c .before .before .before .before .before .pre .4) (c .if1 .taken))
 
--- src/lib.rt:49:9
 row-of-requires : tie.Need-row-of-requires
 row-of-requires c κs = search needs
 
--- src/lib.rt:51:9
 returns-2 : tie.Need-returns-2
 returns-2 c =
     let args = c .before .before .before .before .before .before .before .args in
     rw (← c .before .before .before .before .get .ensures) (tally-none (args .ids .now) (args .n) (c .before .before .before .before .get .result) (args .i) (args .counts .now) (c .before .before .before .before .before .before .before .pre .4) (c .before .row-of .result) (c .before .row-of .ensures) (c .if2 .taken))
 
--- src/lib.rt:53:13
 mul-c : tie.Need-mul-c
 mul-c c = search needs
 
--- src/lib.rt:53:13
 slice-read-c : tie.Need-slice-read-c
 slice-read-c c = search needs
 
--- src/lib.rt:54:17
 add-counts : tie.Need-add-counts
 add-counts c = let z = c .before .before .before .before .before .before .before .before .pre .4 (c .before .before .row-of .result) in omega arith
 
--- src/lib.rt:54:5
 mul-counts : tie.Need-mul-counts
 mul-counts c = search needs
 
--- src/lib.rt:54:5
 slice-write-counts : tie.Need-slice-write-counts
 slice-write-counts c = search needs
 
--- src/lib.rt:41:1
 same-length : tie.Need-same-length
 same-length c = search needs
 
--- src/lib.rt:41:1
 returns-3 : tie.Need-returns-3
 returns-3 c =
     let args = c .before .before .before .before .before .before .before .before .args in

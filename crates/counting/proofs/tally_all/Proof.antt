@@ -14,34 +14,27 @@ Inv-loop words used slots ids n counts₀ i₀ counts i = (i ≤ used) × (lengt
 abbrev μ-loop : tie.MeasureT-loop
 μ-loop words used slots ids n counts₀ i₀ counts i = used - i
 
--- src/lib.rt:63:5
 loop-holds : tie.Need-loop-holds Inv-loop μ-loop
 loop-holds c = (search needs, refl, λ k. (let z = c .before .before .pre .4 k in omega arith), λ a k h. c .before .before .pre .4 k)
 
--- src/lib.rt:64:9
 tally-requires : tie.Need-tally-requires Inv-loop μ-loop
 tally-requires c κs = (omega arith, c .before .before .before .before .before .pre .2, omega arith, omega arith, c .before .before .loop .inv .2)
 
--- src/lib.rt:65:9
 add-i : tie.Need-add-i Inv-loop μ-loop
 add-i c = search needs
 
--- src/lib.rt:63:5
 loop-less : tie.Need-loop-less Inv-loop μ-loop
 loop-less c = search needs
 
--- src/lib.rt:63:5
 loop-again : tie.Need-loop-again Inv-loop μ-loop
 loop-again c =
     let args = c .before .before .before .before .before .before .before .before .args in
     let turn = c .before .before .before .before .before .loop in
     (search needs, c .before .before .tally .ensures .long ∙ turn .inv .1, c .before .before .tally .ensures .below, λ a. (let z = messages-length (args .used) (args .words .now) (c .before .before .before .before .before .before .before .before .pre .0) in counted-next (args .ids .now) (args .n) (messages (args .words .now)) (turn .i) (turn .counts) _ (omega arith) (c .before .before .tally .ensures) a (turn .inv .3 a)))
 
--- src/lib.rt:58:1
 same-length : tie.Need-same-length Inv-loop μ-loop
 same-length c = search needs
 
--- src/lib.rt:58:1
 returns : tie.Need-returns Inv-loop μ-loop
 returns c =
     let args = c .before .before .before .before .args in

@@ -9,15 +9,12 @@ use mathlib.Core.Bool.{Bool, cond}
 use Prim.Native.Nat.{_-_}
 use Rattle.model.specs.Memory.{withView}
 
--- src/lib.rt:472:9
 viewed-requires : tie.Need-viewed-requires
 viewed-requires c κs = search needs
 
--- src/lib.rt:472:9
 returns : tie.Need-returns
 returns c = c .viewed .ensures ∙ sym (ap (λ (b : Bool). cond b (withView (c .before .before .args .s) (c .before .before .args .s .selected) (c .before .before .args .next)) (c .before .before .args .s)) (c .before .if1 .taken))
 
--- src/lib.rt:468:1
 returns-2 : tie.Need-returns-2
 returns-2 c = sym (ap (λ (b : Bool). cond b (withView (c .before .args .s) (c .before .args .s .selected) (c .before .args .next)) (c .before .args .s)) (c .if1 .left))
 

@@ -15,53 +15,41 @@ use Rattle.entries.specs.Laid.{laid-own}
 use Rattle.order.specs.Counts.{order-short}
 use Rattle.ending.specs.Ending.{leaves-none, leaves-some}
 
--- src/lib.rt:491:9
 returns : tie.Need-returns
 returns c =
     let a = c .before .before .before .before .args in
     rw (not-true (c .before .before .before .before .args .rights) (c .if1 .taken)) (leaves-none (messages (a .words .now)) (a .used) (a .queue .now) (a .s) (a .filled) (a .class) (a .next) (a .words .now) (laid-own (a .words .now)))
 
--- src/lib.rt:498:14
 cast-id : tie.Need-cast-id
 cast-id c = search needs
 
--- src/lib.rt:499:16
 cast-told : tie.Need-cast-told
 cast-told c = search needs
 
--- src/lib.rt:500:17
 sub-limit : tie.Need-sub-limit
 sub-limit c = search needs
 
--- src/lib.rt:501:9
 by-uid-requires : tie.Need-by-uid-requires
 by-uid-requires c κs = search needs
 
--- src/lib.rt:502:9
 speak-requires : tie.Need-speak-requires
 speak-requires c κs = let n = order-short (messages (c .before .before .before .before .before .before .before .before .before .before .before .before .before .before .args .words .now)) _ (c .before .before .before .before .before .by-uid .result) (c .before .before .before .before .before .before .before .before .before .before .before .before .before .before .args .used) (c .before .before .before .before .before .before .before .before .before .before .before .before .before .before .args .s .selected) (c .before .before .before .before .before .by-uid .ensures) in (omega arith, omega arith, omega arith, omega arith, omega arith, omega arith)
 
--- src/lib.rt:503:9
 settle-requires : tie.Need-settle-requires
 settle-requires c κs = search needs
 
--- src/lib.rt:505:18
 announced-requires : tie.Need-announced-requires
 announced-requires c κs = search needs
 
--- src/lib.rt:486:1
 same-length : tie.Need-same-length
 same-length c = search needs
 
--- src/lib.rt:486:1
 same-length-2 : tie.Need-same-length-2
 same-length-2 c = search needs
 
--- src/lib.rt:486:1
 same-length-3 : tie.Need-same-length-3
 same-length-3 c = search needs
 
--- src/lib.rt:486:1
 returns-2 : tie.Need-returns-2
 returns-2 c =
     let a = c .before .before .before .before .before .before .before .before .before .before .before .before .before .before .before .before .before .before .before .before .before .before .before .before .args in

@@ -15,19 +15,15 @@ use lib.ListN.{length}
 use Rattle.entries.specs.Laid.{laid}
 use Rattle.ending.specs.After.{kept-rests}
 
--- src/lib.rt:187:9
 settle-requires : tie.Need-settle-requires
 settle-requires c κs = search needs
 
--- src/lib.rt:189:18
 viewed-requires : tie.Need-viewed-requires
 viewed-requires c κs = search needs
 
--- src/lib.rt:183:1
 same-length : tie.Need-same-length
 same-length c = search needs
 
--- src/lib.rt:183:1
 returns : tie.Need-returns
 returns c =
     let a = c .before .before .before .before .before .before .args in

@@ -7,23 +7,18 @@ use Rattle.entries.proofs.get.Reads as get-reads
 use native.Mathlib.Omega.{arith}
 use Rattle.entries.specs.Counted.{before, off-other, off-new, off-late, on-before}
 
--- src/lib.rt:88:9
 get-requires : tie.Need-get-requires
 get-requires c κs = search needs
 
--- src/lib.rt:90:9
 returns : tie.Need-returns
 returns c = let a = c .before .before .before .before .args in (off-other (a .mailbox) (a .told .0) (a .uid .0) (c .before .before .get .result) _ (c .before .before .get .ensures) (c .if1 .taken), omega arith)
 
--- src/lib.rt:93:9
 returns-2 : tie.Need-returns-2
 returns-2 c = let a = c .before .before .before .before .before .before .before .args in (off-new (a .mailbox) (a .told .0) (a .uid .0) (c .before .before .before .before .before .get .result) _ (c .before .before .before .before .before .get .ensures) (c .before .before .before .if1 .left) (c .if2 .taken), omega arith)
 
--- src/lib.rt:96:9
 returns-3 : tie.Need-returns-3
 returns-3 c = let a = c .before .before .before .before .before .before .before .before .before .before .args in (off-late (a .mailbox) (a .told .0) (a .uid .0) (c .before .before .before .before .before .before .before .before .get .result) _ (c .before .before .before .before .before .before .before .before .get .ensures) (c .before .before .before .before .before .before .if1 .left) (c .before .before .before .if2 .left) (c .if3 .taken), omega arith)
 
--- src/lib.rt:84:1
 returns-4 : tie.Need-returns-4
 returns-4 c = let a = c .before .before .before .before .before .before .before .before .before .before .args in (on-before (a .mailbox) (a .told .0) (a .uid .0) (c .before .before .before .before .before .before .before .before .get .result) _ (c .before .before .before .before .before .before .before .before .get .ensures) (c .before .before .before .before .before .before .if1 .left) (c .before .before .before .if2 .left) (c .if3 .left), omega arith)
 

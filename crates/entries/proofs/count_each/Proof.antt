@@ -18,31 +18,24 @@ Inv-loop words used mailbox n₀ i₀ n i = (i ≤ used) × (n ≤ i) × (n ≡ 
 abbrev μ-loop : tie.MeasureT-loop
 μ-loop words used mailbox n₀ i₀ n i = used - i
 
--- src/lib.rt:72:5
 loop-holds : tie.Need-loop-holds Inv-loop μ-loop
 loop-holds c = (search needs, search needs, refl)
 
--- src/lib.rt:73:14
 count-one-requires : tie.Need-count-one-requires Inv-loop μ-loop
 count-one-requires c κs = search needs
 
--- src/lib.rt:73:9
 add-n : tie.Need-add-n Inv-loop μ-loop
 add-n c = omega (arith, c .count-one .ensures .1)
 
--- src/lib.rt:74:9
 add-i : tie.Need-add-i Inv-loop μ-loop
 add-i c = search needs
 
--- src/lib.rt:72:5
 loop-less : tie.Need-loop-less Inv-loop μ-loop
 loop-less c = search needs
 
--- src/lib.rt:72:5
 loop-again : tie.Need-loop-again Inv-loop μ-loop
 loop-again c = (search needs, omega (arith, c .count-one .ensures .1, c .before .before .loop .inv .1), let k = messages-length (c .before .before .before .before .args .used) (c .before .before .before .before .args .words .now) (c .before .before .before .before .pre) in count-next (lives (c .before .before .before .before .args .mailbox)) (messages (c .before .before .before .before .args .words .now)) (c .before .before .loop .i) (c .before .before .loop .n) (c .count-one .result) (omega arith) (c .before .before .loop .inv .2) (c .count-one .ensures .0))
 
--- src/lib.rt:66:1
 returns : tie.Need-returns Inv-loop μ-loop
 returns c = count-end (c .before .before .before .args .mailbox) (messages (c .before .before .before .args .words .now)) (c .before .loop .i) (c .before .before .before .args .used) (c .before .loop .n) (omega arith) (c .before .loop .inv .2)
 

@@ -7,19 +7,15 @@ use Rattle.entries.proofs.get.Reads as get-reads
 use native.Mathlib.Omega.{arith}
 use Rattle.entries.specs.Counted.{one-other, one-gone, one-here}
 
--- src/lib.rt:55:9
 get-requires : tie.Need-get-requires
 get-requires c κs = search needs
 
--- src/lib.rt:57:9
 returns : tie.Need-returns
 returns c = (one-other (c .before .before .before .before .args .mailbox) (c .before .before .get .result) _ (c .before .before .get .ensures) (c .if1 .taken), omega arith)
 
--- src/lib.rt:60:9
 returns-2 : tie.Need-returns-2
 returns-2 c = (one-gone (c .before .before .before .before .before .before .args .mailbox) (c .before .before .before .before .get .result) _ (c .before .before .before .before .get .ensures) (c .if2 .taken), omega arith)
 
--- src/lib.rt:51:1
 returns-3 : tie.Need-returns-3
 returns-3 c = (one-here (c .before .before .before .before .before .before .args .mailbox) (c .before .before .before .before .get .result) _ (c .before .before .before .before .get .ensures) (c .before .before .if1 .left) (c .if2 .left), omega arith)
 

@@ -9,19 +9,15 @@ use mathlib.Core.Path.{sym, _∙_}
 use native.Mathlib.Omega.{arith}
 use Rattle.entries.specs.Words.{messages, messages-count, past}
 
--- src/lib.rt:74:9
 nothing-requires : tie.Need-nothing-requires
 nothing-requires c κs = search needs
 
--- src/lib.rt:74:9
 returns : tie.Need-returns
 returns c = c .nothing .ensures ∙ sym (past (messages (c .before .before .before .args .words .now)) (c .before .before .before .args .i) (let z = messages-count (c .before .before .before .args .words .now) in omega arith))
 
--- src/lib.rt:76:5
 get-requires : tie.Need-get-requires
 get-requires c κs = search needs
 
--- src/lib.rt:69:1
 returns-2 : tie.Need-returns-2
 returns-2 c = search needs
 

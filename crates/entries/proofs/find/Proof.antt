@@ -19,15 +19,12 @@ Inv-loop words used mailbox uid i₀ i = (i ≤ used) × (first (stands mailbox 
 abbrev μ-loop : tie.MeasureT-loop
 μ-loop words used mailbox uid i₀ i = used - i
 
--- src/lib.rt:123:5
 loop-holds : tie.Need-loop-holds Inv-loop μ-loop
 loop-holds c = let a = c .before .args in (search needs, first-start (stands (a .mailbox) (a .uid .0)) (take (a .used) (messages (a .words .now))))
 
--- src/lib.rt:124:12
 is-message-requires : tie.Need-is-message-requires Inv-loop μ-loop
 is-message-requires c κs = search needs
 
--- src/lib.rt:125:13
 returns : tie.Need-returns Inv-loop μ-loop
 returns c = let a = c .before .before .before .before .before .args in
     let o = c .before .before .before .loop in
@@ -36,15 +33,12 @@ returns c = let a = c .before .before .before .before .before .args in
     let d = getD-take (a .used) (messages (a .words .now)) (o .i) noMessage (omega arith) in
     first-here (stands (a .mailbox) (a .uid .0)) (take (a .used) (messages (a .words .now))) (o .i) (omega arith) (ap (stands (a .mailbox) (a .uid .0)) d ∙ (sym (c .before .is-message .ensures) ∙ c .if1 .taken)) (o .inv .1)
 
--- src/lib.rt:127:9
 add-i : tie.Need-add-i Inv-loop μ-loop
 add-i c = search needs
 
--- src/lib.rt:123:5
 loop-less : tie.Need-loop-less Inv-loop μ-loop
 loop-less c = search needs
 
--- src/lib.rt:123:5
 loop-again : tie.Need-loop-again Inv-loop μ-loop
 loop-again c = let a = c .before .before .before .before .before .args in
     let o = c .before .before .before .loop in
@@ -53,7 +47,6 @@ loop-again c = let a = c .before .before .before .before .before .args in
     let d = getD-take (a .used) (messages (a .words .now)) (o .i) noMessage (omega arith) in
     (search needs, first-next (stands (a .mailbox) (a .uid .0)) (take (a .used) (messages (a .words .now))) (o .i) (omega arith) (ap (stands (a .mailbox) (a .uid .0)) d ∙ (sym (c .before .is-message .ensures) ∙ c .if1 .left)) (o .inv .1))
 
--- src/lib.rt:118:1
 returns-2 : tie.Need-returns-2 Inv-loop μ-loop
 returns-2 c = let a = c .before .before .before .args in
     let o = c .before .loop in

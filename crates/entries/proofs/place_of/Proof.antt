@@ -18,35 +18,27 @@ Inv-loop words used mailbox told uid n₀ i₀ n i = (i ≤ used) × (n ≤ i) �
 abbrev μ-loop : tie.MeasureT-loop
 μ-loop words used mailbox told uid n₀ i₀ n i = used - i
 
--- src/lib.rt:108:5
 loop-holds : tie.Need-loop-holds Inv-loop μ-loop
 loop-holds c = (search needs, search needs, refl)
 
--- src/lib.rt:109:14
 before-one-requires : tie.Need-before-one-requires Inv-loop μ-loop
 before-one-requires c κs = search needs
 
--- src/lib.rt:109:9
 add-n : tie.Need-add-n Inv-loop μ-loop
 add-n c = omega (arith, c .before-one .ensures .1)
 
--- src/lib.rt:110:9
 add-i : tie.Need-add-i Inv-loop μ-loop
 add-i c = search needs
 
--- src/lib.rt:108:5
 loop-less : tie.Need-loop-less Inv-loop μ-loop
 loop-less c = search needs
 
--- src/lib.rt:108:5
 loop-again : tie.Need-loop-again Inv-loop μ-loop
 loop-again c = (search needs, omega (arith, c .before-one .ensures .1, c .before .before .loop .inv .1), let k = messages-length (c .before .before .before .before .args .used) (c .before .before .before .before .args .words .now) (c .before .before .before .before .pre) in count-next (before (c .before .before .before .before .args .mailbox) (c .before .before .before .before .args .told .0) (c .before .before .before .before .args .uid .0)) (messages (c .before .before .before .before .args .words .now)) (c .before .before .loop .i) (c .before .before .loop .n) (c .before-one .result) (omega arith) (c .before .before .loop .inv .2) (c .before-one .ensures .0))
 
--- src/lib.rt:112:5
 add-place : tie.Need-add-place Inv-loop μ-loop
 add-place c = search needs
 
--- src/lib.rt:102:1
 returns : tie.Need-returns Inv-loop μ-loop
 returns c = place-end (before (c .before .before .before .args .mailbox) (c .before .before .before .args .told .0) (c .before .before .before .args .uid .0)) (messages (c .before .before .before .args .words .now)) (c .before .loop .i) (c .before .before .before .args .used) (c .before .loop .n) (omega arith) (c .before .loop .inv .2)
 

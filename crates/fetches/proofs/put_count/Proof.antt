@@ -9,27 +9,21 @@ use native.Mathlib.Omega.{arith}
 use Rattle.out.specs.Put.{_then_}
 use Rattle.fetches.specs.Counts.{countText}
 
--- src/lib.rt:249:40
 slice-aggregate-put : tie.Need-slice-aggregate-put
 slice-aggregate-put c = search needs
 
--- src/lib.rt:249:9
 put-requires : tie.Need-put-requires
 put-requires c κs = search needs
 
--- src/lib.rt:250:9
 put-number-requires : tie.Need-put-number-requires
 put-number-requires c κs = search needs
 
--- src/lib.rt:251:5
 put-requires-2 : tie.Need-put-requires-2
 put-requires-2 c κs = search needs
 
--- src/lib.rt:245:1
 same-length : tie.Need-same-length
 same-length c = search needs
 
--- src/lib.rt:245:1
 returns : tie.Need-returns
 unfolding countText
 returns c = (_then_ (_then_ (c .before .before .before .before .before .before .before .before .before .before .put .ensures) (c .before .before .before .before .before .before .put-number .ensures .0)) (c .before .before .put2 .ensures), omega (arith, c .before .before .before .before .before .before .before .before .before .before .put .ensures .next, c .before .before .before .before .before .before .put-number .ensures .1, c .before .before .put2 .ensures .next))

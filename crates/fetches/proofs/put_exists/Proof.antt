@@ -9,27 +9,21 @@ use native.Mathlib.Omega.{arith}
 use Rattle.out.specs.Put.{put-as, put-none}
 use Rattle.fetches.specs.Counts.{exists-none, exists-some}
 
--- src/lib.rt:133:9
 returns : tie.Need-returns
 returns c = let a = c .before .before .args in (put-as (put-none _ _ _ (c .before .before .pre .0)) (exists-none (a .has) (a .new) (c .if1 .taken)), omega arith)
 
--- src/lib.rt:135:47
 add-t10 : tie.Need-add-t10
 add-t10 c = search needs
 
--- src/lib.rt:135:59
 slice-aggregate-put-count : tie.Need-slice-aggregate-put-count
 slice-aggregate-put-count c = search needs
 
--- src/lib.rt:135:5
 put-count-requires : tie.Need-put-count-requires
 put-count-requires c κs = search needs
 
--- src/lib.rt:128:1
 same-length : tie.Need-same-length
 same-length c = search needs
 
--- src/lib.rt:128:1
 returns-2 : tie.Need-returns-2
 returns-2 c = let a = c .before .before .before .before .before .before .before .args in (put-as (c .before .before .put-count .ensures .0) (exists-some (a .has) (a .new) (c .before .before .before .before .before .if1 .left)), omega (arith, c .before .before .put-count .ensures .1))
 

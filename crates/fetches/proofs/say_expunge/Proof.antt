@@ -9,23 +9,18 @@ use mathlib.Core.Path.{refl}
 use native.Mathlib.Omega.{arith}
 use Rattle.out.specs.Says.{says-fits, says-over}
 
--- src/lib.rt:168:17
 sub-limit : tie.Need-sub-limit
 sub-limit c = search needs
 
--- src/lib.rt:169:9
 put-expunge-requires : tie.Need-put-expunge-requires
 put-expunge-requires c κs = search needs
 
--- src/lib.rt:171:13
 put-expunge-requires-2 : tie.Need-put-expunge-requires-2
 put-expunge-requires-2 c κs = search needs
 
--- src/lib.rt:172:9
 same-length : tie.Need-same-length
 same-length c = search needs
 
--- src/lib.rt:172:9
 returns : tie.Need-returns
 returns c = says-fits _ _ _ _ _ _ _ _ (c .before .before .before .before .before .before .before .put-expunge .ensures .0) (c .before .before .put-expunge2 .ensures .0) refl (omega arith)
 

@@ -9,23 +9,18 @@ use mathlib.Core.Path.{refl}
 use native.Mathlib.Omega.{arith}
 use Rattle.out.specs.Says.{says-fits, says-over}
 
--- src/lib.rt:105:17
 sub-limit : tie.Need-sub-limit
 sub-limit c = search needs
 
--- src/lib.rt:106:9
 put-fetch-requires : tie.Need-put-fetch-requires
 put-fetch-requires c κs = search needs
 
--- src/lib.rt:108:13
 put-fetch-requires-2 : tie.Need-put-fetch-requires-2
 put-fetch-requires-2 c κs = search needs
 
--- src/lib.rt:109:9
 same-length : tie.Need-same-length
 same-length c = search needs
 
--- src/lib.rt:109:9
 returns : tie.Need-returns
 returns c = says-fits _ _ _ _ _ _ _ _ (c .before .before .before .before .before .before .before .put-fetch .ensures .0) (c .before .before .put-fetch2 .ensures .0) refl (omega arith)
 

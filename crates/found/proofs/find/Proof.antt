@@ -17,63 +17,48 @@ Inv-loop words order n cells used uids₀ bottom last k₀ r₀ uids k r = Sough
 abbrev μ-loop : tie.MeasureT-loop
 μ-loop words order n cells used uids₀ bottom last k₀ r₀ uids k r = k
 
--- src/lib.rt:81:9
 returns : tie.Need-returns Inv-loop μ-loop
 returns c = find-none (messages (c .before .before .before .before .before .args .words .now)) (c .before .before .before .before .before .args .order .now) (c .before .before .before .before .before .args .n) (c .before .before .before .before .before .args .cells .now) (c .before .before .before .before .before .args .used) (c .if1 .taken) (c .before .before .before .before .before .args .uids .now)
 
--- src/lib.rt:83:18
 shared-slice-read-bottom : tie.Need-shared-slice-read-bottom Inv-loop μ-loop
 shared-slice-read-bottom c = search needs
 
--- src/lib.rt:84:9
 entry-requires : tie.Need-entry-requires Inv-loop μ-loop
 entry-requires c κs = search needs
 
--- src/lib.rt:88:5
 loop-holds : tie.Need-loop-holds Inv-loop μ-loop
 loop-holds c = sought-start (messages (c .before .before .before .before .before .before .before .before .args .words .now)) (c .before .before .before .before .before .before .before .before .args .order .now) (c .before .before .before .before .before .before .before .before .args .n) (c .before .before .before .before .before .before .before .before .args .cells .now) (c .before .before .before .before .before .before .before .before .args .used) (c .before .entry .result .uid) (c .before .before .before .before .before .before .before .before .args .uids .now)
 
--- src/lib.rt:89:9
 sub-k : tie.Need-sub-k Inv-loop μ-loop
 sub-k c = search needs
 
--- src/lib.rt:90:17
 mul-i : tie.Need-mul-i Inv-loop μ-loop
 mul-i c = let f = c .before .loop .inv .few in omega arith
 
--- src/lib.rt:90:17
 shared-slice-read-i : tie.Need-shared-slice-read-i Inv-loop μ-loop
 shared-slice-read-i c = let f = c .before .before .loop .inv .few in omega arith
 
--- src/lib.rt:91:13
 entry-requires-2 : tie.Need-entry-requires-2 Inv-loop μ-loop
 entry-requires-2 c κs = search needs
 
--- src/lib.rt:94:36
 sub-t20 : tie.Need-sub-t20 Inv-loop μ-loop
 sub-t20 c = let f = c .before .before .before .loop .inv .few in omega arith
 
--- src/lib.rt:98:13
 is-hit-requires : tie.Need-is-hit-requires Inv-loop μ-loop
 is-hit-requires c κs = search needs
 
--- src/lib.rt:99:9
 push-requires : tie.Need-push-requires Inv-loop μ-loop
 push-requires c κs = let f = c .before .before .before .before .before .loop .inv .few in let g = c .before .before .before .before .before .loop .inv .long in omega arith
 
--- src/lib.rt:88:5
 loop-less : tie.Need-loop-less Inv-loop μ-loop
 loop-less c = omega arith
 
--- src/lib.rt:88:5
 loop-again : tie.Need-loop-again Inv-loop μ-loop
 loop-again c = let f = c .before .before .before .before .before .before .before .before .loop .inv .few in let g = c .before .before .before .before .before .before .before .before .loop .inv .long in sought-next (messages (c .before .before .before .before .before .before .before .before .before .before .before .before .before .before .before .before .before .args .words .now)) (c .before .before .before .before .before .before .before .before .before .before .before .before .before .before .before .before .before .args .order .now) (c .before .before .before .before .before .before .before .before .before .before .before .before .before .before .before .before .before .args .n) (c .before .before .before .before .before .before .before .before .before .before .before .before .before .before .before .before .before .args .cells .now) (c .before .before .before .before .before .before .before .before .before .before .before .before .before .before .before .before .before .args .used) (c .before .before .before .before .before .before .before .before .before .before .entry .result .uid) (c .before .before .before .before .before .before .before .before .before .before .before .before .before .before .before .before .before .args .uids .now) (c .before .before .before .before .before .before .before .before .loop .uids) (c .before .before .before .before .before .before .before .before .loop .k) (c .before .before .before .before .before .before .before .before .loop .r) (c .before .before .before .before .before .before .before .before .loop .inv) (c .before .before .before .before .before .before .before .loop-test .taken) (c .before .before .before .before .before .entry2 .result) (c .before .before .before .before .before .entry2 .ensures) (c .before .before .before .before .is-hit .result) (c .before .before .before .before .is-hit .ensures) (omega arith) _ (c .before .before .push .result) (c .before .before .push .ensures)
 
--- src/lib.rt:69:1
 same-length : tie.Need-same-length Inv-loop μ-loop
 same-length c = c .before .loop .inv .long
 
--- src/lib.rt:69:1
 returns-2 : tie.Need-returns-2 Inv-loop μ-loop
 returns-2 c = sought-end (messages (c .before .before .before .before .before .before .before .before .before .before .args .words .now)) (c .before .before .before .before .before .before .before .before .before .before .args .order .now) (c .before .before .before .before .before .before .before .before .before .before .args .n) (c .before .before .before .before .before .before .before .before .before .before .args .cells .now) (c .before .before .before .before .before .before .before .before .before .before .args .used) (c .before .before .before .entry .result .uid) (c .before .before .before .before .before .before .before .before .before .before .args .uids .now) (c .before .loop .uids) (c .before .loop .k) (c .before .loop .r) (c .before .loop .inv) (c .loop-test .left) (c .before .before .before .before .before .if1 .left) (ap (λ (e : Message). e .uid) (c .before .before .before .entry .ensures))
 

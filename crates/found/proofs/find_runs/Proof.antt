@@ -22,65 +22,50 @@ abbrev μ-loop : tie.MeasureT-loop
 μ-loop words used selected below ids rows n cells filled order₀ view₀ uids₀ starts₀ counts₀ heads next i₀ total₀ order view uids starts counts i total =
     i
 
--- src/lib.rt:219:35
 slice-aggregate-link : tie.Need-slice-aggregate-link Inv-loop μ-loop
 slice-aggregate-link c = search needs
 
--- src/lib.rt:219:5
 link-requires : tie.Need-link-requires Inv-loop μ-loop
 link-requires c κs = (c .before .before .before .before .before .before .before .before .before .before .pre .0 .0, c .before .before .before .before .before .before .before .before .before .before .pre .0 .1 .0, refl)
 
--- src/lib.rt:216:5
 loop-holds : tie.Need-loop-holds Inv-loop μ-loop
 loop-holds c =
     let a = c .before .before .before .before .before .before .before .before .before .before .before .before .args in
     (omega arith, (refl, refl), refl, (refl, refl), finding-start (take (a .used) (messages (a .words .now))) (a .ids .now) (a .rows .now) (a .n) (a .selected) (a .below .0) (a .cells .now) (a .filled) _ _ _)
 
--- src/lib.rt:217:9
 sub-i : tie.Need-sub-i Inv-loop μ-loop
 sub-i c = search needs
 
--- src/lib.rt:218:22
 mul-id : tie.Need-mul-id Inv-loop μ-loop
 mul-id c = search needs
 
--- src/lib.rt:218:22
 shared-slice-read-id : tie.Need-shared-slice-read-id Inv-loop μ-loop
 shared-slice-read-id c = search needs
 
--- src/lib.rt:218:18
 mul-id-2 : tie.Need-mul-id-2 Inv-loop μ-loop
 mul-id-2 c = search needs
 
--- src/lib.rt:218:18
 element-copy-out-id : tie.Need-element-copy-out-id Inv-loop μ-loop
 element-copy-out-id c = search needs
 
--- src/lib.rt:219:13
 within-requires : tie.Need-within-requires Inv-loop μ-loop
 within-requires c κs = search needs
 
--- src/lib.rt:231:13
 slice-aggregate-search-row : tie.Need-slice-aggregate-search-row Inv-loop μ-loop
 slice-aggregate-search-row c = search needs
 
--- src/lib.rt:220:90
 mul-search-row : tie.Need-mul-search-row Inv-loop μ-loop
 mul-search-row c = search needs
 
--- src/lib.rt:220:90
 sub-search-row : tie.Need-sub-search-row Inv-loop μ-loop
 sub-search-row c = search needs
 
--- src/lib.rt:220:90
 part-search-row-start : tie.Need-part-search-row-start Inv-loop μ-loop
 part-search-row-start c = search needs
 
--- src/lib.rt:220:90
 part-search-row-end : tie.Need-part-search-row-end Inv-loop μ-loop
 part-search-row-end c = search needs
 
--- src/lib.rt:226:13
 search-row-requires : tie.Need-search-row-requires Inv-loop μ-loop
 search-row-requires c κs =
     let a = c .before .before .before .before .before .before .before .before .before .before .before .before .before .before .before .before .before .before .before .before .before .before .args in
@@ -99,11 +84,9 @@ search-row-requires c κs =
     let y : a .used ≤ length (take (length (v .uids) - f) (drop f (v .uids))) = omega arith in
     ((q .0 .0, (omega arith, omega arith)), (y, q .0 .1 .1), (omega (arith, c .before .before .before .before .before .before .before .before .before .before .next2 .given), c .before .before .before .before .before .before .before .before .before .before .before .link .ensures))
 
--- src/lib.rt:221:9
 mul-starts : tie.Need-mul-starts Inv-loop μ-loop
 mul-starts c = omega (arith, c .before .before .before .before .before .before .before .before .before .before .before .before .before .before .before .before .before .before .before .before .before .before .before .before .before .before .before .before .before .pre .3, c .before .before .before .before .before .before .before .before .before .before .before .before .before .before .before .before .loop .inv .0)
 
--- src/lib.rt:221:9
 slice-write-starts : tie.Need-slice-write-starts Inv-loop μ-loop
 slice-write-starts c =
     let h = c .before .before .before .before .before .before .before .before .before .before .before .before .before .before .before .loop-test .taken in
@@ -112,11 +95,9 @@ slice-write-starts c =
     let p = c .before .before .before .before .before .before .before .before .before .before .before .before .before .before .before .before .before .before .before .before .before .before .before .before .before .before .before .before .before .pre .2 in
     omega arith
 
--- src/lib.rt:222:9
 mul-counts : tie.Need-mul-counts Inv-loop μ-loop
 mul-counts c = omega (arith, c .before .before .before .before .before .before .before .before .before .before .before .before .before .before .before .before .before .before .before .before .before .before .before .before .before .before .before .before .before .pre .3, c .before .before .before .before .before .before .before .before .before .before .before .before .before .before .before .before .loop .inv .0)
 
--- src/lib.rt:222:9
 slice-write-counts : tie.Need-slice-write-counts Inv-loop μ-loop
 slice-write-counts c =
     let h = c .before .before .before .before .before .before .before .before .before .before .before .before .before .before .before .loop-test .taken in
@@ -125,7 +106,6 @@ slice-write-counts c =
     let p = c .before .before .before .before .before .before .before .before .before .before .before .before .before .before .before .before .before .before .before .before .before .before .before .before .before .before .before .before .before .pre .2 in
     omega arith
 
--- src/lib.rt:223:17
 add-total : tie.Need-add-total Inv-loop μ-loop
 add-total c =
     let w = c .before .before .before .before .before .before .before .before .before .before .before .before .within .ensures .0 in
@@ -133,11 +113,9 @@ add-total c =
     let u = c .before .before .before .before .before .before .before .before .before .before .before .before .before .before .before .before .before .before .before .before .before .before .before .before .before .before .before .before .before .pre .0 .1 .0 in
     record { fits = omega arith }
 
--- src/lib.rt:216:5
 loop-less : tie.Need-loop-less Inv-loop μ-loop
 loop-less c = search needs
 
--- src/lib.rt:216:5
 loop-again : tie.Need-loop-again Inv-loop μ-loop
 loop-again c =
     let a = c .before .before .before .before .before .before .before .before .before .before .before .before .before .before .before .before .before .before .before .before .before .before .before .before .before .before .before .before .before .args in
@@ -166,27 +144,21 @@ loop-again c =
           (row-longer es (idAt (a .ids .now) (a .rows .now) (v .i - 1)) (a .selected) (a .below .0) (a .cells .now) (a .filled) _ (s .result) (s .ensures .0) (omega arith) _),
     )
 
--- src/lib.rt:195:1
 same-length : tie.Need-same-length Inv-loop μ-loop
 same-length c = search needs
 
--- src/lib.rt:195:1
 same-length-2 : tie.Need-same-length-2 Inv-loop μ-loop
 same-length-2 c = search needs
 
--- src/lib.rt:195:1
 same-length-3 : tie.Need-same-length-3 Inv-loop μ-loop
 same-length-3 c = search needs
 
--- src/lib.rt:195:1
 same-length-4 : tie.Need-same-length-4 Inv-loop μ-loop
 same-length-4 c = search needs
 
--- src/lib.rt:195:1
 same-length-5 : tie.Need-same-length-5 Inv-loop μ-loop
 same-length-5 c = search needs
 
--- src/lib.rt:195:1
 returns : tie.Need-returns Inv-loop μ-loop
 returns c =
     let a = c .before .before .before .before .before .before .before .before .before .before .before .before .before .before .args in

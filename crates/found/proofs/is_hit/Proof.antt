@@ -7,15 +7,12 @@ use Rattle.matching.proofs.all_hold.Reads as all-hold-reads
 use Rattle.found.specs.Laws.{hit-not, hit-by}
 use borrow.Author.Tests.{eq-eqb, ne-eqb}
 
--- src/lib.rt:40:9
 returns : tie.Need-returns
 returns c = hit-not (c .before .before .args .cells .now) (c .before .before .args .used) (c .before .before .args .p) (eq-eqb _ _ (c .if1 .taken))
 
--- src/lib.rt:42:5
 all-hold-requires : tie.Need-all-hold-requires
 all-hold-requires c κs = search needs
 
--- src/lib.rt:34:1
 returns-2 : tie.Need-returns-2
 returns-2 c = hit-by (c .before .before .before .args .cells .now) (c .before .before .before .args .used) (c .before .before .before .args .p) (ne-eqb _ _ (c .before .if1 .left)) (c .all-hold .result) (c .all-hold .ensures)
 

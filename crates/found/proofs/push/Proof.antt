@@ -5,27 +5,21 @@ use Rattle.found.proofs.push.Reads as reads
 use Rattle.found.proofs.push.Lts as lts
 use Rattle.found.specs.Laws.{pushed-on, pushed-off}
 
--- src/lib.rt:51:9
 mul-list : tie.Need-mul-list
 mul-list c = search needs
 
--- src/lib.rt:51:9
 slice-write-list : tie.Need-slice-write-list
 slice-write-list c = search needs
 
--- src/lib.rt:52:16
 add-result : tie.Need-add-result
 add-result c = search needs
 
--- src/lib.rt:52:9
 same-length : tie.Need-same-length
 same-length c = search needs
 
--- src/lib.rt:52:9
 returns : tie.Need-returns
 returns c = pushed-on (c .before .args .list .now) (c .before .args .r) (c .before .args .x .0) (c .before .args .on) (c .if1 .taken)
 
--- src/lib.rt:46:1
 returns-2 : tie.Need-returns-2
 returns-2 c = pushed-off (c .before .args .list .now) (c .before .args .r) (c .before .args .x .0) (c .before .args .on) (c .if1 .left)
 

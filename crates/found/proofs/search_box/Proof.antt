@@ -9,26 +9,21 @@ use Rattle.found.specs.Searched.{order-few, box-searched}
 use Rattle.entries.specs.Words.{messages}
 use native.Mathlib.Omega.{arith}
 
--- src/lib.rt:22:9
 by-uid-requires : tie.Need-by-uid-requires
 by-uid-requires c κs = search needs
 
--- src/lib.rt:23:5
 find-requires : tie.Need-find-requires
 find-requires c κs =
     let a = c .before .before .before .before .before .before .before .before .before .before .before .args in
     let f = order-few (messages (a .words .now)) (a .used) (a .id) _ (c .before .before .before .before .by-uid .result) (c .before .before .before .before .by-uid .ensures) in
     (omega arith, omega arith, c .before .before .before .before .before .before .before .before .before .before .before .pre .1 .1)
 
--- src/lib.rt:10:1
 same-length : tie.Need-same-length
 same-length c = search needs
 
--- src/lib.rt:10:1
 same-length-2 : tie.Need-same-length-2
 same-length-2 c = search needs
 
--- src/lib.rt:10:1
 returns : tie.Need-returns
 returns c =
     let a = c .before .before .before .before .before .before .before .before .before .before .before .before .before .before .args in

@@ -10,45 +10,35 @@ use lib.ListN.{take}
 use Rattle.entries.specs.Words.{messages}
 use Rattle.found.specs.Runs.{row-viewed, row-boxed}
 
--- src/lib.rt:177:8
 is-selected-requires : tie.Need-is-selected-requires
 is-selected-requires c κs = search needs
 
--- src/lib.rt:178:9
 search-view-requires : tie.Need-search-view-requires
 search-view-requires c κs = search needs
 
--- src/lib.rt:178:9
 same-length : tie.Need-same-length
 same-length c = search needs
 
--- src/lib.rt:178:9
 same-length-2 : tie.Need-same-length-2
 same-length-2 c = search needs
 
--- src/lib.rt:178:9
 same-length-3 : tie.Need-same-length-3
 same-length-3 c = search needs
 
--- src/lib.rt:178:9
 returns : tie.Need-returns
 returns c =
     let a = c .before .before .before .before .before .before .before .before .before .before .before .before .before .before .before .before .before .before .args in
     (row-viewed (take (a .used) (messages (a .words .now))) (a .used) (a .id) (a .selected) (a .below .0) (a .cells .now) (a .filled) _ (c .before .before .before .before .before .before .search-view .result) (c .before .before .before .before .before .before .before .before .before .before .before .is-selected .result) (c .before .before .before .before .before .before .before .before .before .before .before .is-selected .ensures) (c .before .before .before .before .before .before .before .before .before .before .if1 .taken) (c .before .before .before .before .before .before .search-view .ensures), c .before .before .before .before .before .before .search-view .ensures .few)
 
--- src/lib.rt:180:5
 search-box-requires : tie.Need-search-box-requires
 search-box-requires c κs = search needs
 
--- src/lib.rt:162:1
 same-length-4 : tie.Need-same-length-4
 same-length-4 c = search needs
 
--- src/lib.rt:162:1
 same-length-5 : tie.Need-same-length-5
 same-length-5 c = search needs
 
--- src/lib.rt:162:1
 returns-2 : tie.Need-returns-2
 returns-2 c =
     let a = c .before .before .before .before .before .before .before .before .before .before .before .before .before .before .before .args in

@@ -16,35 +16,27 @@ Inv-loop words order n told view₀ i₀ r₀ view i r = Keeping (messages words
 abbrev μ-loop : tie.MeasureT-loop
 μ-loop words order n told view₀ i₀ r₀ view i r = n - i
 
--- src/lib.rt:111:5
 loop-holds : tie.Need-loop-holds Inv-loop μ-loop
 loop-holds c = keeping-start (messages (c .before .before .before .args .words .now)) (c .before .before .before .args .order .now) (c .before .before .before .args .n) (c .before .before .before .args .told .0) (c .before .before .before .args .view .now)
 
--- src/lib.rt:112:21
 mul-place : tie.Need-mul-place Inv-loop μ-loop
 mul-place c = search needs
 
--- src/lib.rt:112:21
 shared-slice-read-place : tie.Need-shared-slice-read-place Inv-loop μ-loop
 shared-slice-read-place c = search needs
 
--- src/lib.rt:113:13
 entry-requires : tie.Need-entry-requires Inv-loop μ-loop
 entry-requires c κs = search needs
 
--- src/lib.rt:115:9
 push-place-requires : tie.Need-push-place-requires Inv-loop μ-loop
 push-place-requires c κs = let f = c .before .before .before .before .before .before .loop .inv .few in let g = c .before .before .before .before .before .before .loop .inv .long in omega arith
 
--- src/lib.rt:116:9
 add-i : tie.Need-add-i Inv-loop μ-loop
 add-i c = search needs
 
--- src/lib.rt:111:5
 loop-less : tie.Need-loop-less Inv-loop μ-loop
 loop-less c = search needs
 
--- src/lib.rt:111:5
 loop-again : tie.Need-loop-again Inv-loop μ-loop
 loop-again c =
     let f = c .before .before .before .before .before .before .before .before .before .loop .inv .few in
@@ -52,11 +44,9 @@ loop-again c =
     let a = c .before .before .before .before .before .before .before .before .before .before .before .before .before .args in
     keeping-next (messages (a .words .now)) (a .order .now) (a .n) (a .told .0) (a .view .now) (c .before .before .before .before .before .before .before .before .before .loop .view) (c .before .before .before .before .before .before .before .before .before .loop .i) (c .before .before .before .before .before .before .before .before .before .loop .r) (c .before .before .before .before .before .before .before .before .before .loop .inv) (c .before .before .before .before .before .before .before .before .loop-test .taken) (c .before .before .before .before .before .before .entry .result) (c .before .before .before .before .before .before .entry .ensures) _ refl (omega arith) _ (c .before .before .push-place .result) (c .before .before .push-place .ensures)
 
--- src/lib.rt:105:1
 same-length : tie.Need-same-length Inv-loop μ-loop
 same-length c = c .before .loop .inv .long
 
--- src/lib.rt:105:1
 returns : tie.Need-returns Inv-loop μ-loop
 returns c = keeping-end (messages (c .before .before .before .before .before .args .words .now)) (c .before .before .before .before .before .args .order .now) (c .before .before .before .before .before .args .n) (c .before .before .before .before .before .args .told .0) (c .before .before .before .before .before .args .view .now) (c .before .loop .view) (c .before .loop .i) (c .before .loop .r) (c .before .loop .inv) (c .loop-test .left)
 

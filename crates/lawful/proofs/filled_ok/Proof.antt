@@ -4,19 +4,15 @@ use Rattle.lawful.proofs.filled_ok.Tie as tie
 use Prim.Native.Nat.{_-_}
 use Rattle.lawful.specs.Lent.{too-full, none-stands, one-stands}
 
--- src/lib.rt:20:9
 returns : tie.Need-returns
 returns c = too-full (c .before .args .room) (c .before .args .filled) (c .before .args .groups) (c .if1 .taken)
 
--- src/lib.rt:23:9
 returns-2 : tie.Need-returns-2
 returns-2 c = none-stands (c .before .before .args .room) (c .before .before .args .filled) (c .before .before .args .groups) (c .before .if1 .left) (c .if2 .taken)
 
--- src/lib.rt:25:15
 sub-result : tie.Need-sub-result
 sub-result c = search needs
 
--- src/lib.rt:15:1
 returns-3 : tie.Need-returns-3
 returns-3 c = one-stands (c .before .before .args .room) (c .before .before .args .filled) (c .before .before .args .groups) (c .before .if1 .left) (c .if2 .left)
 

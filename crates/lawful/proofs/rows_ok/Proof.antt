@@ -21,15 +21,12 @@ Inv-loop ids attributes lens validities nexts names n i₀ i = (i ≤ n) × ((l 
 abbrev μ-loop : tie.MeasureT-loop
 μ-loop ids attributes lens validities nexts names n i₀ i = n - i
 
--- src/lib.rt:95:5
 loop-holds : tie.Need-loop-holds Inv-loop μ-loop
 loop-holds c = (search needs, λ l h w. refl)
 
--- src/lib.rt:96:13
 row-ok-requires : tie.Need-row-ok-requires Inv-loop μ-loop
 row-ok-requires c κs = search needs
 
--- src/lib.rt:97:13
 returns : tie.Need-returns Inv-loop μ-loop
 returns c =
     let args = c .before .before .before .before .args in
@@ -38,15 +35,12 @@ returns c =
     let at = row-at l (args .ids .now) (args .attributes .now) (args .lens .now) (args .validities .now) (args .nexts .now) (args .names .now) w (turn .i) (omega arith) in
     sym (turn .inv .1 l h w ∙ all-broken mailboxOk l (turn .i) noMailbox (omega arith) (sym (c .before .row-ok .ensures ∙ ap mailboxOk at) ∙ not-true _ (c .if1 .taken)))
 
--- src/lib.rt:99:9
 add-i : tie.Need-add-i Inv-loop μ-loop
 add-i c = search needs
 
--- src/lib.rt:95:5
 loop-less : tie.Need-loop-less Inv-loop μ-loop
 loop-less c = search needs
 
--- src/lib.rt:95:5
 loop-again : tie.Need-loop-again Inv-loop μ-loop
 loop-again c =
     let args = c .before .before .before .before .args in
@@ -57,7 +51,6 @@ loop-again c =
           turn .inv .1 l h w ∙ all-on mailboxOk l (turn .i) noMailbox (omega arith) (sym (c .before .row-ok .ensures ∙ ap mailboxOk at) ∙ not-false _ (c .if1 .left)),
     )
 
--- src/lib.rt:82:1
 returns-2 : tie.Need-returns-2 Inv-loop μ-loop
 returns-2 c = λ l h w. sym (c .before .loop .inv .1 l h w ∙ all-over mailboxOk l (c .before .loop .i) (omega arith))
 

@@ -8,53 +8,44 @@ use Rattle.model.specs.Laws.{all-hold}
 use Rattle.session.specs.Tests.{no-at}
 use Rattle.lawful.specs.Lent.{sizesBy, too-small, too-large, right-size}
 
--- src/lib.rt:33:9
 returns : tie.Need-returns
 returns c =
     let args = c .before .args in
     no-at (sizesBy (args .room) (args .lent) (args .entries) (args .counts) (args .groups)) 0 (too-small (args .room) (c .if1 .taken))
 
--- src/lib.rt:36:9
 returns-2 : tie.Need-returns-2
 returns-2 c =
     let args = c .before .before .args in
     no-at (sizesBy (args .room) (args .lent) (args .entries) (args .counts) (args .groups)) 0 (too-large (args .room) (c .before .if1 .left) (c .if2 .taken))
 
--- src/lib.rt:38:9
 filled-ok-requires : tie.Need-filled-ok-requires
 filled-ok-requires c κs = search needs
 
--- src/lib.rt:39:9
 returns-3 : tie.Need-returns-3
 returns-3 c =
     let args = c .before .before .before .before .args in
     no-at (sizesBy (args .room) (args .lent) (args .entries) (args .counts) (args .groups)) 1 (sym (c .before .filled-ok .ensures) ∙ not-true _ (c .if3 .taken))
 
--- src/lib.rt:42:9
 returns-4 : tie.Need-returns-4
 returns-4 c =
     let args = c .before .before .before .before .before .args in
     no-at (sizesBy (args .room) (args .lent) (args .entries) (args .counts) (args .groups)) 2 (lt-leb (args .lent) 64 (c .if4 .taken))
 
--- src/lib.rt:45:9
 returns-5 : tie.Need-returns-5
 returns-5 c =
     let args = c .before .before .before .before .before .before .before .args in
     no-at (sizesBy (args .room) (args .lent) (args .entries) (args .counts) (args .groups)) 3 (lt-leb (args .counts .mailboxes) (args .lent) (c .if5 .taken))
 
--- src/lib.rt:48:9
 returns-6 : tie.Need-returns-6
 returns-6 c =
     let args = c .before .before .before .before .before .before .before .before .args in
     no-at (sizesBy (args .room) (args .lent) (args .entries) (args .counts) (args .groups)) 4 (lt-leb (args .entries) 1024 (c .if6 .taken))
 
--- src/lib.rt:51:9
 returns-7 : tie.Need-returns-7
 returns-7 c =
     let args = c .before .before .before .before .before .before .before .before .before .before .args in
     no-at (sizesBy (args .room) (args .lent) (args .entries) (args .counts) (args .groups)) 5 (lt-leb (args .counts .messages) (args .entries) (c .if7 .taken))
 
--- src/lib.rt:29:1
 returns-8 : tie.Need-returns-8
 returns-8 c =
     let args = c .before .before .before .before .before .before .before .before .before .before .args in

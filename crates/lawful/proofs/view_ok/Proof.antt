@@ -6,29 +6,23 @@ use native.Mathlib.Omega.{arith}
 use Rattle.model.specs.Memory.{place}
 use Rattle.lawful.specs.Lent.{view-none, view-unknown, view-known}
 
--- src/lib.rt:382:9
 returns : tie.Need-returns
 returns c = λ l h w. view-none l (c .before .before .args .selected) (c .before .before .args .told .0) (place (c .before .before .args .selected) l) 0 refl (c .before .if1 .taken)
 
--- src/lib.rt:384:9
 find-requires : tie.Need-find-requires
 find-requires c κs = search needs
 
--- src/lib.rt:386:9
 returns-2 : tie.Need-returns-2
 returns-2 c =
     let args = c .before .before .before .args in
     λ l h w. view-unknown l (args .selected) (args .told .0) (c .before .find .result) 0 (c .before .find .ensures .0 l h (w .id)) (c .before .before .if1 .left) (omega arith)
 
--- src/lib.rt:388:13
 mul-result : tie.Need-mul-result
 mul-result c = search needs
 
--- src/lib.rt:388:13
 element-copy-out-result : tie.Need-element-copy-out-result
 element-copy-out-result c = search needs
 
--- src/lib.rt:377:1
 returns-3 : tie.Need-returns-3
 returns-3 c =
     let args = c .before .before .before .before .before .args in

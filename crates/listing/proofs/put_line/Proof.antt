@@ -11,19 +11,15 @@ use borrow.Author.Tests.{not-true, not-false}
 use Rattle.out.specs.Put.{put-none, put-as}
 use Rattle.listing.specs.Telling.{line-barred, line-none, line-status}
 
--- src/lib.rt:34:9
 has-requires : tie.Need-has-requires
 has-requires c κs = search needs
 
--- src/lib.rt:35:9
 put-list-requires : tie.Need-put-list-requires
 put-list-requires c κs = search needs
 
--- src/lib.rt:35:9
 same-length : tie.Need-same-length
 same-length c = search needs
 
--- src/lib.rt:35:9
 returns : tie.Need-returns
 returns c =
     let args = c .before .before .before .before .before .before .before .before .args in (
@@ -32,7 +28,6 @@ returns c =
       omega (arith, c .before .before .put-list .ensures .1),
     )
 
--- src/lib.rt:38:9
 returns-2 : tie.Need-returns-2
 returns-2 c =
     let args = c .before .before .before .before .before .args in (
@@ -41,15 +36,12 @@ returns-2 c =
       omega arith,
     )
 
--- src/lib.rt:40:5
 put-status-at-set-requires : tie.Need-put-status-at-set-requires
 put-status-at-set-requires c κs = search needs
 
--- src/lib.rt:20:1
 same-length-2 : tie.Need-same-length-2
 same-length-2 c = search needs
 
--- src/lib.rt:20:1
 returns-3 : tie.Need-returns-3
 returns-3 c =
     let args = c .before .before .before .before .before .before .before .before .before .args in (

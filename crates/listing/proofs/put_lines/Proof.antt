@@ -21,43 +21,33 @@ Inv-loop queue₀ at limit attributes lens validities nexts names order n counts
 abbrev μ-loop : tie.MeasureT-loop
 μ-loop queue₀ at limit attributes lens validities nexts names order n counts asks i₀ end₀ queue i end = i
 
--- src/lib.rt:89:5
 loop-holds : tie.Need-loop-holds Inv-loop μ-loop
 loop-holds c = (search needs, refl, omega arith, λ q r p. p)
 
--- src/lib.rt:90:9
 sub-i : tie.Need-sub-i Inv-loop μ-loop
 sub-i c = search needs
 
--- src/lib.rt:91:17
 mul-k : tie.Need-mul-k Inv-loop μ-loop
 mul-k c = search needs
 
--- src/lib.rt:91:17
 shared-slice-read-k : tie.Need-shared-slice-read-k Inv-loop μ-loop
 shared-slice-read-k c = search needs
 
--- src/lib.rt:92:18
 element-copy-out-on : tie.Need-element-copy-out-on Inv-loop μ-loop
 element-copy-out-on c = search needs
 
--- src/lib.rt:103:13
 mul-put-row : tie.Need-mul-put-row Inv-loop μ-loop
 mul-put-row c = search needs
 
--- src/lib.rt:103:13
 element-copy-out-put-row : tie.Need-element-copy-out-put-row Inv-loop μ-loop
 element-copy-out-put-row c = search needs
 
--- src/lib.rt:93:9
 put-row-requires : tie.Need-put-row-requires Inv-loop μ-loop
 put-row-requires c κs = (omega arith, omega arith, omega arith)
 
--- src/lib.rt:89:5
 loop-less : tie.Need-loop-less Inv-loop μ-loop
 loop-less c = search needs
 
--- src/lib.rt:89:5
 loop-again : tie.Need-loop-again Inv-loop μ-loop
 loop-again c =
     let args = c .before .before .before .before .before .before .before .before .before .before .before .args in
@@ -68,11 +58,9 @@ loop-again c =
       goes-next (args .attributes .now) (args .lens .now) (args .validities .now) (args .nexts .now) (args .names .now) (args .order .now) (args .counts .now) (args .asks .now) (args .queue .now) (args .at) (args .limit) _ (turn .queue) (turn .end) (turn .i) _ _ (omega arith) (turn .inv .3) (c .before .before .put-row .ensures .0),
     )
 
--- src/lib.rt:70:1
 same-length : tie.Need-same-length Inv-loop μ-loop
 same-length c = search needs
 
--- src/lib.rt:70:1
 returns : tie.Need-returns Inv-loop μ-loop
 returns c =
     let args = c .before .before .before .before .args in

@@ -13,55 +13,42 @@ use lib.ListN.{length, getD}
 use Rattle.out.specs.Put.{put-as}
 use Rattle.listing.specs.Telling.{lineBy}
 
--- src/lib.rt:61:16
 mul-from : tie.Need-mul-from
 mul-from c = search needs
 
--- src/lib.rt:62:9
 name-end-requires : tie.Need-name-end-requires
 name-end-requires c κs = search needs
 
--- src/lib.rt:63:13
 element-copy-out-a : tie.Need-element-copy-out-a
 element-copy-out-a c = search needs
 
--- src/lib.rt:64:16
 mul-next : tie.Need-mul-next
 mul-next c = search needs
 
--- src/lib.rt:64:16
 element-copy-out-next : tie.Need-element-copy-out-next
 element-copy-out-next c = search needs
 
--- src/lib.rt:65:20
 mul-validity : tie.Need-mul-validity
 mul-validity c = search needs
 
--- src/lib.rt:65:20
 element-copy-out-validity : tie.Need-element-copy-out-validity
 element-copy-out-validity c = search needs
 
--- src/lib.rt:66:35
 sub-put-line : tie.Need-sub-put-line
 sub-put-line c = search needs
 
--- src/lib.rt:66:35
 part-put-line-start : tie.Need-part-put-line-start
 part-put-line-start c = search needs
 
--- src/lib.rt:66:35
 part-put-line-end : tie.Need-part-put-line-end
 part-put-line-end c = search needs
 
--- src/lib.rt:66:5
 put-line-requires : tie.Need-put-line-requires
 put-line-requires c κs = search needs
 
--- src/lib.rt:44:1
 same-length : tie.Need-same-length
 same-length c = search needs
 
--- src/lib.rt:44:1
 returns : tie.Need-returns
 returns c =
     let args = c .before .before .before .before .before .before .before .before .before .before .before .args in

@@ -8,23 +8,18 @@ use Rattle.told.proofs.is_asked_of.Reads as is-asked-of-reads
 use mathlib.Core.Path.{sym, _∙_}
 use borrow.Author.Tests.{not-true, not-false}
 
--- src/lib.rt:162:9
 returns : tie.Need-returns
 returns c = search needs
 
--- src/lib.rt:164:9
 both-requires : tie.Need-both-requires
 both-requires c κs = search needs
 
--- src/lib.rt:165:9
 returns-2 : tie.Need-returns-2
 returns-2 c = rw (c .before .before .if1 .left, sym (c .before .both .ensures) ∙ not-true _ (c .if2 .taken))
 
--- src/lib.rt:167:5
 is-asked-of-requires : tie.Need-is-asked-of-requires
 is-asked-of-requires c κs = search needs
 
--- src/lib.rt:158:1
 returns-3 : tie.Need-returns-3
 returns-3 c = rw (c .before .before .before .if1 .left, sym (c .before .before .both .ensures) ∙ not-false _ (c .before .if2 .left)) (c .is-asked-of .ensures)
 

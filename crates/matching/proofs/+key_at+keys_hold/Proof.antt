@@ -40,7 +40,6 @@ abbrev keys-hold-below : ℕ → In 2 keys-hold-kinds.ps
 keys-hold-below t =
     and 2 keys-hold-kinds.ps (falls 2 keys-hold-kinds.ps _<_ μ-keys-hold t) keys-hold.Pre
 
--- src/lib.rt:207:9
 key-at-cell-requires : (t : ℕ) → key-at-lts.Need-cell-requires (
   cell-reads.Asked,
   cell-reads.Learnt,
@@ -55,7 +54,6 @@ key-at-cell-requires : (t : ℕ) → key-at-lts.Need-cell-requires (
 ) (key-at-at t) key-at.Post
 key-at-cell-requires t c κs = search needs
 
--- src/lib.rt:209:9
 key-at-test-at-requires : (t : ℕ) → key-at-lts.Need-test-at-requires (
   cell-reads.Asked,
   cell-reads.Learnt,
@@ -70,7 +68,6 @@ key-at-test-at-requires : (t : ℕ) → key-at-lts.Need-test-at-requires (
 ) (key-at-at t) key-at.Post
 key-at-test-at-requires t c κs = search needs
 
--- src/lib.rt:209:9
 key-at-returns : (t : ℕ) → key-at-lts.Need-returns (
   cell-reads.Asked,
   cell-reads.Learnt,
@@ -85,7 +82,6 @@ key-at-returns : (t : ℕ) → key-at-lts.Need-returns (
 ) (key-at-at t) key-at.Post
 key-at-returns t c = search needs
 
--- src/lib.rt:211:9
 key-at-behind-requires : (t : ℕ) → key-at-lts.Need-behind-requires (
   cell-reads.Asked,
   cell-reads.Learnt,
@@ -100,7 +96,6 @@ key-at-behind-requires : (t : ℕ) → key-at-lts.Need-behind-requires (
 ) (key-at-at t) key-at.Post
 key-at-behind-requires t c κs = search needs
 
--- src/lib.rt:212:30
 key-at-add-keys-hold : (t : ℕ) → key-at-lts.Need-add-keys-hold (
   cell-reads.Asked,
   cell-reads.Learnt,
@@ -115,7 +110,6 @@ key-at-add-keys-hold : (t : ℕ) → key-at-lts.Need-add-keys-hold (
 ) (key-at-at t) key-at.Post
 key-at-add-keys-hold t c = search needs
 
--- src/lib.rt:212:9
 key-at-keys-hold-requires : (t : ℕ) → key-at-lts.Need-keys-hold-requires (
   cell-reads.Asked,
   cell-reads.Learnt,
@@ -130,7 +124,6 @@ key-at-keys-hold-requires : (t : ℕ) → key-at-lts.Need-keys-hold-requires (
 ) (key-at-at t) key-at.Post
 key-at-keys-hold-requires t c κs = let b = c .behind .ensures .inside in (omega arith, omega arith)
 
--- src/lib.rt:213:9
 key-at-agree-requires : (t : ℕ) → key-at-lts.Need-agree-requires (
   cell-reads.Asked,
   cell-reads.Learnt,
@@ -145,7 +138,6 @@ key-at-agree-requires : (t : ℕ) → key-at-lts.Need-agree-requires (
 ) (key-at-at t) key-at.Post
 key-at-agree-requires t c κs = search needs
 
--- src/lib.rt:203:1
 key-at-returns-2 : (t : ℕ) → key-at-lts.Need-returns-2 (
   cell-reads.Asked,
   cell-reads.Learnt,
@@ -166,7 +158,6 @@ keys-hold-Inv-loop cells at stop any facts i₀ some₀ on₀ i some on = (at �
 abbrev keys-hold-μ-loop : keys-hold-lts.MeasureT-loop
 keys-hold-μ-loop cells at stop any facts i₀ some₀ on₀ i some on = stop - i
 
--- src/lib.rt:226:5
 keys-hold-loop-holds : (t : ℕ) → keys-hold-lts.Need-loop-holds (
   last-nest-reads.Asked,
   last-nest-reads.Learnt,
@@ -181,7 +172,6 @@ keys-hold-loop-holds : (t : ℕ) → keys-hold-lts.Need-loop-holds (
 ) (keys-hold-at t) keys-hold.Post keys-hold-Inv-loop keys-hold-μ-loop
 keys-hold-loop-holds t c = (omega arith, going-start (c .before .args .cells .now) (c .before .args .at) (c .before .args .stop) (c .before .args .any) (c .before .args .facts .now))
 
--- src/lib.rt:227:12
 keys-hold-last-nest-requires : (t : ℕ) → keys-hold-lts.Need-last-nest-requires (
   last-nest-reads.Asked,
   last-nest-reads.Learnt,
@@ -196,7 +186,6 @@ keys-hold-last-nest-requires : (t : ℕ) → keys-hold-lts.Need-last-nest-requir
 ) (keys-hold-at t) keys-hold.Post keys-hold-Inv-loop keys-hold-μ-loop
 keys-hold-last-nest-requires t c κs = search needs
 
--- src/lib.rt:228:17
 keys-hold-cell-requires : (t : ℕ) → keys-hold-lts.Need-cell-requires (
   last-nest-reads.Asked,
   last-nest-reads.Learnt,
@@ -211,7 +200,6 @@ keys-hold-cell-requires : (t : ℕ) → keys-hold-lts.Need-cell-requires (
 ) (keys-hold-at t) keys-hold.Post keys-hold-Inv-loop keys-hold-μ-loop
 keys-hold-cell-requires t c κs = search needs
 
--- src/lib.rt:229:13
 keys-hold-agree-requires : (t : ℕ) → keys-hold-lts.Need-agree-requires (
   last-nest-reads.Asked,
   last-nest-reads.Learnt,
@@ -226,7 +214,6 @@ keys-hold-agree-requires : (t : ℕ) → keys-hold-lts.Need-agree-requires (
 ) (keys-hold-at t) keys-hold.Post keys-hold-Inv-loop keys-hold-μ-loop
 keys-hold-agree-requires t c κs = search needs
 
--- src/lib.rt:231:13
 keys-hold-add-i : (t : ℕ) → keys-hold-lts.Need-add-i (
   last-nest-reads.Asked,
   last-nest-reads.Learnt,
@@ -241,7 +228,6 @@ keys-hold-add-i : (t : ℕ) → keys-hold-lts.Need-add-i (
 ) (keys-hold-at t) keys-hold.Post keys-hold-Inv-loop keys-hold-μ-loop
 keys-hold-add-i t c = search needs
 
--- src/lib.rt:226:5
 keys-hold-loop-less : (t : ℕ) → keys-hold-lts.Need-loop-less (
   last-nest-reads.Asked,
   last-nest-reads.Learnt,
@@ -256,7 +242,6 @@ keys-hold-loop-less : (t : ℕ) → keys-hold-lts.Need-loop-less (
 ) (keys-hold-at t) keys-hold.Post keys-hold-Inv-loop keys-hold-μ-loop
 keys-hold-loop-less t c = search needs
 
--- src/lib.rt:226:5
 keys-hold-loop-again : (t : ℕ) → keys-hold-lts.Need-loop-again (
   last-nest-reads.Asked,
   last-nest-reads.Learnt,
@@ -271,7 +256,6 @@ keys-hold-loop-again : (t : ℕ) → keys-hold-lts.Need-loop-again (
 ) (keys-hold-at t) keys-hold.Post keys-hold-Inv-loop keys-hold-μ-loop
 keys-hold-loop-again t c = let n = c .before .before .before .last-nest .ensures (c .before .before .if1 .taken) in (omega arith, going-in (c .before .before .before .before .before .before .before .args .cells .now) (c .before .before .before .before .before .before .before .args .at) (c .before .before .before .before .before .before .before .args .stop) (c .before .before .before .before .before .before .before .args .any) (c .before .before .before .before .before .before .before .args .facts .now) (c .before .before .before .before .before .loop .i) (c .before .before .before .before .before .loop .some) (c .before .before .before .before .before .loop .on) (c .before .before .before .before .before .loop .inv .1) (c .before .before .before .before .loop-test .taken) (c .before .cell .result) (c .before .cell .ensures) (let q = c .before .cell .ensures in omega (arith, n .0)) (n .1) (c .agree .result) (c .agree .ensures))
 
--- src/lib.rt:233:17
 keys-hold-key-at-requires : (t : ℕ) → keys-hold-lts.Need-key-at-requires (
   last-nest-reads.Asked,
   last-nest-reads.Learnt,
@@ -286,7 +270,6 @@ keys-hold-key-at-requires : (t : ℕ) → keys-hold-lts.Need-key-at-requires (
 ) (keys-hold-at t) keys-hold.Post keys-hold-Inv-loop keys-hold-μ-loop
 keys-hold-key-at-requires t c κs = (omega arith, (omega arith, omega arith))
 
--- src/lib.rt:234:16
 keys-hold-agree-requires-2 : (t : ℕ) → keys-hold-lts.Need-agree-requires-2 (
   last-nest-reads.Asked,
   last-nest-reads.Learnt,
@@ -301,7 +284,6 @@ keys-hold-agree-requires-2 : (t : ℕ) → keys-hold-lts.Need-agree-requires-2 (
 ) (keys-hold-at t) keys-hold.Post keys-hold-Inv-loop keys-hold-μ-loop
 keys-hold-agree-requires-2 t c κs = search needs
 
--- src/lib.rt:235:17
 keys-hold-agree-requires-3 : (t : ℕ) → keys-hold-lts.Need-agree-requires-3 (
   last-nest-reads.Asked,
   last-nest-reads.Learnt,
@@ -316,7 +298,6 @@ keys-hold-agree-requires-3 : (t : ℕ) → keys-hold-lts.Need-agree-requires-3 (
 ) (keys-hold-at t) keys-hold.Post keys-hold-Inv-loop keys-hold-μ-loop
 keys-hold-agree-requires-3 t c κs = search needs
 
--- src/lib.rt:235:17
 keys-hold-returns : (t : ℕ) → keys-hold-lts.Need-returns (
   last-nest-reads.Asked,
   last-nest-reads.Learnt,
@@ -331,7 +312,6 @@ keys-hold-returns : (t : ℕ) → keys-hold-lts.Need-returns (
 ) (keys-hold-at t) keys-hold.Post keys-hold-Inv-loop keys-hold-μ-loop
 keys-hold-returns t c = going-decided (c .before .before .before .before .before .before .before .before .before .args .cells .now) (c .before .before .before .before .before .before .before .before .before .args .at) (c .before .before .before .before .before .before .before .before .before .args .stop) (c .before .before .before .before .before .before .before .before .before .args .any) (c .before .before .before .before .before .before .before .before .before .args .facts .now) (c .before .before .before .before .before .before .before .loop .i) (c .before .before .before .before .before .before .before .loop .some) (c .before .before .before .before .before .before .before .loop .on) (c .before .before .before .before .before .before .before .loop .inv .1) (c .before .before .before .before .before .before .loop-test .taken) (c .before .before .before .key-at .result) (c .before .before .before .key-at .ensures) (sym (c .before .before .agree2 .ensures) ∙ c .before .if2 .taken) (c .agree3 .result) (c .agree3 .ensures)
 
--- src/lib.rt:226:5
 keys-hold-loop-less-2 : (t : ℕ) → keys-hold-lts.Need-loop-less-2 (
   last-nest-reads.Asked,
   last-nest-reads.Learnt,
@@ -346,7 +326,6 @@ keys-hold-loop-less-2 : (t : ℕ) → keys-hold-lts.Need-loop-less-2 (
 ) (keys-hold-at t) keys-hold.Post keys-hold-Inv-loop keys-hold-μ-loop
 keys-hold-loop-less-2 t c = let a = c .before .before .key-at .ensures .after in omega arith
 
--- src/lib.rt:226:5
 keys-hold-loop-again-2 : (t : ℕ) → keys-hold-lts.Need-loop-again-2 (
   last-nest-reads.Asked,
   last-nest-reads.Learnt,
@@ -361,7 +340,6 @@ keys-hold-loop-again-2 : (t : ℕ) → keys-hold-lts.Need-loop-again-2 (
 ) (keys-hold-at t) keys-hold.Post keys-hold-Inv-loop keys-hold-μ-loop
 keys-hold-loop-again-2 t c = let a = c .before .before .key-at .ensures .after in (omega arith, going-next (c .before .before .before .before .before .before .before .before .args .cells .now) (c .before .before .before .before .before .before .before .before .args .at) (c .before .before .before .before .before .before .before .before .args .stop) (c .before .before .before .before .before .before .before .before .args .any) (c .before .before .before .before .before .before .before .before .args .facts .now) (c .before .before .before .before .before .before .loop .i) (c .before .before .before .before .before .before .loop .some) (c .before .before .before .before .before .before .loop .on) (c .before .before .before .before .before .before .loop .inv .1) (c .before .before .before .before .before .loop-test .taken) (c .before .before .key-at .result) (c .before .before .key-at .ensures) (sym (c .before .agree2 .ensures) ∙ c .if2 .left))
 
--- src/lib.rt:240:15
 keys-hold-negated-requires : (t : ℕ) → keys-hold-lts.Need-negated-requires (
   last-nest-reads.Asked,
   last-nest-reads.Learnt,
@@ -376,7 +354,6 @@ keys-hold-negated-requires : (t : ℕ) → keys-hold-lts.Need-negated-requires (
 ) (keys-hold-at t) keys-hold.Post keys-hold-Inv-loop keys-hold-μ-loop
 keys-hold-negated-requires t c κs = search needs
 
--- src/lib.rt:240:5
 keys-hold-agree-requires-4 : (t : ℕ) → keys-hold-lts.Need-agree-requires-4 (
   last-nest-reads.Asked,
   last-nest-reads.Learnt,
@@ -391,7 +368,6 @@ keys-hold-agree-requires-4 : (t : ℕ) → keys-hold-lts.Need-agree-requires-4 (
 ) (keys-hold-at t) keys-hold.Post keys-hold-Inv-loop keys-hold-μ-loop
 keys-hold-agree-requires-4 t c κs = search needs
 
--- src/lib.rt:219:1
 keys-hold-returns-2 : (t : ℕ) → keys-hold-lts.Need-returns-2 (
   last-nest-reads.Asked,
   last-nest-reads.Learnt,

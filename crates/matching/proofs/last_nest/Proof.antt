@@ -7,19 +7,15 @@ use Rattle.matching.proofs.behind.Reads as behind-reads
 use Rattle.matching.proofs.cell.Reads as cell-reads
 use Rattle.matching.specs.Laws.{nest-not, nest-by}
 
--- src/lib.rt:196:8
 cell-requires : tie.Need-cell-requires
 cell-requires c κs = search needs
 
--- src/lib.rt:197:9
 returns : tie.Need-returns
 returns c = nest-not (c .before .before .before .args .cells .now) (c .before .before .before .args .at) (c .before .before .before .args .stop)
 
--- src/lib.rt:199:5
 behind-requires : tie.Need-behind-requires
 behind-requires c κs = search needs
 
--- src/lib.rt:192:1
 returns-2 : tie.Need-returns-2
 returns-2 c = nest-by (c .before .before .before .before .args .cells .now) (c .before .before .before .before .args .at) (c .before .before .before .before .args .stop) (c .before .before .cell .result) (c .behind .result) (c .before .before .cell .ensures) (c .before .if1 .left) (c .behind .ensures)
 

@@ -16,35 +16,27 @@ Inv-loop s sum₀ i₀ sum i = (i ≤ length s) × ((sum ≤ i * 255) × (zeros 
 abbrev μ-loop : tie.MeasureT-loop
 μ-loop s sum₀ i₀ sum i = length s - i
 
--- src/lib.rt:45:5
 loop-holds : tie.Need-loop-holds Inv-loop μ-loop
 loop-holds c = (search needs, (search needs, refl))
 
--- src/lib.rt:46:21
 shared-slice-read-wide : tie.Need-shared-slice-read-wide Inv-loop μ-loop
 shared-slice-read-wide c = search needs
 
--- src/lib.rt:46:16
 wide-requires : tie.Need-wide-requires Inv-loop μ-loop
 wide-requires c κs = search needs
 
--- src/lib.rt:46:9
 add-sum : tie.Need-add-sum Inv-loop μ-loop
 add-sum c = search needs
 
--- src/lib.rt:47:9
 add-i : tie.Need-add-i Inv-loop μ-loop
 add-i c = search needs
 
--- src/lib.rt:45:5
 loop-less : tie.Need-loop-less Inv-loop μ-loop
 loop-less c = search needs
 
--- src/lib.rt:45:5
 loop-again : tie.Need-loop-again Inv-loop μ-loop
 loop-again c = (search needs, (search needs, sum-next (c .before .before .before .before .before .args .s .now) (c .before .before .before .loop .i) (c .before .before .before .loop .sum) (c .wide .result) (omega arith) (c .wide .ensures .0) (c .before .before .before .loop .inv .1 .1)))
 
--- src/lib.rt:39:1
 returns : tie.Need-returns Inv-loop μ-loop
 returns c = sum-past (c .before .before .before .args .s .now) (c .before .loop .i) (c .before .loop .sum) 0 (omega arith) (c .before .loop .inv .1 .1)
 

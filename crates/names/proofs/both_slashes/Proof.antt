@@ -3,11 +3,9 @@ use Rattle.names.proofs.both_slashes.Tie as tie
 use Prim.Native.Nat.{_-_}
 use borrow.Author.Tests.{eq-eqb, ne-eqb}
 
--- src/lib.rt:34:1
 returns : tie.Need-returns
 returns c = rw (eq-eqb (c .before .args .b) 47 (c .if1 .taken))
 
--- src/lib.rt:34:1
 returns-2 : tie.Need-returns-2
 returns-2 c = rw (ne-eqb (c .before .args .b) 47 (c .if1 .left))
 

@@ -5,23 +5,18 @@ use mathlib.Core.Path.{sym, _∙_}
 use Prim.Native.Nat.{_-_}
 use Rattle.names.specs.Folding.{folded-inbox, folded-other}
 
--- src/lib.rt:28:8
 is-inbox-requires : tie.Need-is-inbox-requires
 is-inbox-requires c κs = search needs
 
--- src/lib.rt:29:28
 slice-aggregate-same : tie.Need-slice-aggregate-same
 slice-aggregate-same c = search needs
 
--- src/lib.rt:29:9
 same-requires : tie.Need-same-requires
 same-requires c κs = search needs
 
--- src/lib.rt:29:9
 returns : tie.Need-returns
 returns c = c .same .ensures ∙ sym (folded-inbox (c .before .before .before .before .before .args .name .now) (sym (c .before .before .before .is-inbox .ensures) ∙ c .before .before .if1 .taken))
 
--- src/lib.rt:25:1
 returns-2 : tie.Need-returns-2
 returns-2 c = folded-other (c .before .before .before .args .name .now) (sym (c .before .is-inbox .ensures) ∙ c .if1 .left)
 

@@ -4,19 +4,15 @@ use Rattle.names.proofs.is_valid.Tie as tie
 use mathlib.Core.Path.{_∙_}
 use Rattle.names.specs.Once.{no-octet, many-octets, some-octets}
 
--- src/lib.rt:68:9
 returns : tie.Need-returns
 returns c = no-octet (c .before .before .args .name .now) (c .if1 .taken)
 
--- src/lib.rt:71:9
 returns-2 : tie.Need-returns-2
 returns-2 c = many-octets (c .before .before .before .args .name .now) (c .before .if1 .left) (c .if2 .taken)
 
--- src/lib.rt:73:5
 text-ok-requires : tie.Need-text-ok-requires
 text-ok-requires c κs = search needs
 
--- src/lib.rt:64:1
 returns-3 : tie.Need-returns-3
 returns-3 c = c .text-ok .ensures ∙ some-octets (c .before .before .before .before .args .name .now) (c .before .before .if1 .left) (c .before .if2 .left)
 

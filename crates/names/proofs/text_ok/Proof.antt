@@ -13,43 +13,33 @@ Inv-loop name last₀ i₀ last i = (i ≤ length name) × (textOk name ≡ text
 abbrev μ-loop : tie.MeasureT-loop
 μ-loop name last₀ i₀ last i = length name - i
 
--- src/lib.rt:46:5
 loop-holds : tie.Need-loop-holds Inv-loop μ-loop
 loop-holds c = (search needs, refl)
 
--- src/lib.rt:47:17
 shared-slice-read-b : tie.Need-shared-slice-read-b Inv-loop μ-loop
 shared-slice-read-b c = search needs
 
--- src/lib.rt:49:13
 returns : tie.Need-returns Inv-loop μ-loop
 returns c = sym (c .before .before .before .loop .inv .1 ∙ too-low (c .before .before .before .before .before .args .name .now) (c .before .before .before .loop .i) (c .before .before .before .loop .last) (omega arith) (c .if1 .taken))
 
--- src/lib.rt:52:13
 returns-2 : tie.Need-returns-2 Inv-loop μ-loop
 returns-2 c = sym (c .before .before .before .before .loop .inv .1 ∙ too-high (c .before .before .before .before .before .before .args .name .now) (c .before .before .before .before .loop .i) (c .before .before .before .before .loop .last) (omega arith) (c .before .if1 .left) (c .if2 .taken))
 
--- src/lib.rt:54:12
 both-slashes-requires : tie.Need-both-slashes-requires Inv-loop μ-loop
 both-slashes-requires c κs = search needs
 
--- src/lib.rt:55:13
 returns-3 : tie.Need-returns-3 Inv-loop μ-loop
 returns-3 c = sym (c .before .before .before .before .before .before .loop .inv .1 ∙ empty-part (c .before .before .before .before .before .before .before .before .args .name .now) (c .before .before .before .before .before .before .loop .i) (c .before .before .before .before .before .before .loop .last) (omega arith) (sym (c .before .both-slashes .ensures) ∙ c .if3 .taken))
 
--- src/lib.rt:58:9
 add-i : tie.Need-add-i Inv-loop μ-loop
 add-i c = search needs
 
--- src/lib.rt:46:5
 loop-less : tie.Need-loop-less Inv-loop μ-loop
 loop-less c = search needs
 
--- src/lib.rt:46:5
 loop-again : tie.Need-loop-again Inv-loop μ-loop
 loop-again c = (search needs, c .before .before .before .before .before .before .loop .inv .1 ∙ text-next (c .before .before .before .before .before .before .before .before .args .name .now) (c .before .before .before .before .before .before .loop .i) (c .before .before .before .before .before .before .loop .last) (omega arith) (c .before .before .before .if1 .left) (c .before .before .if2 .left) (sym (c .before .both-slashes .ensures) ∙ c .if3 .left))
 
--- src/lib.rt:41:1
 returns-4 : tie.Need-returns-4 Inv-loop μ-loop
 returns-4 c = sym (c .before .loop .inv .1 ∙ text-past (c .before .before .before .args .name .now) (c .before .loop .i) (c .before .loop .last) (omega arith))
 

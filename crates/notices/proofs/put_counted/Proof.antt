@@ -8,19 +8,15 @@ use Rattle.out.proofs.put_number.Reads as put-number-reads
 use native.Mathlib.Omega.{arith}
 use Rattle.out.specs.Put.{_then_}
 
--- src/lib.rt:77:9
 put-requires : tie.Need-put-requires
 put-requires c κs = search needs
 
--- src/lib.rt:78:5
 put-number-requires : tie.Need-put-number-requires
 put-number-requires c κs = search needs
 
--- src/lib.rt:73:1
 same-length : tie.Need-same-length
 same-length c = search needs
 
--- src/lib.rt:73:1
 returns : tie.Need-returns
 returns c = (_then_ (c .before .before .before .before .before .before .put .ensures) (c .before .before .put-number .ensures .0), omega (arith, c .before .before .before .before .before .before .put .ensures .next, c .before .before .put-number .ensures .1))
 

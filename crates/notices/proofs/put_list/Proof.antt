@@ -9,23 +9,18 @@ use native.Mathlib.Omega.{arith}
 use Rattle.out.specs.Put.{_then_, put-as}
 use Rattle.notices.specs.Texts.{markOf, list-text}
 
--- src/lib.rt:50:9
 put-listed-requires : tie.Need-put-listed-requires
 put-listed-requires c κs = search needs
 
--- src/lib.rt:51:31
 slice-aggregate-put : tie.Need-slice-aggregate-put
 slice-aggregate-put c = search needs
 
--- src/lib.rt:51:5
 put-requires : tie.Need-put-requires
 put-requires c κs = search needs
 
--- src/lib.rt:46:1
 same-length : tie.Need-same-length
 same-length c = search needs
 
--- src/lib.rt:46:1
 returns : tie.Need-returns
 returns c = (put-as (_then_ (c .before .before .before .before .before .before .before .put-listed .ensures .0) (c .before .before .put .ensures)) (list-text (markOf (c .before .before .before .before .before .before .before .before .before .before .before .args .mark)) (c .before .before .before .before .before .before .before .before .before .before .before .args .name .now)), omega (arith, c .before .before .before .before .before .before .before .put-listed .ensures .1, c .before .before .put .ensures .next))
 

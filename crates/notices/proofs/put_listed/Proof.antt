@@ -10,35 +10,27 @@ use native.Mathlib.Omega.{arith}
 use Rattle.out.specs.Put.{_then_}
 use Rattle.notices.specs.Texts.{listed}
 
--- src/lib.rt:40:40
 slice-aggregate-put : tie.Need-slice-aggregate-put
 slice-aggregate-put c = search needs
 
--- src/lib.rt:40:9
 put-requires : tie.Need-put-requires
 put-requires c κs = search needs
 
--- src/lib.rt:41:9
 put-mark-requires : tie.Need-put-mark-requires
 put-mark-requires c κs = search needs
 
--- src/lib.rt:42:39
 slice-aggregate-put-2 : tie.Need-slice-aggregate-put-2
 slice-aggregate-put-2 c = search needs
 
--- src/lib.rt:42:9
 put-requires-2 : tie.Need-put-requires-2
 put-requires-2 c κs = search needs
 
--- src/lib.rt:43:5
 put-quoted-requires : tie.Need-put-quoted-requires
 put-quoted-requires c κs = search needs
 
--- src/lib.rt:36:1
 same-length : tie.Need-same-length
 same-length c = search needs
 
--- src/lib.rt:36:1
 returns : tie.Need-returns
 unfolding listed
 returns c = (_then_ (_then_ (_then_ (c .before .before .before .before .before .before .before .before .before .before .before .before .before .before .before .put .ensures) (c .before .before .before .before .before .before .before .before .before .before .before .put-mark .ensures .0)) (c .before .before .before .before .before .before .put2 .ensures)) (c .before .before .put-quoted .ensures .0), omega (arith, c .before .before .before .before .before .before .before .before .before .before .before .before .before .before .before .before .before .before .before .before .pre, c .before .before .before .before .before .before .before .before .before .before .before .before .before .before .before .put .ensures .next, c .before .before .before .before .before .before .before .before .before .before .before .put-mark .ensures .1, c .before .before .before .before .before .before .put2 .ensures .next, c .before .before .put-quoted .ensures .1))

@@ -11,103 +11,78 @@ use Rattle.notices.specs.Texts.{markOf}
 use Rattle.model.specs.Lines.{markText}
 use Rattle.notices.specs.declared.Mark.{Mark}
 
--- src/lib.rt:27:33
 enum-told : tie.Need-enum-told
 enum-told c = search needs
 
--- src/lib.rt:27:51
 slice-aggregate-put : tie.Need-slice-aggregate-put
 slice-aggregate-put c = search needs
 
--- src/lib.rt:27:24
 put-requires : tie.Need-put-requires
 put-requires c κs = search needs
 
--- src/lib.rt:28:36
 enum-told-2 : tie.Need-enum-told-2
 enum-told-2 c = search needs
 
--- src/lib.rt:28:54
 slice-aggregate-put-2 : tie.Need-slice-aggregate-put-2
 slice-aggregate-put-2 c = search needs
 
--- src/lib.rt:28:27
 put-requires-2 : tie.Need-put-requires-2
 put-requires-2 c κs = search needs
 
--- src/lib.rt:29:39
 enum-told-3 : tie.Need-enum-told-3
 enum-told-3 c = search needs
 
--- src/lib.rt:29:57
 slice-aggregate-put-3 : tie.Need-slice-aggregate-put-3
 slice-aggregate-put-3 c = search needs
 
--- src/lib.rt:29:30
 put-requires-3 : tie.Need-put-requires-3
 put-requires-3 c κs = search needs
 
--- src/lib.rt:30:36
 enum-told-4 : tie.Need-enum-told-4
 enum-told-4 c = search needs
 
--- src/lib.rt:30:54
 slice-aggregate-put-4 : tie.Need-slice-aggregate-put-4
 slice-aggregate-put-4 c = search needs
 
--- src/lib.rt:30:27
 put-requires-4 : tie.Need-put-requires-4
 put-requires-4 c κs = search needs
 
--- src/lib.rt:31:38
 enum-told-5 : tie.Need-enum-told-5
 enum-told-5 c = search needs
 
--- src/lib.rt:31:56
 slice-aggregate-put-5 : tie.Need-slice-aggregate-put-5
 slice-aggregate-put-5 c = search needs
 
--- src/lib.rt:31:29
 put-requires-5 : tie.Need-put-requires-5
 put-requires-5 c κs = search needs
 
--- src/lib.rt:22:1
 same-length : tie.Need-same-length
 same-length c = search needs
 
--- src/lib.rt:22:1
 returns : tie.Need-returns
 returns c = (put-as (c .before .before .put .ensures) (ap (λ (k : Mark). markText (markOf k)) (sym (c .before .before .before .before .before .enum-told .given .1))), omega (arith, c .before .before .put .ensures .next))
 
--- src/lib.rt:22:1
 same-length-2 : tie.Need-same-length-2
 same-length-2 c = search needs
 
--- src/lib.rt:22:1
 returns-2 : tie.Need-returns-2
 returns-2 c = (put-as (c .before .before .put2 .ensures) (ap (λ (k : Mark). markText (markOf k)) (sym (c .before .before .before .before .before .enum-told2 .given .1))), omega (arith, c .before .before .put2 .ensures .next))
 
--- src/lib.rt:22:1
 same-length-3 : tie.Need-same-length-3
 same-length-3 c = search needs
 
--- src/lib.rt:22:1
 returns-3 : tie.Need-returns-3
 returns-3 c = (put-as (c .before .before .put3 .ensures) (ap (λ (k : Mark). markText (markOf k)) (sym (c .before .before .before .before .before .enum-told3 .given .1))), omega (arith, c .before .before .put3 .ensures .next))
 
--- src/lib.rt:22:1
 same-length-4 : tie.Need-same-length-4
 same-length-4 c = search needs
 
--- src/lib.rt:22:1
 returns-4 : tie.Need-returns-4
 returns-4 c = (put-as (c .before .before .put4 .ensures) (ap (λ (k : Mark). markText (markOf k)) (sym (c .before .before .before .before .before .enum-told4 .given .1))), omega (arith, c .before .before .put4 .ensures .next))
 
--- src/lib.rt:22:1
 same-length-5 : tie.Need-same-length-5
 same-length-5 c = search needs
 
--- src/lib.rt:22:1
 returns-5 : tie.Need-returns-5
 returns-5 c = (put-as (c .before .before .put5 .ensures) (ap (λ (k : Mark). markText (markOf k)) (sym (c .before .before .before .before .before .enum-told5 .given .1))), omega (arith, c .before .before .put5 .ensures .next))
 

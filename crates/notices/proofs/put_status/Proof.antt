@@ -10,47 +10,36 @@ use native.Mathlib.Omega.{arith}
 use Rattle.out.specs.Put.{_then_, put-as}
 use Rattle.notices.specs.Texts.{status-text}
 
--- src/lib.rt:93:40
 slice-aggregate-put : tie.Need-slice-aggregate-put
 slice-aggregate-put c = search needs
 
--- src/lib.rt:93:9
 put-requires : tie.Need-put-requires
 put-requires c κs = search needs
 
--- src/lib.rt:94:9
 put-quoted-requires : tie.Need-put-quoted-requires
 put-quoted-requires c κs = search needs
 
--- src/lib.rt:95:42
 slice-aggregate-put-counted : tie.Need-slice-aggregate-put-counted
 slice-aggregate-put-counted c = search needs
 
--- src/lib.rt:95:9
 put-counted-requires : tie.Need-put-counted-requires
 put-counted-requires c κs = search needs
 
--- src/lib.rt:96:42
 slice-aggregate-put-counted-2 : tie.Need-slice-aggregate-put-counted-2
 slice-aggregate-put-counted-2 c = search needs
 
--- src/lib.rt:96:9
 put-counted-requires-2 : tie.Need-put-counted-requires-2
 put-counted-requires-2 c κs = search needs
 
--- src/lib.rt:97:31
 slice-aggregate-put-2 : tie.Need-slice-aggregate-put-2
 slice-aggregate-put-2 c = search needs
 
--- src/lib.rt:97:5
 put-requires-2 : tie.Need-put-requires-2
 put-requires-2 c κs = search needs
 
--- src/lib.rt:82:1
 same-length : tie.Need-same-length
 same-length c = search needs
 
--- src/lib.rt:82:1
 returns : tie.Need-returns
 returns c = (put-as (_then_ (_then_ (_then_ (_then_ (c .before .before .before .before .before .before .before .before .before .before .before .before .before .before .before .before .before .before .before .before .before .put .ensures) (c .before .before .before .before .before .before .before .before .before .before .before .before .before .before .before .before .before .put-quoted .ensures .0)) (c .before .before .before .before .before .before .before .before .before .before .before .before .put-counted .ensures .0)) (c .before .before .before .before .before .before .before .put-counted2 .ensures .0)) (c .before .before .put2 .ensures)) (status-text (c .before .before .before .before .before .before .before .before .before .before .before .before .before .before .before .before .before .before .before .before .before .before .before .before .before .before .args .name .now) (c .before .before .before .before .before .before .before .before .before .before .before .before .before .before .before .before .before .before .before .before .before .before .before .before .before .before .args .next) (c .before .before .before .before .before .before .before .before .before .before .before .before .before .before .before .before .before .before .before .before .before .before .before .before .before .before .args .messages)), omega (arith, c .before .before .before .before .before .before .before .before .before .before .before .before .before .before .before .before .before .before .before .before .before .before .before .before .before .before .pre, c .before .before .before .before .before .before .before .before .before .before .before .before .before .before .before .before .before .before .before .before .before .put .ensures .next, c .before .before .before .before .before .before .before .before .before .before .before .before .before .before .before .before .before .put-quoted .ensures .1, c .before .before .before .before .before .before .before .before .before .before .before .before .put-counted .ensures .1, c .before .before .before .before .before .before .before .put-counted2 .ensures .1, c .before .before .put2 .ensures .next))
 

@@ -10,55 +10,42 @@ use native.Mathlib.Omega.{arith}
 use Rattle.out.specs.Put.{_then_, put-as}
 use Rattle.notices.specs.Texts.{at-set-text}
 
--- src/lib.rt:113:40
 slice-aggregate-put : tie.Need-slice-aggregate-put
 slice-aggregate-put c = search needs
 
--- src/lib.rt:113:9
 put-requires : tie.Need-put-requires
 put-requires c κs = search needs
 
--- src/lib.rt:114:9
 put-quoted-requires : tie.Need-put-quoted-requires
 put-quoted-requires c κs = search needs
 
--- src/lib.rt:115:42
 slice-aggregate-put-counted : tie.Need-slice-aggregate-put-counted
 slice-aggregate-put-counted c = search needs
 
--- src/lib.rt:115:9
 put-counted-requires : tie.Need-put-counted-requires
 put-counted-requires c κs = search needs
 
--- src/lib.rt:116:42
 slice-aggregate-put-counted-2 : tie.Need-slice-aggregate-put-counted-2
 slice-aggregate-put-counted-2 c = search needs
 
--- src/lib.rt:116:9
 put-counted-requires-2 : tie.Need-put-counted-requires-2
 put-counted-requires-2 c κs = search needs
 
--- src/lib.rt:117:42
 slice-aggregate-put-counted-3 : tie.Need-slice-aggregate-put-counted-3
 slice-aggregate-put-counted-3 c = search needs
 
--- src/lib.rt:117:9
 put-counted-requires-3 : tie.Need-put-counted-requires-3
 put-counted-requires-3 c κs = search needs
 
--- src/lib.rt:118:31
 slice-aggregate-put-2 : tie.Need-slice-aggregate-put-2
 slice-aggregate-put-2 c = search needs
 
--- src/lib.rt:118:5
 put-requires-2 : tie.Need-put-requires-2
 put-requires-2 c κs = omega (arith, c .before .before .before .before .before .before .before .before .before .before .before .before .before .before .before .before .before .before .before .before .before .before .before .before .before .before .before .before .pre, c .before .before .before .before .before .before .before .before .before .before .before .before .before .before .before .before .before .before .before .before .before .before .before .put .ensures .next, c .before .before .before .before .before .before .before .before .before .before .before .before .before .before .before .before .before .before .before .put-quoted .ensures .1, c .before .before .before .before .before .before .before .before .before .before .before .before .before .before .put-counted .ensures .1, c .before .before .before .before .before .before .before .before .before .put-counted2 .ensures .1, c .before .before .before .before .put-counted3 .ensures .1, c .before .before .before .before .before .before .before .before .before .before .before .before .before .before .before .before .before .before .before .before .before .before .before .put .ensures .same, c .before .before .before .before .before .before .before .before .before .before .before .before .before .before .before .before .before .before .before .put-quoted .ensures .0 .same, c .before .before .before .before .before .before .before .before .before .before .before .before .before .before .put-counted .ensures .0 .same, c .before .before .before .before .before .before .before .before .before .put-counted2 .ensures .0 .same, c .before .before .before .before .put-counted3 .ensures .0 .same)
 
--- src/lib.rt:101:1
 same-length : tie.Need-same-length
 same-length c = search needs
 
--- src/lib.rt:101:1
 returns : tie.Need-returns
 returns c = (put-as (_then_ (_then_ (_then_ (_then_ (_then_ (c .before .before .before .before .before .before .before .before .before .before .before .before .before .before .before .before .before .before .before .before .before .before .before .before .before .before .put .ensures) (c .before .before .before .before .before .before .before .before .before .before .before .before .before .before .before .before .before .before .before .before .before .before .put-quoted .ensures .0)) (c .before .before .before .before .before .before .before .before .before .before .before .before .before .before .before .before .before .put-counted .ensures .0)) (c .before .before .before .before .before .before .before .before .before .before .before .before .put-counted2 .ensures .0)) (c .before .before .before .before .before .before .before .put-counted3 .ensures .0)) (c .before .before .put2 .ensures)) (at-set-text (c .before .before .before .before .before .before .before .before .before .before .before .before .before .before .before .before .before .before .before .before .before .before .before .before .before .before .before .before .before .before .before .args .name .now) (c .before .before .before .before .before .before .before .before .before .before .before .before .before .before .before .before .before .before .before .before .before .before .before .before .before .before .before .before .before .before .before .args .messages) (c .before .before .before .before .before .before .before .before .before .before .before .before .before .before .before .before .before .before .before .before .before .before .before .before .before .before .before .before .before .before .before .args .next) (c .before .before .before .before .before .before .before .before .before .before .before .before .before .before .before .before .before .before .before .before .before .before .before .before .before .before .before .before .before .before .before .args .validity)), omega (arith, c .before .before .before .before .before .before .before .before .before .before .before .before .before .before .before .before .before .before .before .before .before .before .before .before .before .before .before .before .before .before .before .pre, c .before .before .before .before .before .before .before .before .before .before .before .before .before .before .before .before .before .before .before .before .before .before .before .before .before .before .put .ensures .next, c .before .before .before .before .before .before .before .before .before .before .before .before .before .before .before .before .before .before .before .before .before .before .put-quoted .ensures .1, c .before .before .before .before .before .before .before .before .before .before .before .before .before .before .before .before .before .put-counted .ensures .1, c .before .before .before .before .before .before .before .before .before .before .before .before .put-counted2 .ensures .1, c .before .before .before .before .before .before .before .put-counted3 .ensures .1, c .before .before .put2 .ensures .next))
 

@@ -9,23 +9,18 @@ use mathlib.Core.Path.{refl}
 use native.Mathlib.Omega.{arith}
 use Rattle.out.specs.Says.{says-fits, says-over}
 
--- src/lib.rt:126:17
 sub-limit : tie.Need-sub-limit
 sub-limit c = search needs
 
--- src/lib.rt:127:9
 put-list-requires : tie.Need-put-list-requires
 put-list-requires c κs = search needs
 
--- src/lib.rt:129:13
 put-list-requires-2 : tie.Need-put-list-requires-2
 put-list-requires-2 c κs = search needs
 
--- src/lib.rt:130:9
 same-length : tie.Need-same-length
 same-length c = search needs
 
--- src/lib.rt:130:9
 returns : tie.Need-returns
 returns c = says-fits _ _ _ _ _ _ _ _ (c .before .before .before .before .before .before .before .put-list .ensures .0) (c .before .before .put-list2 .ensures .0) refl (omega arith)
 

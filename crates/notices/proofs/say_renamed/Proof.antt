@@ -9,23 +9,18 @@ use mathlib.Core.Path.{refl}
 use native.Mathlib.Omega.{arith}
 use Rattle.out.specs.Says.{says-fits, says-over}
 
--- src/lib.rt:145:17
 sub-limit : tie.Need-sub-limit
 sub-limit c = search needs
 
--- src/lib.rt:146:9
 put-renamed-requires : tie.Need-put-renamed-requires
 put-renamed-requires c κs = search needs
 
--- src/lib.rt:148:13
 put-renamed-requires-2 : tie.Need-put-renamed-requires-2
 put-renamed-requires-2 c κs = search needs
 
--- src/lib.rt:149:9
 same-length : tie.Need-same-length
 same-length c = search needs
 
--- src/lib.rt:149:9
 returns : tie.Need-returns
 returns c = says-fits _ _ _ _ _ _ _ _ (c .before .before .before .before .before .before .before .put-renamed .ensures .0) (c .before .before .put-renamed2 .ensures .0) refl (omega arith)
 

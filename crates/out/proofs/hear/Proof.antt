@@ -8,15 +8,12 @@ use mathlib.Core.Path.{refl, sym, _∙_, ap}
 use mathlib.Core.Bool.{Bool, cond}
 use Rattle.model.specs.Memory.{silenced}
 
--- src/lib.rt:148:9
 returns : tie.Need-returns
 returns c = search needs
 
--- src/lib.rt:151:18
 silence-requires : tie.Need-silence-requires
 silence-requires c κs = search needs
 
--- src/lib.rt:143:1
 returns-2 : tie.Need-returns-2
 returns-2 c = (c .silence .ensures ∙ sym (ap (λ (b : Bool). cond b (c .before .before .args .s) (silenced (c .before .before .args .s))) (c .before .if1 .left)), refl)
 

@@ -7,19 +7,15 @@ use Rattle.out.proofs.put.Reads as put-reads
 use mathlib.Core.Path.{refl}
 use Rattle.model.specs.Lines.{render}
 
--- src/lib.rt:107:36
 slice-aggregate-put : tie.Need-slice-aggregate-put
 slice-aggregate-put c = search needs
 
--- src/lib.rt:107:9
 put-requires : tie.Need-put-requires
 put-requires c κs = search needs
 
--- src/lib.rt:102:1
 same-length : tie.Need-same-length
 same-length c = search needs
 
--- src/lib.rt:102:1
 returns : tie.Need-returns
 unfolding render
 returns c = (refl, c .before .before .put .ensures)

@@ -11,43 +11,33 @@ Inv-loop d n slots₀ i₀ slots i = (i ≤ n) × (length slots ≡ 1024)
 abbrev μ-loop : tie.MeasureT-loop
 μ-loop d n slots₀ i₀ slots i = n - i
 
--- src/lib.rt:46:5
 loop-holds : tie.Need-loop-holds Inv-loop μ-loop
 loop-holds c = search needs
 
--- src/lib.rt:47:29
 octet-requires : tie.Need-octet-requires Inv-loop μ-loop
 octet-requires c κs = search needs
 
--- src/lib.rt:47:20
 mul-slot : tie.Need-mul-slot Inv-loop μ-loop
 mul-slot c = search needs
 
--- src/lib.rt:47:20
 element-copy-out-slot : tie.Need-element-copy-out-slot Inv-loop μ-loop
 element-copy-out-slot c = search needs
 
--- src/lib.rt:47:15
 slot-requires : tie.Need-slot-requires Inv-loop μ-loop
 slot-requires c κs = search needs
 
--- src/lib.rt:47:9
 array-write-slots : tie.Need-array-write-slots Inv-loop μ-loop
 array-write-slots c = search needs
 
--- src/lib.rt:48:9
 add-i : tie.Need-add-i Inv-loop μ-loop
 add-i c = search needs
 
--- src/lib.rt:46:5
 loop-less : tie.Need-loop-less Inv-loop μ-loop
 loop-less c = search needs
 
--- src/lib.rt:46:5
 loop-again : tie.Need-loop-again Inv-loop μ-loop
 loop-again c = (search needs, simp length-set (c .before .before .before .before .loop .inv .1))
 
--- src/lib.rt:41:1
 returns : tie.Need-returns Inv-loop μ-loop
 returns c = search needs
 

@@ -5,11 +5,9 @@ use mathlib.Core.Path.{refl}
 use native.Mathlib.Omega.{arith}
 use Rattle.quick.specs.Distinct.{slotOf}
 
--- src/lib.rt:24:18
 mul-spread : tie.Need-mul-spread
 mul-spread c = search needs
 
--- src/lib.rt:21:1
 returns : tie.Need-returns
 unfolding slotOf
 returns c = (refl, omega arith)

@@ -5,15 +5,12 @@ use Rattle.results.proofs.follows.Reads as reads
 use Rattle.results.proofs.follows.Lts as lts
 use Rattle.results.specs.Writing.{follows-not, follows-by}
 
--- src/lib.rt:18:9
 returns : tie.Need-returns
 returns c = follows-not (c .before .before .args .u .0) (c .before .before .args .upto .0) (c .if1 .taken)
 
--- src/lib.rt:20:5
 sub-result : tie.Need-sub-result
 sub-result c = search needs
 
--- src/lib.rt:14:1
 returns-2 : tie.Need-returns-2
 returns-2 c = follows-by (c .before .before .before .before .args .u .0) (c .before .before .before .before .args .upto .0) (c .before .before .if1 .left)
 

@@ -15,27 +15,21 @@ use Rattle.results.specs.Line.{uidsOf}
 use lib.ListN.{take}
 use Rattle.results.specs.Writing.{asked-not, asked}
 
--- src/lib.rt:84:9
 returns : tie.Need-returns
 returns c = (put-as (put-none (c .before .before .before .args .queue .now) (c .before .before .before .args .at) (c .before .before .before .args .limit) (c .before .before .before .pre .0 .0)) (asked-not (c .before .before .before .args .on) (octets " ALL " ++ setText (uidsOf (take (c .before .before .before .args .n) (c .before .before .before .args .uids .now)))) (not-true _ (c .if1 .taken))), omega arith)
 
--- src/lib.rt:86:40
 slice-aggregate-put : tie.Need-slice-aggregate-put
 slice-aggregate-put c = search needs
 
--- src/lib.rt:86:9
 put-requires : tie.Need-put-requires
 put-requires c κs = search needs
 
--- src/lib.rt:87:5
 put-set-requires : tie.Need-put-set-requires
 put-set-requires c κs = search needs
 
--- src/lib.rt:79:1
 same-length : tie.Need-same-length
 same-length c = search needs
 
--- src/lib.rt:79:1
 returns-2 : tie.Need-returns-2
 returns-2 c = (put-as (_then_ (c .before .before .before .before .before .before .put .ensures) (c .before .before .put-set .ensures .0)) (asked (c .before .before .before .before .before .before .before .before .before .before .before .before .args .on) (octets " ALL " ++ setText (uidsOf (take (c .before .before .before .before .before .before .before .before .before .before .before .before .args .n) (c .before .before .before .before .before .before .before .before .before .before .before .before .args .uids .now)))) (not-false _ (c .before .before .before .before .before .before .before .before .before .if1 .left))), omega (arith, c .before .before .before .before .before .before .put .ensures .next, c .before .before .put-set .ensures .1))
 

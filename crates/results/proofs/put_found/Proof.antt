@@ -11,31 +11,24 @@ use native.Mathlib.Omega.{arith}
 use Rattle.out.specs.Put.{_then_, put-as}
 use Rattle.results.specs.Writing.{line-pieces}
 
--- src/lib.rt:144:9
 put-tag-requires : tie.Need-put-tag-requires
 put-tag-requires c κs = search needs
 
--- src/lib.rt:145:9
 put-box-requires : tie.Need-put-box-requires
 put-box-requires c κs = search needs
 
--- src/lib.rt:146:9
 put-results-requires : tie.Need-put-results-requires
 put-results-requires c κs = search needs
 
--- src/lib.rt:147:31
 slice-aggregate-put : tie.Need-slice-aggregate-put
 slice-aggregate-put c = search needs
 
--- src/lib.rt:147:5
 put-requires : tie.Need-put-requires
 put-requires c κs = search needs
 
--- src/lib.rt:130:1
 same-length : tie.Need-same-length
 same-length c = search needs
 
--- src/lib.rt:130:1
 returns : tie.Need-returns
 returns c = (put-as (_then_ (_then_ (_then_ (c .before .before .before .before .before .before .before .before .before .before .before .before .before .before .before .put-tag .ensures .0) (c .before .before .before .before .before .before .before .before .before .before .before .put-box .ensures .0)) (c .before .before .before .before .before .before .before .put-results .ensures .0)) (c .before .before .put .ensures)) (line-pieces (c .before .before .before .before .before .before .before .before .before .before .before .before .before .before .before .before .before .before .before .before .before .args .tag .now) (c .before .before .before .before .before .before .before .before .before .before .before .before .before .before .before .before .before .before .before .before .before .args .name .now) (c .before .before .before .before .before .before .before .before .before .before .before .before .before .before .before .before .before .before .before .before .before .args .validity) (c .before .before .before .before .before .before .before .before .before .before .before .before .before .before .before .before .before .before .before .before .before .args .w) (c .before .before .before .before .before .before .before .before .before .before .before .before .before .before .before .before .before .before .before .before .before .args .uids .now) (c .before .before .before .before .before .before .before .before .before .before .before .before .before .before .before .before .before .before .before .before .before .args .n) (c .before .before .before .before .before .before .before .before .before .before .before .before .before .before .before .before .before .before .before .before .before .pre .1 .0) (c .before .before .before .before .before .before .before .before .before .before .before .before .before .before .before .before .before .before .before .before .before .pre .1 .1 .0)), omega (arith, c .before .before .before .before .before .before .before .before .before .before .before .before .before .before .before .put-tag .ensures .1, c .before .before .before .before .before .before .before .before .before .before .before .put-box .ensures .1, c .before .before .before .before .before .before .before .put-results .ensures .1, c .before .before .put .ensures .next))
 

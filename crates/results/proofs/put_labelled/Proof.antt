@@ -12,23 +12,18 @@ use mathlib.Core.List.{_++_}
 use Rattle.model.specs.Text.{decimal}
 use Rattle.results.specs.Writing.{asked-not, asked}
 
--- src/lib.rt:73:9
 returns : tie.Need-returns
 returns c = (put-as (put-none (c .before .before .before .args .queue .now) (c .before .before .before .args .at) (c .before .before .before .args .limit) (c .before .before .before .pre .0)) (asked-not (c .before .before .before .args .on) (c .before .before .before .args .label .now ++ decimal (c .before .before .before .args .n)) (not-true _ (c .if1 .taken))), omega arith)
 
--- src/lib.rt:75:9
 put-requires : tie.Need-put-requires
 put-requires c κs = search needs
 
--- src/lib.rt:76:5
 put-number-requires : tie.Need-put-number-requires
 put-number-requires c κs = search needs
 
--- src/lib.rt:68:1
 same-length : tie.Need-same-length
 same-length c = search needs
 
--- src/lib.rt:68:1
 returns-2 : tie.Need-returns-2
 returns-2 c = (put-as (_then_ (c .before .before .before .before .before .before .put .ensures) (c .before .before .put-number .ensures .0)) (asked (c .before .before .before .before .before .before .before .before .before .before .before .args .on) (c .before .before .before .before .before .before .before .before .before .before .before .args .label .now ++ decimal (c .before .before .before .before .before .before .before .before .before .before .before .args .n)) (not-false _ (c .before .before .before .before .before .before .before .before .if1 .left))), omega (arith, c .before .before .before .before .before .before .put .ensures .next, c .before .before .put-number .ensures .1))
 

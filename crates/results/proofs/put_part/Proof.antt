@@ -8,19 +8,15 @@ use Rattle.out.proofs.put_byte.Reads as put-byte-reads
 use native.Mathlib.Omega.{arith}
 use Rattle.out.specs.Put.{_then_}
 
--- src/lib.rt:40:9
 put-run-requires : tie.Need-put-run-requires
 put-run-requires c κs = search needs
 
--- src/lib.rt:41:5
 put-byte-requires : tie.Need-put-byte-requires
 put-byte-requires c κs = search needs
 
--- src/lib.rt:36:1
 same-length : tie.Need-same-length
 same-length c = search needs
 
--- src/lib.rt:36:1
 returns : tie.Need-returns
 returns c = (_then_ (c .before .before .before .before .before .before .put-run .ensures .0) (c .before .before .put-byte .ensures), omega (arith, c .before .before .before .before .before .before .put-run .ensures .1, c .before .before .put-byte .ensures .next))
 

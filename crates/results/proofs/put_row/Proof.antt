@@ -16,63 +16,48 @@ use Rattle.sources.specs.Picking.{nameAt, name-part}
 use Rattle.results.specs.Line.{uidsOf, lineText}
 use Rattle.results.specs.Telling.{line-none, run-part}
 
--- src/lib.rt:179:9
 returns : tie.Need-returns
 returns c = (put-as (put-none (c .before .before .before .before .before .args .queue .now) (c .before .before .before .before .before .args .at) (c .before .before .before .before .before .args .limit) (c .before .before .before .before .before .pre .0 .0)) (line-none (c .before .before .before .before .before .args .tag .now) (nameAt (c .before .before .before .before .before .args .names .now) (c .before .before .before .before .before .args .k) (c .before .before .before .before .before .args .len)) (c .before .before .before .before .before .args .validity) (c .before .before .before .before .before .args .w) (drop (c .before .before .before .before .before .args .from) (c .before .before .before .before .before .args .uids .now)) (c .before .before .before .before .before .args .n) (c .if1 .taken)), omega arith)
 
--- src/lib.rt:181:13
 mul-a : tie.Need-mul-a
 mul-a c = search needs
 
--- src/lib.rt:182:17
 clip-requires : tie.Need-clip-requires
 clip-requires c κs = search needs
 
--- src/lib.rt:182:13
 add-e : tie.Need-add-e
 add-e c = search needs
 
--- src/lib.rt:183:14
 add-to : tie.Need-add-to
 add-to c = search needs
 
--- src/lib.rt:189:9
 sub-put-found : tie.Need-sub-put-found
 sub-put-found c = search needs
 
--- src/lib.rt:189:9
 part-put-found-start : tie.Need-part-put-found-start
 part-put-found-start c = search needs
 
--- src/lib.rt:189:9
 part-put-found-end : tie.Need-part-put-found-end
 part-put-found-end c = search needs
 
--- src/lib.rt:192:9
 mul-put-found : tie.Need-mul-put-found
 mul-put-found c = search needs
 
--- src/lib.rt:192:9
 sub-put-found-2 : tie.Need-sub-put-found-2
 sub-put-found-2 c = search needs
 
--- src/lib.rt:192:9
 part-put-found-start-2 : tie.Need-part-put-found-start-2
 part-put-found-start-2 c = search needs
 
--- src/lib.rt:192:9
 part-put-found-end-2 : tie.Need-part-put-found-end-2
 part-put-found-end-2 c = search needs
 
--- src/lib.rt:184:5
 put-found-requires : tie.Need-put-found-requires
 put-found-requires c κs = search needs
 
--- src/lib.rt:161:1
 same-length : tie.Need-same-length
 same-length c = search needs
 
--- src/lib.rt:161:1
 returns-2 : tie.Need-returns-2
 returns-2 c =
     let k = c .before .before .before .before .before .before .before .before .before .before .before .before .args .k in

@@ -9,31 +9,24 @@ use native.Mathlib.Omega.{arith}
 use Rattle.out.specs.Put.{_then_, put-as}
 use Rattle.results.specs.Writing.{run-one, run-two}
 
--- src/lib.rt:27:9
 put-number-requires : tie.Need-put-number-requires
 put-number-requires c κs = search needs
 
--- src/lib.rt:29:9
 same-length : tie.Need-same-length
 same-length c = search needs
 
--- src/lib.rt:29:9
 returns : tie.Need-returns
 returns c = (put-as (c .before .before .before .before .before .put-number .ensures .0) (run-one (c .before .before .before .before .before .before .before .before .args .from .0) (c .before .before .before .before .before .before .before .before .args .upto .0) (c .if1 .taken)), omega (arith, c .before .before .before .before .before .put-number .ensures .1))
 
--- src/lib.rt:31:9
 put-byte-requires : tie.Need-put-byte-requires
 put-byte-requires c κs = search needs
 
--- src/lib.rt:32:5
 put-number-requires-2 : tie.Need-put-number-requires-2
 put-number-requires-2 c κs = search needs
 
--- src/lib.rt:23:1
 same-length-2 : tie.Need-same-length-2
 same-length-2 c = search needs
 
--- src/lib.rt:23:1
 returns-2 : tie.Need-returns-2
 returns-2 c = (put-as (_then_ (_then_ (c .before .before .before .before .before .before .before .before .before .before .before .before .before .put-number .ensures .0) (c .before .before .before .before .before .before .put-byte .ensures)) (c .before .before .put-number2 .ensures .0)) (run-two (c .before .before .before .before .before .before .before .before .before .before .before .before .before .before .before .before .args .from .0) (c .before .before .before .before .before .before .before .before .before .before .before .before .before .before .before .before .args .upto .0) (c .before .before .before .before .before .before .before .before .if1 .left)), omega (arith, c .before .before .before .before .before .before .before .before .before .before .before .before .before .put-number .ensures .1, c .before .before .before .before .before .before .put-byte .ensures .next, c .before .before .put-number2 .ensures .1))
 

@@ -13,31 +13,24 @@ Inv-loop column₀ i₀ column i = (i ≤ length column₀) × (length column �
 abbrev μ-loop : tie.MeasureT-loop
 μ-loop column₀ i₀ column i = length column₀ - i
 
--- src/lib.rt:75:5
 loop-holds : tie.Need-loop-holds Inv-loop μ-loop
 loop-holds c = (search needs, refl, λ k h. absurd (let z : ⊥ = omega arith in z))
 
--- src/lib.rt:76:9
 mul-column : tie.Need-mul-column Inv-loop μ-loop
 mul-column c = search needs
 
--- src/lib.rt:76:9
 slice-write-column : tie.Need-slice-write-column Inv-loop μ-loop
 slice-write-column c = search needs
 
--- src/lib.rt:77:9
 add-i : tie.Need-add-i Inv-loop μ-loop
 add-i c = search needs
 
--- src/lib.rt:75:5
 loop-less : tie.Need-loop-less Inv-loop μ-loop
 loop-less c = search needs
 
--- src/lib.rt:75:5
 loop-again : tie.Need-loop-again Inv-loop μ-loop
 loop-again c = (search needs, simp length-set (c .before .loop .inv .1), zeros-next (c .before .loop .column) (c .before .loop .i) (omega arith) (c .before .loop .inv .2))
 
--- src/lib.rt:71:1
 same-length : tie.Need-same-length Inv-loop μ-loop
 same-length c = c .before .loop .inv .1
 

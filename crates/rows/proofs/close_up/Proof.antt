@@ -18,62 +18,48 @@ Inv-loop n k t₀ i₀ t i = (k ≤ i) × (i + 1 ≤ n) × (t ≡ over (without 
 abbrev μ-loop : tie.MeasureT-loop
 μ-loop n k t₀ i₀ t i = n - i
 
--- src/lib.rt:78:5
 loop-holds : tie.Need-loop-holds Inv-loop μ-loop
 loop-holds c = let long : length (c .args .rows) ≡ 64 = search (needs, mapped-length) in (search needs, search needs, over-start (c .args .k) (c .args .rows) (omega arith))
 
--- src/lib.rt:78:11
 add-loop : tie.Need-add-loop Inv-loop μ-loop
 add-loop c = search needs
 
--- src/lib.rt:79:19
 add-x : tie.Need-add-x Inv-loop μ-loop
 add-x c = search needs
 
--- src/lib.rt:79:17
 mul-x : tie.Need-mul-x Inv-loop μ-loop
 mul-x c = search needs
 
--- src/lib.rt:79:17
 array-copy-out-x : tie.Need-array-copy-out-x Inv-loop μ-loop
 array-copy-out-x c = search needs
 
--- src/lib.rt:80:9
 mul-t : tie.Need-mul-t Inv-loop μ-loop
 mul-t c = search needs
 
--- src/lib.rt:80:9
 array-set-from-t : tie.Need-array-set-from-t Inv-loop μ-loop
 array-set-from-t c = search needs
 
--- src/lib.rt:81:9
 add-i : tie.Need-add-i Inv-loop μ-loop
 add-i c = search needs
 
--- src/lib.rt:78:5
 loop-less : tie.Need-loop-less Inv-loop μ-loop
 loop-less c = search needs
 
--- src/lib.rt:78:5
 loop-again : tie.Need-loop-again Inv-loop μ-loop
 loop-again c =
     let args = c .before .before .before .args in
     let turn = c .before .before .loop in
     let long : length (args .rows) ≡ 64 = search (needs, mapped-length) in (search needs, search needs, ap (λ (l : List Mailbox). set l (turn .i) (getD l (turn .i + 1) vacant)) (turn .inv .2) ∙ shift-step (args .k) (args .rows) (turn .i) vacant (omega arith) (omega arith))
 
--- src/lib.rt:83:9
 vacant-requires : tie.Need-vacant-requires Inv-loop μ-loop
 vacant-requires c κs = search needs
 
--- src/lib.rt:84:5
 mul-t-2 : tie.Need-mul-t-2 Inv-loop μ-loop
 mul-t-2 c = search needs
 
--- src/lib.rt:84:5
 array-set-from-t-2 : tie.Need-array-set-from-t-2 Inv-loop μ-loop
 array-set-from-t-2 c = search needs
 
--- src/lib.rt:72:1
 returns : tie.Need-returns Inv-loop μ-loop
 returns c =
     let args = c .before .before .before .args in

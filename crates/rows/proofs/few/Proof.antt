@@ -5,11 +5,9 @@ use native.Mathlib.Omega.{arith}
 use mathlib.Core.Path.{sym, _∙_}
 use lib.Seq.{take-all}
 
--- src/lib.rt:62:1
 returns : tie.Need-returns
 returns c = search needs
 
--- src/lib.rt:62:1
 returns-2 : tie.Need-returns-2
 returns-2 c = (omega arith, λ l h. take-all 64 l (omega arith) ∙ sym (take-all (c .before .args .used) l (omega arith)))
 

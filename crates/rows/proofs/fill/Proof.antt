@@ -15,79 +15,60 @@ Inv-loop n ids₀ attributes₀ lens₀ validities₀ nexts₀ names₀ rows i�
 abbrev μ-loop : tie.MeasureT-loop
 μ-loop n ids₀ attributes₀ lens₀ validities₀ nexts₀ names₀ rows i₀ ids attributes lens validities nexts names i = n - i
 
--- src/lib.rt:108:5
 blank-requires : tie.Need-blank-requires Inv-loop μ-loop
 blank-requires c κs = search needs
 
--- src/lib.rt:110:5
 loop-holds : tie.Need-loop-holds Inv-loop μ-loop
 loop-holds c = (search needs, filling-start (c .before .before .before .before .before .before .before .before .before .before .args .t1) _ _ _ _ _ _ (c .before .before .before .before .before .before .before .before .before .before .pre .1) (c .before .before .before .before .before .before .before .before .before .before .pre .2) (c .before .before .before .before .before .before .before .before .before .before .pre .3) (c .before .before .before .before .before .before .before .before .before .before .pre .4) (c .before .before .blank .ensures .1 ∙ c .before .before .before .before .before .before .before .before .before .before .pre .5) (c .before .before .before .before .before .before .before .before .before .before .pre .6) (c .before .before .blank .ensures .0))
 
--- src/lib.rt:111:17
 mul-x : tie.Need-mul-x Inv-loop μ-loop
 mul-x c = search needs
 
--- src/lib.rt:111:17
 array-copy-out-x : tie.Need-array-copy-out-x Inv-loop μ-loop
 array-copy-out-x c = search needs
 
--- src/lib.rt:113:18
 wide-id-requires : tie.Need-wide-id-requires Inv-loop μ-loop
 wide-id-requires c κs = search needs
 
--- src/lib.rt:113:9
 mul-ids : tie.Need-mul-ids Inv-loop μ-loop
 mul-ids c = search needs
 
--- src/lib.rt:113:9
 slice-write-ids : tie.Need-slice-write-ids Inv-loop μ-loop
 slice-write-ids c = search needs
 
--- src/lib.rt:114:9
 slice-write-attributes : tie.Need-slice-write-attributes Inv-loop μ-loop
 slice-write-attributes c = search needs
 
--- src/lib.rt:115:9
 slice-write-lens : tie.Need-slice-write-lens Inv-loop μ-loop
 slice-write-lens c = search needs
 
--- src/lib.rt:116:25
 wide-number-requires : tie.Need-wide-number-requires Inv-loop μ-loop
 wide-number-requires c κs = search needs
 
--- src/lib.rt:116:9
 mul-validities : tie.Need-mul-validities Inv-loop μ-loop
 mul-validities c = search needs
 
--- src/lib.rt:116:9
 slice-write-validities : tie.Need-slice-write-validities Inv-loop μ-loop
 slice-write-validities c = search needs
 
--- src/lib.rt:117:20
 wide-number-requires-2 : tie.Need-wide-number-requires-2 Inv-loop μ-loop
 wide-number-requires-2 c κs = search needs
 
--- src/lib.rt:117:9
 mul-nexts : tie.Need-mul-nexts Inv-loop μ-loop
 mul-nexts c = search needs
 
--- src/lib.rt:117:9
 slice-write-nexts : tie.Need-slice-write-nexts Inv-loop μ-loop
 slice-write-nexts c = search needs
 
--- src/lib.rt:118:9
 keep-name-requires : tie.Need-keep-name-requires Inv-loop μ-loop
 keep-name-requires c κs = search needs
 
--- src/lib.rt:119:9
 add-i : tie.Need-add-i Inv-loop μ-loop
 add-i c = search needs
 
--- src/lib.rt:110:5
 loop-less : tie.Need-loop-less Inv-loop μ-loop
 loop-less c = search needs
 
--- src/lib.rt:110:5
 loop-again : tie.Need-loop-again Inv-loop μ-loop
 loop-again c =
     let args = c .before .before .before .before .before .before .before .before .before .before .before .before .before .before .before .before .before .before .before .before .before .args in
@@ -97,31 +78,24 @@ loop-again c =
     let d = any-default (args .t1) i _ noMailbox (omega arith) in
     (search needs, filling-next (args .t1) _ _ _ _ _ _ i (turn .inv .1) _ _ _ _ _ (omega arith) d (c .before .before .keep-name .ensures .2) (c .before .before .before .before .before .before .wide-id .ensures) (c .before .before .before .before .before .wide-number .ensures) (c .before .before .before .before .wide-number2 .ensures) (c .before .before .keep-name .ensures .0) (c .before .before .keep-name .ensures .1))
 
--- src/lib.rt:95:1
 same-length : tie.Need-same-length Inv-loop μ-loop
 same-length c = c .before .loop .inv .1 .many-ids ∙ sym (c .before .before .before .before .before .before .before .before .before .before .before .before .pre .1)
 
--- src/lib.rt:95:1
 same-length-2 : tie.Need-same-length-2 Inv-loop μ-loop
 same-length-2 c = c .before .loop .inv .1 .many-attributes ∙ sym (c .before .before .before .before .before .before .before .before .before .before .before .before .pre .2)
 
--- src/lib.rt:95:1
 same-length-3 : tie.Need-same-length-3 Inv-loop μ-loop
 same-length-3 c = c .before .loop .inv .1 .many-lens ∙ sym (c .before .before .before .before .before .before .before .before .before .before .before .before .pre .3)
 
--- src/lib.rt:95:1
 same-length-4 : tie.Need-same-length-4 Inv-loop μ-loop
 same-length-4 c = c .before .loop .inv .1 .many-validities ∙ sym (c .before .before .before .before .before .before .before .before .before .before .before .before .pre .4)
 
--- src/lib.rt:95:1
 same-length-5 : tie.Need-same-length-5 Inv-loop μ-loop
 same-length-5 c = c .before .loop .inv .1 .many-nexts ∙ sym (c .before .before .before .before .before .before .before .before .before .before .before .before .pre .5)
 
--- src/lib.rt:95:1
 same-length-6 : tie.Need-same-length-6 Inv-loop μ-loop
 same-length-6 c = c .before .loop .inv .1 .many-octets ∙ sym (c .before .before .before .before .before .before .before .before .before .before .before .before .pre .6)
 
--- src/lib.rt:95:1
 returns : tie.Need-returns Inv-loop μ-loop
 returns c =
     let args = c .before .before .before .before .before .before .before .before .before .before .before .before .args in

@@ -17,19 +17,15 @@ Inv-loop ids n id i₀ i = (i ≤ n) × ((l : List Mailbox) → length l ≡ n �
 abbrev μ-loop : tie.MeasureT-loop
 μ-loop ids n id i₀ i = n - i
 
--- src/lib.rt:149:5
 loop-holds : tie.Need-loop-holds Inv-loop μ-loop
 loop-holds c = (search needs, λ l h w. (let z : 0 + place (c .args .id) l ≡ place (c .args .id) l = omega arith in sym z))
 
--- src/lib.rt:150:12
 mul-if1 : tie.Need-mul-if1 Inv-loop μ-loop
 mul-if1 c = search needs
 
--- src/lib.rt:150:12
 element-copy-out-if1 : tie.Need-element-copy-out-if1 Inv-loop μ-loop
 element-copy-out-if1 c = search needs
 
--- src/lib.rt:151:13
 returns : tie.Need-returns Inv-loop μ-loop
 returns c =
     let turn = c .before .before .before .loop in (
@@ -37,15 +33,12 @@ returns c =
       search needs,
     )
 
--- src/lib.rt:153:9
 add-i : tie.Need-add-i Inv-loop μ-loop
 add-i c = search needs
 
--- src/lib.rt:149:5
 loop-less : tie.Need-loop-less Inv-loop μ-loop
 loop-less c = search needs
 
--- src/lib.rt:149:5
 loop-again : tie.Need-loop-again Inv-loop μ-loop
 loop-again c =
     let turn = c .before .before .before .loop in (
@@ -53,7 +46,6 @@ loop-again c =
       λ l h w. place-on (c .before .before .before .before .args .id) l (turn .i) noMailbox (omega arith) (λ z. c .if1 .left (w (turn .i) (omega arith) ∙ z)) (turn .inv .1 l h w),
     )
 
--- src/lib.rt:144:1
 returns-2 : tie.Need-returns-2 Inv-loop μ-loop
 returns-2 c =
     let args = c .before .before .args in

@@ -13,23 +13,18 @@ Inv-loop bits k n₀ i₀ n i = bit k bits ≡ bit i n
 abbrev μ-loop : tie.MeasureT-loop
 μ-loop bits k n₀ i₀ n i = i
 
--- src/lib.rt:33:5
 loop-holds : tie.Need-loop-holds Inv-loop μ-loop
 loop-holds c = refl
 
--- src/lib.rt:35:9
 sub-i : tie.Need-sub-i Inv-loop μ-loop
 sub-i c = search needs
 
--- src/lib.rt:33:5
 loop-less : tie.Need-loop-less Inv-loop μ-loop
 loop-less c = search needs
 
--- src/lib.rt:33:5
 loop-again : tie.Need-loop-again Inv-loop μ-loop
 loop-again c = c .before .loop .inv ∙ bit-down (c .before .loop .i) (c .before .loop .n) (omega arith)
 
--- src/lib.rt:28:1
 returns : tie.Need-returns Inv-loop μ-loop
 returns c = let z : c .before .loop .i ≡ 0 = omega arith in sym (c .before .loop .inv ∙ ap (λ (j : ℕ). bit j (c .before .loop .n)) z)
 

@@ -19,15 +19,12 @@ Inv-loop ids lens names n id name i₀ i = (i ≤ n) × ((l : List Mailbox) → 
 abbrev μ-loop : tie.MeasureT-loop
 μ-loop ids lens names n id name i₀ i = n - i
 
--- src/lib.rt:224:5
 loop-holds : tie.Need-loop-holds Inv-loop μ-loop
 loop-holds c = (search needs, λ l h p q r. refl)
 
--- src/lib.rt:225:12
 is-another-requires : tie.Need-is-another-requires Inv-loop μ-loop
 is-another-requires c κs = search needs
 
--- src/lib.rt:226:13
 returns : tie.Need-returns Inv-loop μ-loop
 returns c =
     let args = c .before .before .before .before .before .args in
@@ -36,15 +33,12 @@ returns c =
     let at = holds-at l (args .ids .now) (args .lens .now) (args .names .now) (turn .i) (args .id) (args .name .now) p q r (omega arith) in
     sym (turn .inv .1 l h p q r ∙ any-found (holds (args .id) (args .name .now)) l (turn .i) noMailbox (omega arith) (sym (c .before .is-another .ensures ∙ at) ∙ c .if1 .taken))
 
--- src/lib.rt:228:9
 add-i : tie.Need-add-i Inv-loop μ-loop
 add-i c = search needs
 
--- src/lib.rt:224:5
 loop-less : tie.Need-loop-less Inv-loop μ-loop
 loop-less c = search needs
 
--- src/lib.rt:224:5
 loop-again : tie.Need-loop-again Inv-loop μ-loop
 loop-again c =
     let args = c .before .before .before .before .before .args in
@@ -55,7 +49,6 @@ loop-again c =
           turn .inv .1 l h p q r ∙ any-on (holds (args .id) (args .name .now)) l (turn .i) noMailbox (omega arith) (sym (c .before .is-another .ensures ∙ at) ∙ c .if1 .left),
     )
 
--- src/lib.rt:212:1
 returns-2 : tie.Need-returns-2 Inv-loop μ-loop
 returns-2 c =
     let args = c .before .before .before .args in

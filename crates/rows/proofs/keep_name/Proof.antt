@@ -14,35 +14,27 @@ Inv-loop names₀ k name at j₀ names j = (j ≤ 64) × (length names ≡ 4096)
 abbrev μ-loop : tie.MeasureT-loop
 μ-loop names₀ k name at j₀ names j = 64 - j
 
--- src/lib.rt:86:14
 mul-at : tie.Need-mul-at Inv-loop μ-loop
 mul-at c = search needs
 
--- src/lib.rt:88:5
 loop-holds : tie.Need-loop-holds Inv-loop μ-loop
 loop-holds c = (search needs, search needs, refl, paste-zero (c .args .names .now) (64 * c .args .k) (c .args .t3))
 
--- src/lib.rt:89:25
 array-read-names : tie.Need-array-read-names Inv-loop μ-loop
 array-read-names c = search needs
 
--- src/lib.rt:89:15
 add-names : tie.Need-add-names Inv-loop μ-loop
 add-names c = search needs
 
--- src/lib.rt:89:9
 slice-write-names : tie.Need-slice-write-names Inv-loop μ-loop
 slice-write-names c = search needs
 
--- src/lib.rt:90:9
 add-j : tie.Need-add-j Inv-loop μ-loop
 add-j c = search needs
 
--- src/lib.rt:88:5
 loop-less : tie.Need-loop-less Inv-loop μ-loop
 loop-less c = search needs
 
--- src/lib.rt:88:5
 loop-again : tie.Need-loop-again Inv-loop μ-loop
 loop-again c =
     let args = c .before .before .args in
@@ -55,7 +47,6 @@ loop-again c =
       rw (add-one (turn .j), ← paste-suc (args .names .now) (64 * args .k) (args .t3) (turn .j) 0 (omega arith) (omega arith), ← turn .inv .3),
     )
 
--- src/lib.rt:82:1
 same-length : tie.Need-same-length Inv-loop μ-loop
 same-length c = c .before .loop .inv .1 ∙ sym (c .before .before .pre .1)
 

@@ -5,15 +5,12 @@ use borrow.Author.Needs.{needs}
 use Rattle.rows.proofs.lay.Statement.{statement}
 use Rattle.rows.proofs.lay.Tie as tie
 
--- src/lib.rt:136:9
 few-requires : tie.Need-few-requires
 few-requires c κs = search needs
 
--- src/lib.rt:137:5
 fill-requires : tie.Need-fill-requires
 fill-requires c κs = search needs
 
--- src/lib.rt:124:1
 returns : tie.Need-returns
 returns c =
     let args = c .before .before .before .before .before .before .before .before .args in

@@ -4,23 +4,18 @@ use Rattle.rows.proofs.name_end.Tie as tie
 use mathlib.Core.Path.{refl}
 use Rattle.rows.specs.Columns.{ends-at}
 
--- src/lib.rt:179:5
 mul-result : tie.Need-mul-result
 mul-result c = search needs
 
--- src/lib.rt:179:19
 element-copy-out-clip : tie.Need-element-copy-out-clip
 element-copy-out-clip c = search needs
 
--- src/lib.rt:179:14
 clip-requires : tie.Need-clip-requires
 clip-requires c κs = search needs
 
--- src/lib.rt:179:5
 add-result : tie.Need-add-result
 add-result c = search needs
 
--- src/lib.rt:175:1
 returns : tie.Need-returns
 returns c = ends-at (c .before .before .args .lens .now) (c .before .before .args .k) _ (c .clip .result) (c .before .before .pre) refl (c .clip .ensures .0) (c .clip .ensures .1)
 

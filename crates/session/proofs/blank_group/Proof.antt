@@ -6,23 +6,18 @@ use Prim.Native.Nat.{_-_}
 use lib.Dec.{eqb}
 use Rattle.session.specs.Tests.{blank-is}
 
--- src/lib.rt:161:9
 both-requires : tie.Need-both-requires
 both-requires c κs = search needs
 
--- src/lib.rt:162:9
 both-requires-2 : tie.Need-both-requires-2
 both-requires-2 c κs = search needs
 
--- src/lib.rt:163:27
 both-requires-3 : tie.Need-both-requires-3
 both-requires-3 c κs = search needs
 
--- src/lib.rt:163:5
 both-requires-4 : tie.Need-both-requires-4
 both-requires-4 c κs = search needs
 
--- src/lib.rt:158:1
 returns : tie.Need-returns
 returns c = rw (c .both4 .ensures, c .before .both3 .ensures, c .before .before .before .both2 .ensures, c .before .before .before .before .before .before .both .ensures) (sym (blank-is (eqb (c .before .before .before .before .before .before .before .before .before .args .g .selector) 0) (eqb (c .before .before .before .before .before .before .before .before .before .args .g .first) 0) (eqb (c .before .before .before .before .before .before .before .before .before .args .g .count) 0) (eqb (c .before .before .before .before .before .before .before .before .before .args .g .events) 0) (eqb (c .before .before .before .before .before .before .before .before .before .args .g .attributes) 0)))
 

@@ -17,39 +17,30 @@ Inv-loop from groups i₀ i = (i ≤ 8) × (allb blankGroup (drop from groups) �
 abbrev μ-loop : tie.MeasureT-loop
 μ-loop from groups i₀ i = 8 - i
 
--- src/lib.rt:220:5
 loop-holds : tie.Need-loop-holds Inv-loop μ-loop
 loop-holds c = (search needs, refl)
 
--- src/lib.rt:221:17
 mul-g : tie.Need-mul-g Inv-loop μ-loop
 mul-g c = search needs
 
--- src/lib.rt:221:17
 array-copy-out-g : tie.Need-array-copy-out-g Inv-loop μ-loop
 array-copy-out-g c = search needs
 
--- src/lib.rt:222:13
 blank-group-requires : tie.Need-blank-group-requires Inv-loop μ-loop
 blank-group-requires c κs = search needs
 
--- src/lib.rt:223:13
 returns : tie.Need-returns Inv-loop μ-loop
 returns c = let long : length (c .before .before .before .before .before .args .t1) ≡ 8 = search (needs, mapped-length) in sym (c .before .before .before .before .loop .inv .1 ∙ all-broken blankGroup (c .before .before .before .before .before .args .t1) (c .before .before .before .before .loop .i) noGroup (omega arith) (sym (c .before .blank-group .ensures) ∙ not-true _ (c .if1 .taken)))
 
--- src/lib.rt:225:9
 add-i : tie.Need-add-i Inv-loop μ-loop
 add-i c = search needs
 
--- src/lib.rt:220:5
 loop-less : tie.Need-loop-less Inv-loop μ-loop
 loop-less c = search needs
 
--- src/lib.rt:220:5
 loop-again : tie.Need-loop-again Inv-loop μ-loop
 loop-again c = let long : length (c .before .before .before .before .before .args .t1) ≡ 8 = search (needs, mapped-length) in (search needs, c .before .before .before .before .loop .inv .1 ∙ all-on blankGroup (c .before .before .before .before .before .args .t1) (c .before .before .before .before .loop .i) noGroup (omega arith) (sym (c .before .blank-group .ensures) ∙ not-false _ (c .if1 .left)))
 
--- src/lib.rt:215:1
 returns-2 : tie.Need-returns-2 Inv-loop μ-loop
 returns-2 c = let long : length (c .before .before .args .t1) ≡ 8 = search (needs, mapped-length) in sym (c .before .loop .inv .1 ∙ all-over blankGroup (c .before .before .args .t1) (c .before .loop .i) (omega arith))
 

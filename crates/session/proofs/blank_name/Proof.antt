@@ -5,19 +5,15 @@ use mathlib.Core.Path.{_≡_}
 use Prim.Native.Nat.{_-_}
 use lib.ListN.{length}
 
--- src/lib.rt:257:39
 slice-aggregate-filled : tie.Need-slice-aggregate-filled
 slice-aggregate-filled c = search needs
 
--- src/lib.rt:257:22
 filled-requires : tie.Need-filled-requires
 filled-requires c κs = let lx : length (c .before .before .before .args .x .octets) ≡ 64 = search needs in lx
 
--- src/lib.rt:257:5
 both-requires : tie.Need-both-requires
 both-requires c κs = search needs
 
--- src/lib.rt:253:1
 returns : tie.Need-returns
 returns c = rw (c .both .ensures, c .before .filled .ensures)
 

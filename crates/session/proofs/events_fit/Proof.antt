@@ -3,23 +3,18 @@ use Rattle.session.proofs.events_fit.Statement.{statement}
 use Rattle.session.proofs.events_fit.Tie as tie
 use Prim.Native.Nat.{_-_}
 
--- src/lib.rt:122:30
 has-requires : tie.Need-has-requires
 has-requires c κs = search needs
 
--- src/lib.rt:122:40
 has-requires-2 : tie.Need-has-requires-2
 has-requires-2 c κs = search needs
 
--- src/lib.rt:122:24
 both-requires : tie.Need-both-requires
 both-requires c κs = search needs
 
--- src/lib.rt:122:5
 either-requires : tie.Need-either-requires
 either-requires c κs = search needs
 
--- src/lib.rt:119:1
 returns : tie.Need-returns
 returns c = rw (c .either .ensures, c .before .both .ensures, c .before .before .before .has .ensures, c .before .before .has2 .ensures)
 

@@ -4,31 +4,24 @@ use Rattle.session.proofs.group_ok.Tie as tie
 use Prim.Native.Nat.{_-_}
 use Rattle.session.specs.Tests.{group-is}
 
--- src/lib.rt:153:9
 events-ok-requires : tie.Need-events-ok-requires
 events-ok-requires c κs = search needs
 
--- src/lib.rt:154:9
 attributes-ok-requires : tie.Need-attributes-ok-requires
 attributes-ok-requires c κs = search needs
 
--- src/lib.rt:155:32
 range-ok-requires : tie.Need-range-ok-requires
 range-ok-requires c κs = search needs
 
--- src/lib.rt:155:52
 both-requires : tie.Need-both-requires
 both-requires c κs = search needs
 
--- src/lib.rt:155:27
 both-requires-2 : tie.Need-both-requires-2
 both-requires-2 c κs = search needs
 
--- src/lib.rt:155:5
 both-requires-3 : tie.Need-both-requires-3
 both-requires-3 c κs = search needs
 
--- src/lib.rt:149:1
 returns : tie.Need-returns
 returns c = rw (group-is (c .before .before .before .before .before .before .before .before .args .first) (c .before .before .before .before .before .before .before .before .args .g), c .both3 .ensures, c .before .both2 .ensures, c .before .before .both .ensures, c .before .before .before .range-ok .ensures, c .before .before .before .before .before .before .events-ok .ensures, c .before .before .before .before .before .attributes-ok .ensures)
 

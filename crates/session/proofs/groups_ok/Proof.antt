@@ -17,47 +17,36 @@ Inv-loop n groups first₀ i₀ first i = (i ≤ n) × ((first ≤ i * 255) × (
 abbrev μ-loop : tie.MeasureT-loop
 μ-loop n groups first₀ i₀ first i = n - i
 
--- src/lib.rt:174:5
 loop-holds : tie.Need-loop-holds Inv-loop μ-loop
 loop-holds c = (search needs, (search needs, refl))
 
--- src/lib.rt:175:17
 mul-g : tie.Need-mul-g Inv-loop μ-loop
 mul-g c = search needs
 
--- src/lib.rt:175:17
 array-copy-out-g : tie.Need-array-copy-out-g Inv-loop μ-loop
 array-copy-out-g c = search needs
 
--- src/lib.rt:176:13
 group-ok-requires : tie.Need-group-ok-requires Inv-loop μ-loop
 group-ok-requires c κs = search needs
 
--- src/lib.rt:177:13
 returns : tie.Need-returns Inv-loop μ-loop
 returns c = let long : length (c .before .before .before .before .before .args .t1) ≡ 8 = search (needs, mapped-length) in sym (c .before .before .before .before .loop .inv .1 .1 ∙ groups-here (c .before .before .before .before .before .args .t1) (c .before .before .before .before .before .args .n) (c .before .before .before .before .loop .i) (c .before .before .before .before .loop .first) noGroup (omega arith) (omega arith) (sym (c .before .group-ok .ensures) ∙ not-true _ (c .if1 .taken)))
 
--- src/lib.rt:179:18
 wide-octet-requires : tie.Need-wide-octet-requires Inv-loop μ-loop
 wide-octet-requires c κs = search needs
 
--- src/lib.rt:179:9
 add-first : tie.Need-add-first Inv-loop μ-loop
 add-first c = search needs
 
--- src/lib.rt:180:9
 add-i : tie.Need-add-i Inv-loop μ-loop
 add-i c = search needs
 
--- src/lib.rt:174:5
 loop-less : tie.Need-loop-less Inv-loop μ-loop
 loop-less c = search needs
 
--- src/lib.rt:174:5
 loop-again : tie.Need-loop-again Inv-loop μ-loop
 loop-again c = let long : length (c .before .before .before .before .before .before .args .t1) ≡ 8 = search (needs, mapped-length) in (search needs, (search needs, rw (c .wide-octet .ensures .0) (c .before .before .before .before .before .loop .inv .1 .1 ∙ groups-next (c .before .before .before .before .before .before .args .t1) (c .before .before .before .before .before .before .args .n) (c .before .before .before .before .before .loop .i) (c .before .before .before .before .before .loop .first) noGroup (omega arith) (omega arith) (sym (c .before .before .group-ok .ensures) ∙ not-false _ (c .before .if1 .left)))))
 
--- src/lib.rt:168:1
 returns-2 : tie.Need-returns-2 Inv-loop μ-loop
 returns-2 c = let long : length (c .before .before .args .t1) ≡ 8 = search (needs, mapped-length) in sym (c .before .loop .inv .1 .1 ∙ groups-past (c .before .before .args .t1) (c .before .before .args .n) (c .before .loop .i) (c .before .loop .first) noGroup (omega arith) (omega arith))
 

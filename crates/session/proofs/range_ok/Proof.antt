@@ -4,23 +4,18 @@ use Rattle.session.proofs.range_ok.Tie as tie
 use Prim.Native.Nat.{_-_}
 use borrow.Author.Tests.{lt-ltb, le-ltb}
 
--- src/lib.rt:144:9
 both-requires : tie.Need-both-requires
 both-requires c κs = search needs
 
--- src/lib.rt:144:9
 returns : tie.Need-returns
 returns c = rw (lt-ltb (c .before .before .before .before .before .args .g .selector) 5 (c .before .before .before .if1 .taken)) (c .both .ensures)
 
--- src/lib.rt:146:10
 wide-octet-requires : tie.Need-wide-octet-requires
 wide-octet-requires c κs = search needs
 
--- src/lib.rt:146:5
 both-requires-2 : tie.Need-both-requires-2
 both-requires-2 c κs = search needs
 
--- src/lib.rt:140:1
 returns-2 : tie.Need-returns-2
 returns-2 c = rw (le-ltb (c .before .before .before .before .before .args .g .selector) 5 (c .before .before .before .if1 .left), ← c .before .before .wide-octet .ensures .0) (c .both2 .ensures)
 

@@ -15,39 +15,30 @@ Inv-loop n groups sum₀ i₀ sum i = (i ≤ n) × ((sum ≤ i) × (selectings (
 abbrev μ-loop : tie.MeasureT-loop
 μ-loop n groups sum₀ i₀ sum i = n - i
 
--- src/lib.rt:207:5
 loop-holds : tie.Need-loop-holds Inv-loop μ-loop
 loop-holds c = (search needs, (search needs, omega arith))
 
--- src/lib.rt:208:17
 mul-g : tie.Need-mul-g Inv-loop μ-loop
 mul-g c = search needs
 
--- src/lib.rt:208:17
 array-copy-out-g : tie.Need-array-copy-out-g Inv-loop μ-loop
 array-copy-out-g c = search needs
 
--- src/lib.rt:209:16
 one-if-requires : tie.Need-one-if-requires Inv-loop μ-loop
 one-if-requires c κs = search needs
 
--- src/lib.rt:209:9
 add-sum : tie.Need-add-sum Inv-loop μ-loop
 add-sum c = search needs
 
--- src/lib.rt:210:9
 add-i : tie.Need-add-i Inv-loop μ-loop
 add-i c = search needs
 
--- src/lib.rt:207:5
 loop-less : tie.Need-loop-less Inv-loop μ-loop
 loop-less c = search needs
 
--- src/lib.rt:207:5
 loop-again : tie.Need-loop-again Inv-loop μ-loop
 loop-again c = let long : length (c .before .before .before .before .before .args .t1) ≡ 8 = search (needs, mapped-length) in (search needs, (search needs, selected-next (c .before .before .before .before .before .args .t1) (c .before .before .before .before .before .args .n) (c .before .before .before .before .loop .i) (c .before .before .before .before .loop .sum) (c .one-if .result) noGroup (omega arith) (omega arith) (c .before .before .before .before .loop .inv .1 .1) (c .one-if .ensures .0)))
 
--- src/lib.rt:201:1
 returns : tie.Need-returns Inv-loop μ-loop
 returns c = let long : length (c .before .before .args .t1) ≡ 8 = search (needs, mapped-length) in selected-past (c .before .before .args .t1) (c .before .before .args .n) (c .before .loop .i) (c .before .loop .sum) 0 noGroup (omega arith) (omega arith) (c .before .loop .inv .1 .1)
 

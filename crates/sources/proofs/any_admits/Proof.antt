@@ -21,47 +21,37 @@ Inv-loop attributes name selected listed kept n i₀ i = anyb (admitsIn (listed 
 abbrev μ-loop : tie.MeasureT-loop
 μ-loop attributes name selected listed kept n i₀ i = n - i
 
--- src/lib.rt:147:9
 listed-count-requires : tie.Need-listed-count-requires Inv-loop μ-loop
 listed-count-requires c κs = search needs
 
--- src/lib.rt:149:5
 loop-holds : tie.Need-loop-holds Inv-loop μ-loop
 loop-holds c = refl
 
--- src/lib.rt:150:19
 mul-one : tie.Need-mul-one Inv-loop μ-loop
 mul-one c = search needs
 
--- src/lib.rt:150:19
 element-copy-out-one : tie.Need-element-copy-out-one Inv-loop μ-loop
 element-copy-out-one c = search needs
 
--- src/lib.rt:151:12
 is-admitted-requires : tie.Need-is-admitted-requires Inv-loop μ-loop
 is-admitted-requires c κs = search needs
 
--- src/lib.rt:152:13
 returns : tie.Need-returns Inv-loop μ-loop
 returns c = let long : length (c .before .before .before .before .before .before .before .before .args .t1 .sources) ≡ 8 = search (needs, mapped-length) in
     let p = admitsIn (c .before .before .before .before .before .before .before .before .args .t1 .kept .names) (c .before .before .before .before .before .before .before .before .args .attributes) (c .before .before .before .before .before .before .before .before .args .name .now) (c .before .before .before .before .before .before .before .before .args .selected) in
     sym (any-here p (c .before .before .before .before .before .before .before .before .args .t1 .sources) (c .before .before .before .before .before .listed-count .result) (c .before .before .before .before .loop .i) (omega arith) vacantSource (omega arith) (sym (c .before .is-admitted .ensures) ∙ c .if1 .taken))
     ∙ (sym (c .before .before .before .before .loop .inv) ∙ ap (λ (l : List Source). anyb p l) (c .before .before .before .before .before .listed-count .ensures .1 (c .before .before .before .before .before .before .before .before .args .t1 .sources) long))
 
--- src/lib.rt:154:9
 add-i : tie.Need-add-i Inv-loop μ-loop
 add-i c = search needs
 
--- src/lib.rt:149:5
 loop-less : tie.Need-loop-less Inv-loop μ-loop
 loop-less c = search needs
 
--- src/lib.rt:149:5
 loop-again : tie.Need-loop-again Inv-loop μ-loop
 loop-again c = let long : length (c .before .before .before .before .before .before .before .before .args .t1 .sources) ≡ 8 = search (needs, mapped-length) in
     c .before .before .before .before .loop .inv ∙ any-next (admitsIn (c .before .before .before .before .before .before .before .before .args .t1 .kept .names) (c .before .before .before .before .before .before .before .before .args .attributes) (c .before .before .before .before .before .before .before .before .args .name .now) (c .before .before .before .before .before .before .before .before .args .selected)) (c .before .before .before .before .before .before .before .before .args .t1 .sources) (c .before .before .before .before .before .listed-count .result) (c .before .before .before .before .loop .i) (omega arith) vacantSource (omega arith) (sym (c .before .is-admitted .ensures) ∙ c .if1 .left)
 
--- src/lib.rt:143:1
 returns-2 : tie.Need-returns-2 Inv-loop μ-loop
 returns-2 c = let long : length (c .before .before .before .before .before .args .t1 .sources) ≡ 8 = search (needs, mapped-length) in
     let p = admitsIn (c .before .before .before .before .before .args .t1 .kept .names) (c .before .before .before .before .before .args .attributes) (c .before .before .before .before .before .args .name .now) (c .before .before .before .before .before .args .selected) in

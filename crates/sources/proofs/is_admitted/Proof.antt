@@ -8,15 +8,12 @@ use Rattle.sources.proofs.is_named.Reads as is-named-reads
 use mathlib.Core.Path.{ap, _∙_}
 use Rattle.sources.specs.Admitting.{admitsBy}
 
--- src/lib.rt:128:9
 is-named-requires : tie.Need-is-named-requires
 is-named-requires c κs = search needs
 
--- src/lib.rt:129:5
 admits-requires : tie.Need-admits-requires
 admits-requires c κs = search needs
 
--- src/lib.rt:125:1
 returns : tie.Need-returns
 returns c = c .admits .ensures ∙ ap (admitsBy (c .before .before .before .args .one .scope) (c .before .before .before .args .attributes) (c .before .before .before .args .selected)) (c .before .is-named .ensures)
 

@@ -13,55 +13,42 @@ use lib.ListN.{length}
 use lib.Seq.{length-take-le}
 use Rattle.sources.specs.Admitting.{meant-tree, meant-level, meant-same}
 
--- src/lib.rt:84:9
 clip-requires : tie.Need-clip-requires
 clip-requires c κs = search needs
 
--- src/lib.rt:86:34
 array-share-prefix-o : tie.Need-array-share-prefix-o
 array-share-prefix-o c = let lx : length (c .before .before .before .before .args .x .octets) ≡ 64 = search needs in omega arith
 
--- src/lib.rt:86:34
 slice-aggregate-in-subtree : tie.Need-slice-aggregate-in-subtree
 slice-aggregate-in-subtree c = let lx : length (c .before .before .before .before .before .args .x .octets) ≡ 64 = search needs in sym (length-take-le _ _ (omega arith))
 
--- src/lib.rt:86:9
 in-subtree-requires : tie.Need-in-subtree-requires
 in-subtree-requires c κs = search needs
 
--- src/lib.rt:86:9
 returns : tie.Need-returns
 returns c = let lx : length (c .before .before .before .before .before .before .args .x .octets) ≡ 64 = search needs in c .in-subtree .ensures ∙ meant-tree (c .before .before .before .before .before .before .args .scope) (c .before .before .before .before .before .before .args .name .now) (c .before .before .before .clip .ensures .1 (c .before .before .before .before .before .before .args .x .octets) lx) (c .before .before .if1 .taken)
 
--- src/lib.rt:89:36
 array-share-prefix-o-2 : tie.Need-array-share-prefix-o-2
 array-share-prefix-o-2 c = let lx : length (c .before .before .before .before .before .args .x .octets) ≡ 64 = search needs in omega arith
 
--- src/lib.rt:89:36
 slice-aggregate-in-one-level : tie.Need-slice-aggregate-in-one-level
 slice-aggregate-in-one-level c = let lx : length (c .before .before .before .before .before .before .args .x .octets) ≡ 64 = search needs in sym (length-take-le _ _ (omega arith))
 
--- src/lib.rt:89:9
 in-one-level-requires : tie.Need-in-one-level-requires
 in-one-level-requires c κs = search needs
 
--- src/lib.rt:89:9
 returns-2 : tie.Need-returns-2
 returns-2 c = let lx : length (c .before .before .before .before .before .before .before .args .x .octets) ≡ 64 = search needs in c .in-one-level .ensures ∙ meant-level (c .before .before .before .before .before .before .before .args .scope) (c .before .before .before .before .before .before .before .args .name .now) (c .before .before .before .before .clip .ensures .1 (c .before .before .before .before .before .before .before .args .x .octets) lx) (c .before .before .before .if1 .left) (c .before .before .if2 .taken)
 
--- src/lib.rt:91:17
 array-share-prefix-o-3 : tie.Need-array-share-prefix-o-3
 array-share-prefix-o-3 c = let lx : length (c .before .before .before .before .before .args .x .octets) ≡ 64 = search needs in omega arith
 
--- src/lib.rt:91:17
 slice-aggregate-same : tie.Need-slice-aggregate-same
 slice-aggregate-same c = let lx : length (c .before .before .before .before .before .before .args .x .octets) ≡ 64 = search needs in sym (length-take-le _ _ (omega arith))
 
--- src/lib.rt:91:5
 same-requires : tie.Need-same-requires
 same-requires c κs = search needs
 
--- src/lib.rt:80:1
 returns-3 : tie.Need-returns-3
 returns-3 c = let lx : length (c .before .before .before .before .before .before .before .args .x .octets) ≡ 64 = search needs in c .same .ensures ∙ meant-same (c .before .before .before .before .before .before .before .args .scope) (c .before .before .before .before .before .before .before .args .name .now) (c .before .before .before .before .clip .ensures .1 (c .before .before .before .before .before .before .before .args .x .octets) lx) (c .before .before .before .if1 .left) (c .before .before .if2 .left)
 

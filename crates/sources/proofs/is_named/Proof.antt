@@ -21,46 +21,36 @@ Inv-loop name kept scope end i₀ i = anyb (λ (x : LentName). meant scope (lent
 abbrev μ-loop : tie.MeasureT-loop
 μ-loop name kept scope end i₀ i = end - i
 
--- src/lib.rt:112:9
 run-end-requires : tie.Need-run-end-requires Inv-loop μ-loop
 run-end-requires c κs = search needs
 
--- src/lib.rt:114:5
 loop-holds : tie.Need-loop-holds Inv-loop μ-loop
 loop-holds c = refl
 
--- src/lib.rt:115:17
 mul-x : tie.Need-mul-x Inv-loop μ-loop
 mul-x c = search needs
 
--- src/lib.rt:115:17
 element-copy-out-x : tie.Need-element-copy-out-x Inv-loop μ-loop
 element-copy-out-x c = search needs
 
--- src/lib.rt:116:12
 is-meant-requires : tie.Need-is-meant-requires Inv-loop μ-loop
 is-meant-requires c κs = search needs
 
--- src/lib.rt:117:13
 returns : tie.Need-returns Inv-loop μ-loop
 returns c = let long : length (c .before .before .before .before .before .before .before .args .t1 .names) ≡ 16 = search (needs, mapped-length) in
     sym (any-here (λ (x : LentName). meant (c .before .before .before .before .before .before .before .args .one .scope) (lentName x) (c .before .before .before .before .before .before .before .args .name .now)) (c .before .before .before .before .before .before .before .args .t1 .names) (c .before .before .before .before .before .run-end .result) (c .before .before .before .before .loop .i) (omega arith) vacantName (omega arith) (sym (c .before .is-meant .ensures) ∙ c .if1 .taken))
     ∙ (sym (c .before .before .before .before .loop .inv) ∙ named-run (c .before .before .before .before .before .before .before .args .t1 .names) (c .before .before .before .before .before .before .before .args .name .now) (c .before .before .before .before .before .before .before .args .one) (c .before .before .before .before .before .run-end .result) (c .before .before .before .before .before .run-end .ensures .1 (c .before .before .before .before .before .before .before .args .t1 .names) long))
 
--- src/lib.rt:119:9
 add-i : tie.Need-add-i Inv-loop μ-loop
 add-i c = search needs
 
--- src/lib.rt:114:5
 loop-less : tie.Need-loop-less Inv-loop μ-loop
 loop-less c = search needs
 
--- src/lib.rt:114:5
 loop-again : tie.Need-loop-again Inv-loop μ-loop
 loop-again c = let long : length (c .before .before .before .before .before .before .before .args .t1 .names) ≡ 16 = search (needs, mapped-length) in
     c .before .before .before .before .loop .inv ∙ any-next (λ (x : LentName). meant (c .before .before .before .before .before .before .before .args .one .scope) (lentName x) (c .before .before .before .before .before .before .before .args .name .now)) (c .before .before .before .before .before .before .before .args .t1 .names) (c .before .before .before .before .before .run-end .result) (c .before .before .before .before .loop .i) (omega arith) vacantName (omega arith) (sym (c .before .is-meant .ensures) ∙ c .if1 .left)
 
--- src/lib.rt:108:1
 returns-2 : tie.Need-returns-2 Inv-loop μ-loop
 returns-2 c = let long : length (c .before .before .before .before .args .t1 .names) ≡ 16 = search (needs, mapped-length) in
     sym (any-past (λ (x : LentName). meant (c .before .before .before .before .args .one .scope) (lentName x) (c .before .before .before .before .args .name .now)) (c .before .before .before .before .args .t1 .names) (c .before .before .run-end .result) (c .before .loop .i) (omega arith) (omega arith))

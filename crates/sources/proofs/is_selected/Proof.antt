@@ -4,11 +4,9 @@ use Rattle.sources.proofs.is_selected.Reads as reads
 use Rattle.sources.proofs.is_selected.Lts as lts
 use Rattle.sources.specs.Picking.{selected-none, selected-some}
 
--- src/lib.rt:180:9
 returns : tie.Need-returns
 returns c = selected-none (c .before .args .selected) (c .before .args .id) (c .if1 .taken)
 
--- src/lib.rt:176:1
 returns-2 : tie.Need-returns-2
 returns-2 c = selected-some (c .before .args .selected) (c .before .args .id) (c .if1 .left)
 

@@ -6,11 +6,9 @@ use Rattle.sources.proofs.listed_count.Lts as lts
 use native.Mathlib.Omega.{arith}
 use Rattle.sources.specs.Admitting.{take-within}
 
--- src/lib.rt:137:9
 returns : tie.Need-returns
 returns c = (omega arith, λ l e. take-within (c .before .args .count) 8 l e (omega arith))
 
--- src/lib.rt:133:1
 returns-2 : tie.Need-returns-2
 returns-2 c = search needs
 

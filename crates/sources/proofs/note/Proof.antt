@@ -14,41 +14,32 @@ use lib.ListN.{length-drop}
 use Rattle.sources.specs.Admitting.{searchedBy}
 use Rattle.sources.specs.Picking.{name-part}
 
--- src/lib.rt:190:16
 mul-from : tie.Need-mul-from
 mul-from c = search needs
 
--- src/lib.rt:191:22
 clip-requires : tie.Need-clip-requires
 clip-requires c κs = search needs
 
--- src/lib.rt:191:15
 add-end : tie.Need-add-end
 add-end c = search needs
 
--- src/lib.rt:192:40
 sub-is-searched : tie.Need-sub-is-searched
 sub-is-searched c = search needs
 
--- src/lib.rt:192:40
 part-is-searched-start : tie.Need-part-is-searched-start
 part-is-searched-start c = search needs
 
--- src/lib.rt:192:40
 part-is-searched-end : tie.Need-part-is-searched-end
 part-is-searched-end c = search needs
 
--- src/lib.rt:192:8
 is-searched-requires : tie.Need-is-searched-requires
 is-searched-requires c κs = search needs
 
--- src/lib.rt:193:9
 returns : tie.Need-returns
 returns c = let d = length-drop (64 * c .before .before .before .before .before .args .k) (c .before .before .before .before .before .args .names .now) in
     let l : length (take 64 (drop (64 * c .before .before .before .before .before .args .k) (c .before .before .before .before .before .args .names .now))) ≡ 64 = length-take-le 64 (drop (64 * c .before .before .before .before .before .args .k) (c .before .before .before .before .before .args .names .now)) (omega arith) in
     sym (c .if1 .taken) ∙ (c .before .is-searched .ensures ∙ ap (λ n. searchedBy (c .before .before .before .before .before .args .listed) (c .before .before .before .before .before .args .attributes) n (c .before .before .before .before .before .args .here)) (name-part (c .before .before .before .before .before .args .names .now) (c .before .before .before .before .before .args .k) (c .before .before .before .before .before .args .len) (c .before .before .before .clip .result) (c .before .before .before .clip .ensures .0) (c .before .before .before .clip .ensures .1 (take 64 (drop (64 * c .before .before .before .before .before .args .k) (c .before .before .before .before .before .args .names .now))) l)))
 
--- src/lib.rt:186:1
 returns-2 : tie.Need-returns-2
 returns-2 c = let d = length-drop (64 * c .before .before .before .before .before .args .k) (c .before .before .before .before .before .args .names .now) in
     let l : length (take 64 (drop (64 * c .before .before .before .before .before .args .k) (c .before .before .before .before .before .args .names .now))) ≡ 64 = length-take-le 64 (drop (64 * c .before .before .before .before .before .args .k) (c .before .before .before .before .before .args .names .now)) (omega arith) in

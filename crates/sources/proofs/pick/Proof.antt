@@ -17,47 +17,36 @@ Inv-loop listed selected ids attributes lens names n picked₀ k₀ picked k = (
 abbrev μ-loop : tie.MeasureT-loop
 μ-loop listed selected ids attributes lens names n picked₀ k₀ picked k = n - k
 
--- src/lib.rt:213:5
 loop-holds : tie.Need-loop-holds Inv-loop μ-loop
 loop-holds c = (omega arith, refl, λ j h. absurd (let y : ⊥ = omega arith in y))
 
--- src/lib.rt:214:32
 mul-is-selected : tie.Need-mul-is-selected Inv-loop μ-loop
 mul-is-selected c = search needs
 
--- src/lib.rt:214:32
 element-copy-out-is-selected : tie.Need-element-copy-out-is-selected Inv-loop μ-loop
 element-copy-out-is-selected c = search needs
 
--- src/lib.rt:214:13
 is-selected-requires : tie.Need-is-selected-requires Inv-loop μ-loop
 is-selected-requires c κs = search needs
 
--- src/lib.rt:215:34
 element-copy-out-note : tie.Need-element-copy-out-note Inv-loop μ-loop
 element-copy-out-note c = search needs
 
--- src/lib.rt:215:59
 element-copy-out-note-2 : tie.Need-element-copy-out-note-2 Inv-loop μ-loop
 element-copy-out-note-2 c = search needs
 
--- src/lib.rt:215:21
 note-requires : tie.Need-note-requires Inv-loop μ-loop
 note-requires c κs = search needs
 
--- src/lib.rt:215:9
 slice-write-picked : tie.Need-slice-write-picked Inv-loop μ-loop
 slice-write-picked c = search needs
 
--- src/lib.rt:216:9
 add-k : tie.Need-add-k Inv-loop μ-loop
 add-k c = search needs
 
--- src/lib.rt:213:5
 loop-less : tie.Need-loop-less Inv-loop μ-loop
 loop-less c = search needs
 
--- src/lib.rt:213:5
 loop-again : tie.Need-loop-again Inv-loop μ-loop
 loop-again c = (
   omega arith,
@@ -65,11 +54,9 @@ loop-again c = (
   noted-next (c .before .before .before .before .before .before .before .before .before .args .listed) (c .before .before .before .before .before .before .before .before .before .args .selected) (c .before .before .before .before .before .before .before .before .before .args .ids .now) (c .before .before .before .before .before .before .before .before .before .args .attributes .now) (c .before .before .before .before .before .before .before .before .before .args .lens .now) (c .before .before .before .before .before .before .before .before .before .args .names .now) (c .before .before .before .before .before .before .before .loop .k) (c .before .before .before .before .before .before .before .loop .picked) (c .note .result) (c .before .before .before .before .is-selected .result) (c .before .before .before .before .before .before .before .loop .inv .2) (let z = c .before .before .before .before .before .before .before .loop .inv .1 in omega arith) (c .before .before .before .before .is-selected .ensures) (c .note .ensures),
 )
 
--- src/lib.rt:199:1
 same-length : tie.Need-same-length Inv-loop μ-loop
 same-length c = search needs
 
--- src/lib.rt:199:1
 returns : tie.Need-returns Inv-loop μ-loop
 returns c = λ k h. c .before .loop .inv .2 k (omega arith)
 

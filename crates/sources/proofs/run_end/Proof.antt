@@ -7,19 +7,15 @@ use native.Mathlib.Omega.{arith}
 use Rattle.sources.specs.Admitting.{take-within}
 use Prim.Native.Nat.{_+_}
 
--- src/lib.rt:99:9
 returns : tie.Need-returns
 returns c = (omega arith, λ l e. take-within (c .before .args .first + c .before .args .count) 16 l e (omega arith))
 
--- src/lib.rt:102:9
 returns-2 : tie.Need-returns-2
 returns-2 c = (omega arith, λ l e. take-within (c .before .before .args .first + c .before .before .args .count) 16 l e (omega arith))
 
--- src/lib.rt:104:6
 add-result : tie.Need-add-result
 add-result c = search needs
 
--- src/lib.rt:95:1
 returns-3 : tie.Need-returns-3
 returns-3 c = search needs
 

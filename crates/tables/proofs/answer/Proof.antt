@@ -13,51 +13,39 @@ use Rattle.tables.proofs.next_length.Reads as next-length-reads
 use Rattle.tables.proofs.next_rows.Reads as next-rows-reads
 use Rattle.tables.proofs.print_answer.Reads as print-answer-reads
 
--- src/main.rt:248:9
 next-length-requires : tie.Need-next-length-requires
 next-length-requires c κs = search needs
 
--- src/main.rt:249:9
 next-length-requires-2 : tie.Need-next-length-requires-2
 next-length-requires-2 c κs = search needs
 
--- src/main.rt:250:9
 next-rows-requires : tie.Need-next-rows-requires
 next-rows-requires c κs = search needs
 
--- src/main.rt:251:9
 next-counts-requires : tie.Need-next-counts-requires
 next-counts-requires c κs = search needs
 
--- src/main.rt:253:21
 next-length-requires-3 : tie.Need-next-length-requires-3
 next-length-requires-3 c κs = search needs
 
--- src/main.rt:253:9
 at-most-requires : tie.Need-at-most-requires
 at-most-requires c κs = search needs
 
--- src/main.rt:254:26
 array-borrow-prefix-words : tie.Need-array-borrow-prefix-words
 array-borrow-prefix-words c = search needs
 
--- src/main.rt:254:26
 slice-aggregate-judge-rest : tie.Need-slice-aggregate-judge-rest
 slice-aggregate-judge-rest c = sym (length-take-le _ _ (omega arith))
 
--- src/main.rt:254:9
 judge-rest-requires : tie.Need-judge-rest-requires
 judge-rest-requires c κs = search needs
 
--- src/main.rt:255:5
 print-answer-requires : tie.Need-print-answer-requires
 print-answer-requires c κs = search needs
 
--- src/main.rt:245:1
 returns : tie.Need-returns
 returns c = search needs
 
--- src/main.rt:245:1
 returns-2 : tie.Need-returns-2
 returns-2 c = search needs
 

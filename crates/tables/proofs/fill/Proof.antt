@@ -14,39 +14,30 @@ Inv-loop words₀ i₀ words i = (i ≤ length words₀) × (length words ≡ le
 abbrev μ-loop : tie.MeasureT-loop
 μ-loop words₀ i₀ words i = length words₀ - i
 
--- src/main.rt:156:5
 loop-holds : tie.Need-loop-holds Inv-loop μ-loop
 loop-holds c = search needs
 
--- src/main.rt:157:20
 next-number-requires : tie.Need-next-number-requires Inv-loop μ-loop
 next-number-requires c κs = search needs
 
--- src/main.rt:157:9
 mul-words : tie.Need-mul-words Inv-loop μ-loop
 mul-words c = search needs
 
--- src/main.rt:157:9
 slice-write-words : tie.Need-slice-write-words Inv-loop μ-loop
 slice-write-words c = search needs
 
--- src/main.rt:158:9
 add-i : tie.Need-add-i Inv-loop μ-loop
 add-i c = search needs
 
--- src/main.rt:156:5
 loop-less : tie.Need-loop-less Inv-loop μ-loop
 loop-less c = search needs
 
--- src/main.rt:156:5
 loop-again : tie.Need-loop-again Inv-loop μ-loop
 loop-again c = search needs
 
--- src/main.rt:154:1
 same-length : tie.Need-same-length Inv-loop μ-loop
 same-length c = search needs
 
--- src/main.rt:154:1
 returns : tie.Need-returns Inv-loop μ-loop
 returns c = search needs
 

@@ -6,15 +6,12 @@ use Rattle.tables.proofs.judge.Lts as lts
 use Rattle.lawful.proofs.is_lawful.Reads as is-lawful-reads
 use Rattle.rows.proofs.lay.Reads as lay-reads
 
--- src/main.rt:193:5
 lay-requires : tie.Need-lay-requires
 lay-requires c κs = search needs
 
--- src/main.rt:203:5
 is-lawful-requires : tie.Need-is-lawful-requires
 is-lawful-requires c κs = search needs
 
--- src/main.rt:177:1
 returns : tie.Need-returns
 returns c = λ t q w e. c .is-lawful .ensures t (c .before .before .before .before .before .before .before .before .before .before .before .before .before .before .before .args .table) q w (c .before .before .before .before .before .before .before .lay .ensures) e
 

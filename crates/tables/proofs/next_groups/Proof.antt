@@ -14,35 +14,27 @@ Inv-loop groups₀ i₀ groups i = (i ≤ 8) × (length groups ≡ 8)
 abbrev μ-loop : tie.MeasureT-loop
 μ-loop groups₀ i₀ groups i = 8 - i
 
--- src/main.rt:103:5
 loop-holds : tie.Need-loop-holds Inv-loop μ-loop
 loop-holds c = search needs
 
--- src/main.rt:104:13
 next-group-requires : tie.Need-next-group-requires Inv-loop μ-loop
 next-group-requires c κs = search needs
 
--- src/main.rt:105:9
 mul-groups : tie.Need-mul-groups Inv-loop μ-loop
 mul-groups c = search needs
 
--- src/main.rt:105:9
 array-set-from-groups : tie.Need-array-set-from-groups Inv-loop μ-loop
 array-set-from-groups c = search needs
 
--- src/main.rt:106:9
 add-i : tie.Need-add-i Inv-loop μ-loop
 add-i c = search needs
 
--- src/main.rt:103:5
 loop-less : tie.Need-loop-less Inv-loop μ-loop
 loop-less c = search needs
 
--- src/main.rt:103:5
 loop-again : tie.Need-loop-again Inv-loop μ-loop
 loop-again c = search needs
 
--- src/main.rt:93:1
 returns : tie.Need-returns Inv-loop μ-loop
 returns c = search needs
 

@@ -14,35 +14,27 @@ Inv-loop names₀ i₀ names i = (i ≤ 16) × (length names ≡ 16)
 abbrev μ-loop : tie.MeasureT-loop
 μ-loop names₀ i₀ names i = 16 - i
 
--- src/main.rt:129:5
 loop-holds : tie.Need-loop-holds Inv-loop μ-loop
 loop-holds c = search needs
 
--- src/main.rt:130:13
 next-name-requires : tie.Need-next-name-requires Inv-loop μ-loop
 next-name-requires c κs = search needs
 
--- src/main.rt:131:9
 mul-names : tie.Need-mul-names Inv-loop μ-loop
 mul-names c = search needs
 
--- src/main.rt:131:9
 array-set-from-names : tie.Need-array-set-from-names Inv-loop μ-loop
 array-set-from-names c = search needs
 
--- src/main.rt:132:9
 add-i : tie.Need-add-i Inv-loop μ-loop
 add-i c = search needs
 
--- src/main.rt:129:5
 loop-less : tie.Need-loop-less Inv-loop μ-loop
 loop-less c = search needs
 
--- src/main.rt:129:5
 loop-again : tie.Need-loop-again Inv-loop μ-loop
 loop-again c = search needs
 
--- src/main.rt:124:1
 returns : tie.Need-returns Inv-loop μ-loop
 returns c = search needs
 

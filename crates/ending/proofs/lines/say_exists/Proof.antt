@@ -9,27 +9,21 @@ use Prim.Native.Nat.{_-_}
 use native.Mathlib.Omega.{arith}
 use Rattle.ending.specs.Coded.{stateOf, exists-none, exists-some}
 
--- src/lib.rt:416:9
 returns : tie.Need-returns
 returns c = (exists-none (c .before .before .args .limit) (c .before .before .args .k) (c .before .before .args .n) (stateOf (c .before .before .args .queue .now) (c .before .before .args .g)) (c .if1 .taken), omega arith, omega arith, refl)
 
--- src/lib.rt:418:32
 add-t10 : tie.Need-add-t10
 add-t10 c = search needs
 
--- src/lib.rt:418:39
 slice-aggregate-say-count : tie.Need-slice-aggregate-say-count
 slice-aggregate-say-count c = search needs
 
--- src/lib.rt:418:5
 say-count-requires : tie.Need-say-count-requires
 say-count-requires c κs = search needs
 
--- src/lib.rt:411:1
 same-length : tie.Need-same-length
 same-length c = search needs
 
--- src/lib.rt:411:1
 returns-2 : tie.Need-returns-2
 returns-2 c = (exists-some (c .before .before .before .before .before .before .before .args .limit) (c .before .before .before .before .before .before .before .args .k) (c .before .before .before .before .before .before .before .args .n) (stateOf (c .before .before .before .before .before .before .before .args .queue .now) (c .before .before .before .before .before .before .before .args .g)) _ (c .before .before .before .before .before .if1 .left) (c .before .before .say-count .ensures .0), c .before .before .say-count .ensures .1, c .before .before .say-count .ensures .2, omega (arith, c .before .before .say-count .ok))
 

@@ -15,35 +15,27 @@ use Rattle.entries.specs.Words.{messages}
 use Rattle.ending.specs.declared.Going.{Going}
 use Rattle.ending.specs.Coded.{stateOf, e-off, e-gone, e-stay, more-is}
 
--- src/lib.rt:303:9
 entry-requires : tie.Need-entry-requires
 entry-requires c κs = search needs
 
--- src/lib.rt:305:9
 returns : tie.Need-returns
 returns c = (e-off (c .before .before .before .before .before .before .args .told .0) (c .before .before .before .before .before .before .args .limit) (c .before .before .before .entry .result) (getD (messages (c .before .before .before .before .before .before .args .words .now)) (c .before .before .before .before .before .before .args .p) noMessage) (c .before .before .before .entry .ensures) (stateOf (c .before .before .before .before .before .before .args .queue .now) (c .before .before .before .before .before .before .args .g)) (c .if1 .taken), omega arith, omega arith, omega arith)
 
--- src/lib.rt:308:51
 slice-aggregate-say-count : tie.Need-slice-aggregate-say-count
 slice-aggregate-say-count c = search needs
 
--- src/lib.rt:308:9
 say-count-requires : tie.Need-say-count-requires
 say-count-requires c κs = search needs
 
--- src/lib.rt:308:9
 same-length : tie.Need-same-length
 same-length c = search needs
 
--- src/lib.rt:308:9
 returns-2 : tie.Need-returns-2
 returns-2 c = (c .before .before .say-count .ensures .0 ∙ e-gone (c .before .before .before .before .before .before .before .before .before .before .before .before .before .before .before .args .told .0) (c .before .before .before .before .before .before .before .before .before .before .before .before .before .before .before .args .limit) (c .before .before .before .before .before .before .before .before .before .before .before .before .entry .result) (getD (messages (c .before .before .before .before .before .before .before .before .before .before .before .before .before .before .before .args .words .now)) (c .before .before .before .before .before .before .before .before .before .before .before .before .before .before .before .args .p) noMessage) (c .before .before .before .before .before .before .before .before .before .before .before .before .entry .ensures) (stateOf (c .before .before .before .before .before .before .before .before .before .before .before .before .before .before .before .args .queue .now) (c .before .before .before .before .before .before .before .before .before .before .before .before .before .before .before .args .g)) (c .before .before .before .before .before .before .before .before .before .if1 .left) (c .before .before .before .before .before .before .before .if2 .taken), c .before .before .say-count .ensures .1, c .before .before .say-count .ensures .2, omega (arith, c .before .before .say-count .ensures .3))
 
--- src/lib.rt:310:5
 advanced-requires : tie.Need-advanced-requires
 advanced-requires c κs = search needs
 
--- src/lib.rt:299:1
 returns-3 : tie.Need-returns-3
 returns-3 c = (ap (stateOf (c .before .before .before .before .before .before .before .before .before .args .queue .now)) (c .advanced .ensures) ∙ (more-is (stateOf (c .before .before .before .before .before .before .before .before .before .args .queue .now) (c .before .before .before .before .before .before .before .before .before .args .g)) ∙ e-stay (c .before .before .before .before .before .before .before .before .before .args .told .0) (c .before .before .before .before .before .before .before .before .before .args .limit) (c .before .before .before .before .before .before .entry .result) (getD (messages (c .before .before .before .before .before .before .before .before .before .args .words .now)) (c .before .before .before .before .before .before .before .before .before .args .p) noMessage) (c .before .before .before .before .before .before .entry .ensures) (stateOf (c .before .before .before .before .before .before .before .before .before .args .queue .now) (c .before .before .before .before .before .before .before .before .before .args .g)) (c .before .before .before .if1 .left) (c .before .if2 .left)), omega (arith, ap (λ (x : Going). x .end) (c .advanced .ensures)), omega (arith, ap (λ (x : Going). x .rest) (c .advanced .ensures)), omega (arith, ap (λ (x : Going). x .next .0) (c .advanced .ensures)))
 

@@ -19,39 +19,30 @@ Inv-loop words order n told queue₀ limit s₀ j₀ queue s j = (j ≤ n) × (l
 abbrev μ-loop : tie.MeasureT-loop
 μ-loop words order n told queue₀ limit s₀ j₀ queue s j = j
 
--- src/lib.rt:319:5
 loop-holds : tie.Need-loop-holds Inv-loop μ-loop
 loop-holds c = (search needs, search needs, search needs, search needs, search needs, refl)
 
--- src/lib.rt:320:9
 sub-j : tie.Need-sub-j Inv-loop μ-loop
 sub-j c = search needs
 
--- src/lib.rt:321:32
 mul-expunge-one : tie.Need-mul-expunge-one Inv-loop μ-loop
 mul-expunge-one c = search needs
 
--- src/lib.rt:321:32
 shared-slice-read-expunge-one : tie.Need-shared-slice-read-expunge-one Inv-loop μ-loop
 shared-slice-read-expunge-one c = search needs
 
--- src/lib.rt:321:9
 expunge-one-requires : tie.Need-expunge-one-requires Inv-loop μ-loop
 expunge-one-requires c κs = search needs
 
--- src/lib.rt:319:5
 loop-less : tie.Need-loop-less Inv-loop μ-loop
 loop-less c = search needs
 
--- src/lib.rt:319:5
 loop-again : tie.Need-loop-again Inv-loop μ-loop
 loop-again c = (search needs, search needs, c .before .before .expunge-one .ensures .1, omega (arith, c .before .before .expunge-one .ensures .2, c .before .before .before .before .before .before .loop .inv .3), omega (arith, c .before .before .expunge-one .ensures .3, c .before .before .before .before .before .before .loop .inv .4), runE-next (messages (c .before .before .before .before .before .before .before .before .before .before .args .words .now)) (c .before .before .before .before .before .before .before .before .before .before .args .order .now) (c .before .before .before .before .before .before .before .before .before .before .args .told .0) (c .before .before .before .before .before .before .before .before .before .before .args .limit) (c .before .before .before .before .before .before .loop .j) (stateOf (c .before .before .before .before .before .before .loop .queue) (c .before .before .before .before .before .before .loop .s)) _ _ (c .before .before .before .before .before .loop-test .taken) (c .before .before .before .before .before .before .loop .inv .5) (c .before .before .expunge-one .ensures .0))
 
--- src/lib.rt:313:1
 same-length : tie.Need-same-length Inv-loop μ-loop
 same-length c = search needs
 
--- src/lib.rt:313:1
 returns : tie.Need-returns Inv-loop μ-loop
 returns c = (runE-end (messages (c .before .before .before .before .before .args .words .now)) (c .before .before .before .before .before .args .order .now) (c .before .before .before .before .before .args .told .0) (c .before .before .before .before .before .args .limit) (c .before .loop .j) (stateOf (c .before .loop .queue) (c .before .loop .s)) _ (omega arith) (c .before .loop .inv .5), c .before .loop .inv .2, omega (arith, c .before .loop .inv .3))
 

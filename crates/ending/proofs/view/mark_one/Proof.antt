@@ -16,43 +16,33 @@ use Rattle.entries.specs.Words.{messages}
 use Rattle.ending.specs.declared.Going.{Going}
 use Rattle.ending.specs.Coded.{stateOf, m-off, m-skip, m-mark, m-plain, more-as, more-is}
 
--- src/lib.rt:331:9
 entry-requires : tie.Need-entry-requires
 entry-requires c κs = search needs
 
--- src/lib.rt:333:9
 returns : tie.Need-returns
 returns c = (m-off (c .before .before .before .before .before .before .args .told .0) (c .before .before .before .before .before .before .args .limit) (c .before .before .before .entry .result) (getD (messages (c .before .before .before .before .before .before .args .words .now)) (c .before .before .before .before .before .before .args .p) noMessage) (c .before .before .before .entry .ensures) (stateOf (c .before .before .before .before .before .before .args .queue .now) (c .before .before .before .before .before .before .args .g)) (c .before .before .before .before .before .before .args .skip) (c .if1 .taken), omega arith, omega arith, omega arith)
 
--- src/lib.rt:335:8
 both-requires : tie.Need-both-requires
 both-requires c κs = search needs
 
--- src/lib.rt:336:9
 returns-2 : tie.Need-returns-2
 returns-2 c = (m-skip (c .before .before .before .before .before .before .before .before .before .args .told .0) (c .before .before .before .before .before .before .before .before .before .args .limit) (c .before .before .before .before .before .before .entry .result) (getD (messages (c .before .before .before .before .before .before .before .before .before .args .words .now)) (c .before .before .before .before .before .before .before .before .before .args .p) noMessage) (c .before .before .before .before .before .before .entry .ensures) (stateOf (c .before .before .before .before .before .before .before .before .before .args .queue .now) (c .before .before .before .before .before .before .before .before .before .args .g)) (c .before .before .before .before .before .before .before .before .before .args .skip) (c .before .before .before .if1 .left) (sym (c .before .both .ensures) ∙ c .if2 .taken), omega arith, omega arith, omega arith)
 
--- src/lib.rt:339:13
 say-fetch-requires : tie.Need-say-fetch-requires
 say-fetch-requires c κs = search needs
 
--- src/lib.rt:340:9
 advanced-requires : tie.Need-advanced-requires
 advanced-requires c κs = omega (arith, c .before .before .say-fetch .ensures .3)
 
--- src/lib.rt:340:9
 same-length : tie.Need-same-length
 same-length c = search needs
 
--- src/lib.rt:340:9
 returns-3 : tie.Need-returns-3
 returns-3 c = (ap (stateOf _) (c .advanced .ensures) ∙ (more-is (stateOf _ (c .before .before .before .say-fetch .result)) ∙ (more-as _ _ (c .before .before .before .say-fetch .ensures .0) ∙ m-mark (c .before .before .before .before .before .before .before .before .before .before .before .before .before .before .before .before .before .before .args .told .0) (c .before .before .before .before .before .before .before .before .before .before .before .before .before .before .before .before .before .before .args .limit) (c .before .before .before .before .before .before .before .before .before .before .before .before .before .before .before .entry .result) (getD (messages (c .before .before .before .before .before .before .before .before .before .before .before .before .before .before .before .before .before .before .args .words .now)) (c .before .before .before .before .before .before .before .before .before .before .before .before .before .before .before .before .before .before .args .p) noMessage) (c .before .before .before .before .before .before .before .before .before .before .before .before .before .before .before .entry .ensures) (stateOf (c .before .before .before .before .before .before .before .before .before .before .before .before .before .before .before .before .before .before .args .queue .now) (c .before .before .before .before .before .before .before .before .before .before .before .before .before .before .before .before .before .before .args .g)) (c .before .before .before .before .before .before .before .before .before .before .before .before .before .before .before .before .before .before .args .skip) (c .before .before .before .before .before .before .before .before .before .before .before .before .if1 .left) (sym (c .before .before .before .before .before .before .before .before .before .before .both .ensures) ∙ c .before .before .before .before .before .before .before .before .before .if2 .left) (c .before .before .before .before .before .before .before .if3 .taken))), omega (arith, ap (λ (x : Going). x .end) (c .advanced .ensures), c .before .before .before .say-fetch .ensures .1), omega (arith, ap (λ (x : Going). x .rest) (c .advanced .ensures), c .before .before .before .say-fetch .ensures .2), omega (arith, ap (λ (x : Going). x .next .0) (c .advanced .ensures), c .before .before .before .say-fetch .ensures .3))
 
--- src/lib.rt:342:5
 advanced-requires-2 : tie.Need-advanced-requires-2
 advanced-requires-2 c κs = search needs
 
--- src/lib.rt:327:1
 returns-4 : tie.Need-returns-4
 returns-4 c = (ap (stateOf (c .before .before .before .before .before .before .before .before .before .before .before .before .args .queue .now)) (c .advanced2 .ensures) ∙ (more-is (stateOf (c .before .before .before .before .before .before .before .before .before .before .before .before .args .queue .now) (c .before .before .before .before .before .before .before .before .before .before .before .before .args .g)) ∙ m-plain (c .before .before .before .before .before .before .before .before .before .before .before .before .args .told .0) (c .before .before .before .before .before .before .before .before .before .before .before .before .args .limit) (c .before .before .before .before .before .before .before .before .before .entry .result) (getD (messages (c .before .before .before .before .before .before .before .before .before .before .before .before .args .words .now)) (c .before .before .before .before .before .before .before .before .before .before .before .before .args .p) noMessage) (c .before .before .before .before .before .before .before .before .before .entry .ensures) (stateOf (c .before .before .before .before .before .before .before .before .before .before .before .before .args .queue .now) (c .before .before .before .before .before .before .before .before .before .before .before .before .args .g)) (c .before .before .before .before .before .before .before .before .before .before .before .before .args .skip) (c .before .before .before .before .before .before .if1 .left) (sym (c .before .before .before .before .both .ensures) ∙ c .before .before .before .if2 .left) (c .before .if3 .left)), omega (arith, ap (λ (x : Going). x .end) (c .advanced2 .ensures)), omega (arith, ap (λ (x : Going). x .rest) (c .advanced2 .ensures)), omega (arith, ap (λ (x : Going). x .next .0) (c .advanced2 .ensures)))
 

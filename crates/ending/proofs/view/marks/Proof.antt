@@ -19,39 +19,30 @@ Inv-loop words order n told skip queue₀ limit s₀ j₀ queue s j = (j ≤ n) 
 abbrev μ-loop : tie.MeasureT-loop
 μ-loop words order n told skip queue₀ limit s₀ j₀ queue s j = j
 
--- src/lib.rt:351:5
 loop-holds : tie.Need-loop-holds Inv-loop μ-loop
 loop-holds c = (search needs, search needs, search needs, search needs, search needs, refl)
 
--- src/lib.rt:352:9
 sub-j : tie.Need-sub-j Inv-loop μ-loop
 sub-j c = search needs
 
--- src/lib.rt:353:29
 mul-mark-one : tie.Need-mul-mark-one Inv-loop μ-loop
 mul-mark-one c = search needs
 
--- src/lib.rt:353:29
 shared-slice-read-mark-one : tie.Need-shared-slice-read-mark-one Inv-loop μ-loop
 shared-slice-read-mark-one c = search needs
 
--- src/lib.rt:353:9
 mark-one-requires : tie.Need-mark-one-requires Inv-loop μ-loop
 mark-one-requires c κs = search needs
 
--- src/lib.rt:351:5
 loop-less : tie.Need-loop-less Inv-loop μ-loop
 loop-less c = search needs
 
--- src/lib.rt:351:5
 loop-again : tie.Need-loop-again Inv-loop μ-loop
 loop-again c = (search needs, search needs, c .before .before .mark-one .ensures .1, omega (arith, c .before .before .mark-one .ensures .2, c .before .before .before .before .before .before .loop .inv .3), omega (arith, c .before .before .mark-one .ensures .3, c .before .before .before .before .before .before .loop .inv .4), runM-next (messages (c .before .before .before .before .before .before .before .before .before .before .args .words .now)) (c .before .before .before .before .before .before .before .before .before .before .args .order .now) (c .before .before .before .before .before .before .before .before .before .before .args .told .0) (c .before .before .before .before .before .before .before .before .before .before .args .limit) (c .before .before .before .before .before .before .before .before .before .before .args .skip) (c .before .before .before .before .before .before .loop .j) (stateOf (c .before .before .before .before .before .before .loop .queue) (c .before .before .before .before .before .before .loop .s)) _ _ (c .before .before .before .before .before .loop-test .taken) (c .before .before .before .before .before .before .loop .inv .5) (c .before .before .mark-one .ensures .0))
 
--- src/lib.rt:345:1
 same-length : tie.Need-same-length Inv-loop μ-loop
 same-length c = search needs
 
--- src/lib.rt:345:1
 returns : tie.Need-returns Inv-loop μ-loop
 returns c = (runM-end (messages (c .before .before .before .before .before .args .words .now)) (c .before .before .before .before .before .args .order .now) (c .before .before .before .before .before .args .told .0) (c .before .before .before .before .before .args .limit) (c .before .before .before .before .before .args .skip) (c .before .loop .j) (stateOf (c .before .loop .queue) (c .before .loop .s)) _ (omega arith) (c .before .loop .inv .5), c .before .loop .inv .2, omega (arith, c .before .loop .inv .3))
 

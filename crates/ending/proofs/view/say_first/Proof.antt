@@ -13,19 +13,15 @@ use Rattle.order.specs.Chosen.{chosen}
 use Rattle.ending.specs.Saying.{firstPart}
 use Rattle.ending.specs.Coded.{stateOf}
 
--- src/lib.rt:427:9
 expunges-requires : tie.Need-expunges-requires
 expunges-requires c κs = search needs
 
--- src/lib.rt:427:9
 same-length : tie.Need-same-length
 same-length c = search needs
 
--- src/lib.rt:427:9
 returns : tie.Need-returns
 returns c = (c .before .before .expunges .ensures .0 ∙ sym (ap (λ (b : Bool). firstPart (c .before .before .before .before .before .before .before .before .args .told .0) b (c .before .before .before .before .before .before .before .before .args .limit) (chosen (messages (c .before .before .before .before .before .before .before .before .args .words .now)) (c .before .before .before .before .before .before .before .before .args .order .now) (c .before .before .before .before .before .before .before .before .args .n)) (stateOf (c .before .before .before .before .before .before .before .before .args .queue .now) (c .before .before .before .before .before .before .before .before .args .g))) (c .before .before .before .before .if1 .taken)), c .before .before .expunges .ensures .1, c .before .before .expunges .ensures .2, omega (arith, c .before .before .expunges .ok))
 
--- src/lib.rt:422:1
 returns-2 : tie.Need-returns-2
 returns-2 c = (sym (ap (λ (b : Bool). firstPart (c .before .before .before .before .args .told .0) b (c .before .before .before .before .args .limit) (chosen (messages (c .before .before .before .before .args .words .now)) (c .before .before .before .before .args .order .now) (c .before .before .before .before .args .n)) (stateOf (c .before .before .before .before .args .queue .now) (c .before .before .before .before .args .g))) (c .if1 .left)), omega arith, omega arith, refl)
 

@@ -17,39 +17,30 @@ use Rattle.order.specs.Chosen.{chosen}
 use Rattle.ending.specs.declared.Going.{Going}
 use Rattle.ending.specs.Ending.{speaks}
 
--- src/lib.rt:453:9
 say-first-requires : tie.Need-say-first-requires
 say-first-requires c κs = search needs
 
--- src/lib.rt:454:9
 staying-requires : tie.Need-staying-requires
 staying-requires c κs = search needs
 
--- src/lib.rt:455:9
 unseen-requires : tie.Need-unseen-requires
 unseen-requires c κs = search needs
 
--- src/lib.rt:456:38
 begun-requires : tie.Need-begun-requires
 begun-requires c κs = search needs
 
--- src/lib.rt:456:9
 say-exists-requires : tie.Need-say-exists-requires
 say-exists-requires c κs = (omega arith, omega arith, omega (arith, ap (λ (x : Going). x .end) (c .begun .ensures), c .before .before .before .before .before .before .say-first .ensures .1), omega (arith, ap (λ (x : Going). x .rest) (c .begun .ensures), c .before .before .before .before .before .before .say-first .ensures .2), c .before .before .before .staying .ensures .1, c .before .before .unseen .ensures .1)
 
--- src/lib.rt:457:63
 begun-requires-2 : tie.Need-begun-requires-2
 begun-requires-2 c κs = search needs
 
--- src/lib.rt:457:9
 marks-requires : tie.Need-marks-requires
 marks-requires c κs = (c .before .before .before .before .before .before .before .before .before .before .before .before .before .before .before .before .pre .0, c .before .before .before .before .before .before .before .before .before .before .before .before .before .before .before .before .pre .1, omega (arith, c .before .before .before .before .before .before .before .before .before .before .before .before .before .before .before .before .pre .2, c .before .before .before .before .before .before .before .before .before .before .before .say-first .ok, c .before .before .before .before .say-exists .ok), c .before .before .before .before .before .before .before .before .before .before .before .before .before .before .before .before .pre .3, omega (arith, ap (λ (x : Going). x .end) (c .begun2 .ensures), c .before .before .before .before .say-exists .ensures .1), omega (arith, c .before .before .before .before .before .before .before .before .before .before .before .before .before .before .before .before .pre .1, ap (λ (x : Going). x .rest) (c .begun2 .ensures), ap (λ (x : Going). x .rest) (c .before .before .before .before .before .begun .ensures), c .before .before .before .before .say-exists .ensures .2, c .before .before .before .before .before .before .before .before .before .before .before .say-first .ensures .2), omega (arith, ap (λ (x : Going). x .next .0) (c .begun2 .ensures)), c .before .before .before .before .before .before .before .before .before .before .before .before .before .before .before .before .pre .5)
 
--- src/lib.rt:442:1
 same-length : tie.Need-same-length
 same-length c = omega (arith, c .before .before .before .before .before .before .before .before .before .before .before .before .before .before .before .before .before .say-first .ensures .3, c .before .before .before .before .before .before .before .before .before .before .say-exists .ensures .3, c .before .before .before .before .before .marks .ok)
 
--- src/lib.rt:442:1
 returns : tie.Need-returns
 returns c = speaks (c .before .before .before .before .before .before .before .before .before .before .before .before .before .before .before .before .before .before .before .before .before .before .args .told .0) (c .before .before .before .before .before .before .before .before .before .before .before .before .before .before .before .before .before .before .before .before .before .before .args .class) (c .before .before .before .before .before .before .before .before .before .before .before .before .before .before .before .before .before .before .before .before .before .before .args .limit) (chosen (messages (c .before .before .before .before .before .before .before .before .before .before .before .before .before .before .before .before .before .before .before .before .before .before .args .words .now)) (c .before .before .before .before .before .before .before .before .before .before .before .before .before .before .before .before .before .before .before .before .before .before .args .order .now) (c .before .before .before .before .before .before .before .before .before .before .before .before .before .before .before .before .before .before .before .before .before .before .args .n)) (c .before .before .before .before .before .before .before .before .before .before .before .before .before .before .before .before .before .before .before .before .before .before .args .queue .now) (c .before .before .before .before .before .before .before .before .before .before .before .before .before .before .before .before .before .before .before .before .before .before .args .filled) _ _ _ (c .before .before .before .before .before .before .before .before .before .before .before .before .before .before .before .before .before .say-first .result) (c .before .before .before .before .before .before .before .before .before .before .before .begun .result) (c .before .before .before .before .before .before .before .before .before .before .say-exists .result) (c .before .before .before .before .before .before .begun2 .result) (c .before .before .before .before .before .marks .result) (c .before .before .before .before .before .before .before .before .before .before .before .before .before .before .staying .result) (c .before .before .before .before .before .before .before .before .before .before .before .before .before .unseen .result) (c .before .before .before .before .before .before .before .before .before .before .before .before .before .before .before .before .before .say-first .ensures .0) (c .before .before .before .before .before .before .before .before .before .before .before .begun .ensures) (c .before .before .before .before .before .before .before .before .before .before .before .before .before .before .staying .ensures .0) (c .before .before .before .before .before .before .before .before .before .before .before .before .before .unseen .ensures .0) (c .before .before .before .before .before .before .before .before .before .before .say-exists .ensures .0) (c .before .before .before .before .before .before .begun2 .ensures) (c .before .before .before .before .before .marks .ensures .0)
 

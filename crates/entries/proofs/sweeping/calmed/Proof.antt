@@ -9,35 +9,27 @@ use mathlib.Core.Path.{sym, _∙_, ap}
 use Rattle.entries.specs.Swept.{calm}
 use Rattle.entries.specs.declared.Sweep.{Sweep}
 
--- src/lib.rt:264:26
 enum-told : tie.Need-enum-told
 enum-told c = search needs
 
--- src/lib.rt:264:26
 changed-requires : tie.Need-changed-requires
 changed-requires c κs = search needs
 
--- src/lib.rt:265:21
 enum-known-sweep : tie.Need-enum-known-sweep
 enum-known-sweep c = search needs
 
--- src/lib.rt:265:43
 shown-one-requires : tie.Need-shown-one-requires
 shown-one-requires c κs = search needs
 
--- src/lib.rt:266:30
 enum-told-2 : tie.Need-enum-told-2
 enum-told-2 c = search needs
 
--- src/lib.rt:260:1
 returns : tie.Need-returns
 returns c = c .changed .ensures ∙ ap (λ (k : Sweep). calm k (c .before .before .before .args .e)) (sym (c .before .enum-told .given .1))
 
--- src/lib.rt:260:1
 returns-2 : tie.Need-returns-2
 returns-2 c = c .shown-one .ensures ∙ ap (λ (k : Sweep). calm k (c .before .before .before .before .args .e)) (sym (c .before .before .sweep .given .1))
 
--- src/lib.rt:260:1
 returns-3 : tie.Need-returns-3
 returns-3 c = ap (λ (k : Sweep). calm k (c .before .before .args .e)) (sym (c .enum-told2 .given .1))
 

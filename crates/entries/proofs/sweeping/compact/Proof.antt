@@ -17,33 +17,26 @@ Inv-loop words₀ used sweep o₀ i₀ words o i = (i ≤ used) × (length words
 abbrev μ-loop : tie.MeasureT-loop
 μ-loop words₀ used sweep o₀ i₀ words o i = used - i
 
--- src/lib.rt:133:5
 loop-holds : tie.Need-loop-holds Inv-loop μ-loop
 loop-holds c = (search needs, search needs, passing-start (c .before .args .sweep) (c .before .args .words .now))
 
--- src/lib.rt:134:9
 move-one-requires : tie.Need-move-one-requires Inv-loop μ-loop
 move-one-requires c κs = (c .before .before .loop .inv .2 .most, search needs)
 
--- src/lib.rt:135:9
 add-i : tie.Need-add-i Inv-loop μ-loop
 add-i c = search needs
 
--- src/lib.rt:133:5
 loop-less : tie.Need-loop-less Inv-loop μ-loop
 loop-less c = search needs
 
--- src/lib.rt:133:5
 loop-again : tie.Need-loop-again Inv-loop μ-loop
 loop-again c = let a = c .before .before .before .before .before .before .before .args in
     let k = messages-length (a .used) (a .words .now) (c .before .before .before .before .before .before .before .pre) in
     (search needs, search needs, c .before .before .move-one .ensures .moved (a .words .now) (omega arith) (c .before .before .before .before .before .loop .inv .2))
 
--- src/lib.rt:127:1
 same-length : tie.Need-same-length Inv-loop μ-loop
 same-length c = search needs
 
--- src/lib.rt:127:1
 returns : tie.Need-returns Inv-loop μ-loop
 returns c = let a = c .before .before .before .args in
     let o = c .before .loop in

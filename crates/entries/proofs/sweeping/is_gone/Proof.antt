@@ -11,36 +11,28 @@ use Rattle.model.specs.Memory.{expunged}
 use Rattle.entries.specs.Swept.{goes}
 use Rattle.entries.specs.declared.Sweep.{Sweep}
 
--- src/lib.rt:239:26
 enum-told : tie.Need-enum-told
 enum-told c = search needs
 
--- src/lib.rt:240:21
 enum-known-sweep : tie.Need-enum-known-sweep
 enum-known-sweep c = search needs
 
--- src/lib.rt:241:17
 is-below-requires : tie.Need-is-below-requires
 is-below-requires c κs = search needs
 
--- src/lib.rt:242:13
 both-requires : tie.Need-both-requires
 both-requires c κs = search needs
 
--- src/lib.rt:244:24
 enum-known-sweep-2 : tie.Need-enum-known-sweep-2
 enum-known-sweep-2 c = search needs
 
--- src/lib.rt:235:1
 returns : tie.Need-returns
 returns c = ap (λ (k : Sweep). goes k (c .before .before .before .args .e)) (sym (c .before .enum-told .given .1))
 
--- src/lib.rt:235:1
 returns-2 : tie.Need-returns-2
 returns-2 c =
     c .both .ensures ∙ (ap (λ (b : Bool). expunged (c .before .before .before .before .before .before .args .e) && b) (c .before .before .is-below .ensures) ∙ ap (λ (k : Sweep). goes k (c .before .before .before .before .before .before .args .e)) (sym (c .before .before .before .before .sweep .given .1)))
 
--- src/lib.rt:235:1
 returns-3 : tie.Need-returns-3
 returns-3 c = ap (λ (k : Sweep). goes k (c .before .before .before .before .args .e)) (sym (c .before .before .sweep2 .given .1))
 

@@ -10,23 +10,18 @@ use mathlib.Core.Path.{sym, _∙_, ap}
 use mathlib.Core.Bool.{Bool, cond, _&&_}
 use Rattle.model.specs.Memory.{marked, withStates}
 
--- src/lib.rt:252:9
 is-below-requires : tie.Need-is-below-requires
 is-below-requires c κs = search needs
 
--- src/lib.rt:253:8
 both-requires : tie.Need-both-requires
 both-requires c κs = search needs
 
--- src/lib.rt:254:9
 changed-requires : tie.Need-changed-requires
 changed-requires c κs = search needs
 
--- src/lib.rt:254:9
 returns : tie.Need-returns
 returns c = let e = c .before .before .before .before .before .args .e in c .changed .ensures ∙ sym (ap (λ (b : Bool). cond b (withStates (c .before .before .before .before .before .args .e) 0) (c .before .before .before .before .before .args .e)) (sym (c .before .before .both .ensures ∙ ap (λ (b : Bool). marked (c .before .before .before .before .before .args .e) && b) (c .before .before .before .before .is-below .ensures)) ∙ c .before .if1 .taken))
 
--- src/lib.rt:249:1
 returns-2 : tie.Need-returns-2
 returns-2 c = sym (ap (λ (b : Bool). cond b (withStates (c .before .before .before .before .args .e) 0) (c .before .before .before .before .args .e)) (sym (c .before .both .ensures ∙ ap (λ (b : Bool). marked (c .before .before .before .before .args .e) && b) (c .before .before .before .is-below .ensures)) ∙ c .if1 .left))
 

@@ -18,38 +18,30 @@ Inv-loop words₀ from upto j₀ words j = (from ≤ j) × (j ≤ upto) × (leng
 abbrev μ-loop : tie.MeasureT-loop
 μ-loop words₀ from upto j₀ words j = upto - j
 
--- src/lib.rt:137:5
 loop-holds : tie.Need-loop-holds Inv-loop μ-loop
 loop-holds c = (search needs, search needs, search needs, wiping-start (c .before .args .words .now) (c .before .args .from))
 
--- src/lib.rt:138:32
 nothing-requires : tie.Need-nothing-requires Inv-loop μ-loop
 nothing-requires c κs = search needs
 
--- src/lib.rt:138:9
 put-requires : tie.Need-put-requires Inv-loop μ-loop
 put-requires c κs = search needs
 
--- src/lib.rt:139:9
 add-j : tie.Need-add-j Inv-loop μ-loop
 add-j c = search needs
 
--- src/lib.rt:137:5
 loop-less : tie.Need-loop-less Inv-loop μ-loop
 loop-less c = search needs
 
--- src/lib.rt:137:5
 loop-again : tie.Need-loop-again Inv-loop μ-loop
 loop-again c = let a = c .before .before .before .before .before .before .before .before .args in
     let o = c .before .before .before .before .before .before .loop in
     let k = messages-length (a .upto) (a .words .now) (c .before .before .before .before .before .before .before .before .pre .1) in
     (search needs, search needs, search needs, rw (c .before .before .put .ensures) (wiping-next (a .words .now) (a .from) (o .words) (o .j) (c .before .before .before .nothing .result) (o .inv .0) (omega arith) (o .inv .3) (c .before .before .before .nothing .ensures) (omega arith)))
 
--- src/lib.rt:132:1
 same-length : tie.Need-same-length Inv-loop μ-loop
 same-length c = search needs
 
--- src/lib.rt:132:1
 returns : tie.Need-returns Inv-loop μ-loop
 returns c = let a = c .before .before .before .args in
     let o = c .before .loop in

@@ -10,35 +10,27 @@ use borrow.Author.Tests.{not-true, not-false}
 use Rattle.out.specs.Put.{_then_, put-as, put-none}
 use Rattle.fetches.specs.Fetch.{piece-off, piece-first, piece-more}
 
--- src/lib.rt:26:9
 returns : tie.Need-returns
 returns c = (put-as (put-none (c .before .before .before .args .queue .now) (c .before .before .before .args .at) (c .before .before .before .args .limit) (c .before .before .before .pre .0)) (piece-off (c .before .before .before .args .on) (c .before .before .before .args .began) (c .before .before .before .args .name .now) (not-true _ (c .if1 .taken))), omega arith)
 
--- src/lib.rt:29:9
 put-requires : tie.Need-put-requires
 put-requires c κs = search needs
 
--- src/lib.rt:29:9
 same-length : tie.Need-same-length
 same-length c = search needs
 
--- src/lib.rt:29:9
 returns-2 : tie.Need-returns-2
 returns-2 c = (put-as (c .before .before .put .ensures) (piece-first (c .before .before .before .before .before .before .before .before .args .on) (c .before .before .before .before .before .before .before .before .args .began) (c .before .before .before .before .before .before .before .before .args .name .now) (not-false _ (c .before .before .before .before .before .if1 .left)) (not-true _ (c .before .before .before .before .if2 .taken))), omega (arith, c .before .before .put .ensures .next))
 
--- src/lib.rt:31:9
 put-byte-requires : tie.Need-put-byte-requires
 put-byte-requires c κs = search needs
 
--- src/lib.rt:32:5
 put-requires-2 : tie.Need-put-requires-2
 put-requires-2 c κs = search needs
 
--- src/lib.rt:21:1
 same-length-2 : tie.Need-same-length-2
 same-length-2 c = search needs
 
--- src/lib.rt:21:1
 returns-3 : tie.Need-returns-3
 returns-3 c = (put-as (_then_ (c .before .before .before .before .before .before .put-byte .ensures) (c .before .before .put2 .ensures)) (piece-more (c .before .before .before .before .before .before .before .before .before .before .before .before .args .on) (c .before .before .before .before .before .before .before .before .before .before .before .before .args .began) (c .before .before .before .before .before .before .before .before .before .before .before .before .args .name .now) (not-false _ (c .before .before .before .before .before .before .before .before .before .if1 .left)) (not-false _ (c .before .before .before .before .before .before .before .before .if2 .left))), omega (arith, c .before .before .before .before .before .before .put-byte .ensures .next, c .before .before .put2 .ensures .next))
 

@@ -13,27 +13,21 @@ use Rattle.out.specs.Put.{_then_, put-as}
 use Rattle.fetches.specs.Fetch.{lastTwo, flags-pieces}
 use Rattle.model.specs.Text.{bit}
 
--- src/lib.rt:75:9
 put-three-requires : tie.Need-put-three-requires
 put-three-requires c κs = search needs
 
--- src/lib.rt:76:24
 either-requires : tie.Need-either-requires
 either-requires c κs = search needs
 
--- src/lib.rt:76:9
 either-requires-2 : tie.Need-either-requires-2
 either-requires-2 c κs = search needs
 
--- src/lib.rt:77:5
 put-two-requires : tie.Need-put-two-requires
 put-two-requires c κs = search needs
 
--- src/lib.rt:64:1
 same-length : tie.Need-same-length
 same-length c = search needs
 
--- src/lib.rt:64:1
 returns : tie.Need-returns
 returns c = (put-as (_then_ (c .before .before .before .before .before .before .before .before .put-three .ensures .0) (put-as (c .before .before .put-two .ensures .0) (ap (λ (b : Bool). lastTwo b (bit 3 (c .before .before .before .before .before .before .before .before .before .before .before .args .flags)) (bit 4 (c .before .before .before .before .before .before .before .before .before .before .before .args .flags))) (c .before .before .before .before .either2 .ensures ∙ ap (λ (b : Bool). b || bit 2 (c .before .before .before .before .before .before .before .before .before .before .before .args .flags)) (c .before .before .before .before .before .either .ensures))))) (flags-pieces (c .before .before .before .before .before .before .before .before .before .before .before .args .flags)), omega (arith, c .before .before .before .before .before .before .before .before .put-three .ensures .1, c .before .before .put-two .ensures .1))
 

@@ -12,39 +12,30 @@ use Rattle.out.specs.Put.{_then_, put-as}
 use Rattle.fetches.specs.Fetch.{piece}
 use Rattle.model.specs.Text.{octets}
 
--- src/lib.rt:48:50
 slice-aggregate-put-flag : tie.Need-slice-aggregate-put-flag
 slice-aggregate-put-flag c = search needs
 
--- src/lib.rt:48:9
 put-flag-requires : tie.Need-put-flag-requires
 put-flag-requires c κs = search needs
 
--- src/lib.rt:49:45
 slice-aggregate-put-flag-2 : tie.Need-slice-aggregate-put-flag-2
 slice-aggregate-put-flag-2 c = search needs
 
--- src/lib.rt:49:9
 put-flag-requires-2 : tie.Need-put-flag-requires-2
 put-flag-requires-2 c κs = search needs
 
--- src/lib.rt:50:9
 either-requires : tie.Need-either-requires
 either-requires c κs = search needs
 
--- src/lib.rt:51:41
 slice-aggregate-put-flag-3 : tie.Need-slice-aggregate-put-flag-3
 slice-aggregate-put-flag-3 c = search needs
 
--- src/lib.rt:51:5
 put-flag-requires-3 : tie.Need-put-flag-requires-3
 put-flag-requires-3 c κs = search needs
 
--- src/lib.rt:44:1
 same-length : tie.Need-same-length
 same-length c = search needs
 
--- src/lib.rt:44:1
 returns : tie.Need-returns
 returns c = (_then_ (_then_ (c .before .before .before .before .before .before .before .before .before .before .before .before .before .put-flag .ensures .0) (c .before .before .before .before .before .before .before .before .put-flag2 .ensures .0)) (put-as (c .before .before .put-flag3 .ensures .0) (ap (λ (b : Bool). piece (c .before .before .before .before .before .before .before .before .before .before .before .before .before .before .before .before .before .args .c) b (octets "\\Deleted")) (c .before .before .before .before .before .either .ensures))), omega (arith, c .before .before .before .before .before .before .before .before .before .before .before .before .before .put-flag .ensures .1, c .before .before .before .before .before .before .before .before .put-flag2 .ensures .1, c .before .before .put-flag3 .ensures .1))
 

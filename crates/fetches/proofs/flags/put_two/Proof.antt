@@ -12,31 +12,24 @@ use Rattle.out.specs.Put.{_then_, put-as}
 use Rattle.fetches.specs.Fetch.{piece}
 use Rattle.model.specs.Text.{octets}
 
--- src/lib.rt:58:50
 slice-aggregate-put-flag : tie.Need-slice-aggregate-put-flag
 slice-aggregate-put-flag c = search needs
 
--- src/lib.rt:58:9
 put-flag-requires : tie.Need-put-flag-requires
 put-flag-requires c κs = search needs
 
--- src/lib.rt:59:9
 either-requires : tie.Need-either-requires
 either-requires c κs = search needs
 
--- src/lib.rt:60:40
 slice-aggregate-put-flag-2 : tie.Need-slice-aggregate-put-flag-2
 slice-aggregate-put-flag-2 c = search needs
 
--- src/lib.rt:60:5
 put-flag-requires-2 : tie.Need-put-flag-requires-2
 put-flag-requires-2 c κs = search needs
 
--- src/lib.rt:54:1
 same-length : tie.Need-same-length
 same-length c = search needs
 
--- src/lib.rt:54:1
 returns : tie.Need-returns
 returns c = (_then_ (c .before .before .before .before .before .before .before .before .put-flag .ensures .0) (put-as (c .before .before .put-flag2 .ensures .0) (ap (λ (b : Bool). piece (c .before .before .before .before .before .before .before .before .before .before .before .before .args .e) b (octets "\\Draft")) (c .before .before .before .before .before .either .ensures))), omega (arith, c .before .before .before .before .before .before .before .before .put-flag .ensures .1, c .before .before .put-flag2 .ensures .1))
 

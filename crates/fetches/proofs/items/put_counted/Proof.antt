@@ -15,27 +15,21 @@ use Rattle.model.specs.Text.{decimal}
 use Rattle.fetches.specs.Fetch.{piece-off}
 use Rattle.fetches.specs.Items.{piece-gap}
 
--- src/lib.rt:200:9
 returns : tie.Need-returns
 returns c = let a = c .before .before .before .args in (put-as (put-none _ _ _ (c .before .before .before .pre .0)) (piece-off (a .on) (a .began) (a .word .now ++ decimal (a .n)) (not-true (a .on) (c .if1 .taken))), omega arith)
 
--- src/lib.rt:202:9
 put-gap-requires : tie.Need-put-gap-requires
 put-gap-requires c κs = search needs
 
--- src/lib.rt:203:9
 put-requires : tie.Need-put-requires
 put-requires c κs = search needs
 
--- src/lib.rt:204:5
 put-number-requires : tie.Need-put-number-requires
 put-number-requires c κs = search needs
 
--- src/lib.rt:187:1
 same-length : tie.Need-same-length
 same-length c = search needs
 
--- src/lib.rt:187:1
 returns-2 : tie.Need-returns-2
 returns-2 c = let a = c .before .before .before .before .before .before .before .before .before .before .before .before .before .before .before .args in
     (put-as (_then_ (c .before .before .before .before .before .before .before .before .before .before .put-gap .ensures .0) (_then_ (c .before .before .before .before .before .before .put .ensures) (c .before .before .put-number .ensures .0))) (piece-gap (a .on) (a .began) (a .word .now ++ decimal (a .n)) (not-false (a .on) (c .before .before .before .before .before .before .before .before .before .before .before .before .if1 .left))), omega (arith, c .before .before .before .before .before .before .before .before .before .before .before .before .before .before .before .pre .2, c .before .before .before .before .before .before .before .before .before .before .put-gap .ensures .1, c .before .before .before .before .before .before .put .ensures .next, c .before .before .put-number .ensures .1))

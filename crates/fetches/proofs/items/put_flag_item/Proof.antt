@@ -13,39 +13,30 @@ use Rattle.out.specs.Put.{_then_, put-as, put-none}
 use Rattle.fetches.specs.Fetch.{piece-off}
 use Rattle.fetches.specs.Items.{piece-gap, flagItem}
 
--- src/lib.rt:213:9
 returns : tie.Need-returns
 returns c = let a = c .before .before .args in (put-as (put-none _ _ _ (c .before .before .pre .0)) (piece-off (a .on) (a .began) (flagItem (a .flags)) (not-true (a .on) (c .if1 .taken))), omega arith)
 
--- src/lib.rt:215:9
 put-gap-requires : tie.Need-put-gap-requires
 put-gap-requires c κs = search needs
 
--- src/lib.rt:216:39
 slice-aggregate-put : tie.Need-slice-aggregate-put
 slice-aggregate-put c = search needs
 
--- src/lib.rt:216:9
 put-requires : tie.Need-put-requires
 put-requires c κs = search needs
 
--- src/lib.rt:217:9
 put-flags-requires : tie.Need-put-flags-requires
 put-flags-requires c κs = search needs
 
--- src/lib.rt:218:31
 slice-aggregate-put-2 : tie.Need-slice-aggregate-put-2
 slice-aggregate-put-2 c = search needs
 
--- src/lib.rt:218:5
 put-requires-2 : tie.Need-put-requires-2
 put-requires-2 c κs = search needs
 
--- src/lib.rt:208:1
 same-length : tie.Need-same-length
 same-length c = search needs
 
--- src/lib.rt:208:1
 returns-2 : tie.Need-returns-2
 returns-2 c = let a = c .before .before .before .before .before .before .before .before .before .before .before .before .before .before .before .before .before .before .before .before .args in
     (put-as (_then_ (c .before .before .before .before .before .before .before .before .before .before .before .before .before .before .before .before .put-gap .ensures .0) (_then_ (_then_ (c .before .before .before .before .before .before .before .before .before .before .before .put .ensures) (c .before .before .before .before .before .before .before .put-flags .ensures .0)) (c .before .before .put2 .ensures))) (piece-gap (a .on) (a .began) (flagItem (a .flags)) (not-false (a .on) (c .before .before .before .before .before .before .before .before .before .before .before .before .before .before .before .before .before .before .if1 .left))), omega (arith, c .before .before .before .before .before .before .before .before .before .before .before .before .before .before .before .before .put-gap .ensures .1, c .before .before .before .before .before .before .before .before .before .before .before .put .ensures .next, c .before .before .before .before .before .before .before .put-flags .ensures .1, c .before .before .put2 .ensures .next))

@@ -10,19 +10,15 @@ use borrow.Author.Tests.{not-true, not-false}
 use Rattle.out.specs.Put.{put-as, put-none}
 use Rattle.fetches.specs.Items.{gap-off, gap-on}
 
--- src/lib.rt:181:9
 returns : tie.Need-returns
 returns c = (put-as (put-none _ _ _ (c .before .before .pre .0)) (gap-off (c .before .before .args .began) (not-true (c .before .before .args .began) (c .if1 .taken))), omega arith)
 
--- src/lib.rt:183:5
 put-byte-requires : tie.Need-put-byte-requires
 put-byte-requires c κs = search needs
 
--- src/lib.rt:176:1
 same-length : tie.Need-same-length
 same-length c = search needs
 
--- src/lib.rt:176:1
 returns-2 : tie.Need-returns-2
 returns-2 c = (put-as (c .before .before .put-byte .ensures) (gap-on (c .before .before .before .before .before .before .args .began) (not-false (c .before .before .before .before .before .before .args .began) (c .before .before .before .before .if1 .left))), omega (arith, c .before .before .put-byte .ensures .next))
 

@@ -14,35 +14,27 @@ use Rattle.out.specs.Put.{_then_, put-as}
 use Rattle.fetches.specs.Fetch.{piece}
 use Rattle.fetches.specs.Items.{sizeText}
 
--- src/lib.rt:226:57
 slice-aggregate-put-counted : tie.Need-slice-aggregate-put-counted
 slice-aggregate-put-counted c = search needs
 
--- src/lib.rt:226:9
 put-counted-requires : tie.Need-put-counted-requires
 put-counted-requires c κs = search needs
 
--- src/lib.rt:227:9
 put-flag-item-requires : tie.Need-put-flag-item-requires
 put-flag-item-requires c κs = search needs
 
--- src/lib.rt:228:9
 either-requires : tie.Need-either-requires
 either-requires c κs = search needs
 
--- src/lib.rt:229:49
 slice-aggregate-put-counted-2 : tie.Need-slice-aggregate-put-counted-2
 slice-aggregate-put-counted-2 c = search needs
 
--- src/lib.rt:229:5
 put-counted-requires-2 : tie.Need-put-counted-requires-2
 put-counted-requires-2 c κs = search needs
 
--- src/lib.rt:222:1
 same-length : tie.Need-same-length
 same-length c = search needs
 
--- src/lib.rt:222:1
 returns : tie.Need-returns
 returns c = let a = c .before .before .before .before .before .before .before .before .before .before .before .before .before .before .before .before .args in
     (_then_ (_then_ (c .before .before .before .before .before .before .before .before .before .before .before .before .put-counted .ensures .0) (c .before .before .before .before .before .before .before .before .put-flag-item .ensures .0)) (put-as (c .before .before .put-counted2 .ensures .0) (ap (λ (b : Bool). piece (c .before .before .before .before .before .before .before .before .before .before .before .before .before .before .before .before .args .w .size) b (sizeText (c .before .before .before .before .before .before .before .before .before .before .before .before .before .before .before .before .args .e .size))) (c .before .before .before .before .before .either .ensures))), omega (arith, c .before .before .before .before .before .before .before .before .before .before .before .before .put-counted .ensures .1, c .before .before .before .before .before .before .before .before .put-flag-item .ensures .1, c .before .before .put-counted2 .ensures .1))

@@ -9,24 +9,19 @@ use Prim.Native.Nat.{_-_}
 use native.Mathlib.Omega.{arith}
 use Rattle.fetches.specs.Parts.{puts-none, puts-some, not-new, not-new-next, is-new, is-new-next}
 
--- src/lib.rt:300:9
 returns : tie.Need-returns
 returns c = let a = c .before .before .before .before .args in
     puts-none _ _ _ _ _ _ (c .before .before .before .before .pre .0) refl (not-new (a .told .0) (a .n .0) (a .e) (a .w) (c .if1 .taken)) (not-new-next (a .told .0) (a .n .0) (a .e) (a .w) (c .if1 .taken))
 
--- src/lib.rt:302:16
 add-more : tie.Need-add-more
 add-more c = search needs
 
--- src/lib.rt:303:9
 put-new-requires : tie.Need-put-new-requires
 put-new-requires c κs = search needs
 
--- src/lib.rt:295:1
 same-length : tie.Need-same-length
 same-length c = search needs
 
--- src/lib.rt:295:1
 returns-2 : tie.Need-returns-2
 returns-2 c = let a = c .before .before .before .before .before .before .before .before .before .args in
     puts-some _ _ _ _ _ _ _ _ (c .before .before .put-new .ensures .0) (omega (arith, c .before .before .put-new .ensures .1)) (is-new (a .told .0) (a .n .0) (a .e) (a .w) (c .before .before .before .before .before .if1 .left)) (is-new-next (a .told .0) (a .n .0) (a .e) (a .w) (c .before .before .before .before .before .if1 .left))

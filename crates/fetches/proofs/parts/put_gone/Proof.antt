@@ -9,29 +9,23 @@ use Prim.Native.Nat.{_-_}
 use native.Mathlib.Omega.{arith}
 use Rattle.fetches.specs.Parts.{puts-none, puts-some, off-gone, off-gone-next, is-gone, is-gone-next, is-live, is-live-next}
 
--- src/lib.rt:264:9
 returns : tie.Need-returns
 returns c = let a = c .before .before .before .before .args in
     puts-none _ _ _ _ _ _ (c .before .before .before .before .pre .0) refl (off-gone (a .told .0) (a .n .0) (a .e) (c .if1 .taken)) (off-gone-next (a .told .0) (a .n .0) (a .e) (c .if1 .taken))
 
--- src/lib.rt:267:13
 put-expunge-requires : tie.Need-put-expunge-requires
 put-expunge-requires c κs = search needs
 
--- src/lib.rt:268:9
 same-length : tie.Need-same-length
 same-length c = search needs
 
--- src/lib.rt:268:9
 returns-2 : tie.Need-returns-2
 returns-2 c = let a = c .before .before .before .before .before .before .before .before .before .before .args in
     puts-some _ _ _ _ _ _ _ _ (c .before .before .put-expunge .ensures .0) (omega (arith, c .before .before .put-expunge .ensures .1)) (is-gone (a .told .0) (a .n .0) (a .e) (c .before .before .before .before .before .before .if1 .left) (c .before .before .before .before .if2 .taken)) (is-gone-next (a .told .0) (a .n .0) (a .e) (c .before .before .before .before .before .before .if1 .left) (c .before .before .before .before .if2 .taken))
 
--- src/lib.rt:270:16
 add-more : tie.Need-add-more
 add-more c = search needs
 
--- src/lib.rt:259:1
 returns-3 : tie.Need-returns-3
 returns-3 c = let a = c .before .before .before .before .before .before .before .args in
     puts-none _ _ _ _ _ _ (c .before .before .before .before .before .before .before .pre .0) refl (is-live (a .told .0) (a .n .0) (a .e) (c .before .before .before .if1 .left) (c .before .if2 .left)) (is-live-next (a .told .0) (a .n .0) (a .e) (c .before .before .before .if1 .left) (c .before .if2 .left))

@@ -8,51 +8,39 @@ use Rattle.fetches.proofs.parts.put_gone.Reads as put-gone-reads
 use Rattle.fetches.proofs.parts.put_marked.Reads as put-marked-reads
 use Prim.Native.Nat.{_-_}
 
--- src/lib.rt:313:36
 enum-told : tie.Need-enum-told
 enum-told c = search needs
 
--- src/lib.rt:313:27
 put-gone-requires : tie.Need-put-gone-requires
 put-gone-requires c κs = search needs
 
--- src/lib.rt:314:36
 enum-told-2 : tie.Need-enum-told-2
 enum-told-2 c = search needs
 
--- src/lib.rt:314:25
 put-marked-requires : tie.Need-put-marked-requires
 put-marked-requires c κs = search needs
 
--- src/lib.rt:315:19
 enum-known-part : tie.Need-enum-known-part
 enum-known-part c = search needs
 
--- src/lib.rt:315:25
 put-fresh-requires : tie.Need-put-fresh-requires
 put-fresh-requires c κs = search needs
 
--- src/lib.rt:308:1
 same-length : tie.Need-same-length
 same-length c = search needs
 
--- src/lib.rt:308:1
 returns : tie.Need-returns
 returns c = rw (c .before .before .before .before .enum-told .given .1) (c .before .before .put-gone .ensures)
 
--- src/lib.rt:308:1
 same-length-2 : tie.Need-same-length-2
 same-length-2 c = search needs
 
--- src/lib.rt:308:1
 returns-2 : tie.Need-returns-2
 returns-2 c = rw (c .before .before .before .before .enum-told2 .given .1) (c .before .before .put-marked .ensures)
 
--- src/lib.rt:308:1
 same-length-3 : tie.Need-same-length-3
 same-length-3 c = search needs
 
--- src/lib.rt:308:1
 returns-3 : tie.Need-returns-3
 returns-3 c = rw (c .before .before .before .before .before .part .given .1) (c .before .before .put-fresh .ensures)
 

@@ -20,35 +20,27 @@ Inv-loop words order count queue₀ at limit part told end₀ next₀ j₀ queue
 abbrev μ-loop : tie.MeasureT-loop
 μ-loop words order count queue₀ at limit part told end₀ next₀ j₀ queue end next j = j
 
--- src/lib.rt:337:5
 loop-holds : tie.Need-loop-holds Inv-loop μ-loop
 loop-holds c = (omega arith, refl, omega arith, omega arith, λ q r p. p)
 
--- src/lib.rt:338:9
 sub-j : tie.Need-sub-j Inv-loop μ-loop
 sub-j c = search needs
 
--- src/lib.rt:339:39
 mul-entry : tie.Need-mul-entry Inv-loop μ-loop
 mul-entry c = search needs
 
--- src/lib.rt:339:39
 shared-slice-read-entry : tie.Need-shared-slice-read-entry Inv-loop μ-loop
 shared-slice-read-entry c = search needs
 
--- src/lib.rt:339:13
 entry-requires : tie.Need-entry-requires Inv-loop μ-loop
 entry-requires c κs = search needs
 
--- src/lib.rt:340:13
 put-one-requires : tie.Need-put-one-requires Inv-loop μ-loop
 put-one-requires c κs = let o = c .before .before .before .before .loop in (omega arith, omega arith, omega arith)
 
--- src/lib.rt:337:5
 loop-less : tie.Need-loop-less Inv-loop μ-loop
 loop-less c = search needs
 
--- src/lib.rt:337:5
 loop-again : tie.Need-loop-again Inv-loop μ-loop
 loop-again c = let a = c .before .before .before .before .before .before .before .before .before .before .before .before .args in
     let o = c .before .before .before .before .before .before .before .before .loop in
@@ -56,11 +48,9 @@ loop-again c = let a = c .before .before .before .before .before .before .before
     let m = next-most (a .told .0) (o .next .0) (c .before .before .before .before .before .entry .result) (a .part) in
     (omega arith, p .put .same ∙ o .inv .1, omega (arith, p .short), omega (arith, p .next), part-next (a .part) (a .told .0) (messages (a .words .now)) (a .order .now) (a .queue .now) (a .at) (a .limit) _ (o .queue) (o .end) (o .j) (o .next .0) (c .before .before .before .before .before .entry .result) _ _ _ (c .before .before .before .before .before .before .before .loop-test .taken) (o .inv .4) (c .before .before .before .before .before .entry .ensures) (p .put) (p .next))
 
--- src/lib.rt:320:1
 same-length : tie.Need-same-length Inv-loop μ-loop
 same-length c = search needs
 
--- src/lib.rt:320:1
 returns : tie.Need-returns Inv-loop μ-loop
 returns c = let a = c .before .before .before .before .before .args in
     let o = c .before .loop in

@@ -19,15 +19,12 @@ Inv-loop ids lens names n from j i₀ i = (from ≤ i) × (i ≤ n) × ((l : Lis
 abbrev μ-loop : tie.MeasureT-loop
 μ-loop ids lens names n from j i₀ i = n - i
 
--- src/lib.rt:133:5
 loop-holds : tie.Need-loop-holds Inv-loop μ-loop
 loop-holds c = (search needs, search needs, λ l h w. refl)
 
--- src/lib.rt:134:12
 do-clash-requires : tie.Need-do-clash-requires Inv-loop μ-loop
 do-clash-requires c κs = search needs
 
--- src/lib.rt:135:13
 returns : tie.Need-returns Inv-loop μ-loop
 returns c =
     let args = c .before .before .before .before .args in
@@ -36,15 +33,12 @@ returns c =
     let at = clash-at l (args .ids .now) (args .lens .now) (args .names .now) w (args .j) (turn .i) (omega arith) (omega arith) in
     sym (turn .inv .2 l h w ∙ any-found (clash (getD l (args .j) noMailbox)) l (turn .i) noMailbox (omega arith) (sym (c .before .do-clash .ensures ∙ at) ∙ c .if1 .taken))
 
--- src/lib.rt:137:9
 add-i : tie.Need-add-i Inv-loop μ-loop
 add-i c = search needs
 
--- src/lib.rt:133:5
 loop-less : tie.Need-loop-less Inv-loop μ-loop
 loop-less c = search needs
 
--- src/lib.rt:133:5
 loop-again : tie.Need-loop-again Inv-loop μ-loop
 loop-again c =
     let args = c .before .before .before .before .args in
@@ -56,7 +50,6 @@ loop-again c =
           turn .inv .2 l h w ∙ any-on (clash (getD l (args .j) noMailbox)) l (turn .i) noMailbox (omega arith) (sym (c .before .do-clash .ensures ∙ at) ∙ c .if1 .left),
     )
 
--- src/lib.rt:121:1
 returns-2 : tie.Need-returns-2 Inv-loop μ-loop
 returns-2 c = λ l h w. sym (c .before .loop .inv .2 l h w ∙ any-over (clash (getD l (c .before .before .args .j) noMailbox)) l (c .before .loop .i) (omega arith))
 

@@ -17,41 +17,33 @@ Inv-loop words n from d i₀ i = (from ≤ i) × (i ≤ n) × (anyb (twin d) (dr
 abbrev μ-loop : tie.MeasureT-loop
 μ-loop words n from d i₀ i = n - i
 
--- src/lib.rt:329:5
 loop-holds : tie.Need-loop-holds Inv-loop μ-loop
 loop-holds c = (search needs, search needs, refl)
 
--- src/lib.rt:330:25
 get-requires : tie.Need-get-requires Inv-loop μ-loop
 get-requires c κs = search needs
 
--- src/lib.rt:330:12
 are-twins-requires : tie.Need-are-twins-requires Inv-loop μ-loop
 are-twins-requires c κs = search needs
 
--- src/lib.rt:331:13
 returns : tie.Need-returns Inv-loop μ-loop
 returns c =
     let args = c .before .before .before .before .before .before .args in
     let turn = c .before .before .before .before .loop in
     let k = messages-length (args .n) (args .words .now) (c .before .before .before .before .before .before .pre .0) in sym (turn .inv .2 ∙ any-here (twin (args .d)) (messages (args .words .now)) (args .n) (turn .i) (omega arith) noMessage (omega arith) (ap (twin (args .d)) (sym (c .before .before .get .ensures)) ∙ sym (c .before .are-twins .ensures) ∙ c .if1 .taken))
 
--- src/lib.rt:333:9
 add-i : tie.Need-add-i Inv-loop μ-loop
 add-i c = search needs
 
--- src/lib.rt:329:5
 loop-less : tie.Need-loop-less Inv-loop μ-loop
 loop-less c = search needs
 
--- src/lib.rt:329:5
 loop-again : tie.Need-loop-again Inv-loop μ-loop
 loop-again c =
     let args = c .before .before .before .before .before .before .args in
     let turn = c .before .before .before .before .loop in
     let k = messages-length (args .n) (args .words .now) (c .before .before .before .before .before .before .pre .0) in (search needs, search needs, turn .inv .2 ∙ any-next (twin (args .d)) (messages (args .words .now)) (args .n) (turn .i) (omega arith) noMessage (omega arith) (ap (twin (args .d)) (sym (c .before .before .get .ensures)) ∙ sym (c .before .are-twins .ensures) ∙ c .if1 .left))
 
--- src/lib.rt:324:1
 returns-2 : tie.Need-returns-2 Inv-loop μ-loop
 returns-2 c =
     let args = c .before .before .before .args in

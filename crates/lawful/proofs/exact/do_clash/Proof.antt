@@ -7,53 +7,41 @@ use borrow.Author.Tests.{eq-eqb, ne-eqb}
 use Rattle.model.specs.Lists.{same}
 use Rattle.rows.specs.Columns.{nameAt}
 
--- src/lib.rt:111:8
 mul-if1 : tie.Need-mul-if1
 mul-if1 c = search needs
 
--- src/lib.rt:111:8
 element-copy-out-if1 : tie.Need-element-copy-out-if1
 element-copy-out-if1 c = search needs
 
--- src/lib.rt:111:18
 mul-if1-2 : tie.Need-mul-if1-2
 mul-if1-2 c = search needs
 
--- src/lib.rt:111:18
 element-copy-out-if1-2 : tie.Need-element-copy-out-if1-2
 element-copy-out-if1-2 c = search needs
 
--- src/lib.rt:112:9
 returns : tie.Need-returns
 returns c =
     let args = c .before .before .before .args in
     rw (eq-eqb (getD (args .ids .now) (args .j) 0) (getD (args .ids .now) (args .k) 0) (c .if1 .taken))
 
--- src/lib.rt:115:16
 mul-from : tie.Need-mul-from
 mul-from c = search needs
 
--- src/lib.rt:116:9
 name-end-requires : tie.Need-name-end-requires
 name-end-requires c κs = search needs
 
--- src/lib.rt:117:36
 sub-has-name : tie.Need-sub-has-name
 sub-has-name c = search needs
 
--- src/lib.rt:117:36
 part-has-name-start : tie.Need-part-has-name-start
 part-has-name-start c = search needs
 
--- src/lib.rt:117:36
 part-has-name-end : tie.Need-part-has-name-end
 part-has-name-end c = search needs
 
--- src/lib.rt:117:5
 has-name-requires : tie.Need-has-name-requires
 has-name-requires c κs = search needs
 
--- src/lib.rt:107:1
 returns-2 : tie.Need-returns-2
 returns-2 c =
     let args = c .before .before .before .before .before .before .before .args in

@@ -7,31 +7,25 @@ use Rattle.quick.specs.Passing.{stateAt}
 use Rattle.rows.specs.Walks.{first-no, second-no, third}
 use borrow.Author.Needs.{needs}
 
--- src/lib.rt:252:9
 message-ok-requires : tie.Need-message-ok-requires
 message-ok-requires c κs = search needs
 
--- src/lib.rt:253:9
 returns : tie.Need-returns
 returns c =
     let args = c .before .before .args in
     λ l h w. first-no (messageOk (args .e)) (owned l (args .e)) (stateAt (args .selected) (args .told .0) (args .e)) (sym (c .before .message-ok .ensures) ∙ not-true _ (c .if1 .taken))
 
--- src/lib.rt:255:9
 is-owned-requires : tie.Need-is-owned-requires
 is-owned-requires c κs = search needs
 
--- src/lib.rt:256:9
 returns-2 : tie.Need-returns-2
 returns-2 c =
     let args = c .before .before .before .before .args in
     λ l h w. second-no (messageOk (args .e)) (owned l (args .e)) (stateAt (args .selected) (args .told .0) (args .e)) (sym (c .before .before .before .message-ok .ensures) ∙ not-false _ (c .before .before .if1 .left)) (sym (c .before .is-owned .ensures l h w) ∙ not-true _ (c .if2 .taken))
 
--- src/lib.rt:258:5
 state-ok-requires : tie.Need-state-ok-requires
 state-ok-requires c κs = search needs
 
--- src/lib.rt:241:1
 returns-3 : tie.Need-returns-3
 returns-3 c =
     let args = c .before .before .before .before .before .args in

@@ -4,23 +4,18 @@ use Rattle.lawful.proofs.exact.is_owned.Tie as tie
 use native.Mathlib.Omega.{arith}
 use Rattle.lawful.specs.Lent.{owner-unknown, owner-known}
 
--- src/lib.rt:204:9
 find-requires : tie.Need-find-requires
 find-requires c κs = search needs
 
--- src/lib.rt:206:9
 returns : tie.Need-returns
 returns c = λ l h w. owner-unknown l (c .before .before .args .e) (c .before .find .result) 0 (c .before .find .ensures .0 l h (w .id)) (omega arith)
 
--- src/lib.rt:208:15
 mul-result : tie.Need-mul-result
 mul-result c = search needs
 
--- src/lib.rt:208:15
 element-copy-out-result : tie.Need-element-copy-out-result
 element-copy-out-result c = search needs
 
--- src/lib.rt:200:1
 returns-2 : tie.Need-returns-2
 returns-2 c = λ l h w. owner-known l (c .before .before .before .before .args .e) (c .before .before .before .find .result) _ (c .before .before .before .find .ensures .0 l h (w .id)) (omega arith) (w .next (c .before .before .before .find .result) (omega arith))
 

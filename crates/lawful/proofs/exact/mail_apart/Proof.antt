@@ -18,45 +18,36 @@ Inv-loop words n i₀ i = (i ≤ n) × (apart twin (take n (messages words)) ≡
 abbrev μ-loop : tie.MeasureT-loop
 μ-loop words n i₀ i = n - i
 
--- src/lib.rt:94:5
 loop-holds : tie.Need-loop-holds Inv-loop μ-loop
 loop-holds c = (search needs, refl)
 
--- src/lib.rt:95:31
 add-any-twin : tie.Need-add-any-twin Inv-loop μ-loop
 add-any-twin c = search needs
 
--- src/lib.rt:95:38
 get-requires : tie.Need-get-requires Inv-loop μ-loop
 get-requires c κs = search needs
 
--- src/lib.rt:95:12
 any-twin-requires : tie.Need-any-twin-requires Inv-loop μ-loop
 any-twin-requires c κs = search needs
 
--- src/lib.rt:96:13
 returns : tie.Need-returns Inv-loop μ-loop
 returns c =
     let args = c .before .before .before .before .before .before .args in
     let turn = c .before .before .before .before .loop in
     let k = messages-length (args .n) (args .words .now) (c .before .before .before .before .before .before .pre) in sym (turn .inv .1 ∙ apart-here twin (messages (args .words .now)) (args .n) (turn .i) (omega arith) noMessage (omega arith) (ap (λ (d : Message). anyb (twin d) (drop (turn .i + 1) (take (args .n) (messages (args .words .now))))) (sym (c .before .before .get .ensures)) ∙ sym (c .before .any-twin .ensures) ∙ c .if1 .taken))
 
--- src/lib.rt:98:9
 add-i : tie.Need-add-i Inv-loop μ-loop
 add-i c = search needs
 
--- src/lib.rt:94:5
 loop-less : tie.Need-loop-less Inv-loop μ-loop
 loop-less c = search needs
 
--- src/lib.rt:94:5
 loop-again : tie.Need-loop-again Inv-loop μ-loop
 loop-again c =
     let args = c .before .before .before .before .before .before .args in
     let turn = c .before .before .before .before .loop in
     let k = messages-length (args .n) (args .words .now) (c .before .before .before .before .before .before .pre) in (search needs, turn .inv .1 ∙ apart-next twin (messages (args .words .now)) (args .n) (turn .i) (omega arith) noMessage (omega arith) (ap (λ (d : Message). anyb (twin d) (drop (turn .i + 1) (take (args .n) (messages (args .words .now))))) (sym (c .before .before .get .ensures)) ∙ sym (c .before .any-twin .ensures) ∙ c .if1 .left))
 
--- src/lib.rt:89:1
 returns-2 : tie.Need-returns-2 Inv-loop μ-loop
 returns-2 c =
     let args = c .before .before .before .args in

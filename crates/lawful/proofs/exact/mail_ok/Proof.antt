@@ -20,19 +20,15 @@ Inv-loop ids nexts n words used selected told i₀ i = (i ≤ used) × ((l : Lis
 abbrev μ-loop : tie.MeasureT-loop
 μ-loop ids nexts n words used selected told i₀ i = used - i
 
--- src/lib.rt:275:5
 loop-holds : tie.Need-loop-holds Inv-loop μ-loop
 loop-holds c = (search needs, λ l h w. refl)
 
--- src/lib.rt:276:37
 get-requires : tie.Need-get-requires Inv-loop μ-loop
 get-requires c κs = search needs
 
--- src/lib.rt:276:13
 entry-ok-requires : tie.Need-entry-ok-requires Inv-loop μ-loop
 entry-ok-requires c κs = search needs
 
--- src/lib.rt:277:13
 returns : tie.Need-returns Inv-loop μ-loop
 returns c =
     let args = c .before .before .before .before .before .before .args in
@@ -42,15 +38,12 @@ returns c =
     let p = entryOk l (args .selected) (args .told .0) in
     sym (turn .inv .1 l h w ∙ all-here p (messages (args .words .now)) (args .used) (turn .i) many noMessage (omega arith) (sym (c .before .entry-ok .ensures l h w ∙ ap p (c .before .before .get .ensures)) ∙ not-true _ (c .if1 .taken)))
 
--- src/lib.rt:279:9
 add-i : tie.Need-add-i Inv-loop μ-loop
 add-i c = search needs
 
--- src/lib.rt:275:5
 loop-less : tie.Need-loop-less Inv-loop μ-loop
 loop-less c = search needs
 
--- src/lib.rt:275:5
 loop-again : tie.Need-loop-again Inv-loop μ-loop
 loop-again c =
     let args = c .before .before .before .before .before .before .args in
@@ -62,7 +55,6 @@ loop-again c =
           turn .inv .1 l h w ∙ all-next p (messages (args .words .now)) (args .used) (turn .i) many noMessage (omega arith) (sym (c .before .entry-ok .ensures l h w ∙ ap p (c .before .before .get .ensures)) ∙ not-false _ (c .if1 .left)),
     )
 
--- src/lib.rt:262:1
 returns-2 : tie.Need-returns-2 Inv-loop μ-loop
 returns-2 c =
     let args = c .before .before .before .args in

@@ -6,3 +6,4 @@ pub mod Values
 pub mod Months
 pub mod Widths
 pub mod Rows
+pub mod Stores

@@ -7,7 +7,7 @@ use native.Mathlib.Omega.{arith}
 use lib.ListN.{length, getD}
 use lib.Dec.{ltb}
 use borrow.Author.Tests.{eq-eqb, ne-eqb}
-use Rattle.model.specs.Requests.{Filter, selected, delayed, inboxes, personal, subscribed, subtree, subtreeOne, mailboxes, namesOf}
+use Rattle.model.specs.Requests.{Filter, selected, delayed, inboxes, personal, subscribed, subtree, subtreeOne, mailboxes}
 use Rattle.model.specs.Reading.{Parsed, bad, ok, is, piece, endOf, runAt, atomAt}
 use Rattle.model.specs.NotifyGrammar.{Scope as ScopeWord, alone, subtreeOf, oneLevelOf, mailboxesOf, unscoped, scopeOf, namesAt, withNames, namedBy, filterBy, filterAt, groupable}
 use Rattle.model.specs.Listing.{selectorNumber}
@@ -210,15 +210,6 @@ module _ (s : List ℕ) (at : ℕ) where
   pub filter-none : Missing ≡ nextOf (atomAt s at) → Bad ≡ readFilter (filterAt s at)
   unfolding filterAt
   filter-none e = rw (next-lost (atomAt s at) e)
-
--- what the answer says of the definitions
-pub filtered : {scope : Scope} {n p : ℕ} (x : Parsed Filter) → Is scope n p ≡ readFilter x → (f : Filter) × (x ≡ ok p f) × (scopeFor f ≡ scope) × (length (namesOf f) ≡ n)
-filtered bad e = absurd (let z : _≡_ {A = ℕ} 0 1 = cc in omega arith)
-filtered (ok q f) e = (f, (cc), (cc), (cc))
-
-pub unfiltered : (x : Parsed Filter) → Bad ≡ readFilter x → x ≡ bad
-unfiltered bad e = refl
-unfiltered (ok q f) e = absurd (let z : _≡_ {A = ℕ} 0 1 = cc in omega arith)
 
 -- ---- bounds
 

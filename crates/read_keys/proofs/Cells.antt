@@ -1,17 +1,11 @@
 -- Cells that are set one after the other, and octets in the text. Assumes nothing.
 use mathlib.Core.Path.{_≡_, refl, _∙_}
-use mathlib.Core.List.{List, [], _∷_, _++_}
+use mathlib.Core.List.{List, [], _∷_}
 use Prim.Native.Nat.{ℕ, suc, _+_, _<_}
 use native.Mathlib.Numerals.{add-one}
-use native.Mathlib.Nat.{add-zero, add-suc, suc-add}
 use native.Mathlib.Omega.{arith}
-use lib.ListN.{length, set, take}
+use lib.ListN.{set, take}
 use lib.Seq.{sets, set-comm, take-set-le}
-
--- stores one after the other
-pub sets-append : (b : List ℕ) (n : ℕ) (xs ys : List ℕ) → sets b n (xs ++ ys) ≡ sets (sets b n xs) (n + length xs) ys
-sets-append b n [] ys = rw (add-zero n)
-sets-append b n (x ∷ xs) ys = sets-append (set b n x) (suc n) xs ys ∙ rw (add-suc n (length xs), suc-add n (length xs))
 
 -- a store before others may come after them
 pub set-sets : (b : List ℕ) (i v n : ℕ) (xs : List ℕ) → i < n → set (sets b n xs) i v ≡ sets (set b i v) n xs

@@ -24,7 +24,8 @@ use Rattle.read_keys.specs.declared.Read.the-variants.{Found, Bad}
 use Rattle.read_keys.specs.declared.Ending.{Ending}
 use Rattle.read_keys.specs.declared.Ending.the-variants.{Closing, LineEnd}
 use Rattle.read_keys.specs.declared.After.the-variants.{Another, Over, Neither}
-use Rattle.read_keys.proofs.Cells.{sets-append, sets-head}
+use Rattle.octets.specs.Stores.{sets-append}
+use Rattle.read_keys.proofs.Cells.{sets-head}
 use Rattle.read_keys.proofs.Shapes.{after-yes, after-no}
 
 -- ---- one step of the readers

@@ -5,4 +5,3 @@ mod SetLaws
 mod Shapes
 mod KeyLaws
 pub mod Most
-pub mod Whole

@@ -1,20 +1,21 @@
 -- Groups and names that are kept in several steps, and the session that holds them, over plain values. Assumes nothing.
-use mathlib.Core.Path.{_≡_, refl, ap, _∙_}
-use mathlib.Core.List.{List, [], _∷_, _++_, map, map-append}
-use Prim.Native.Nat.{ℕ, zero, suc, _+_, _-_, _≤_, _<_}
-use native.Mathlib.Nat.{add-zero, add-suc, suc-add, sub-zero}
+use mathlib.Core.Path.{_≡_, refl, ap, sym, _∙_}
+use mathlib.Core.List.{List, [], _∷_, map}
+use Prim.Native.Nat.{ℕ, suc, _+_, _-_, _≤_, _<_}
 use native.Mathlib.Numerals.{add-one}
 use native.Mathlib.Omega.{arith}
-use lib.ListN.{length, set, drop, replicate, length-append, length-map}
-use lib.Seq.{set-out, sets, sets-eq}
+use lib.ListN.{length, length-append, length-map}
+use lib.Seq.{set-out}
 use borrow.Author.Tests.{lt-ltb}
 use Rattle.model.specs.Requests.{namesOf, Asked}
 use Rattle.model.specs.Limits.{nameCount}
 use Rattle.model.specs.Memory.{noGroup, noName}
-use Rattle.model.specs.Listing.{lendGroup, lendGroups, lendName, allNames, filledUp, watching}
+use Rattle.model.specs.Listing.{lendGroup, lendGroups, lendName, allNames, watching}
 use Rattle.model.specs.declared.LentGroup.{LentGroup}
 use Rattle.model.specs.declared.LentName.{LentName}
 use Rattle.model.specs.declared.Session.{Session}
+use Rattle.octets.specs.Stores.{fill}
+use Rattle.read_filters.proofs.Filling.{with-more}
 use Rattle.read_filters.specs.Keeping.{nothingKept, withAll}
 use Rattle.read_filters.specs.declared.Kept.{Kept}
 use Rattle.read_notify.specs.Tallies.{filtersOf}
@@ -26,26 +27,6 @@ module _ {A B : Type 0} where
   -- a list is as long as what it is turned into
   pub mapped : (f : A → B) (l : List A) {n : ℕ} → length (map f l) ≡ n → length l ≡ n
   mapped f l e = rw length-map at e
-
-module _ {A : Type 0} where
-  -- stores one after the other
-  sets-append : (b : List A) (n : ℕ) (xs ys : List A) → sets b n (xs ++ ys) ≡ sets (sets b n xs) (n + length xs) ys
-  sets-append b n [] ys = rw (add-zero n)
-  sets-append b n (x ∷ xs) ys = sets-append (set b n x) (suc n) xs ys ∙ rw (add-suc n (length xs), suc-add n (length xs))
-
-  as-many : (m n : ℕ) (a : A) → m ≡ n → replicate m a ≡ replicate n a
-  as-many m n a e = ap (λ (k : ℕ). replicate k a) e
-
-  drop-replicate : (n m : ℕ) (a : A) → drop n (replicate m a) ≡ replicate (m - n) a
-  drop-replicate zero m a = rw (sub-zero m)
-  drop-replicate (suc n) zero a = as-many 0 (0 - suc n) a (omega arith)
-  drop-replicate (suc n) (suc m) a = drop-replicate n m a ∙ as-many (m - n) (suc m - suc n) a (omega arith)
-
-  -- the front of so many blanks is overwritten
-  fill : (n : ℕ) (a : A) (l : List A) → length l ≤ length (replicate n a) → sets (replicate n a) 0 l ≡ filledUp n a l
-  fill n a l h =
-      sets-eq l (replicate n a) 0 (omega arith)
-      ∙ ap (λ (r : List A). l ++ r) (drop-replicate (0 + length l) n a ∙ as-many (n - (0 + length l)) (n - length l) a (omega arith))
 
 -- ---- one group more
 pub group-dropped : (w : Watch) (g : LentGroup) → length (w .groups) ≤ w .count → record { count = w .count + 1; groups = w .groups } ≡ withGroup w g
@@ -61,16 +42,11 @@ lent-so first g h l = rw (lt-ltb first 256 h, lt-ltb (length (namesOf (g .filter
 watch-so : {c d : ℕ} {l m : List LentGroup} → c ≡ d → l ≡ m → _≡_ {A = Watch} (record { count = c; groups = l }) (record { count = d; groups = m })
 watch-so e f = cc
 
-kept-so : {c d : ℕ} {l m : List LentName} → c ≡ d → l ≡ m → _≡_ {A = Kept} (record { count = c; names = l }) (record { count = d; names = m })
-kept-so e f = cc
-
 pub groups-first : (w : Watch) (first : ℕ) (g : Asked) (gs : List Asked) → withGroups w first (g ∷ gs) ≡ withGroups (withGroup w (lendGroup first g)) (first + length (namesOf (g .filter))) gs
 groups-first w first g gs = watch-so (omega arith) (rw (add-one (w .count)))
 
 pub names-first : (k : Kept) (g : Asked) (gs : List Asked) → withAll k (allNames (g ∷ gs)) ≡ withAll (withAll k (namesOf (g .filter))) (allNames gs)
-names-first k g gs =
-    kept-so (omega (arith, length-append (namesOf (g .filter)) (allNames gs)))
-    (rw map-append (sets-append (k .names) (k .count) (map lendName (namesOf (g .filter))) (map lendName (allNames gs)) ∙ rw length-map))
+names-first k g gs = sym (with-more k (namesOf (g .filter)) (allNames gs))
 
 -- ---- how many names
 pub names-count : (gs : List Asked) → length (allNames gs) ≡ nameCount (filtersOf gs)

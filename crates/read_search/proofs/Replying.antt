@@ -21,8 +21,6 @@ use Rattle.read_keys.proofs.Most.{most-parts}
 use Rattle.read_search.specs.Parts.{inAt, returnAt, charsetPartAt}
 use Rattle.read_search.specs.Searched.{askedOf, readSearch}
 use Rattle.read_search.specs.Judged.{replyByAsked, replyByRead}
-use Rattle.read_search.specs.declared.Asked.{Asked}
-use Rattle.read_search.specs.declared.SearchRead.the-variants.{Is, Bad as Unread}
 
 -- ---- the selected mailbox
 
@@ -80,20 +78,3 @@ reply-by l sel (ok p (search q)) h = reply-same l sel q p
 -- the reply by what was read is the reply to the line
 pub reply-read : (l : Limits) (sel : Bool) (s : List ℕ) (at : ℕ) → replyByRead l sel (readSearch (searchAt s at)) ≡ replyOf l sel (searchAt s at)
 reply-read l sel s at = reply-by l sel (searchAt s at) (only-search s at)
-
--- ---- the search that was read, from the code's answer
-
-pub search-found : {a : Asked} {p : ℕ} (x : Parsed Command) → Is a p ≡ readSearch x → (q : Search) × (x ≡ ok p (search q)) × (a ≡ askedOf q)
-search-found bad e = absurd (let z : _≡_ {A = ℕ} 0 1 = cc in omega arith)
-search-found (ok p notifyNone) e = absurd (let z : _≡_ {A = ℕ} 0 1 = cc in omega arith)
-search-found (ok p (notifySet status gs)) e = absurd (let z : _≡_ {A = ℕ} 0 1 = cc in omega arith)
-search-found (ok p (search q)) e = (q, (cc), (cc))
-
-none-found : (x : Parsed Command) → OnlySearch x → Unread ≡ readSearch x → x ≡ bad
-none-found bad h e = refl
-none-found (ok p notifyNone) h e = absurd h
-none-found (ok p (notifySet status gs)) h e = absurd h
-none-found (ok p (search q)) h e = absurd (let z : _≡_ {A = ℕ} 0 1 = cc in omega arith)
-
-pub search-missing : (s : List ℕ) (at : ℕ) → Unread ≡ readSearch (searchAt s at) → searchAt s at ≡ bad
-search-missing s at e = none-found (searchAt s at) (only-search s at) e

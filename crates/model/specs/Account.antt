@@ -85,7 +85,7 @@ keptBy w a r f ls = elim (act r) [
     | deletes i ↦ allBut (inMailbox i) (a .kept)
     | adds e ↦ a .kept ++ (e ∷ [])
     | expunges i u ↦ cond (waitsStill f) (a .kept) (allBut (isMessage i u) (a .kept))
-    | reflags i u g ↦ map (reflagOne i u g) (a .kept)
+    | reflags i u g c ↦ map (reflagOne i u g c) (a .kept)
   ]
   | selects i ↦ allBut (waitsGone w a) (a .kept)
   | ends c ↦ allBut (toldGone w ls) (a .kept)

@@ -14,14 +14,14 @@ use Rattle.model.specs.declared.Answer.the-variants.{Refused}
 
 -- 8: a command's answer finds no room (Records, 29)
 abbrev pub roomless : Memory → Record → Bool
-roomless m (create i a q v n) = false
+roomless m (create i a q v c n) = false
 roomless m (delete i q) = false
 roomless m (rename i q n) = false
 roomless m (subscribe i s q) = false
 roomless m (grant i r) = false
-roomless m (arrive i u f z) = false
-roomless m (expunge i u) = false
-roomless m (reflag i u f) = false
+roomless m (arrive i u f z c) = false
+roomless m (expunge i u c) = false
+roomless m (reflag i u f c) = false
 roomless m (select i) = false
 roomless m (ended c) = false
 roomless m (command t) = noRoom m t

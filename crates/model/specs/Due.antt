@@ -1,5 +1,5 @@
 -- What is owed, told from the account alone: what each change owes at once, later or not at all, and what the end of a command owes
--- (01, What is written; Who matches, 3 to 5). Events and View say it from memory; that both say the same is the clause `exact` of Account.Demand2. Assumes nothing.
+-- (01, What is written; Who matches, 3 to 5; 02, 1). Events and View say it from memory; that both say the same is the clause `exact` of Account.Demand2. Assumes nothing.
 use mathlib.Core.List.{List, [], _∷_, _++_}
 use mathlib.Core.Bool.{Bool, not, cond, _&&_, _||_}
 use Prim.Native.Nat.{ℕ, _+_}
@@ -8,15 +8,15 @@ use lib.ListN.{length}
 use Rattle.model.specs.Lists.{filterb, anyb}
 use Rattle.model.specs.Names.{Name}
 use Rattle.model.specs.Records.{Record, create, delete, rename, subscribe, grant, arrive, expunge, reflag, select, ended, command, drained, noRecord}
-use Rattle.model.specs.Memory.{Memory, boxes, nameOf, subscribed as isSubscribed, mayList, bothRights, withNext, withName, theMailbox, selectedBox, isSelected, uidOf, isMessage, messagesOf}
+use Rattle.model.specs.Memory.{Memory, boxes, nameOf, subscribed as isSubscribed, mayList, bothRights, counterOf, withNext, withName, withCounter, theMailbox, selectedBox, isSelected, uidOf, isMessage, messagesOf}
 use Rattle.model.specs.Groups.{groupsOf, meets, asked, askedOf, isSelecting, selectedAsks, immediateAsks, asksNew, asksExpunge, asksFlags, asksName, asksSubscription}
-use Rattle.model.specs.Lines.{Line, status, list, renamed, expunge as expungeLine, plain, nonExistent, subscribed}
+use Rattle.model.specs.Lines.{Line, StatusItem, status, mailItems, list, renamed, expunge as expungeLine, plain, nonExistent, subscribed}
 use Rattle.model.specs.View.{placeOf, flagsLine, existsLine, showsAny, newLines}
-use Rattle.model.specs.Events.{listMark, newBox, withSubscribed, withRights, message}
+use Rattle.model.specs.Events.{listMark, newBox, withSubscribed, withRights, message, changesOf}
 use Rattle.model.specs.declared.Mailbox.{Mailbox}
 use Rattle.model.specs.declared.Message.{Message}
 use Rattle.model.specs.declared.Group.{Group}
-use Rattle.model.specs.Fates.{Debt, arrival, removal, marking, Why, quiet, noEvent, rightMissing, unmet, unasked, notAnnounced, elsewhere, Fate, waitsFor}
+use Rattle.model.specs.Fates.{Debt, arrival, removal, marking, Why, quiet, noEvent, rightMissing, unmet, unasked, notAnnounced, Fate, waitsFor}
 
 -- ---- the account
 -- the messages that exist or whose removal waits (Store, 3), and a fate for each call so far
@@ -106,11 +106,15 @@ rightsDue w x y =
     (cond (mayList y) (nothing noEvent) (goes w x))
     (cond (mayList y) (appears w y) (nothing noEvent))
 
--- ---- of messages elsewhere: a STATUS of the mailbox as it then is, es being all messages (Written, 3)
-abbrev pub statusDue : Memory → Mailbox → List Message → (Group → Bool) → Due
-statusDue w x es asks =
+-- ---- of messages elsewhere: a STATUS of the mailbox as it then is (Written, 3; 02, 1)
+abbrev pub statusDue : Memory → Mailbox → (Group → Bool) → List StatusItem → Due
+statusDue w x asks is =
     notice (bothRights x) (met w (x .id) (nameOf x) (x .attributes)) (askedOf (w .session) x asks)
-    (atOnce (status (nameOf x) (x .uidnext) (length (messagesOf (x .id) es)) ∷ []))
+    (atOnce (status (nameOf x) is ∷ []))
+
+-- what it says after a message came or went, es being all messages
+abbrev pub countsDue : Mailbox → List Message → List StatusItem
+countsDue x es = mailItems (x .uidnext) (length (messagesOf (x .id) es)) (counterOf x)
 
 -- ---- of messages of the selected mailbox, which come from the selected group alone (Matches, 4)
 abbrev pub selectedMet : Memory → Bool
@@ -154,28 +158,32 @@ removalDue w a u =
     cond (waiting (a .fates) (arrival u)) (messageDue w asksExpunge (nothing notAnnounced))
     (cond (expungeNow w) (atOnce (expungeLine (placeOf u (viewed w a)) (record { 0 = u }) ∷ [])) (later (removal u)))
 
--- new flags f: of an announced message alone (Written, 10), told at once (15), later before the first NOTIFY (18), else dropped (17 and 19)
-abbrev pub flagsDue : Memory → Account → ℕ → ℕ → Due
-flagsDue w a u f =
-    let line = flagsLine (placeOf u (viewed w a) .0) (message (w .session .selected) u f 0) in
+-- new flags f, by a change with counter c: of an announced message alone (Written, 10), told at once (15), later before the first NOTIFY (18), else dropped (17 and 19)
+abbrev pub flagsDue : Memory → Account → ℕ → ℕ → ℕ → Due
+flagsDue w a u f c =
+    let line = flagsLine (placeOf u (viewed w a) .0) (message (w .session .selected) u f 0 c) in
     cond (waiting (a .fates) (arrival u)) (messageDue w asksFlags (nothing notAnnounced))
     (cond (flagsNow w) (atOnce (line ∷ []))
     (cond (flagsLater w) (later (marking u)) (nothing (against (bothRights (selectedBox w)) (selectedMet w)))))
 
 -- ---- of every record
 unfoldable pub due : Memory → Account → Record → Due
-due w a (create i b q v n) = unless (isQuiet q) quiet (appears w (newBox i b v n))
+due w a (create i b q v c n) = unless (isQuiet q) quiet (appears w (newBox i b v c n))
 due w a (delete i q) = unless (isQuiet q) quiet (goes w (theMailbox i (boxes w)))
 due w a (rename i q n) = let x = theMailbox i (boxes w) in unless (isQuiet q) quiet (renameDue w x (withName x n))
 due w a (subscribe i b q) = unless (isQuiet q) quiet (subscriptionDue w (theMailbox i (boxes w)) b)
 due w a (grant i r) = let x = theMailbox i (boxes w) in rightsDue w x (withRights x r)
-due w a (arrive i u f z) =
-    let es = a .kept ++ (message i u f z ∷ []) in
-    cond (isSelected w i) (arrivalDue w a u es) (statusDue w (withNext (theMailbox i (boxes w)) (u + 1)) es asksNew)
-due w a (expunge i u) =
+due w a (arrive i u f z c) =
+    let es = a .kept ++ (message i u f z c ∷ []) in
+    let x = withNext (withCounter (theMailbox i (boxes w)) c) (u + 1) in
+    cond (isSelected w i) (arrivalDue w a u es) (statusDue w x asksNew (countsDue x es))
+due w a (expunge i u c) =
     let es = filterb (λ (e : Message). not (isMessage i u e)) (a .kept) in
-    cond (isSelected w i) (removalDue w a u) (statusDue w (theMailbox i (boxes w)) es asksExpunge)
-due w a (reflag i u f) = cond (isSelected w i) (flagsDue w a u f) (nothing elsewhere)
+    let x = withCounter (theMailbox i (boxes w)) c in
+    cond (isSelected w i) (removalDue w a u) (statusDue w x asksExpunge (countsDue x es))
+due w a (reflag i u f c) =
+    let x = withCounter (theMailbox i (boxes w)) c in
+    cond (isSelected w i) (flagsDue w a u f c) (statusDue w x asksFlags (changesOf x))
 due w a (select i) = nothing noEvent
 due w a (ended c) = nothing noEvent
 due w a (command t) = nothing noEvent

@@ -1,4 +1,4 @@
--- What a record about a mailbox or a message changes, and the lines that it owes at once (01, Written, 1 to 10, 14 to 19 and 22; Records, 4; Store, 3).
+-- What a record about a mailbox or a message changes, and the lines that it owes at once (01, Written, 1 to 10, 14 to 19 and 22; Records, 4; Store, 3; 02, 1).
 use mathlib.Core.List.{List, [], _∷_}
 use mathlib.Core.Bool.{Bool, cond, _&&_, _||_}
 use Prim.Native.Nat.{ℕ, _+_, _*_, _/_, _%_}
@@ -6,9 +6,9 @@ use lib.Dec.{eqb, ltb}
 use lib.ListN.{length}
 use Rattle.model.specs.Lists.{when}
 use Rattle.model.specs.Names.{Name}
-use Rattle.model.specs.Memory.{Memory, boxes, mails, nameOf, selectable, subscribed as isSubscribed, mayList, bothRights, withAttributes, withNext, withName, stored, theMailbox, isSelected, inMailbox, isMessage, existing, withFlags, withStates, putBox, addBox, dropBox, addMail, dropMails, changeMails, withSession, silenced}
-use Rattle.model.specs.Groups.{asked, askedOf, asksNew, asksExpunge, asksName, asksSubscription}
-use Rattle.model.specs.Lines.{Line, status, list, renamed, expunge, overflow, ListMark, plain, noselect, nonExistent, subscribed}
+use Rattle.model.specs.Memory.{Memory, boxes, mails, nameOf, selectable, subscribed as isSubscribed, mayList, bothRights, withAttributes, withNext, withName, counterOf, stored, theMailbox, isSelected, inMailbox, isMessage, existing, withFlags, withStates, putBox, addBox, dropBox, addMail, dropMails, changeMails, withSession, silenced}
+use Rattle.model.specs.Groups.{asked, askedOf, asksNew, asksExpunge, asksFlags, asksName, asksSubscription}
+use Rattle.model.specs.Lines.{Line, StatusItem, status, mailItems, flagItems, list, renamed, expunge, overflow, ListMark, plain, noselect, nonExistent, subscribed}
 use Rattle.model.specs.Queue.{fits}
 use Rattle.model.specs.View.{view, placeOf, newAtOnce, expungeAtOnce, flagsAtOnce, flagsWait, announcing, flagsLine}
 use Rattle.model.specs.declared.Mailbox.{Mailbox}
@@ -34,14 +34,14 @@ createLines s x = when (bothRights x && askedOf s x asksName) (list (listMark x)
 abbrev pub deleteLines : Session → Mailbox → List Line
 deleteLines s x = when (bothRights x && askedOf s x asksName) (list nonExistent (nameOf x))
 
--- a new mailbox; its UIDNEXT is 1 (Written, 3)
-abbrev pub newBox : ℕ → ℕ → ℕ → Name → Mailbox
-newBox i a v n = record { id = i; attributes = a; namelen = length n; uidvalidity = v; uidnext = 1; name = stored n }
+-- a new mailbox; its UIDNEXT is 1 (Written, 3), its counter the record's (02, 1)
+abbrev pub newBox : ℕ → ℕ → ℕ → ℕ → Name → Mailbox
+newBox i a v c n = record { id = i; attributes = a; namelen = length n; uidvalidity = v; uidnext = 1; counterlow = c % 4294967296; counterhigh = c / 4294967296; name = stored n }
 
-abbrev pub created : Memory → ℕ → ℕ → ℕ → ℕ → Name → Event
-created m i a q v n = record {
-  stored = addBox m (newBox i a v n);
-  lines = loud q (createLines (m .session) (newBox i a v n));
+abbrev pub created : Memory → ℕ → ℕ → ℕ → ℕ → ℕ → Name → Event
+created m i a q v c n = record {
+  stored = addBox m (newBox i a v c n);
+  lines = loud q (createLines (m .session) (newBox i a v c n));
 }
 
 -- its messages go with it
@@ -100,27 +100,34 @@ granted m i r =
       lines = rightsLines (m .session) x (withRights x r);
     }
 
--- ---- message events
+-- ---- message events. The mailbox's row has the record's counter already (Rules, `raised`)
 -- a STATUS of a mailbox that is not selected (Written, 3)
-abbrev pub statusLines : Memory → Mailbox → Bool → List Line
-statusLines m x wanted = when (bothRights x && wanted) (status (nameOf x) (x .uidnext) (length (existing (x .id) (mails m))))
+abbrev pub statusLines : Mailbox → Bool → List StatusItem → List Line
+statusLines x wanted is = when (bothRights x && wanted) (status (nameOf x) is)
+
+-- what it says after a message came or went, and after a change of flags (Written, 3; 02, 1)
+abbrev pub countsOf : Memory → Mailbox → List StatusItem
+countsOf m x = mailItems (x .uidnext) (length (existing (x .id) (mails m))) (counterOf x)
+
+abbrev pub changesOf : Mailbox → List StatusItem
+changesOf x = flagItems (x .uidvalidity) (counterOf x)
 
 -- the message is stored, and UIDNEXT is one above its UID (Written, 3)
-abbrev pub message : ℕ → ℕ → ℕ → ℕ → Message
-message i u f z = record { mailbox = i; uid = record { 0 = u }; flags = f; size = z; states = 0 }
+abbrev pub message : ℕ → ℕ → ℕ → ℕ → ℕ → Message
+message i u f z c = record { mailbox = i; uid = record { 0 = u }; flags = f; size = z; states = 0; counter = c }
 
-abbrev pub withArrived : Memory → ℕ → ℕ → ℕ → ℕ → Memory
-withArrived m i u f z = addMail (putBox m i (withNext (theMailbox i (boxes m)) (u + 1))) (message i u f z)
+abbrev pub withArrived : Memory → ℕ → ℕ → ℕ → ℕ → ℕ → Memory
+withArrived m i u f z c = addMail (putBox m i (withNext (theMailbox i (boxes m)) (u + 1))) (message i u f z c)
 
-abbrev pub arrived : Memory → ℕ → ℕ → ℕ → ℕ → Event
-arrived m i u f z =
-    let after = withArrived m i u f z in
+abbrev pub arrived : Memory → ℕ → ℕ → ℕ → ℕ → ℕ → Event
+arrived m i u f z c =
+    let after = withArrived m i u f z c in
     let x = theMailbox i (boxes after) in
     record {
       stored = after;
       lines = cond (isSelected m i)
           (cond (newAtOnce m) (announcing after) [])
-          (statusLines after x (askedOf (m .session) x asksNew));
+          (statusLines x (askedOf (m .session) x asksNew) (countsOf after x));
     }
 
 -- an expunged message of the view waits, or is told at once; another is gone at once (Store, 3; Written, 14 to 19)
@@ -138,25 +145,27 @@ removed m i u =
     (cond (expungeAtOnce m)
     (record { stored = m; lines = expunge (placeOf u (view m)) (record { 0 = u }) ∷ [] })
     (record { stored = changeMails m (expire i u); lines = [] }))
-    (record { stored = without; lines = cond (isSelected m i) [] (statusLines without x (askedOf (m .session) x asksExpunge)) })
+    (record { stored = without; lines = cond (isSelected m i) [] (statusLines x (askedOf (m .session) x asksExpunge) (countsOf without x)) })
 
--- a flag change of a message in the view is told at once, waits as a mark, or is dropped; elsewhere it is told to nobody (Written, 4, 10, 15 and 17 to 19)
-abbrev pub reflag : ℕ → ℕ → ℕ → Message → Message
-reflag i u f e = cond (isMessage i u e) (withFlags e f) e
+-- a flag change of a message in the view is told at once, waits as a mark, or is dropped (Written, 10, 15 and 17 to 19); of one that is not
+-- announced it is told to nobody; outside the selected mailbox it owes a STATUS (02, 1)
+abbrev pub reflag : ℕ → ℕ → ℕ → ℕ → Message → Message
+reflag i u f c e = cond (isMessage i u e) (withFlags e f c) e
 
 abbrev pub mark : ℕ → ℕ → Message → Message
 mark i u e = cond (isMessage i u e) (withStates e 2) e
 
-abbrev pub reflagged : Memory → ℕ → ℕ → ℕ → Event
-reflagged m i u f =
-    let after = changeMails m (reflag i u f) in
+abbrev pub reflagged : Memory → ℕ → ℕ → ℕ → ℕ → Event
+reflagged m i u f c =
+    let x = theMailbox i (boxes m) in
+    let after = changeMails m (reflag i u f c) in
     cond (inView m i u)
     (cond (flagsAtOnce m)
-    (record { stored = after; lines = flagsLine (placeOf u (view m) .0) (message i u f 0) ∷ [] })
+    (record { stored = after; lines = flagsLine (placeOf u (view m) .0) (message i u f 0 c) ∷ [] })
     (cond (flagsWait m)
     (record { stored = changeMails after (mark i u); lines = [] })
     (record { stored = after; lines = [] })))
-    (record { stored = after; lines = [] })
+    (record { stored = after; lines = cond (isSelected m i) [] (statusLines x (askedOf (m .session) x asksFlags) (changesOf x)) })
 
 -- ---- an event is told: its lines are written together, or else it is treated as after NOTIFY NONE, and the overflow line is written (Written, 22)
 abbrev pub silence : Memory → Memory

@@ -9,3 +9,4 @@ pub mod Pairs
 pub mod Refusing
 pub mod Rfc
 pub mod Fates
+pub mod Counters

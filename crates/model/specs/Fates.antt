@@ -1,7 +1,7 @@
 -- The words of the account: what can wait, why nothing is owed, what can become of a change; what a line and a record say to it. Assumes nothing.
 -- Places of 01 are named by a short word for the section and the number of the sentence there: (Written, 16).
 use mathlib.Core.List.{List}
-use mathlib.Core.Bool.{Bool, true, false, _&&_}
+use mathlib.Core.Bool.{Bool, true, false, not, _&&_}
 use Prim.Native.Nat.{ℕ}
 use lib.Dec.{eqb}
 use Rattle.model.specs.Lists.{anyb}
@@ -9,7 +9,7 @@ use Rattle.model.specs.Requests.{Command, notifyNone, notifySet, search}
 use Rattle.model.specs.Reading.{Parsed, bad, ok}
 use Rattle.model.specs.Records.{Record, create, delete, rename, subscribe, grant, arrive, expunge, reflag, select, ended, command, drained, noRecord}
 use Rattle.model.specs.Memory.{Memory, isSelected}
-use Rattle.model.specs.Lines.{Line, status, statusAtSet, list, renamed, exists, expunge as expungeLine, fetch, found, overflow, answer, ListMark, plain, noselect, nonExistent, noAccess, subscribed}
+use Rattle.model.specs.Lines.{Line, StatusItem, messages, next, validity, highest, status, list, renamed, exists, expunge as expungeLine, fetch, found, overflow, answer, ListMark, plain, noselect, nonExistent, noAccess, subscribed}
 use Rattle.model.specs.Queue.{showsFlags}
 use Rattle.model.specs.Events.{message}
 use Rattle.model.specs.Answering.{isAccepted}
@@ -29,12 +29,11 @@ lowestClass (marking u) = 0
 -- the rules by which nothing is owed; of several the first in this order is named
 --   quiet: the host asks for no notice (Records, 4)
 --   noEvent: no mailbox, message, subscription or right l changes (Written, 6 and 9)
---   elsewhere: flags changed in a mailbox that is not selected (Written, 4)
 --   rightMissing: l or r is not held (Written, 1 and 19)
 --   unmet, unasked: no group meets the mailbox; one does, and none that does asks for the event (Matches, 3 and 4; Written, 17)
 --   notAnnounced: the client was not told of the message (Written, 10 and 14)
 pub data Why : Type 0 where
-  quiet noEvent elsewhere rightMissing unmet unasked notAnnounced : Why
+  quiet noEvent rightMissing unmet unasked notAnnounced : Why
 
 -- the rules by which what waits is dropped: `SE` (Written, 12); the message was expunged first (Written, 14 and 18)
 pub data Ending : Type 0 where
@@ -98,10 +97,19 @@ pub data Saying : Type 0 where
 abbrev pub listsAccess : ListMark → Bool
 listsAccess k = elim k [ plain ↦ true | noselect ↦ true | nonExistent ↦ true | noAccess ↦ false | subscribed ↦ true ]
 
+-- of the lists of a STATUS that of NOTIFY SET alone has both MESSAGES and UIDVALIDITY (Matches, 6)
+abbrev pub isMessages : StatusItem → Bool
+isMessages i = elim i [ messages k ↦ true | next u ↦ false | validity v ↦ false | highest h ↦ false ]
+
+abbrev pub isValidity : StatusItem → Bool
+isValidity i = elim i [ messages k ↦ false | next u ↦ false | validity v ↦ true | highest h ↦ false ]
+
+abbrev pub listsAll : List StatusItem → Bool
+listsAll is = anyb isMessages is && anyb isValidity is
+
 -- no notices of changes are the listing of NOTIFY SET (Matches, 6), search results (Matches, 10) and tagged lines (Commands, 12)
 abbrev pub saying : Line → Saying
-saying (status n u k) = other true
-saying (statusAtSet n k u v) = other false
+saying (status n is) = other (not (listsAll is))
 saying (list k n) = other (listsAccess k)
 saying (renamed k new old) = other true
 saying (exists n) = announces
@@ -144,7 +152,7 @@ pub data Change : Type 0 where
   deletes : (i : ℕ) → Change
   adds : Message → Change
   expunges : (i u : ℕ) → Change
-  reflags : (i u f : ℕ) → Change
+  reflags : (i u f c : ℕ) → Change
 
 -- to the account: a change; a mailbox is selected; a command of class c ended; a command; octets are drained; no record, which is never taken
 pub data Act : Type 0 where
@@ -157,14 +165,14 @@ pub data Act : Type 0 where
 
 -- the twelve kinds (Records, 5 to 18)
 abbrev pub act : Record → Act
-act (create i b q v n) = change ofMailbox
+act (create i b q v c n) = change ofMailbox
 act (delete i q) = change (deletes i)
 act (rename i q n) = change ofMailbox
 act (subscribe i b q) = change ofMailbox
 act (grant i r) = change ofMailbox
-act (arrive i u f z) = change (adds (message i u f z))
-act (expunge i u) = change (expunges i u)
-act (reflag i u f) = change (reflags i u f)
+act (arrive i u f z c) = change (adds (message i u f z c))
+act (expunge i u c) = change (expunges i u)
+act (reflag i u f c) = change (reflags i u f c)
 act (select i) = selects i
 act (ended c) = ends c
 act (command t) = asks t
@@ -185,7 +193,7 @@ goesWith u d = elim d [ arrival v ↦ eqb u v | removal v ↦ false | marking v 
 
 -- so does `XP` of a message of the selected mailbox
 abbrev pub expungesOne : Memory → Change → Debt → Bool
-expungesOne w x d = elim x [ ofMailbox ↦ false | deletes i ↦ false | adds e ↦ false | expunges i u ↦ isSelected w i && goesWith u d | reflags i u f ↦ false ]
+expungesOne w x d = elim x [ ofMailbox ↦ false | deletes i ↦ false | adds e ↦ false | expunges i u ↦ isSelected w i && goesWith u d | reflags i u f c ↦ false ]
 
 abbrev pub expungesFirst : Memory → Record → Debt → Bool
 expungesFirst w r d = elim (act r) [ change x ↦ expungesOne w x d | selects i ↦ false | ends c ↦ false | asks t ↦ false | drains n ↦ false | noAct ↦ false ]

@@ -1,4 +1,4 @@
--- Refusal 1: which memory is lawful (01, Records, 22). What lies behind a count is never judged.
+-- Refusal 1: which memory is lawful (01, Records, 22; 02, 1). What lies behind a count is never judged.
 -- The upper end of a field that is as wide in memory as in a record needs no test.
 use mathlib.Core.List.{List, [], _∷_}
 use mathlib.Core.Bool.{Bool, true, not, cond, _&&_, _||_}
@@ -7,7 +7,7 @@ use lib.Dec.{eqb, leb, ltb}
 use lib.ListN.{length, take, drop}
 use Rattle.model.specs.Lists.{allb, apart, every, same}
 use Rattle.model.specs.Names.{valid, fold}
-use Rattle.model.specs.Memory.{Memory, boxes, mails, filled, nameOf, known, theMailbox, uidOf, inMailbox}
+use Rattle.model.specs.Memory.{Memory, boxes, mails, filled, nameOf, known, theMailbox, counterOf, uidOf, inMailbox}
 use Rattle.model.specs.Groups.{groupOf, groupsOf, lentName, isSelecting, asksNew, asksExpunge, asksFlags, asksName, asksSubscription}
 use Rattle.model.specs.declared.Mailbox.{Mailbox}
 use Rattle.model.specs.declared.Message.{Message}
@@ -23,6 +23,10 @@ queueOk q = leb 1024 q && leb q 65536
 abbrev pub filledOk : ℕ → ℕ → Session → Bool
 filledOk q f s = leb f q && (eqb (s .groupcount) 0 || leb f (q - 64))
 
+-- ---- a change counter is 1 to 2^63 - 1 (02, 1)
+abbrev pub counterOk : ℕ → Bool
+counterOk c = leb 1 c && leb c 9223372036854775807
+
 -- ---- a mailbox's fields. Its name is valid and folded, and the octets behind it are zero
 abbrev pub zeros : List ℕ → Bool
 zeros l = allb (eqb 0) l
@@ -33,6 +37,7 @@ mailboxOk x = every (
     ∷ leb (x .attributes) 63
     ∷ leb 1 (x .uidvalidity)
     ∷ leb 1 (x .uidnext)
+    ∷ counterOk (counterOf x)
     ∷ leb (x .namelen) 64
     ∷ valid (nameOf x)
     ∷ same (fold (nameOf x)) (nameOf x)
@@ -51,6 +56,7 @@ messageOk e = every (
     ∷ leb (e .flags) 31
     ∷ leb (e .size) 4294967295
     ∷ leb (e .states) 2
+    ∷ counterOk (e .counter)
     ∷ []
     )
 
@@ -58,9 +64,11 @@ messageOk e = every (
 abbrev pub twin : Message → Message → Bool
 twin d e = eqb (d .mailbox) (e .mailbox) && eqb (uidOf d) (uidOf e)
 
--- its mailbox is known, and its UID below the mailbox's UIDNEXT
+-- its mailbox is known, its UID below the mailbox's UIDNEXT, its counter not above the mailbox's
 abbrev pub owned : List Mailbox → Message → Bool
-owned l e = known (e .mailbox) l && ltb (uidOf e) (theMailbox (e .mailbox) l .uidnext)
+owned l e =
+    let x = theMailbox (e .mailbox) l in
+    known (e .mailbox) l && (ltb (uidOf e) (x .uidnext) && leb (e .counter) (counterOf x))
 
 -- ---- the view: nothing where none is selected, else at most all; what is expunged or marked lies in it
 abbrev pub viewOk : List Mailbox → Session → Bool

@@ -29,6 +29,7 @@ pub mod Call
 pub mod Hidden
 pub mod Fates
 pub mod Seen
+pub mod Counters
 pub mod Due
 pub mod Account
 pub mod Tally

@@ -1,4 +1,4 @@
--- Every line that is written, as data and as octets (01, Written, 2 to 10 and 22; Commands, 13 to 18; Matches, 6, 10 and 11; Records, 14).
+-- Every line that is written, as data and as octets (01, Written, 2 to 10 and 22; Commands, 13 to 18; Matches, 6, 10 and 11; Records, 14; 02, 1).
 use mathlib.Core.List.{List, [], _∷_, _++_}
 use mathlib.Core.Bool.{cond}
 use Prim.Native.Nat.{ℕ, _+_}
@@ -16,11 +16,16 @@ use Rattle.model.specs.declared.Reply.the-variants.{Bad, BadEvent, Unsup
 pub data ListMark : Type 0 where
   plain noselect nonExistent noAccess subscribed : ListMark
 
--- what a FETCH line shows
+-- what a STATUS line says of a mailbox: how many messages it has, its UIDNEXT, its UIDVALIDITY, its change counter
+pub data StatusItem : Type 0 where
+  messages next validity highest : ℕ → StatusItem
+
+-- what a FETCH line shows; a message's own change counter stands last
 pub data Item : Type 0 where
   uid : Uid → Item
   flags : ℕ → Item
   size : ℕ → Item
+  modseq : ℕ → Item
 
 -- what an ESEARCH line returns
 pub data Result : Type 0 where
@@ -30,8 +35,7 @@ pub data Result : Type 0 where
 
 -- a line. EXPUNGE and FETCH hold the UID of their message too: it is not written there, and says what the line is for
 pub data Line : Type 0 where
-  status : Name → (next messages : ℕ) → Line
-  statusAtSet : Name → (messages next validity : ℕ) → Line
+  status : Name → List StatusItem → Line
   list : ListMark → Name → Line
   renamed : ListMark → (new old : Name) → Line
   exists : MessageNumber → Line
@@ -40,6 +44,16 @@ pub data Line : Type 0 where
   found : (tag : List ℕ) → Name → (validity : ℕ) → List Result → Line
   overflow : Line
   answer : (tag : List ℕ) → Verb → Reply → Line
+
+-- the three lists of a STATUS: of a message that came or went, of changed flags, of NOTIFY SET (Written, 3; Matches, 6; 02, 1)
+abbrev pub mailItems : (u k h : ℕ) → List StatusItem
+mailItems u k h = next u ∷ messages k ∷ highest h ∷ []
+
+abbrev pub flagItems : (v h : ℕ) → List StatusItem
+flagItems v h = validity v ∷ highest h ∷ []
+
+abbrev pub setItems : (k u v h : ℕ) → List StatusItem
+setItems k u v h = messages k ∷ next u ∷ validity v ∷ highest h ∷ []
 
 -- ---- as octets; each line has its one CR LF at its end (Examples, 11)
 abbrev pub crlf : List ℕ
@@ -73,10 +87,21 @@ flagNames f =
     ++ (cond (bit 3 f) (octets "\\Seen" ∷ []) []
     ++ cond (bit 4 f) (octets "\\Draft" ∷ []) [])))
 
+abbrev pub statusText : StatusItem → List ℕ
+statusText (messages k) = octets "MESSAGES " ++ decimal k
+statusText (next u) = octets "UIDNEXT " ++ decimal u
+statusText (validity v) = octets "UIDVALIDITY " ++ decimal v
+statusText (highest h) = octets "HIGHESTMODSEQ " ++ decimal h
+
+abbrev pub statusTexts : List StatusItem → List (List ℕ)
+statusTexts [] = []
+statusTexts (i ∷ is) = statusText i ∷ statusTexts is
+
 abbrev pub itemText : Item → List ℕ
 itemText (uid u) = octets "UID " ++ decimal (u .0)
 itemText (flags f) = octets "FLAGS (" ++ (spaced (flagNames f) ++ octets ")")
 itemText (size z) = octets "RFC822.SIZE " ++ decimal z
+itemText (modseq c) = octets "MODSEQ (" ++ (decimal c ++ octets ")")
 
 abbrev pub itemTexts : List Item → List (List ℕ)
 itemTexts [] = []
@@ -125,8 +150,7 @@ replyText v Accepted = doneText v
 
 -- a line without its end (Written, 3, 5, 8 to 10 and 22; Matches, 6 and 10)
 abbrev pub text : Line → List ℕ
-text (status n u m) = octets "* STATUS " ++ (nameText n ++ (octets " (UIDNEXT " ++ (decimal u ++ (octets " MESSAGES " ++ (decimal m ++ octets ")")))))
-text (statusAtSet n m u v) = octets "* STATUS " ++ (nameText n ++ (octets " (MESSAGES " ++ (decimal m ++ (octets " UIDNEXT " ++ (decimal u ++ (octets " UIDVALIDITY " ++ (decimal v ++ octets ")")))))))
+text (status n is) = octets "* STATUS " ++ (nameText n ++ (octets " (" ++ (spaced (statusTexts is) ++ octets ")")))
 text (list k n) = octets "* LIST " ++ (markText k ++ (octets " \"/\" " ++ nameText n))
 text (renamed k new old) = octets "* LIST " ++ (markText k ++ (octets " \"/\" " ++ (nameText new ++ (octets " (\"OLDNAME\" (" ++ (nameText old ++ octets "))")))))
 text (exists n) = octets "* " ++ (decimal (n .0) ++ octets " EXISTS")

@@ -8,9 +8,9 @@ use Rattle.model.specs.Lists.{anyb, filterb, sorted, concatMap, when}
 use Rattle.model.specs.Names.{argument, before}
 use Rattle.model.specs.Text.{pack}
 use Rattle.model.specs.Requests.{Filter, selected, delayed, inboxes, personal, subscribed, subtree, subtreeOne, mailboxes, namesOf, Attribute, uid, flags, size, otherAttribute, Event, isNew, isExpunge, isFlagChange, isMailboxName, isSubscriptionChange, attributesOf, Asked}
-use Rattle.model.specs.Memory.{Memory, boxes, mails, nameOf, mayList, mayRead, isSelected, existing, noGroup, noName, stored}
+use Rattle.model.specs.Memory.{Memory, boxes, mails, nameOf, mayList, mayRead, counterOf, isSelected, existing, noGroup, noName, stored}
 use Rattle.model.specs.Groups.{askedOf, selectedAsks, asksMessages, asksMailbox}
-use Rattle.model.specs.Lines.{Line, list, statusAtSet, noAccess}
+use Rattle.model.specs.Lines.{Line, list, status, setItems, noAccess}
 use Rattle.model.specs.declared.Mailbox.{Mailbox}
 use Rattle.model.specs.declared.Group.{Group}
 use Rattle.model.specs.declared.LentGroup.{LentGroup}
@@ -105,7 +105,7 @@ byName x y = before (nameOf x) (nameOf y)
 abbrev pub listingLine : Memory → Session → Bool → Mailbox → List Line
 listingLine m s wanted x =
     cond (mayRead x)
-    (when (wanted && (not (isSelected m (x .id)) && askedOf s x asksMessages)) (statusAtSet (nameOf x) (length (existing (x .id) (mails m))) (x .uidnext) (x .uidvalidity)))
+    (when (wanted && (not (isSelected m (x .id)) && askedOf s x asksMessages)) (status (nameOf x) (setItems (length (existing (x .id) (mails m))) (x .uidnext) (x .uidvalidity) (counterOf x))))
     (list noAccess (nameOf x) ∷ [])
 
 -- by name, those with l to which an asked event applies

@@ -1,7 +1,7 @@
 -- What the host lends, and how it is read and altered (01, Store, 1 to 4).
 use mathlib.Core.List.{List, [], _∷_, _++_, map}
 use mathlib.Core.Bool.{Bool, not, cond, _&&_}
-use Prim.Native.Nat.{ℕ, suc, _-_, max}
+use Prim.Native.Nat.{ℕ, suc, _+_, _*_, _-_, _/_, _%_, max}
 use lib.Dec.{eqb, leb, ltb}
 use lib.ListN.{length, getD, set, drop, take, replicate}
 use Rattle.model.specs.Lists.{filterb, sorted}
@@ -38,10 +38,10 @@ held m = take (filled m) (m .queue)
 
 -- a row and an entry that were freed hold nothing but zeros
 abbrev pub noMailbox : Mailbox
-noMailbox = record { id = 0; attributes = 0; namelen = 0; uidvalidity = 0; uidnext = 0; name = replicate 64 0 }
+noMailbox = record { id = 0; attributes = 0; namelen = 0; uidvalidity = 0; uidnext = 0; counterlow = 0; counterhigh = 0; name = replicate 64 0 }
 
 abbrev pub noMessage : Message
-noMessage = record { mailbox = 0; uid = record { 0 = 0 }; flags = 0; size = 0; states = 0 }
+noMessage = record { mailbox = 0; uid = record { 0 = 0 }; flags = 0; size = 0; states = 0; counter = 0 }
 
 -- ---- a mailbox
 abbrev pub nameOf : Mailbox → Name
@@ -77,17 +77,24 @@ abbrev pub bothRights : Mailbox → Bool
 bothRights x = mayList x && mayRead x
 
 abbrev pub withAttributes : Mailbox → ℕ → Mailbox
-withAttributes x a = record { id = x .id; attributes = a; namelen = x .namelen; uidvalidity = x .uidvalidity; uidnext = x .uidnext; name = x .name }
+withAttributes x a = record { id = x .id; attributes = a; namelen = x .namelen; uidvalidity = x .uidvalidity; uidnext = x .uidnext; counterlow = x .counterlow; counterhigh = x .counterhigh; name = x .name }
 
 abbrev pub withNext : Mailbox → ℕ → Mailbox
-withNext x u = record { id = x .id; attributes = x .attributes; namelen = x .namelen; uidvalidity = x .uidvalidity; uidnext = u; name = x .name }
+withNext x u = record { id = x .id; attributes = x .attributes; namelen = x .namelen; uidvalidity = x .uidvalidity; uidnext = u; counterlow = x .counterlow; counterhigh = x .counterhigh; name = x .name }
+
+-- its change counter, which the row has in two halves of 32 bits (02, 1)
+abbrev pub counterOf : Mailbox → ℕ
+counterOf x = x .counterlow + 4294967296 * x .counterhigh
+
+abbrev pub withCounter : Mailbox → ℕ → Mailbox
+withCounter x c = record { id = x .id; attributes = x .attributes; namelen = x .namelen; uidvalidity = x .uidvalidity; uidnext = x .uidnext; counterlow = c % 4294967296; counterhigh = c / 4294967296; name = x .name }
 
 -- a name fills the front of its 64 octets; the rest is zero
 abbrev pub stored : Name → List ℕ
 stored n = n ++ replicate (64 - length n) 0
 
 abbrev pub withName : Mailbox → Name → Mailbox
-withName x n = record { id = x .id; attributes = x .attributes; namelen = length n; uidvalidity = x .uidvalidity; uidnext = x .uidnext; name = stored n }
+withName x n = record { id = x .id; attributes = x .attributes; namelen = length n; uidvalidity = x .uidvalidity; uidnext = x .uidnext; counterlow = x .counterlow; counterhigh = x .counterhigh; name = stored n }
 
 -- ---- finding a mailbox: the place of the first with id i, or as many as there are
 unfoldable pub place : ℕ → List Mailbox → ℕ
@@ -119,11 +126,12 @@ expunged e = bit 0 (e .states)
 abbrev pub marked : Message → Bool
 marked e = bit 1 (e .states)
 
-abbrev pub withFlags : Message → ℕ → Message
-withFlags e f = record { mailbox = e .mailbox; uid = e .uid; flags = f; size = e .size; states = e .states }
+-- other flags, by a change with the counter c, which is the message's own from then on (02, 1)
+abbrev pub withFlags : Message → ℕ → ℕ → Message
+withFlags e f c = record { mailbox = e .mailbox; uid = e .uid; flags = f; size = e .size; states = e .states; counter = c }
 
 abbrev pub withStates : Message → ℕ → Message
-withStates e s = record { mailbox = e .mailbox; uid = e .uid; flags = e .flags; size = e .size; states = s }
+withStates e s = record { mailbox = e .mailbox; uid = e .uid; flags = e .flags; size = e .size; states = s; counter = e .counter }
 
 -- is it message u of mailbox i
 abbrev pub isMessage : ℕ → ℕ → Message → Bool

@@ -6,7 +6,7 @@ use lib.Dec.{leb}
 use lib.ListN.{length, take, drop}
 use Rattle.model.specs.Lists.{anyb}
 use Rattle.model.specs.Memory.{Memory, filled, selectedBox, withSession, withView, dropMails, changeMails, isMessage, withStates}
-use Rattle.model.specs.Lines.{Line, status, statusAtSet, list, renamed, exists, expunge, fetch, found, overflow, answer, Item, uid, flags, size, render, renderAll}
+use Rattle.model.specs.Lines.{Line, status, list, renamed, exists, expunge, fetch, found, overflow, answer, Item, uid, flags, size, modseq, render, renderAll}
 use Rattle.model.specs.declared.Message.{Message}
 
 -- what is left for lines: 64 octets are kept for the overflow line
@@ -59,6 +59,7 @@ abbrev pub isFlagsItem : Item → Bool
 isFlagsItem (uid u) = false
 isFlagsItem (flags f) = true
 isFlagsItem (size z) = false
+isFlagsItem (modseq c) = false
 
 abbrev pub showsFlags : List Item → Bool
 showsFlags is = anyb isFlagsItem is
@@ -73,8 +74,7 @@ abbrev pub effect : Memory → Line → Memory
 effect m (exists n) = announce m
 effect m (expunge n u) = dropMails m (isMessage (m .session .selected) (u .0))
 effect m (fetch n u is) = cond (showsFlags is) (changeMails m (unmark (m .session .selected) (u .0))) m
-effect m (status n u k) = m
-effect m (statusAtSet n k u v) = m
+effect m (status n is) = m
 effect m (list k n) = m
 effect m (renamed k new old) = m
 effect m (found t n v rs) = m

@@ -14,7 +14,7 @@ pub data Kind : Type 0 where
 
 -- the fields that a layout is made of
 pub data Field : Type 0 where
-  id idOrNone attributes quiet uidvalidity subscribed rights uid flags size class count : Field
+  id idOrNone attributes quiet uidvalidity subscribed rights uid flags size class count counter : Field
 
 -- what follows the fields
 pub data Tail : Type 0 where
@@ -24,23 +24,23 @@ pub record Layout : Type 0 where
   pub fields : List Field
   pub tail : Tail
 
--- the twelve layouts (Records, 5, 7 to 13 and 15 to 18)
+-- the twelve layouts (Records, 5, 7 to 13 and 15 to 18); a change counter is the last of the fields of four of them (02, 1)
 abbrev pub layout : Kind → Layout
-layout MB = record { fields = id ∷ attributes ∷ quiet ∷ uidvalidity ∷ []; tail = name }
+layout MB = record { fields = id ∷ attributes ∷ quiet ∷ uidvalidity ∷ counter ∷ []; tail = name }
 layout DL = record { fields = id ∷ quiet ∷ []; tail = nothing }
 layout RN = record { fields = id ∷ quiet ∷ []; tail = name }
 layout SB = record { fields = id ∷ subscribed ∷ quiet ∷ []; tail = nothing }
 layout RT = record { fields = id ∷ rights ∷ []; tail = nothing }
-layout ME = record { fields = id ∷ uid ∷ flags ∷ size ∷ []; tail = nothing }
-layout XP = record { fields = id ∷ uid ∷ []; tail = nothing }
-layout FL = record { fields = id ∷ uid ∷ flags ∷ []; tail = nothing }
+layout ME = record { fields = id ∷ uid ∷ flags ∷ size ∷ counter ∷ []; tail = nothing }
+layout XP = record { fields = id ∷ uid ∷ counter ∷ []; tail = nothing }
+layout FL = record { fields = id ∷ uid ∷ flags ∷ counter ∷ []; tail = nothing }
 layout SE = record { fields = idOrNone ∷ []; tail = nothing }
 layout CE = record { fields = class ∷ []; tail = nothing }
 layout CM = record { fields = []; tail = command }
 layout DR = record { fields = count ∷ []; tail = nothing }
 layout unknown = record { fields = []; tail = nothing }
 
--- how many octets a field has (Records, 5 to 18)
+-- how many octets a field has (Records, 5 to 18; 02, 1)
 abbrev pub width : Field → ℕ
 width id = 2
 width idOrNone = 2
@@ -54,8 +54,9 @@ width flags = 1
 width size = 4
 width class = 1
 width count = 4
+width counter = 8
 
--- which values it may have (Records, 3 to 6, 9 to 11 and 14 to 16)
+-- which values it may have (Records, 3 to 6, 9 to 11 and 14 to 16); a change counter ends below 2^63 (02, 1)
 abbrev pub inRange : Field → ℕ → Bool
 inRange id v = leb 1 v && leb v 65535
 inRange idOrNone v = leb v 65535
@@ -69,6 +70,7 @@ inRange flags v = leb v 31
 inRange size v = leb v 4294967295
 inRange class v = leb v 1
 inRange count v = leb v 4294967295
+inRange counter v = leb 1 v && leb v 9223372036854775807
 
 -- ---- an octet string: two octets of mark, two of length, the body (Records, 1 and 2)
 abbrev pub kindOf : List ℕ → Kind
@@ -137,14 +139,14 @@ isRecord r = isKnown (kindOf r) && (framed r && bodyOk (layout (kindOf r)) (body
 
 -- ---- what a record says
 pub data Record : Type 0 where
-  create : (i a q v : ℕ) → Name → Record
+  create : (i a q v c : ℕ) → Name → Record
   delete : (i q : ℕ) → Record
   rename : (i q : ℕ) → Name → Record
   subscribe : (i s q : ℕ) → Record
   grant : (i r : ℕ) → Record
-  arrive : (i u f z : ℕ) → Record
-  expunge : (i u : ℕ) → Record
-  reflag : (i u f : ℕ) → Record
+  arrive : (i u f z c : ℕ) → Record
+  expunge : (i u c : ℕ) → Record
+  reflag : (i u f c : ℕ) → Record
   select : (i : ℕ) → Record
   ended : (c : ℕ) → Record
   command : List ℕ → Record
@@ -153,14 +155,14 @@ pub data Record : Type 0 where
 
 -- by its kind, from the values of its fields and what follows them; a name is INBOX where it is so in any case (Records, 20)
 abbrev pub recordBy : Kind → List ℕ → List ℕ → Record
-recordBy MB v t = create (getD v 0 0) (getD v 1 0) (getD v 2 0) (getD v 3 0) (fold t)
+recordBy MB v t = create (getD v 0 0) (getD v 1 0) (getD v 2 0) (getD v 3 0) (getD v 4 0) (fold t)
 recordBy DL v t = delete (getD v 0 0) (getD v 1 0)
 recordBy RN v t = rename (getD v 0 0) (getD v 1 0) (fold t)
 recordBy SB v t = subscribe (getD v 0 0) (getD v 1 0) (getD v 2 0)
 recordBy RT v t = grant (getD v 0 0) (getD v 1 0)
-recordBy ME v t = arrive (getD v 0 0) (getD v 1 0) (getD v 2 0) (getD v 3 0)
-recordBy XP v t = expunge (getD v 0 0) (getD v 1 0)
-recordBy FL v t = reflag (getD v 0 0) (getD v 1 0) (getD v 2 0)
+recordBy ME v t = arrive (getD v 0 0) (getD v 1 0) (getD v 2 0) (getD v 3 0) (getD v 4 0)
+recordBy XP v t = expunge (getD v 0 0) (getD v 1 0) (getD v 2 0)
+recordBy FL v t = reflag (getD v 0 0) (getD v 1 0) (getD v 2 0) (getD v 3 0)
 recordBy SE v t = select (getD v 0 0)
 recordBy CE v t = ended (getD v 0 0)
 recordBy CM v t = command t
@@ -188,6 +190,7 @@ isId flags = false
 isId size = false
 isId class = false
 isId count = false
+isId counter = false
 
 abbrev pub startsWithId : List Field → Bool
 startsWithId [] = false

@@ -1,9 +1,9 @@
--- What an accepted record does, and what it answers: one rule for each kind (01, Records, 5 to 18; Written, 12 and 20 to 22).
+-- What an accepted record does, and what it answers: one rule for each kind (01, Records, 5 to 18; Written, 12 and 20 to 22; 02, 1).
 use mathlib.Core.List.{List, []}
 use Prim.Native.Nat.{ℕ, _-_}
 use lib.ListN.{length}
 use Rattle.model.specs.Records.{Record, create, delete, rename, subscribe, grant, arrive, expunge, reflag, select, ended, command, drained, noRecord}
-use Rattle.model.specs.Memory.{Memory, boxes, theMailbox, expunged, withStates, withSession, withView, dropMails, changeMails}
+use Rattle.model.specs.Memory.{Memory, boxes, theMailbox, withCounter, expunged, withStates, withSession, withView, putBox, dropMails, changeMails}
 use Rattle.model.specs.Lines.{Line}
 use Rattle.model.specs.Queue.{room, fitting, say, dequeue}
 use Rattle.model.specs.View.{owed}
@@ -37,16 +37,20 @@ endLines m c = fitting (room m) (owed m c)
 abbrev pub endedAt : Memory → ℕ → Outcome
 endedAt m c = record { answer = Counted (length (owed m c) - length (endLines m c)); lines = endLines m c; after = say m (endLines m c) }
 
+-- every `ME`, `XP` and `FL` that is accepted gives its mailbox its counter, whatever is told of it (02, 1)
+abbrev pub raised : Memory → ℕ → ℕ → Memory
+raised m i c = putBox m i (withCounter (theMailbox i (boxes m)) c)
+
 -- one rule for each kind
 unfoldable pub accepted : Memory → Record → Outcome
-accepted m (create i a q v n) = told m (λ (k : Memory). created k i a q v n)
+accepted m (create i a q v c n) = told m (λ (k : Memory). created k i a q v c n)
 accepted m (delete i q) = told m (λ (k : Memory). deleted k i q)
 accepted m (rename i q n) = told m (λ (k : Memory). renamedTo k i q n)
 accepted m (subscribe i s q) = told m (λ (k : Memory). subscribedTo k i s q)
 accepted m (grant i r) = told m (λ (k : Memory). granted k i r)
-accepted m (arrive i u f z) = told m (λ (k : Memory). arrived k i u f z)
-accepted m (expunge i u) = told m (λ (k : Memory). removed k i u)
-accepted m (reflag i u f) = told m (λ (k : Memory). reflagged k i u f)
+accepted m (arrive i u f z c) = told (raised m i c) (λ (k : Memory). arrived k i u f z c)
+accepted m (expunge i u c) = told (raised m i c) (λ (k : Memory). removed k i u)
+accepted m (reflag i u f c) = told (raised m i c) (λ (k : Memory). reflagged k i u f c)
 accepted m (select i) = record { answer = Done; lines = []; after = selecting m i }
 accepted m (ended c) = endedAt m c
 accepted m (command t) = record { answer = Done; lines = answerLines m t; after = answered m t }

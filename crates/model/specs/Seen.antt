@@ -8,7 +8,7 @@ use lib.ListN.{length, set, drop}
 use Rattle.model.specs.Lists.{filterb, anyb}
 use Rattle.model.specs.Commands.{commandOf}
 use Rattle.model.specs.Records.{Record, create, delete, rename, subscribe, grant, arrive, expunge, reflag, select, ended, command, drained, noRecord, recordOf}
-use Rattle.model.specs.Memory.{Memory, boxes, filled, withAttributes, withNext, withName, place, theMailbox, withMails, withSession, withView, silenced}
+use Rattle.model.specs.Memory.{Memory, boxes, filled, withAttributes, withNext, withName, withCounter, place, theMailbox, withMails, withSession, withView, silenced}
 use Rattle.model.specs.Lines.{Line, renderAll}
 use Rattle.model.specs.Events.{newBox, withSubscribed, withRights}
 use Rattle.model.specs.Answers.{numberOf}
@@ -58,16 +58,16 @@ settingOf m = record { boxes = boxes m; session = withView (m .session) (m .sess
 abbrev pub putRow : List Mailbox → ℕ → Mailbox → List Mailbox
 putRow l i x = set l (place i l) x
 
--- the mailboxes after a record (Records, 5 to 11): a new one stands last; a message lifts UIDNEXT (Written, 3)
+-- the mailboxes after a record (Records, 5 to 11): a new one stands last; a message lifts UIDNEXT (Written, 3); a message's record gives its counter (02, 1)
 abbrev pub boxesBy : List Mailbox → Record → List Mailbox
-boxesBy l (create i a q v n) = l ++ (newBox i a v n ∷ [])
+boxesBy l (create i a q v c n) = l ++ (newBox i a v c n ∷ [])
 boxesBy l (delete i q) = filterb (λ (x : Mailbox). not (eqb (x .id) i)) l
 boxesBy l (rename i q n) = putRow l i (withName (theMailbox i l) n)
 boxesBy l (subscribe i b q) = putRow l i (withAttributes (theMailbox i l) (withSubscribed (theMailbox i l .attributes) b))
 boxesBy l (grant i r) = putRow l i (withRights (theMailbox i l) r)
-boxesBy l (arrive i u f z) = putRow l i (withNext (theMailbox i l) (u + 1))
-boxesBy l (expunge i u) = l
-boxesBy l (reflag i u f) = l
+boxesBy l (arrive i u f z c) = putRow l i (withNext (withCounter (theMailbox i l) c) (u + 1))
+boxesBy l (expunge i u c) = putRow l i (withCounter (theMailbox i l) c)
+boxesBy l (reflag i u f c) = putRow l i (withCounter (theMailbox i l) c)
 boxesBy l (select i) = l
 boxesBy l (ended c) = l
 boxesBy l (command t) = l

@@ -8,7 +8,7 @@ use Rattle.model.specs.Lists.{filterb}
 use Rattle.model.specs.Text.{bit}
 use Rattle.model.specs.Memory.{Memory, mails, selectedBox, bothRights, uidOf, expunged, marked, messagesOf}
 use Rattle.model.specs.Groups.{asksNew, asksExpunge, asksFlags, selectedAsks, immediateAsks}
-use Rattle.model.specs.Lines.{Line, exists, expunge, fetch, Item, uid, flags, size}
+use Rattle.model.specs.Lines.{Line, exists, expunge, fetch, Item, uid, flags, size, modseq}
 use Rattle.model.specs.declared.Message.{Message}
 use Rattle.model.specs.declared.MessageNumber.{MessageNumber}
 use Rattle.model.specs.declared.Group.{Group}
@@ -41,9 +41,9 @@ expungeLines n (e ∷ v) =
     let stays = expungeLines (n + 1) v in
     cond (expunged e) gone stays
 
--- the flags of a message whose place is n
+-- the flags of a message whose place is n, and its counter (02, 1)
 abbrev pub flagsLine : ℕ → Message → Line
-flagsLine n e = fetch (record { 0 = n }) (e .uid) (uid (e .uid) ∷ flags (e .flags) ∷ [])
+flagsLine n e = fetch (record { 0 = n }) (e .uid) (uid (e .uid) ∷ flags (e .flags) ∷ modseq (e .counter) ∷ [])
 
 -- FETCH for each marked message; n is the place of the next one
 unfoldable pub markedLines : ℕ → List Message → List Line
@@ -85,7 +85,8 @@ flagsAtOnce m = bothRights (selectedBox m) && selectedAsks (m .session) asksFlag
 abbrev pub flagsWait : Memory → Bool
 flagsWait m = bothRights (selectedBox m) && eqb (m .session .notified) 0
 
--- ---- new messages announced at once: EXISTS, and a FETCH of what was asked for each of them (Written, 10 and 13)
+-- ---- new messages announced at once: EXISTS, and a FETCH of what was asked for each of them (Written, 10 and 13). A counter stands in
+-- each FETCH, and none is written for its sake (02, 1)
 abbrev pub shownItems : Session → Message → List Item
 shownItems s e =
     cond (selectedAsks s (λ (g : Group). bit 0 (g .attributes))) (uid (e .uid) ∷ []) []
@@ -97,7 +98,7 @@ showsAny s = selectedAsks s (λ (g : Group). not (eqb (g .attributes) 0))
 
 unfoldable pub newLines : Session → ℕ → List Message → List Line
 newLines s n [] = []
-newLines s n (e ∷ l) = fetch (record { 0 = n }) (e .uid) (shownItems s e) ∷ newLines s (n + 1) l
+newLines s n (e ∷ l) = fetch (record { 0 = n }) (e .uid) (shownItems s e ++ (modseq (e .counter) ∷ [])) ∷ newLines s (n + 1) l
 
 abbrev pub announcing : Memory → List Line
 announcing m =

@@ -6,7 +6,7 @@ pub struct MessageNumber(pub u64);
 // A message's UID in its mailbox.
 pub struct Uid(pub u64);
 
-// A row of the mailbox table. It is lent as it lies here: no octet is padding.
+// A row of the mailbox table. It is lent as it lies here: no octet is padding, since the change counter stands in two halves.
 #[repr(C)]
 pub struct Mailbox {
     pub id: u16,
@@ -14,16 +14,19 @@ pub struct Mailbox {
     pub namelen: u8,
     pub uidvalidity: u32,
     pub uidnext: u32,
+    pub counterlow: u32,
+    pub counterhigh: u32,
     pub name: [u8; 64],
 }
 
-// An entry of the message table, lent as five words. `states` has a bit for expunged and a bit for marked.
+// An entry of the message table, lent as six words. `states` has a bit for expunged and a bit for marked; `counter` is that of its last change.
 pub struct Message {
     pub mailbox: u64,
     pub uid: Uid,
     pub flags: u64,
     pub size: u64,
     pub states: u64,
+    pub counter: u64,
 }
 
 // A run of the session's names.

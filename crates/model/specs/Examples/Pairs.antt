@@ -8,10 +8,10 @@ use Rattle.model.specs.Examples.Stream.{mb, dl, rn, sb, me, xp, fl, se, 
 use Rattle.model.specs.Examples.Pair.{Pair, Said, silent, says, refused, counted, drained, Alike, Excluded, by-ids}
 
 abbrev pub ops : Octets
-ops = mb 1 0x33 1 7 "Ops"
+ops = mb 1 0x33 1 7 1 "Ops"
 
 abbrev pub vault : Octets
-vault = mb 2 0x03 0 9 "Vault"
+vault = mb 2 0x03 0 9 1 "Vault"
 
 -- ---- NOTIFY SET's listing: a hidden mailbox is not in it, and its renaming, subscription, mail and end are told to nobody
 abbrev pub listing : Pair
@@ -19,21 +19,21 @@ listing = record {
   queue = 1024;
   rows = 4;
   entries = 6;
-  left = ops ∷ vault ∷ me 2 1 0 100
+  left = ops ∷ vault ∷ me 2 1 0 100 2
       ∷ cm "a NOTIFY SET STATUS (personal (MessageNew MessageExpunge MailboxName SubscriptionChange))"
-      ∷ rn 2 0 "Ops/Vault" ∷ sb 2 1 0 ∷ me 2 2 0 100 ∷ xp 2 1 ∷ dl 2 0
-      ∷ me 1 1 0 100 ∷ [];
+      ∷ rn 2 0 "Ops/Vault" ∷ sb 2 1 0 ∷ me 2 2 0 100 3 ∷ xp 2 1 4 ∷ dl 2 0
+      ∷ me 1 1 0 100 2 ∷ [];
   right = ops
       ∷ cm "a NOTIFY SET STATUS (personal (MessageNew MessageExpunge MailboxName SubscriptionChange))"
-      ∷ me 1 1 0 100 ∷ [];
+      ∷ me 1 1 0 100 2 ∷ [];
   gone = 2 ∷ [];
   kept = 0 ∷ 1 ∷ [];
 }
 
 pub listing-alike : Alike listing (
     silent
-    ∷ says ("* STATUS \"Ops\" (MESSAGES 0 UIDNEXT 1 UIDVALIDITY 7)" ∷ "a OK NOTIFY done" ∷ [])
-    ∷ says ("* STATUS \"Ops\" (UIDNEXT 2 MESSAGES 1)" ∷ [])
+    ∷ says ("* STATUS \"Ops\" (MESSAGES 0 UIDNEXT 1 UIDVALIDITY 7 HIGHESTMODSEQ 1)" ∷ "a OK NOTIFY done" ∷ [])
+    ∷ says ("* STATUS \"Ops\" (UIDNEXT 2 MESSAGES 1 HIGHESTMODSEQ 2)" ∷ [])
     ∷ []
     )
 unfolding computed
@@ -48,13 +48,13 @@ naming = record {
   rows = 4;
   entries = 6;
   left =
-      ops ∷ me 1 4 0 100 ∷ vault ∷ me 2 4 0 100
+      ops ∷ me 1 4 0 100 2 ∷ vault ∷ me 2 4 0 100 2
       ∷ cm "a ESEARCH IN (mailboxes (Vault Ops)) ALL"
       ∷ cm "b ESEARCH IN (mailboxes Vault) ALL"
       ∷ cm "c NOTIFY SET STATUS (mailboxes Vault (MessageNew MessageExpunge))"
       ∷ [];
   right =
-      ops ∷ me 1 4 0 100
+      ops ∷ me 1 4 0 100 2
       ∷ cm "a ESEARCH IN (mailboxes (Vault Ops)) ALL"
       ∷ cm "b ESEARCH IN (mailboxes Vault) ALL"
       ∷ cm "c NOTIFY SET STATUS (mailboxes Vault (MessageNew MessageExpunge))"
@@ -83,16 +83,16 @@ limit = record {
   rows = 6;
   entries = 6;
   left =
-      mb 3 0x03 1 4294967295 "Ops/Mains/Valves/North/Inspections/Reports/Signed/Archived/March" ∷ me 3 4294967294 0 100
-      ∷ mb 4 0x03 1 4294967295 "Ops/Mains/Valves/North/Inspections/Reports/Signed/Archived/April" ∷ me 4 4294967294 0 100
-      ∷ mb 5 0x03 1 4294967295 "Ops/Mains/Valves/North/Inspections/Reports/Signed/Archived/June" ∷ me 5 4294967294 0 100
-      ∷ mb 1 0x33 1 4294967295 "Ops/Mains/Valves/North/Inspections/Reports/Signed/Archived/July" ∷ me 1 4294967294 0 100
-      ∷ mb 2 0x33 1 4294967295 "Ops/Mains/Valves/North/Inspections/Reports/Signed/Archived/May" ∷ me 2 4294967294 0 100
+      mb 3 0x03 1 4294967295 1 "Ops/Mains/Valves/North/Inspections/Reports/Signed/Archived/March" ∷ me 3 4294967294 0 100 2
+      ∷ mb 4 0x03 1 4294967295 1 "Ops/Mains/Valves/North/Inspections/Reports/Signed/Archived/April" ∷ me 4 4294967294 0 100 2
+      ∷ mb 5 0x03 1 4294967295 1 "Ops/Mains/Valves/North/Inspections/Reports/Signed/Archived/June" ∷ me 5 4294967294 0 100 2
+      ∷ mb 1 0x33 1 4294967295 1 "Ops/Mains/Valves/North/Inspections/Reports/Signed/Archived/July" ∷ me 1 4294967294 0 100 2
+      ∷ mb 2 0x33 1 4294967295 1 "Ops/Mains/Valves/North/Inspections/Reports/Signed/Archived/May" ∷ me 2 4294967294 0 100 2
       ∷ cm "tag-of-thirty-two-octets-exactly ESEARCH IN (personal) RETURN (MIN MAX ALL COUNT) ALL"
       ∷ [];
   right =
-      mb 1 0x33 1 4294967295 "Ops/Mains/Valves/North/Inspections/Reports/Signed/Archived/July" ∷ me 1 4294967294 0 100
-      ∷ mb 2 0x33 1 4294967295 "Ops/Mains/Valves/North/Inspections/Reports/Signed/Archived/May" ∷ me 2 4294967294 0 100
+      mb 1 0x33 1 4294967295 1 "Ops/Mains/Valves/North/Inspections/Reports/Signed/Archived/July" ∷ me 1 4294967294 0 100 2
+      ∷ mb 2 0x33 1 4294967295 1 "Ops/Mains/Valves/North/Inspections/Reports/Signed/Archived/May" ∷ me 2 4294967294 0 100 2
       ∷ cm "tag-of-thirty-two-octets-exactly ESEARCH IN (personal) RETURN (MIN MAX ALL COUNT) ALL"
       ∷ [];
   gone = 3 ∷ 4 ∷ 5 ∷ [];
@@ -121,14 +121,14 @@ status = record {
   rows = 4;
   entries = 6;
   left =
-      vault ∷ mb 3 0x03 1 9 "Attic" ∷ mb 4 0 1 9 "Cellar"
-      ∷ me 2 1 0 100 ∷ me 2 2 0 100 ∷ me 3 1 0 100 ∷ me 3 7 0 100 ∷ me 4 9 0 100
+      vault ∷ mb 3 0x03 1 9 1 "Attic" ∷ mb 4 0 1 9 1 "Cellar"
+      ∷ me 2 1 0 100 2 ∷ me 2 2 0 100 3 ∷ me 3 1 0 100 2 ∷ me 3 7 0 100 3 ∷ me 4 9 0 100 2
       ∷ ops ∷ cm "a NOTIFY SET (personal (MessageNew MessageExpunge))"
-      ∷ me 1 5 0 100 ∷ xp 1 5 ∷ [];
+      ∷ me 1 5 0 100 2 ∷ xp 1 5 3 ∷ [];
   right =
       ops ∷ cm "a NOTIFY SET (personal (MessageNew MessageExpunge))"
-      ∷ vault ∷ me 2 4 0 100 ∷ xp 2 4
-      ∷ me 1 5 0 100 ∷ xp 1 5 ∷ [];
+      ∷ vault ∷ me 2 4 0 100 2 ∷ xp 2 4 3
+      ∷ me 1 5 0 100 2 ∷ xp 1 5 3 ∷ [];
   gone = 2 ∷ 3 ∷ 4 ∷ [];
   kept = 0 ∷ 1 ∷ [];
 }
@@ -136,8 +136,8 @@ status = record {
 pub status-alike : Alike status (
     silent
     ∷ says ("a OK NOTIFY done" ∷ [])
-    ∷ says ("* STATUS \"Ops\" (UIDNEXT 6 MESSAGES 1)" ∷ [])
-    ∷ says ("* STATUS \"Ops\" (UIDNEXT 6 MESSAGES 0)" ∷ [])
+    ∷ says ("* STATUS \"Ops\" (UIDNEXT 6 MESSAGES 1 HIGHESTMODSEQ 2)" ∷ [])
+    ∷ says ("* STATUS \"Ops\" (UIDNEXT 6 MESSAGES 0 HIGHESTMODSEQ 3)" ∷ [])
     ∷ []
     )
 unfolding computed
@@ -159,12 +159,12 @@ ending = record {
   rows = 4;
   entries = 6;
   left =
-      vault ∷ me 2 1 0 100 ∷ me 2 2 0 100 ∷ me 2 3 0 100
-      ∷ ops ∷ me 1 1 0 100 ∷ me 1 2 0 100 ∷ se 1 ∷ filling
-      ++ (xp 1 1 ∷ me 1 3 0 100 ∷ fl 1 2 31 ∷ fl 2 2 31 ∷ ce 1 ∷ dr 130 ∷ xp 2 2 ∷ ce 0 ∷ []);
+      vault ∷ me 2 1 0 100 2 ∷ me 2 2 0 100 3 ∷ me 2 3 0 100 4
+      ∷ ops ∷ me 1 1 0 100 2 ∷ me 1 2 0 100 3 ∷ se 1 ∷ filling
+      ++ (xp 1 1 4 ∷ me 1 3 0 100 5 ∷ fl 1 2 31 6 ∷ fl 2 2 31 5 ∷ ce 1 ∷ dr 130 ∷ xp 2 2 6 ∷ ce 0 ∷ []);
   right =
-      ops ∷ me 1 1 0 100 ∷ me 1 2 0 100 ∷ se 1 ∷ filling
-      ++ (xp 1 1 ∷ me 1 3 0 100 ∷ fl 1 2 31 ∷ ce 1 ∷ dr 130 ∷ ce 0 ∷ []);
+      ops ∷ me 1 1 0 100 2 ∷ me 1 2 0 100 3 ∷ se 1 ∷ filling
+      ++ (xp 1 1 4 ∷ me 1 3 0 100 5 ∷ fl 1 2 31 6 ∷ ce 1 ∷ dr 130 ∷ ce 0 ∷ []);
   gone = 2 ∷ [];
   kept = 0 ∷ 1 ∷ [];
 }
@@ -172,7 +172,7 @@ ending = record {
 pub ending-alike : Alike ending (
     silent ∷ silent ∷ silent ∷ silent ∷ filled
     ++ (silent ∷ silent ∷ silent ∷ counted 1 ("* 1 EXPUNGE" ∷ "* 2 EXISTS" ∷ []) ∷ drained 130
-    ∷ counted 0 ("* 1 FETCH (UID 2 FLAGS (\\Answered \\Flagged \\Deleted \\Seen \\Draft))" ∷ []) ∷ [])
+    ∷ counted 0 ("* 1 FETCH (UID 2 FLAGS (\\Answered \\Flagged \\Deleted \\Seen \\Draft) MODSEQ (6))" ∷ []) ∷ [])
     )
 unfolding computed
 ending-alike = by-ids ending
@@ -187,10 +187,10 @@ overflow = record {
   entries = 6;
   left =
       vault ∷ ops ∷ cm "a NOTIFY SET (personal (MessageNew MessageExpunge MailboxName))" ∷ filling
-      ++ (me 2 1 0 100 ∷ rn 2 0 "Ops/Vault" ∷ ce 1 ∷ me 1 1 0 100 ∷ dl 2 0 ∷ me 1 2 0 100 ∷ cm "b NOTIFY NONE" ∷ []);
+      ++ (me 2 1 0 100 2 ∷ rn 2 0 "Ops/Vault" ∷ ce 1 ∷ me 1 1 0 100 2 ∷ dl 2 0 ∷ me 1 2 0 100 3 ∷ cm "b NOTIFY NONE" ∷ []);
   right =
       ops ∷ cm "a NOTIFY SET (personal (MessageNew MessageExpunge MailboxName))" ∷ filling
-      ++ (ce 1 ∷ me 1 1 0 100 ∷ me 1 2 0 100 ∷ cm "b NOTIFY NONE" ∷ []);
+      ++ (ce 1 ∷ me 1 1 0 100 2 ∷ me 1 2 0 100 3 ∷ cm "b NOTIFY NONE" ∷ []);
   gone = 2 ∷ [];
   kept = 0 ∷ 1 ∷ [];
 }
@@ -211,9 +211,9 @@ fullTable = record {
   rows = 4;
   entries = 2;
   left =
-      vault ∷ me 2 1 0 100 ∷ me 2 2 0 100 ∷ ops ∷ me 1 1 0 100 ∷ [];
+      vault ∷ me 2 1 0 100 2 ∷ me 2 2 0 100 3 ∷ ops ∷ me 1 1 0 100 2 ∷ [];
   right =
-      ops ∷ me 1 1 0 100 ∷ [];
+      ops ∷ me 1 1 0 100 2 ∷ [];
   gone = 2 ∷ [];
   kept = 0 ∷ 1 ∷ [];
 }
@@ -231,9 +231,9 @@ heldName = record {
   rows = 4;
   entries = 2;
   left =
-      vault ∷ mb 1 0x33 1 7 "Vault" ∷ [];
+      vault ∷ mb 1 0x33 1 7 1 "Vault" ∷ [];
   right =
-      mb 1 0x33 1 7 "Vault" ∷ [];
+      mb 1 0x33 1 7 1 "Vault" ∷ [];
   gone = 2 ∷ [];
   kept = 0 ∷ 1 ∷ [];
 }

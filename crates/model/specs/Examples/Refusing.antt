@@ -8,7 +8,7 @@ use Rattle.model.specs.Examples.Pair.{Pair, Ids, Said, silent, says, ref
 
 -- the visible mailbox, with a long name
 abbrev pub july : Octets
-july = mb 1 0x33 1 4294967295 "Ops/Mains/Valves/North/Inspections/Reports/Signed/Archived/July"
+july = mb 1 0x33 1 4294967295 1 "Ops/Mains/Valves/North/Inspections/Reports/Signed/Archived/July"
 
 -- a search whose answer has 256 octets
 abbrev pub look : Octets
@@ -23,21 +23,21 @@ seen = says (
 
 -- ---- visible records that are refused: mailbox 1 is unknown at first, and then in use
 abbrev pub early : List Octets
-early = me 1 1 0 100 ∷ july ∷ mb 1 0x33 1 7 "Works" ∷ []
+early = me 1 1 0 100 1 ∷ july ∷ mb 1 0x33 1 7 1 "Works" ∷ []
 
 -- a UID is used again, another is not there (though a hidden mailbox has it), the selected mailbox is deleted, more is drained
 -- than there is, a class is out of range, and at last an answer finds no room
 abbrev pub late : List Octets
-late = me 1 4294967294 0 100 ∷ me 1 4294967294 0 100 ∷ xp 1 2 ∷ se 1 ∷ dl 1 0 ∷ dr 1 ∷ ce 2 ∷ look ∷ look ∷ look ∷ look ∷ []
+late = me 1 4294967294 0 100 2 ∷ me 1 4294967294 0 100 3 ∷ xp 1 2 4 ∷ se 1 ∷ dl 1 0 ∷ dr 1 ∷ ce 2 ∷ look ∷ look ∷ look ∷ look ∷ []
 
 -- ---- hidden records: of mailbox 2, which takes the second of two rows and for a while both entries, and of id 3, which is never made.
 -- Refusal 8 is for commands, which are about no id
 abbrev pub secret : List Octets
 secret =
-    mb 2 0x03 0 9 "Vault" ∷ mb 2 0x03 0 9 "Attic" ∷ mb 3 0x43 0 9 "Attic"
-    ∷ rn 2 0 "Ops/Mains/Valves/North/Inspections/Reports/Signed/Archived/July" ∷ xp 3 1
-    ∷ me 2 2 0 100 ∷ me 2 2 0 100 ∷ fl 2 7 0 ∷ se 2
-    ∷ mb 3 0x03 0 9 "Attic" ∷ me 2 3 0 100 ∷ me 2 4 0 100 ∷ xp 2 3
+    mb 2 0x03 0 9 1 "Vault" ∷ mb 2 0x03 0 9 1 "Attic" ∷ mb 3 0x43 0 9 1 "Attic"
+    ∷ rn 2 0 "Ops/Mains/Valves/North/Inspections/Reports/Signed/Archived/July" ∷ xp 3 1 2
+    ∷ me 2 2 0 100 2 ∷ me 2 2 0 100 3 ∷ fl 2 7 0 4 ∷ se 2
+    ∷ mb 3 0x03 0 9 1 "Attic" ∷ me 2 3 0 100 5 ∷ me 2 4 0 100 6 ∷ xp 2 3 7
     ∷ []
 
 abbrev pub refusing : Pair

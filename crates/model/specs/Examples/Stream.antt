@@ -2,7 +2,7 @@
 -- (01, Records, 1 to 18; Examples, 10).
 use mathlib.Core.Path.{_≡_}
 use mathlib.Core.List.{List, [], _∷_, _++_}
-use Prim.Native.Nat.{ℕ, _/_, _%_}
+use Prim.Native.Nat.{ℕ, zero, suc, _/_, _%_}
 use Prim.Native.String.{String}
 use lib.ListN.{length}
 use Rattle.model.specs.Lists.{same, concatMap}
@@ -33,16 +33,20 @@ use Rattle.model.specs.Pushrun.{cut, printed, pushrun}
 abbrev pub frame : String → List ℕ → Octets
 frame mark body = octets mark ++ ((length body % 256) ∷ (length body / 256) ∷ body)
 
--- a number of two octets, and of four
+-- a number of w octets, the lowest first
+abbrev pub number : ℕ → ℕ → List ℕ
+number zero n = []
+number (suc w) n = (n % 256) ∷ number w (n / 256)
+
 abbrev pub two : ℕ → List ℕ
-two n = (n % 256) ∷ (n / 256) ∷ []
+two n = number 2 n
 
 abbrev pub four : ℕ → List ℕ
-four n = (n % 256) ∷ (n / 256 % 256) ∷ (n / 65536 % 256) ∷ (n / 16777216) ∷ []
+four n = number 4 n
 
--- create, with attributes, quiet or not, UIDVALIDITY and name
-abbrev pub mb : ℕ → ℕ → ℕ → ℕ → String → Octets
-mb i a q v n = frame "MB" (two i ++ (a ∷ q ∷ four v ++ octets n))
+-- create, with attributes, quiet or not, UIDVALIDITY, change counter and name
+abbrev pub mb : ℕ → ℕ → ℕ → ℕ → ℕ → String → Octets
+mb i a q v c n = frame "MB" (two i ++ (a ∷ q ∷ four v ++ (number 8 c ++ octets n)))
 
 -- delete, rename, subscribe, rights
 abbrev pub dl : ℕ → ℕ → Octets
@@ -57,15 +61,15 @@ sb i s q = frame "SB" (two i ++ (s ∷ q ∷ []))
 abbrev pub rt : ℕ → ℕ → Octets
 rt i r = frame "RT" (two i ++ (r ∷ []))
 
--- a message with its flags and its size, an expunge, a change of flags
-abbrev pub me : ℕ → ℕ → ℕ → ℕ → Octets
-me i u f z = frame "ME" (two i ++ (four u ++ (f ∷ four z)))
+-- a message with its flags and its size, an expunge, a change of flags; each with its change counter
+abbrev pub me : ℕ → ℕ → ℕ → ℕ → ℕ → Octets
+me i u f z c = frame "ME" (two i ++ (four u ++ (f ∷ four z ++ number 8 c)))
 
-abbrev pub xp : ℕ → ℕ → Octets
-xp i u = frame "XP" (two i ++ four u)
+abbrev pub xp : ℕ → ℕ → ℕ → Octets
+xp i u c = frame "XP" (two i ++ (four u ++ number 8 c))
 
-abbrev pub fl : ℕ → ℕ → ℕ → Octets
-fl i u f = frame "FL" (two i ++ (four u ++ (f ∷ [])))
+abbrev pub fl : ℕ → ℕ → ℕ → ℕ → Octets
+fl i u f c = frame "FL" (two i ++ (four u ++ (f ∷ number 8 c)))
 
 -- select, the end of a command, a command, a drain
 abbrev pub se : ℕ → Octets

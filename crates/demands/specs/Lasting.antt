@@ -1,6 +1,7 @@
 -- Every call leaves lawful memory lawful, and the end of a command leaves owed what it did not write.
 pub mod Law
 pub mod Rows
+pub mod Raised
 pub mod Clash
 pub mod NameLaws
 pub mod Ranges

@@ -15,6 +15,7 @@ pub mod Messages
 pub mod Flags
 pub mod Expunges
 pub mod Arrivals
+pub mod Raised
 pub mod Streams
 pub mod Occasions
 pub mod Silence

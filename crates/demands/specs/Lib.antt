@@ -1,4 +1,5 @@
 pub mod Isolation
 pub mod Lasting
+pub mod Counted
 pub mod Theorems
 pub mod Ledger

@@ -1,4 +1,4 @@
--- Demands 1 and 3, proved of the definitions. Assumes nothing.
+-- Demands 1 and 3 and the change counters, proved of the definitions. Assumes nothing.
 -- Demand 1: a call is refused exactly where a refusal applies, by the lowest that does; a refused call changes nothing; memory stays lawful.
 -- Demand 3: Hidden.Demand3 holds, for any two starts.
 use mathlib.Core.Path.{_≡_, refl, sym, _∙_, ap, subst}
@@ -11,7 +11,7 @@ use lib.Dec.{eqb, leb, leb·zero}
 use lib.ListN.{length, drop}
 use Rattle.model.specs.Lists.{allb}
 use Rattle.model.specs.Laws.{tf}
-use Rattle.model.specs.Records.{Record, create, delete, rename, subscribe, grant, arrive, expunge, reflag, select, ended, command, drained, noRecord, recordOf}
+use Rattle.model.specs.Records.{ended, recordOf}
 use Rattle.model.specs.Memory.{Memory}
 use Rattle.model.specs.View.{owed}
 use Rattle.model.specs.Answers.{refusalNumber, numberOf}
@@ -19,10 +19,14 @@ use Rattle.model.specs.Lawful.{queueOk, lawful}
 use Rattle.model.specs.Rules.{Outcome, endedAt, accepted}
 use Rattle.model.specs.Call.{applies, refuse, call}
 use Rattle.model.specs.Hidden.{Octets, Called, calls, Starts, Demand3}
+use Rattle.model.specs.Counters.{CounterHighest, CounterOwn}
 use Rattle.demands.specs.Isolation.Streams.{demand}
 use Rattle.demands.specs.Lasting.Law.{law-out}
 use Rattle.demands.specs.Lasting.Calls.{keeps}
 use Rattle.demands.specs.Lasting.Owing.{left-owed, left-counted}
+use Rattle.demands.specs.Counted.Taken.{unrefused}
+use Rattle.demands.specs.Counted.Highest.{last-highest}
+use Rattle.demands.specs.Counted.Own.{own-last}
 use Rattle.model.specs.declared.Refusal.{Refusal}
 use Rattle.model.specs.declared.Refusal.the-variants.{UnlawfulMemory, BadRecord, WrongId, NameHeld, WrongUid, WrongState, TableFull, NoRoom}
 use Rattle.model.specs.declared.Answer.{Answer}
@@ -31,6 +35,13 @@ use Rattle.model.specs.declared.Answer.the-variants.{Done, Counted, Refused}
 -- ---- DEMAND 3
 pub isolated : Demand3
 isolated = demand keeps
+
+-- ---- CHANGE COUNTERS: a mailbox's is the last and the highest that it was given, a message's that of its own last change
+pub counter-highest : CounterHighest
+counter-highest = last-highest
+
+pub counter-own : CounterOwn
+counter-own = own-last
 
 -- ---- DEMAND 1
 -- the refusal applies, and none with a lower number does
@@ -54,23 +65,6 @@ at-number NoRoom = refl
 
 same-number : (q r : Refusal) → refusalNumber q ≡ refusalNumber r → q ≡ r
 same-number q r e = sym (at-number q) ∙ (ap at e ∙ at-number r)
-
--- what is accepted is not refused
-unrefused : (m : Memory) (r : Record) → numberOf (accepted m r .answer) ≡ 0
-unfolding accepted
-unrefused m (create i a q v n) = refl
-unrefused m (delete i q) = refl
-unrefused m (rename i q n) = refl
-unrefused m (subscribe i s q) = refl
-unrefused m (grant i r) = refl
-unrefused m (arrive i u f z) = refl
-unrefused m (expunge i u) = refl
-unrefused m (reflag i u f) = refl
-unrefused m (select i) = refl
-unrefused m (ended c) = refl
-unrefused m (command t) = refl
-unrefused m (drained n) = refl
-unrefused m noRecord = refl
 
 number-positive : (r : Refusal) → 1 ≤ refusalNumber r
 number-positive UnlawfulMemory = omega arith

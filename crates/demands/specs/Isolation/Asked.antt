@@ -13,9 +13,9 @@ use Rattle.model.specs.Reading.{Parsed, bad, ok}
 use Rattle.model.specs.Commands.{tagOf, commandOf}
 use Rattle.model.specs.Limits.{limits}
 use Rattle.model.specs.Replies.{replyOf}
-use Rattle.model.specs.Memory.{Memory, boxes, nameOf, mayList, mayRead, expunged}
+use Rattle.model.specs.Memory.{Memory, boxes, nameOf, mayList, mayRead, counterOf, expunged}
 use Rattle.model.specs.Groups.{askedOf, selectedAsks, asksMessages, asksMailbox}
-use Rattle.model.specs.Lines.{Line, list, statusAtSet, noAccess, answer, renderAll}
+use Rattle.model.specs.Lines.{Line, list, status, setItems, noAccess, answer, renderAll}
 use Rattle.model.specs.Queue.{say}
 use Rattle.model.specs.View.{owed}
 use Rattle.model.specs.Listing.{listing, listingLine, concerns, byName, asksAny, watching}
@@ -64,7 +64,7 @@ module _ (H : ℕ → Bool) (s t : Memory) (a : Alike H s t) (d : Dark H s) wher
   same-line : (n : Session) (w : Bool) (x : Mailbox) → staysBox H x ≡ true → listingLine t n w x ≡ listingLine s n w x
   same-line n w x h = λ j. cond (mayRead x)
       (when (w && (not (not (eqb (x .id) 0) && eqb (x .id) (same-id H s t a j)) && askedOf n x asksMessages))
-      (statusAtSet (nameOf x) (length (filterb (λ (e : Message). not (expunged e)) (same-messages H s t a (x .id) (not-true (H (x .id)) h) j))) (x .uidnext) (x .uidvalidity)))
+      (status (nameOf x) (setItems (length (filterb (λ (e : Message). not (expunged e)) (same-messages H s t a (x .id) (not-true (H (x .id)) h) j))) (x .uidnext) (x .uidvalidity) (counterOf x))))
       (list noAccess (nameOf x) ∷ [])
 
   same-applies : (n : Session) (x : Mailbox) → concerns t n x ≡ concerns s n x

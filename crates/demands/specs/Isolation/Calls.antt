@@ -13,7 +13,7 @@ use Rattle.model.specs.Records.{Kind, MB, DL, RN, SB, RT, ME, XP, FL, SE, CE, C
 use Rattle.model.specs.Memory.{Memory, boxes, filled, theMailbox, known, selectable, mayList, mayRead}
 use Rattle.model.specs.Lawful.{lawful}
 use Rattle.model.specs.Refusals.{wrongId, nameHeld, wrongUid, unfit, wrongState, tableFull}
-use Rattle.model.specs.Rules.{Outcome, accepted}
+use Rattle.model.specs.Rules.{Outcome, raised, accepted}
 use Rattle.model.specs.Call.{call, refuse, roomless}
 use Rattle.model.specs.Hidden.{excepted}
 use Rattle.model.specs.declared.Refusal.{Refusal}
@@ -22,7 +22,8 @@ use Rattle.demands.specs.Isolation.Alike.{Alike}
 use Rattle.demands.specs.Isolation.Left.{AlikeOutcome}
 use Rattle.demands.specs.Isolation.Asked.{Dark}
 use Rattle.demands.specs.Isolation.Kinds.{subject, same-3, same-5, same-6, same-8, less-4, less-7, accepted-left}
-use Rattle.demands.specs.Isolation.Off.{unseen, created-off, deleted-off, renamed-off, subscribed-off, granted-off, arrived-off, removed-off, reflagged-off}
+use Rattle.demands.specs.Lasting.Raised.{raised-known}
+use Rattle.demands.specs.Isolation.Off.{unseen, created-off, deleted-off, renamed-off, subscribed-off, granted-off, raised-off, raised-dark, arrived-off, removed-off, reflagged-off}
 
 -- ---- what an octet string is about is the subject of its record
 wide-enough : (b : List ℕ) (n : ℕ) (r : Bool) → 2 ≤ n → (leb n (length b) && r) ≡ true → leb 2 (length b) ≡ true
@@ -30,14 +31,14 @@ wide-enough b n r h e = let k = leb-true n (length b) (and-l (leb n (length b)) 
 
 about-by : (k : Kind) (b : List ℕ) → bodyOk (layout k) b ≡ true
     → cond (startsWithId (layout k .fields) && leb 2 (length b)) (little 2 b) 0 ≡ subject (recordBy k (values (layout k .fields) b) (drop (widths (layout k .fields)) b))
-about-by MB b e = rw (wide-enough b 8 _ (omega arith) e)
+about-by MB b e = rw (wide-enough b 16 _ (omega arith) e)
 about-by DL b e = rw (wide-enough b 3 _ (omega arith) e)
 about-by RN b e = rw (wide-enough b 3 _ (omega arith) e)
 about-by SB b e = rw (wide-enough b 4 _ (omega arith) e)
 about-by RT b e = rw (wide-enough b 3 _ (omega arith) e)
-about-by ME b e = rw (wide-enough b 11 _ (omega arith) e)
-about-by XP b e = rw (wide-enough b 6 _ (omega arith) e)
-about-by FL b e = rw (wide-enough b 7 _ (omega arith) e)
+about-by ME b e = rw (wide-enough b 19 _ (omega arith) e)
+about-by XP b e = rw (wide-enough b 14 _ (omega arith) e)
+about-by FL b e = rw (wide-enough b 15 _ (omega arith) e)
 about-by SE b e = rw (wide-enough b 2 _ (omega arith) e)
 about-by CE b e = refl
 about-by CM b e = refl
@@ -108,14 +109,20 @@ module _ (H : ℕ → Bool) where
 
     accepted-off : (r : Record) → H (subject r) ≡ true → wrongId s r ≡ false → wrongState s r ≡ false → tableFull s r ≡ false → Off t (accepted s r)
     unfolding accepted
-    accepted-off (create i at q v n) h k w full = record { says = λ dark. created-off H h0 s t a d i h at q v n (leb-false _ _ full) dark }
+    accepted-off (create i at q v c n) h k w full = record { says = λ dark. created-off H h0 s t a d i h at q v c n (leb-false _ _ full) dark }
     accepted-off (delete i q) h k w full = record { says = λ _. deleted-off H h0 s t a d i h q }
     accepted-off (rename i q n) h k w full = record { says = λ _. renamed-off H h0 s t a d i h q n (not-false _ k) }
     accepted-off (subscribe i b q) h k w full = record { says = λ _. subscribed-off H h0 s t a d i h b q (not-false _ k) }
     accepted-off (grant i r) h k w full = record { says = λ dark. granted-off H h0 s t a d i h r (not-false _ k) dark }
-    accepted-off (arrive i u f z) h k w full = record { says = λ dark. arrived-off H h0 s t a d i h u f z (not-false _ k) (leb-false _ _ full) dark }
-    accepted-off (expunge i u) h k w full = record { says = λ _. removed-off H h0 s t a d i h u }
-    accepted-off (reflag i u f) h k w full = record { says = λ _. reflagged-off H h0 s t a d i h u f }
+    accepted-off (arrive i u f z c) h k w full =
+        let b = raised-off H h0 s t a d i h c (not-false _ k) in
+        record { says = λ dark. arrived-off H h0 (raised s i c) t b (raised-dark H h0 s t a d i h c) i h u f z c (raised-known s i c (not-false _ k)) (leb-false _ _ full) dark }
+    accepted-off (expunge i u c) h k w full =
+        let b = raised-off H h0 s t a d i h c (not-false _ k) in
+        record { says = λ _. removed-off H h0 (raised s i c) t b (raised-dark H h0 s t a d i h c) i h u }
+    accepted-off (reflag i u f c) h k w full =
+        let b = raised-off H h0 s t a d i h c (not-false _ k) in
+        record { says = λ _. reflagged-off H h0 (raised s i c) t b (raised-dark H h0 s t a d i h c) i h u f c }
     accepted-off (select i) h k w full = no-select i h w
     accepted-off (ended c) h k w full = tf (H 0) h h0
     accepted-off (command x) h k w full = tf (H 0) h h0

@@ -5,16 +5,16 @@ use mathlib.Core.Bool.{Bool, true, false, not, cond, _&&_}
 use Prim.Native.Nat.{ℕ, _+_, _<_}
 use lib.Dec.{eqb, ltb}
 use lib.ListN.{length}
-use Rattle.model.specs.Lists.{when, filterb}
+use Rattle.model.specs.Lists.{filterb}
 use Rattle.model.specs.Laws.{tf}
 use Rattle.model.specs.Names.{Name}
-use Rattle.model.specs.Memory.{Memory, boxes, mails, nameOf, withAttributes, withNext, withName, theMailbox, isSelected, bothRights, inMailbox, isMessage, expunged, withFlags, withStates, silenced, putBox, dropBox, dropMails, changeMails}
-use Rattle.model.specs.Groups.{askedOf, asksNew, asksExpunge}
-use Rattle.model.specs.Lines.{status, expunge, overflow}
+use Rattle.model.specs.Memory.{Memory, boxes, mails, withAttributes, withNext, withName, counterOf, withCounter, theMailbox, isSelected, inMailbox, isMessage, expunged, withFlags, withStates, silenced, putBox, dropBox, dropMails, changeMails}
+use Rattle.model.specs.Groups.{askedOf, asksNew, asksExpunge, asksFlags}
+use Rattle.model.specs.Lines.{mailItems, expunge, overflow}
 use Rattle.model.specs.Queue.{fits}
 use Rattle.model.specs.View.{placeOf, expungeAtOnce, flagsAtOnce, flagsWait, flagsLine}
-use Rattle.model.specs.Events.{Event, loud, createLines, deleteLines, renameLines, subscriptionLines, rightsLines, newBox, created, deleted, renamedTo, withSubscribed, subscribedTo, withRights, granted, statusLines, message, withArrived, arrived, inView, expire, removed, reflag, mark, reflagged, silence, tellings, settled}
-use Rattle.model.specs.Rules.{Outcome, told}
+use Rattle.model.specs.Events.{Event, loud, createLines, deleteLines, renameLines, subscriptionLines, rightsLines, newBox, created, deleted, renamedTo, withSubscribed, subscribedTo, withRights, granted, statusLines, countsOf, changesOf, message, withArrived, arrived, inView, expire, removed, reflag, mark, reflagged, silence, tellings, settled}
+use Rattle.model.specs.Rules.{Outcome, told, raised}
 use Rattle.model.specs.declared.Mailbox.{Mailbox}
 use Rattle.model.specs.declared.Message.{Message}
 use Rattle.model.specs.declared.Group.{Group}
@@ -74,10 +74,10 @@ module _ (H : ℕ → Bool) (h0 : H 0 ≡ false) where
     stays : H (theMailbox i (boxes s) .id) ≡ false
     stays = box-stays H h0 i hi (boxes s)
 
-    pub created-left : (at q v : ℕ) (n : Name) → length (boxes s) < length (s .rows) → AlikeEvent H (created s i at q v n) (created t i at q v n)
-    created-left at q v n room = record {
-      stored = alike-add H s t a (newBox i at v n) hi room;
-      lines = λ j. loud q (createLines (a .session j) (newBox i at v n));
+    pub created-left : (at q v c : ℕ) (n : Name) → length (boxes s) < length (s .rows) → AlikeEvent H (created s i at q v c n) (created t i at q v c n)
+    created-left at q v c n room = record {
+      stored = alike-add H s t a (newBox i at v c n) hi room;
+      lines = λ j. loud q (createLines (a .session j) (newBox i at v c n));
     }
 
     pub deleted-left : (q : ℕ) → AlikeEvent H (deleted s i q) (deleted t i q)
@@ -105,9 +105,9 @@ module _ (H : ℕ → Bool) (h0 : H 0 ≡ false) where
       lines = λ j. rightsLines (a .session j) (own j) (withRights (own j) r);
     }
 
-  -- a STATUS of a mailbox that stays
-  same-status : (s t : Memory) → Alike H s t → (x : Mailbox) → H (x .id) ≡ false → (w : Bool) → statusLines t x w ≡ statusLines s x w
-  same-status s t a x h w = λ j. when (bothRights x && w) (status (nameOf x) (x .uidnext) (length (filterb (λ (e : Message). not (expunged e)) (same-messages H s t a (x .id) h j))))
+  -- how many messages a mailbox that stays has
+  same-counts : (s t : Memory) → Alike H s t → (x : Mailbox) → H (x .id) ≡ false → countsOf t x ≡ countsOf s x
+  same-counts s t a x h = λ j. mailItems (x .uidnext) (length (filterb (λ (e : Message). not (expunged e)) (same-messages H s t a (x .id) h j))) (counterOf x)
 
   module _ (s t : Memory) (a : Alike H s t) (i : ℕ) (hi : H i ≡ false) where
     own′ : theMailbox i (boxes t) ≡ theMailbox i (boxes s)
@@ -122,22 +122,26 @@ module _ (H : ℕ → Bool) (h0 : H 0 ≡ false) where
     seen : (u : ℕ) → inView t i u ≡ inView s i u
     seen u = λ j. (not (eqb i 0) && eqb i (a .session j .selected)) && ltb u (a .session j .told)
 
+    -- its counter rises
+    pub raised-left : (c : ℕ) → Alike H (raised s i c) (raised t i c)
+    raised-left c = alike-put H s t a i hi (withCounter (theMailbox i (boxes s)) c) (withCounter (theMailbox i (boxes t)) c) (λ j. withCounter (own′ j) c) stays′
+
     -- a status of this mailbox, by the groups
     asked-status : (asks : Group → Bool) (p q : Memory) → Alike H p q → (x y : Mailbox) → y ≡ x → H (x .id) ≡ false
-        → statusLines q y (askedOf (t .session) y asks) ≡ statusLines p x (askedOf (s .session) x asks)
-    asked-status asks p q b x y e h = (λ j. statusLines q (e j) (askedOf (a .session j) (e j) asks)) ∙ same-status p q b x h (askedOf (s .session) x asks)
+        → statusLines y (askedOf (t .session) y asks) (countsOf q y) ≡ statusLines x (askedOf (s .session) x asks) (countsOf p x)
+    asked-status asks p q b x y e h = (λ j. statusLines (e j) (askedOf (a .session j) (e j) asks) (countsOf q (e j))) ∙ ap (statusLines x (askedOf (s .session) x asks)) (same-counts p q b x h)
 
-    pub arrived-left : (u f z : ℕ) → length (mails s) < length (s .entries) → AlikeEvent H (arrived s i u f z) (arrived t i u f z)
-    arrived-left u f z room =
+    pub arrived-left : (u f z c : ℕ) → length (mails s) < length (s .entries) → AlikeEvent H (arrived s i u f z c) (arrived t i u f z c)
+    arrived-left u f z c room =
         let put : Alike H (putBox s i (withNext (theMailbox i (boxes s)) (u + 1))) (putBox t i (withNext (theMailbox i (boxes t)) (u + 1))) =
         alike-put H s t a i hi (withNext (theMailbox i (boxes s)) (u + 1)) (withNext (theMailbox i (boxes t)) (u + 1)) (λ j. withNext (own′ j) (u + 1)) stays′ in
-        let after : Alike H (withArrived s i u f z) (withArrived t i u f z) =
-        alike-add-mail H (putBox s i (withNext (theMailbox i (boxes s)) (u + 1))) (putBox t i (withNext (theMailbox i (boxes t)) (u + 1))) put (message i u f z) hi room in
-        let x = same-box H (withArrived s i u f z) (withArrived t i u f z) after i hi in
+        let after : Alike H (withArrived s i u f z c) (withArrived t i u f z c) =
+        alike-add-mail H (putBox s i (withNext (theMailbox i (boxes s)) (u + 1))) (putBox t i (withNext (theMailbox i (boxes t)) (u + 1))) put (message i u f z c) hi room in
+        let x = same-box H (withArrived s i u f z c) (withArrived t i u f z c) after i hi in
         record {
           stored = after;
-          lines = λ j. cond (chosen j) (cond (same-new H s t a j) (same-announcing H (withArrived s i u f z) (withArrived t i u f z) after j) [])
-              (asked-status asksNew (withArrived s i u f z) (withArrived t i u f z) after (theMailbox i (boxes (withArrived s i u f z))) (theMailbox i (boxes (withArrived t i u f z))) x (box-stays H h0 i hi (boxes (withArrived s i u f z))) j);
+          lines = λ j. cond (chosen j) (cond (same-new H s t a j) (same-announcing H (withArrived s i u f z c) (withArrived t i u f z c) after j) [])
+              (asked-status asksNew (withArrived s i u f z c) (withArrived t i u f z c) after (theMailbox i (boxes (withArrived s i u f z c))) (theMailbox i (boxes (withArrived t i u f z c))) x (box-stays H h0 i hi (boxes (withArrived s i u f z c))) j);
         }
 
     pub removed-left : (u : ℕ) → AlikeEvent H (removed s i u) (removed t i u)
@@ -159,17 +163,20 @@ module _ (H : ℕ → Bool) (h0 : H 0 ≡ false) where
         without : Alike H (dropMails s (isMessage i u)) (dropMails t (isMessage i u))
         without = alike-drop-mails H s t a (isMessage i u)
 
-    pub reflagged-left : (u f : ℕ) → AlikeEvent H (reflagged s i u f) (reflagged t i u f)
-    reflagged-left u f = pick H (inView s i u) (inView t i u) (seen u) _ _ _ _
+    pub reflagged-left : (u f c : ℕ) → AlikeEvent H (reflagged s i u f c) (reflagged t i u f c)
+    reflagged-left u f c = pick H (inView s i u) (inView t i u) (seen u) _ _ _ _
         (pick H (flagsAtOnce s) (flagsAtOnce t) (same-flags H s t a) _ _ _ _
-        (record { stored = after; lines = λ j. flagsLine (placeOf u (same-view H s t a j) .0) (message i u f 0) ∷ [] })
+        (record { stored = after; lines = λ j. flagsLine (placeOf u (same-view H s t a j) .0) (message i u f 0 c) ∷ [] })
         (pick H (flagsWait s) (flagsWait t) (same-wait H s t a) _ _ _ _
         (record {
-          stored = alike-change H (changeMails s (reflag i u f)) (changeMails t (reflag i u f)) after (mark i u) (λ e. kept-mailbox (isMessage i u e) (withStates e 2) e refl);
+          stored = alike-change H (changeMails s (reflag i u f c)) (changeMails t (reflag i u f c)) after (mark i u) (λ e. kept-mailbox (isMessage i u e) (withStates e 2) e refl);
           lines = refl;
         })
         (record { stored = after; lines = refl })))
-        (record { stored = after; lines = refl })
+        (record {
+          stored = after;
+          lines = λ j. cond (chosen j) [] (statusLines (own′ j) (askedOf (a .session j) (own′ j) asksFlags) (changesOf (own′ j)));
+        })
       where
-        after : Alike H (changeMails s (reflag i u f)) (changeMails t (reflag i u f))
-        after = alike-change H s t a (reflag i u f) (λ e. kept-mailbox (isMessage i u e) (withFlags e f) e refl)
+        after : Alike H (changeMails s (reflag i u f c)) (changeMails t (reflag i u f c))
+        after = alike-change H s t a (reflag i u f c) (λ e. kept-mailbox (isMessage i u e) (withFlags e f c) e refl)

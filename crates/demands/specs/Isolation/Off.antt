@@ -10,17 +10,18 @@ use lib.ListN.{length, set, length-append, length-set, length-map}
 use Rattle.model.specs.Lists.{filterb, anyb, when}
 use Rattle.model.specs.Laws.{tf, or-l, or-r, and-false, cond-same, filter-append, filter-filter, filter-length, filter-map-same, any-snoc}
 use Rattle.model.specs.Names.{Name}
-use Rattle.model.specs.Memory.{Memory, boxes, mails, filled, held, place, known, theMailbox, mayList, mayRead, bothRights, isSelected, inMailbox, isMessage, withNext, withName, withAttributes, withFlags, withBoxes, withMails, putBox, dropBox, dropMails, changeMails}
-use Rattle.model.specs.Lines.{Line, status, statusAtSet, list, renamed, exists, expunge as expungeLine, fetch, found, overflow, answer, renderAll}
+use Rattle.model.specs.Memory.{Memory, boxes, mails, filled, held, place, known, theMailbox, mayList, mayRead, bothRights, isSelected, inMailbox, isMessage, withNext, withName, withAttributes, withCounter, withFlags, withBoxes, withMails, putBox, dropBox, dropMails, changeMails}
+use Rattle.model.specs.Lines.{Line, status, list, renamed, exists, expunge as expungeLine, fetch, found, overflow, answer, renderAll}
 use Rattle.model.specs.Queue.{fits, enqueue, effect, effects, showsFlags, unmark, say}
 use Rattle.model.specs.Events.{Event, loud, newBox, withSubscribed, withRights, message, inView, reflag as reflagOf, created, deleted, renamedTo, subscribedTo, granted, arrived, removed, reflagged, silence, tellings, settled}
-use Rattle.model.specs.Rules.{told}
+use Rattle.model.specs.Rules.{told, raised}
 use Rattle.model.specs.Hidden.{visible}
 use Rattle.model.specs.declared.Mailbox.{Mailbox}
 use Rattle.model.specs.declared.Message.{Message}
 use Rattle.demands.specs.Isolation.Erase.{boxesOff, mailsOff, staysBox, staysMail, unlike, set-gone, box-id}
 use Rattle.demands.specs.Isolation.Alike.{Alike, boxes-with, mails-with, boxes-fit, mails-fit, rows-with, entries-with, held-written, length-written}
 use Rattle.demands.specs.Isolation.Asked.{Dark}
+use Rattle.demands.specs.Lasting.Rows.{any-set}
 
 -- ---- writing lines leaves the mailboxes
 boxes-effect : (m : Memory) (l : Line) → boxes (effect m l) ≡ boxes m
@@ -31,8 +32,7 @@ boxes-effect m (fetch n u is) = go (showsFlags is)
     go : (b : Bool) → boxes (cond b (changeMails m (unmark (m .session .selected) (u .0))) m) ≡ boxes m
     go true = refl
     go false = refl
-boxes-effect m (status n u k) = refl
-boxes-effect m (statusAtSet n k u v) = refl
+boxes-effect m (status n is) = refl
 boxes-effect m (list k n) = refl
 boxes-effect m (renamed k new old) = refl
 boxes-effect m (found t n v rs) = refl
@@ -175,14 +175,14 @@ module _ (H : ℕ → Bool) (h0 : H 0 ≡ false) (s t : Memory) (a : Alike H s t
     pub dim-after : anyb (λ (x : Mailbox). eqb (x .id) i && visible x) l ≡ false
     dim-after = rw (boxes-told H s t event l e k) at (dark i hi)
 
-  pub created-off : (at q v : ℕ) (n : Name) → length (boxes s) < length (s .rows) → Dark H (told s (λ (k : Memory). created k i at q v n) .after) → Alike H (told s (λ (k : Memory). created k i at q v n) .after) t
-  created-off at q v n room dark =
-      let x : Mailbox = newBox i at v n in
+  pub created-off : (at q v c : ℕ) (n : Name) → length (boxes s) < length (s .rows) → Dark H (told s (λ (k : Memory). created k i at q v c n) .after) → Alike H (told s (λ (k : Memory). created k i at q v c n) .after) t
+  created-off at q v c n room dark =
+      let x : Mailbox = newBox i at v c n in
       let p : Mailbox → Bool = λ (y : Mailbox). eqb (y .id) i && visible y in
-      let z : anyb p (boxes s ++ (x ∷ [])) ≡ false = dim-after (λ (k : Memory). created k i at q v n) (boxes s ++ (x ∷ [])) (boxes-with s (boxes s ++ (x ∷ []))) (boxes-with (silence s) (boxes s ++ (x ∷ []))) dark in
+      let z : anyb p (boxes s ++ (x ∷ [])) ≡ false = dim-after (λ (k : Memory). created k i at q v c n) (boxes s ++ (x ∷ [])) (boxes-with s (boxes s ++ (x ∷ []))) (boxes-with (silence s) (boxes s ++ (x ∷ []))) dark in
       let w : (eqb i i && visible x) ≡ false = or-r (anyb p (boxes s)) (p x) (rw (any-snoc p (boxes s) x) at z) in
       let e : visible x ≡ false = rw (eq-eqb i i refl) at w in
-      off-told H s t (λ (k : Memory). created k i at q v n) (no-loud q _ (no-when x _ _ e))
+      off-told H s t (λ (k : Memory). created k i at q v c n) (no-loud q _ (no-when x _ _ e))
       (off-boxes H s t a (boxes s ++ (x ∷ [])) (filter-append (staysBox H) (boxes s) (x ∷ []) ∙ rw hi (append-nil (boxesOff H (boxes s))))
       (let m = length-append (boxes s) (x ∷ []) in omega arith))
 
@@ -220,27 +220,37 @@ module _ (H : ℕ → Bool) (h0 : H 0 ≡ false) (s t : Memory) (a : Alike H s t
       let e : visible y ≡ false = dim-row y (box-id i (boxes s) k) (boxes s) k z in
       off-told H s t (λ (k : Memory). granted k i r) (rw (no-list (theMailbox i (boxes s)) dim, no-list y e)) (off-put y (gone-id k))
 
-  pub arrived-off : (u f z : ℕ) → known i (boxes s) ≡ true → length (mails s) < length (s .entries) → Dark H (told s (λ (k : Memory). arrived k i u f z) .after) → Alike H (told s (λ (k : Memory). arrived k i u f z) .after) t
-  arrived-off u f z k room dark =
+  -- its counter rises
+  pub raised-off : (c : ℕ) → known i (boxes s) ≡ true → Alike H (raised s i c) t
+  raised-off c k = off-put (withCounter (theMailbox i (boxes s)) c) (gone-id k)
+
+  pub raised-dark : (c : ℕ) → Dark H (raised s i c)
+  raised-dark c j hj =
+      let x = theMailbox i (boxes s) in
+      rw (boxes-with s (set (boxes s) (place i (boxes s)) (withCounter x c)))
+      (any-set (λ (y : Mailbox). eqb (y .id) j && visible y) (boxes s) (place i (boxes s)) (withCounter x c) (d j hj) (ap (λ (b : Bool). eqb (x .id) j && b) dim ∙ and-false (eqb (x .id) j)))
+
+  pub arrived-off : (u f z c : ℕ) → known i (boxes s) ≡ true → length (mails s) < length (s .entries) → Dark H (told s (λ (k : Memory). arrived k i u f z c) .after) → Alike H (told s (λ (k : Memory). arrived k i u f z c) .after) t
+  arrived-off u f z c k room dark =
       let y : Mailbox = withNext (theMailbox i (boxes s)) (u + 1) in
       let l : List Mailbox = set (boxes s) (place i (boxes s)) y in
-      let w = dim-after (λ (k : Memory). arrived k i u f z) l (boxes-with s l) (boxes-with (silence s) l) dark in
+      let w = dim-after (λ (k : Memory). arrived k i u f z c) l (boxes-with s l) (boxes-with (silence s) l) dark in
       let e : visible (theMailbox i (boxes (putBox s i y))) ≡ false = rw (boxes-with s l) (unseen i l w) in
-      off-told H s t (λ (k : Memory). arrived k i u f z) (rw unselected (no-when (theMailbox i (boxes (putBox s i y))) _ _ e))
-      (off-mails H (putBox s i y) t (off-put y (gone-id k)) (mails s ++ (message i u f z ∷ []))
-      (filter-append (staysMail H) (mails s) (message i u f z ∷ []) ∙ rw hi (append-nil (mailsOff H (mails s))))
-      (let m = length-append (mails s) (message i u f z ∷ []) in omega arith))
+      off-told H s t (λ (k : Memory). arrived k i u f z c) (rw unselected (no-when (theMailbox i (boxes (putBox s i y))) _ _ e))
+      (off-mails H (putBox s i y) t (off-put y (gone-id k)) (mails s ++ (message i u f z c ∷ []))
+      (filter-append (staysMail H) (mails s) (message i u f z c ∷ []) ∙ rw hi (append-nil (mailsOff H (mails s))))
+      (let m = length-append (mails s) (message i u f z c ∷ []) in omega arith))
 
   pub removed-off : (u : ℕ) → Alike H (told s (λ (k : Memory). removed k i u) .after) t
   removed-off u = off-told H s t (λ (k : Memory). removed k i u) (rw (outside u, unselected) (no-when (theMailbox i (boxes s)) _ _ dim))
       (rw (outside u) (off-drop-mails s a (isMessage i u) (no-message u)))
 
-  pub reflagged-off : (u f : ℕ) → Alike H (told s (λ (k : Memory). reflagged k i u f) .after) t
-  reflagged-off u f = off-told H s t (λ (k : Memory). reflagged k i u f) (rw (outside u))
-      (rw (outside u) (off-mails H s t a (map (reflagOf i u f) (mails s))
-      (filter-map-same (reflagOf i u f) (staysMail H) (λ e. kept e (isMessage i u e)) (λ e h. rw (no-message u e (other e h))) (mails s))
-      (let n = length-map (mails s) (reflagOf i u f) in let k = mails-fit s in omega arith)))
+  pub reflagged-off : (u f c : ℕ) → Alike H (told s (λ (k : Memory). reflagged k i u f c) .after) t
+  reflagged-off u f c = off-told H s t (λ (k : Memory). reflagged k i u f c) (rw (outside u, unselected) (no-when (theMailbox i (boxes s)) _ _ dim))
+      (rw (outside u) (off-mails H s t a (map (reflagOf i u f c) (mails s))
+      (filter-map-same (reflagOf i u f c) (staysMail H) (λ e. kept e (isMessage i u e)) (λ e h. rw (no-message u e (other e h))) (mails s))
+      (let n = length-map (mails s) (reflagOf i u f c) in let k = mails-fit s in omega arith)))
     where
-      kept : (e : Message) (b : Bool) → staysMail H (cond b (withFlags e f) e) ≡ staysMail H e
+      kept : (e : Message) (b : Bool) → staysMail H (cond b (withFlags e f c) e) ≡ staysMail H e
       kept e true = refl
       kept e false = refl

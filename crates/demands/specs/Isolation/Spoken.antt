@@ -4,7 +4,7 @@ use mathlib.Core.List.{List, [], _∷_}
 use mathlib.Core.Bool.{Bool, true, false, cond}
 use Prim.Native.Nat.{ℕ}
 use Rattle.model.specs.Memory.{Memory, boxes, mails, theMailbox, messagesOf, isMessage, withStates, dropMails, changeMails}
-use Rattle.model.specs.Lines.{Line, status, statusAtSet, list, renamed, exists, expunge, fetch, found, overflow, answer, renderAll}
+use Rattle.model.specs.Lines.{Line, status, list, renamed, exists, expunge, fetch, found, overflow, answer, renderAll}
 use Rattle.model.specs.Queue.{room, fits, enqueue, unmark, showsFlags, effect, effects, say}
 use Rattle.model.specs.View.{view, owed, announcing, newAtOnce, expungeAtOnce, flagsAtOnce, flagsWait}
 use Rattle.model.specs.declared.Message.{Message}
@@ -66,8 +66,7 @@ module _ (H : ℕ → Bool) (s t : Memory) (a : Alike H s t) where
   alike-effect (expunge n u) = subst (λ (i : ℕ). Alike H (effect s (expunge n u)) (dropMails t (isMessage i (u .0)))) (sym same-id)
       (alike-drop-mails H s t a (isMessage (s .session .selected) (u .0)))
   alike-effect (fetch n u is) = shown (showsFlags is) (u .0)
-  alike-effect (status n u k) = a
-  alike-effect (statusAtSet n k u v) = a
+  alike-effect (status n is) = a
   alike-effect (list k n) = a
   alike-effect (renamed k new old) = a
   alike-effect (found t n v rs) = a

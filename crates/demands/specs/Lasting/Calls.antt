@@ -5,9 +5,9 @@ use mathlib.Core.Bool.{Bool, true, false, not, cond, _&&_}
 use Prim.Native.Nat.{ℕ, _+_, _-_, _≤_}
 use native.Mathlib.Omega.{arith}
 use borrow.Author.Tests.{leb-true, leb-false, le-leb, ltb-false, eqb-true, not-false}
-use lib.Dec.{eqb, leb}
+use lib.Dec.{eqb, leb, ltb}
 use lib.ListN.{length, length-append}
-use Rattle.model.specs.Laws.{tf, or-true}
+use Rattle.model.specs.Laws.{tf, or-l, or-r, or-true}
 use Rattle.model.specs.Requests.{Command, notifyNone, notifySet, search}
 use Rattle.model.specs.Reading.{Parsed, bad, ok}
 use Rattle.model.specs.Commands.{tagOf, commandOf}
@@ -15,25 +15,26 @@ use Rattle.model.specs.Limits.{limits}
 use Rattle.model.specs.Replies.{replyOf}
 use Rattle.model.specs.Records.{Record, create, delete, rename, subscribe, grant, arrive, expunge, reflag, select, ended, command, drained, noRecord, isRecord, recordOf}
 use Rattle.model.specs.Memory.{Memory, boxes, mails, filled, known, theMailbox, expunged, withView, withSession, dropMails, changeMails}
-use Rattle.model.specs.Lines.{Line, status, statusAtSet, list, renamed, exists, expunge as expungeLine, fetch, found, overflow, answer, render, renderAll, text, crlf}
+use Rattle.model.specs.Lines.{Line, status, list, renamed, exists, expunge as expungeLine, fetch, found, overflow, answer, render, renderAll, text, crlf}
 use Rattle.model.specs.Queue.{room, fits, enqueue, unmark, showsFlags, effect, effects, say}
 use Rattle.model.specs.View.{owed}
 use Rattle.model.specs.Listing.{watching}
 use Rattle.model.specs.Events.{silence}
 use Rattle.model.specs.Lawful.{stateOk, lawful}
-use Rattle.model.specs.Refusals.{wrongId, nameHeld, wrongUid, wrongState, tableFull}
+use Rattle.model.specs.Refusals.{wrongId, nameHeld, absent, stale, wrongUid, wrongState, tableFull}
 use Rattle.model.specs.Answering.{someSelected, workLines, acceptedLines, isAccepted, firstReply, withinQueue, reply, answerLines, withAsked, answered, noRoom}
-use Rattle.model.specs.Rules.{Outcome, rested, endLines, accepted}
+use Rattle.model.specs.Rules.{Outcome, rested, endLines, raised, accepted}
 use Rattle.model.specs.Call.{call, refuse, roomless}
 use Rattle.model.specs.declared.Refusal.{Refusal}
 use Rattle.model.specs.declared.Reply.{Reply}
 use Rattle.model.specs.declared.Reply.the-variants.{Bad, BadEvent, Unsupported, BadCharset, TooLarge, Accepted}
 use Rattle.demands.specs.Lasting.Law.{Law, law-in, law-out, law-session, law-dequeue}
 use Rattle.demands.specs.Lasting.Rows.{all-map, none-zero}
+use Rattle.demands.specs.Lasting.Raised.{raised-known, raised-next, raised-reaches}
 use Rattle.demands.specs.Lasting.Ranges.{InRange, in-range}
 use Rattle.demands.specs.Lasting.Watching.{watching-ok}
 use Rattle.demands.specs.Lasting.Spoken.{law-drop-mails, law-change, rest-mild, law-say, fitting-fits, law-silence, law-told}
-use Rattle.demands.specs.Lasting.Kinds.{created-law, deleted-law, renamed-law, subscribed-law, granted-law, arrived-law, removed-law, reflagged-law}
+use Rattle.demands.specs.Lasting.Kinds.{created-law, deleted-law, renamed-law, subscribed-law, granted-law, raised-law, arrived-law, removed-law, reflagged-law}
 use Rattle.demands.specs.Lasting.Unasked.{created-none, deleted-none, renamed-none, subscribed-none, granted-none, arrived-none, removed-none, reflagged-none}
 use Rattle.demands.specs.Isolation.Alike.{mails-with, length-written}
 
@@ -46,7 +47,7 @@ selected-law m k i h = law-session (changeMails (dropMails m expunged) rested) c
     less = law-drop-mails m k expunged
 
     clean : Law (changeMails (dropMails m expunged) rested)
-    clean = law-change (dropMails m expunged) less rested (rest-mild (m .session))
+    clean = law-change (dropMails m expunged) less rested (rest-mild (boxes m) (m .session))
 
     seen : (b : Bool) → eqb i 0 ≡ b → cond (eqb i 0) (eqb (theMailbox i (boxes m) .uidnext) 0) (known i (boxes m) && leb (theMailbox i (boxes m) .uidnext) (theMailbox i (boxes m) .uidnext)) ≡ true
     seen true z = rw (z, eqb-true i 0 z, none-zero (boxes m) (k .box))
@@ -78,8 +79,7 @@ still m (fetch n u is) = go (showsFlags is)
     go : (b : Bool) → (filled (cond b (changeMails m (unmark (m .session .selected) (u .0))) m) ≡ filled m) × (cond b (changeMails m (unmark (m .session .selected) (u .0))) m .queue ≡ m .queue)
     go true = (refl, refl)
     go false = (refl, refl)
-still m (status n u k) = (refl, refl)
-still m (statusAtSet n k u v) = (refl, refl)
+still m (status n is) = (refl, refl)
 still m (list k n) = (refl, refl)
 still m (renamed k new old) = (refl, refl)
 still m (found t n v rs) = (refl, refl)
@@ -150,8 +150,8 @@ answered-law m k t h = go (isAccepted (reply m t)) refl
 -- ---- every kind
 kind-law : (m : Memory) → Law m → (r : Record) → InRange r → wrongId m r ≡ false → nameHeld m r ≡ false → wrongUid m r ≡ false → wrongState m r ≡ false → tableFull m r ≡ false → roomless m r ≡ false → Law (accepted m r .after)
 unfolding accepted
-kind-law m k (create i a q v n) o c d e f g h =
-    law-told m k _ (created-law m k i a q v n (o .0) (o .1) (o .2) (o .3) c d (leb-false _ _ g)) (created-law (silence m) (law-silence m k) i a q v n (o .0) (o .1) (o .2) (o .3) c d (leb-false _ _ g)) (λ z. created-none m z i a q v n)
+kind-law m k (create i a q v r n) o c d e f g h =
+    law-told m k _ (created-law m k i a q v r n (o .0) (o .1) (o .2) (o .3) (o .4) c d (leb-false _ _ g)) (created-law (silence m) (law-silence m k) i a q v r n (o .0) (o .1) (o .2) (o .3) (o .4) c d (leb-false _ _ g)) (λ z. created-none m z i a q v r n)
 kind-law m k (delete i q) o c d e f g h =
     law-told m k _ (deleted-law m k i q (not-false _ c) f) (deleted-law (silence m) (law-silence m k) i q (not-false _ c) f) (λ z. deleted-none m z i q)
 kind-law m k (rename i q n) o c d e f g h =
@@ -160,10 +160,24 @@ kind-law m k (subscribe i b q) o c d e f g h =
     law-told m k _ (subscribed-law m k i (not-false _ c) b q o) (subscribed-law (silence m) (law-silence m k) i (not-false _ c) b q o) (λ z. subscribed-none m z i b q)
 kind-law m k (grant i r) o c d e f g h =
     law-told m k _ (granted-law m k i (not-false _ c) r o) (granted-law (silence m) (law-silence m k) i (not-false _ c) r o) (λ z. granted-none m z i r)
-kind-law m k (arrive i u b z) o c d e f g h =
-    law-told m k _ (arrived-law m k i (not-false _ c) u b z (o .0) (o .1) (o .2) e (leb-false _ _ g)) (arrived-law (silence m) (law-silence m k) i (not-false _ c) u b z (o .0) (o .1) (o .2) e (leb-false _ _ g)) (λ w. arrived-none m w i u b z)
-kind-law m k (expunge i u) o c d e f g h = law-told m k _ (removed-law m k i u) (removed-law (silence m) (law-silence m k) i u) (λ z. removed-none m z i u)
-kind-law m k (reflag i u b) o c d e f g h = law-told m k _ (reflagged-law m k i u b o) (reflagged-law (silence m) (law-silence m k) i u b o) (λ z. reflagged-none m z i u b)
+kind-law m k (arrive i u b z n) o c d e f g h =
+    let p = not-false (known i (boxes m)) c in
+    let w = raised m i n in
+    let l : Law (raised m i n) = raised-law m k i p n (o .3) (or-r (ltb u (theMailbox i (boxes m) .uidnext)) (stale m i n) e) in
+    let y = raised-known m i n p in
+    let x : ltb u (theMailbox i (boxes (raised m i n)) .uidnext) ≡ false = rw (raised-next m i n p) (or-l (ltb u (theMailbox i (boxes m) .uidnext)) (stale m i n) e) in
+    let v = raised-reaches m i n p in
+    law-told w l _ (arrived-law w l i y u b z n (o .0) (o .1) (o .2) (o .3) x v (leb-false _ _ g)) (arrived-law (silence w) (law-silence w l) i y u b z n (o .0) (o .1) (o .2) (o .3) x v (leb-false _ _ g)) (λ q. arrived-none w q i u b z n)
+kind-law m k (expunge i u n) o c d e f g h =
+    let w = raised m i n in
+    let l : Law (raised m i n) = raised-law m k i (not-false (known i (boxes m)) c) n o (or-r (absent m i u) (stale m i n) e) in
+    law-told w l _ (removed-law w l i u) (removed-law (silence w) (law-silence w l) i u) (λ z. removed-none w z i u)
+kind-law m k (reflag i u b n) o c d e f g h =
+    let p = not-false (known i (boxes m)) c in
+    let w = raised m i n in
+    let l : Law (raised m i n) = raised-law m k i p n (o .1) (or-r (absent m i u) (stale m i n) e) in
+    let v = raised-reaches m i n p in
+    law-told w l _ (reflagged-law w l i u b n (o .0) (o .1) v) (reflagged-law (silence w) (law-silence w l) i u b n (o .0) (o .1) v) (λ z. reflagged-none w z i u b n)
 kind-law m k (select i) o c d e f g h = selected-law m k i c
 kind-law m k (ended n) o c d e f g h = law-say m k (endLines m n) (le-leb (length (renderAll (endLines m n))) (room m) (fitting-fits (room m) (owed m n)))
 kind-law m k (command t) o c d e f g h = answered-law m k t h

@@ -8,8 +8,8 @@ use borrow.Author.Tests.{eqb-true, ne-eqb, ltb-true, ltb-false, le-leb, not-true
 use lib.Dec.{eqb, leb, ltb}
 use lib.ListN.{length, take, drop, length-drop}
 use Rattle.model.specs.Lists.{filterb, allb}
-use Rattle.model.specs.Laws.{and-r, and-false, filter-swap, filter-filter, filter-every, filter-none, filter-map, all-filtered, all-passed, all-sorted}
-use Rattle.model.specs.Memory.{Memory, boxes, mails, selectedBox, bothRights, known, messagesOf, uidOf, isMessage, inMailbox, byUid, withStates, dropMails, changeMails}
+use Rattle.model.specs.Laws.{and-false, filter-swap, filter-filter, filter-every, filter-none, filter-map, all-filtered, all-passed, all-sorted}
+use Rattle.model.specs.Memory.{Memory, boxes, mails, selectedBox, bothRights, messagesOf, uidOf, isMessage, inMailbox, byUid, withStates, dropMails, changeMails}
 use Rattle.model.specs.Lines.{Line, render, renderAll}
 use Rattle.model.specs.Queue.{room, fitting, enqueue, unmark, effect, effects}
 use Rattle.model.specs.View.{announced, selectedMessages, view, unannounced, owed}
@@ -19,7 +19,7 @@ use Rattle.model.specs.declared.Message.{Message}
 use Rattle.model.specs.declared.Answer.the-variants.{Counted}
 use Rattle.demands.specs.Isolation.Alike.{mails-with}
 use Rattle.demands.specs.Lasting.Law.{Law}
-use Rattle.demands.specs.Lasting.Rows.{all-imp, all-both}
+use Rattle.demands.specs.Lasting.Rows.{all-imp, all-both, owned-next}
 use Rattle.demands.specs.Lasting.Spoken.{law-effect, law-fits, fitting-fits}
 use Rattle.demands.specs.Lasting.Rising.{Rising, rising-filter, rising-parts, rising-messages, messages-filter, messages-map}
 use Rattle.demands.specs.Lasting.Dues.{waitless, dues, First, removes, announces, unmarks, first-line}
@@ -61,7 +61,7 @@ module _ (m : Memory) (k : Law m) where
       all-sorted low byUid (filterb (inMailbox i) (mails m)) (all-both (owned (boxes m)) (inMailbox i) low one (filterb (inMailbox i) (mails m)) o (all-passed (inMailbox i) (mails m)))
     where
       one : (e : Message) → owned (boxes m) e ≡ true → inMailbox i e ≡ true → low e ≡ true
-      one e o h = rw (eqb-true (e .mailbox) i h) at (and-r (known (e .mailbox) (boxes m)) _ o)
+      one e o h = rw (eqb-true (e .mailbox) i h) at (owned-next (boxes m) e o)
 
   -- ---- what each of the three lines leaves
   module _ (c : ℕ) (ls : List Line) (both : bothRights (selectedBox m) ≡ true) where

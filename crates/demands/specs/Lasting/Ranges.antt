@@ -9,7 +9,8 @@ use Rattle.model.specs.Lists.{same}
 use Rattle.model.specs.Laws.{and-l, and-r}
 use Rattle.model.specs.Text.{little}
 use Rattle.model.specs.Names.{Name, valid, fold}
-use Rattle.model.specs.Records.{Kind, MB, DL, RN, SB, RT, ME, XP, FL, SE, CE, CM, DR, unknown, Field, id, attributes, quiet, uidvalidity, subscribed, rights, uid, flags, size, width, inRange, layout, values, widths, allInRange, tailOk, bodyOk, isKnown, kindOf, bodyOf, framed, isRecord, recordBy, recordOf, Record, create, delete, rename, subscribe, grant, arrive, expunge, reflag, select, ended, command, drained, noRecord}
+use Rattle.model.specs.Records.{Kind, MB, DL, RN, SB, RT, ME, XP, FL, SE, CE, CM, DR, unknown, Field, id, attributes, quiet, uidvalidity, subscribed, rights, uid, flags, size, counter, width, inRange, layout, values, widths, allInRange, tailOk, bodyOk, isKnown, kindOf, bodyOf, framed, isRecord, recordBy, recordOf, Record, create, delete, rename, subscribe, grant, arrive, expunge, reflag, select, ended, command, drained, noRecord}
+use Rattle.model.specs.Lawful.{counterOk}
 use Rattle.demands.specs.Lasting.NameLaws.{fold-valid, fold-fold}
 
 -- a name as it is stored
@@ -19,14 +20,14 @@ pub record NameOk (n : Name) : Type 0 where
 
 -- the facts that storing needs, by kind
 abbrev pub InRange : Record → Type 0
-InRange (create i a q v n) = (leb 1 i ≡ true) × (leb a 63 ≡ true) × (leb 1 v ≡ true) × NameOk n
+InRange (create i a q v c n) = (leb 1 i ≡ true) × (leb a 63 ≡ true) × (leb 1 v ≡ true) × (counterOk c ≡ true) × NameOk n
 InRange (delete i q) = Unit {0}
 InRange (rename i q n) = NameOk n
 InRange (subscribe i s q) = leb s 1 ≡ true
 InRange (grant i r) = leb r 48 ≡ true
-InRange (arrive i u f z) = (leb 1 u ≡ true) × (leb f 31 ≡ true) × (leb z 4294967295 ≡ true)
-InRange (expunge i u) = Unit {0}
-InRange (reflag i u f) = leb f 31 ≡ true
+InRange (arrive i u f z c) = (leb 1 u ≡ true) × (leb f 31 ≡ true) × (leb z 4294967295 ≡ true) × (counterOk c ≡ true)
+InRange (expunge i u c) = counterOk c ≡ true
+InRange (reflag i u f c) = (leb f 31 ≡ true) × (counterOk c ≡ true)
 InRange (select i) = Unit {0}
 InRange (ended c) = Unit {0}
 InRange (command t) = Unit {0}
@@ -55,26 +56,32 @@ module _ (k : Kind) (b : List ℕ) (e : bodyOk (layout k) b ≡ true) where
 range-by : (k : Kind) (b : List ℕ) → bodyOk (layout k) b ≡ true → InRange (recordBy k (values (layout k .fields) b) (drop (widths (layout k .fields)) b))
 range-by MB b e =
     let a = fields-ok MB b e in
-    let c = rest id (attributes ∷ quiet ∷ uidvalidity ∷ []) b a in
-    let d = rest quiet (uidvalidity ∷ []) (drop 1 (drop 2 b)) (rest attributes (quiet ∷ uidvalidity ∷ []) (drop 2 b) c) in (
-      and-l (leb 1 (little 2 b)) _ (head id (attributes ∷ quiet ∷ uidvalidity ∷ []) b a),
-      head attributes (quiet ∷ uidvalidity ∷ []) (drop 2 b) c,
-      and-l (leb 1 (little 4 (drop 1 (drop 1 (drop 2 b))))) _ (head uidvalidity [] (drop 1 (drop 1 (drop 2 b))) d),
-      folded (drop 8 b) (tail-ok MB b e),
+    let c = rest id (attributes ∷ quiet ∷ uidvalidity ∷ counter ∷ []) b a in
+    let d = rest quiet (uidvalidity ∷ counter ∷ []) (drop 1 (drop 2 b)) (rest attributes (quiet ∷ uidvalidity ∷ counter ∷ []) (drop 2 b) c) in
+    let f = drop 1 (drop 1 (drop 2 b)) in (
+      and-l (leb 1 (little 2 b)) _ (head id (attributes ∷ quiet ∷ uidvalidity ∷ counter ∷ []) b a),
+      head attributes (quiet ∷ uidvalidity ∷ counter ∷ []) (drop 2 b) c,
+      and-l (leb 1 (little 4 f)) _ (head uidvalidity (counter ∷ []) f d),
+      head counter [] (drop 4 f) (rest uidvalidity (counter ∷ []) f d),
+      folded (drop 16 b) (tail-ok MB b e),
     )
 range-by DL b e = tt
 range-by RN b e = folded (drop 3 b) (tail-ok RN b e)
 range-by SB b e = head subscribed (quiet ∷ []) (drop 2 b) (rest id (subscribed ∷ quiet ∷ []) b (fields-ok SB b e))
 range-by RT b e = and-r (eqb (little 1 (drop 2 b) % 16) 0) _ (head rights [] (drop 2 b) (rest id (rights ∷ []) b (fields-ok RT b e)))
 range-by ME b e =
-    let a = rest id (uid ∷ flags ∷ size ∷ []) b (fields-ok ME b e) in
-    let c = rest uid (flags ∷ size ∷ []) (drop 2 b) a in (
-      and-l (leb 1 (little 4 (drop 2 b))) _ (head uid (flags ∷ size ∷ []) (drop 2 b) a),
-      head flags (size ∷ []) (drop 4 (drop 2 b)) c,
-      head size [] (drop 1 (drop 4 (drop 2 b))) (rest flags (size ∷ []) (drop 4 (drop 2 b)) c),
+    let a = rest id (uid ∷ flags ∷ size ∷ counter ∷ []) b (fields-ok ME b e) in
+    let c = rest uid (flags ∷ size ∷ counter ∷ []) (drop 2 b) a in
+    let d = rest flags (size ∷ counter ∷ []) (drop 4 (drop 2 b)) c in (
+      and-l (leb 1 (little 4 (drop 2 b))) _ (head uid (flags ∷ size ∷ counter ∷ []) (drop 2 b) a),
+      head flags (size ∷ counter ∷ []) (drop 4 (drop 2 b)) c,
+      head size (counter ∷ []) (drop 1 (drop 4 (drop 2 b))) d,
+      head counter [] (drop 4 (drop 1 (drop 4 (drop 2 b)))) (rest size (counter ∷ []) (drop 1 (drop 4 (drop 2 b))) d),
     )
-range-by XP b e = tt
-range-by FL b e = head flags [] (drop 4 (drop 2 b)) (rest uid (flags ∷ []) (drop 2 b) (rest id (uid ∷ flags ∷ []) b (fields-ok FL b e)))
+range-by XP b e = head counter [] (drop 4 (drop 2 b)) (rest uid (counter ∷ []) (drop 2 b) (rest id (uid ∷ counter ∷ []) b (fields-ok XP b e)))
+range-by FL b e =
+    let a = rest uid (flags ∷ counter ∷ []) (drop 2 b) (rest id (uid ∷ flags ∷ counter ∷ []) b (fields-ok FL b e)) in
+    (head flags (counter ∷ []) (drop 4 (drop 2 b)) a, head counter [] (drop 1 (drop 4 (drop 2 b))) (rest flags (counter ∷ []) (drop 4 (drop 2 b)) a))
 range-by SE b e = tt
 range-by CE b e = tt
 range-by CM b e = tt

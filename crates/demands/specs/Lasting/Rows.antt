@@ -5,12 +5,12 @@ use mathlib.Core.Bool.{Bool, true, false, not, cond, _&&_, _||_}
 use Prim.Native.Nat.{ℕ, zero, suc, _≤_, _<_}
 use native.Mathlib.Omega.{arith}
 use borrow.Author.Tests.{leb-true, le-leb, ltb-true, lt-ltb, eqb-true, eqb-false, not-true}
-use lib.Dec.{eqb, leb}
+use lib.Dec.{eqb, leb, ltb}
 use lib.ListN.{length, getD, set, length-append, length-set, List·getD-append}
 use lib.Seq.{getD-set-same, getD-set-other}
 use Rattle.model.specs.Lists.{keep, filterb, anyb, allb, apart}
 use Rattle.model.specs.Laws.{tf, or-l, or-r, and-l, and-r, any-fewer}
-use Rattle.model.specs.Memory.{place, known, theMailbox, noMailbox, uidOf}
+use Rattle.model.specs.Memory.{place, known, theMailbox, noMailbox, counterOf, uidOf}
 use Rattle.model.specs.Lawful.{mailboxOk, owned, viewOk}
 use Rattle.model.specs.declared.Mailbox.{Mailbox}
 use Rattle.model.specs.declared.Message.{Message}
@@ -80,9 +80,20 @@ module _ {A : Type 0} where
       all-same [] = refl
       all-same (y ∷ k) = ap₂ _||_ (h x y) (all-same k)
 
+-- ---- what its mailbox says of a message
+module _ (l : List Mailbox) (e : Message) (h : owned l e ≡ true) where
+  both : (ltb (uidOf e) (theMailbox (e .mailbox) l .uidnext) && leb (e .counter) (counterOf (theMailbox (e .mailbox) l))) ≡ true
+  both = and-r (known (e .mailbox) l) _ h
+
+  pub owned-next : ltb (uidOf e) (theMailbox (e .mailbox) l .uidnext) ≡ true
+  owned-next = and-l (ltb (uidOf e) (theMailbox (e .mailbox) l .uidnext)) _ both
+
+  pub owned-counter : leb (e .counter) (counterOf (theMailbox (e .mailbox) l)) ≡ true
+  owned-counter = and-r (ltb (uidOf e) (theMailbox (e .mailbox) l .uidnext)) _ both
+
 -- ---- a mailbox's row is set
 module _ (i : ℕ) (y : Mailbox) (q : y .id ≡ i) where
-  place-set : (o : ℕ) (l : List Mailbox) → place o (set l (place i l) y) ≡ place o l
+  pub place-set : (o : ℕ) (l : List Mailbox) → place o (set l (place i l) y) ≡ place o l
   unfolding place
   place-set o [] = refl
   place-set o (x ∷ l) = go (eqb (x .id) i) refl (place-set o l)
@@ -94,23 +105,26 @@ module _ (i : ℕ) (y : Mailbox) (q : y .id ≡ i) where
   known-set : (o : ℕ) (l : List Mailbox) → known o (set l (place i l) y) ≡ known o l
   known-set o l = rw (place-set o l, length-set l (place i l) y)
 
-  -- its UIDNEXT does not fall
-  next-set : (o : ℕ) (l : List Mailbox) → known i l ≡ true → theMailbox i l .uidnext ≤ y .uidnext → theMailbox o l .uidnext ≤ theMailbox o (set l (place i l) y) .uidnext
-  next-set o l k h = rw (place-set o l) (go (eqb (place o l) (place i l)) refl)
+  -- a number that does not fall in its row falls in none
+  rise-set : (f : Mailbox → ℕ) (o : ℕ) (l : List Mailbox) → known i l ≡ true → f (theMailbox i l) ≤ f y → f (theMailbox o l) ≤ f (theMailbox o (set l (place i l) y))
+  rise-set f o l k h = rw (place-set o l) (go (eqb (place o l) (place i l)) refl)
     where
       lt : place i l < length l
       lt = ltb-true (place i l) (length l) k
 
-      go : (c : Bool) → eqb (place o l) (place i l) ≡ c → theMailbox o l .uidnext ≤ getD (set l (place i l) y) (place o l) noMailbox .uidnext
+      go : (c : Bool) → eqb (place o l) (place i l) ≡ c → f (theMailbox o l) ≤ f (getD (set l (place i l) y) (place o l) noMailbox)
       go true g = rw (eqb-true (place o l) (place i l) g, getD-set-same l (place i l) y noMailbox lt) h
       go false g = rw (getD-set-other l (place i l) (place o l) y noMailbox (eqb-false (place o l) (place i l) g)) (omega arith)
 
-  pub owned-set : (l : List Mailbox) → known i l ≡ true → theMailbox i l .uidnext ≤ y .uidnext → (e : Message) → owned l e ≡ true → owned (set l (place i l) y) e ≡ true
-  owned-set l k h e ok =
+  pub owned-set : (l : List Mailbox) → known i l ≡ true → theMailbox i l .uidnext ≤ y .uidnext → counterOf (theMailbox i l) ≤ counterOf y → (e : Message) → owned l e ≡ true → owned (set l (place i l) y) e ≡ true
+  owned-set l k h g e ok =
+      let x = theMailbox (e .mailbox) (set l (place i l) y) in
       let a = and-l (known (e .mailbox) l) _ ok in
-      let b = ltb-true (uidOf e) (theMailbox (e .mailbox) l .uidnext) (and-r (known (e .mailbox) l) _ ok) in
-      let c = next-set (e .mailbox) l k h in
-      rw (known-set (e .mailbox) l, a) (lt-ltb (uidOf e) (theMailbox (e .mailbox) (set l (place i l) y) .uidnext) (omega arith))
+      let b = ltb-true (uidOf e) (theMailbox (e .mailbox) l .uidnext) (owned-next l e ok) in
+      let c = leb-true (e .counter) (counterOf (theMailbox (e .mailbox) l)) (owned-counter l e ok) in
+      let n = rise-set (λ (z : Mailbox). z .uidnext) (e .mailbox) l k h in
+      let r = rise-set counterOf (e .mailbox) l k g in
+      rw (known-set (e .mailbox) l, a, lt-ltb (uidOf e) (x .uidnext) (omega arith)) (le-leb (e .counter) (counterOf x) (omega arith))
 
   pub row-set : (l : List Mailbox) → known i l ≡ true → theMailbox i (set l (place i l) y) ≡ y
   row-set l k = rw (place-set i l) (getD-set-same l (place i l) y noMailbox (ltb-true (place i l) (length l) k))
@@ -127,7 +141,7 @@ module _ (i : ℕ) (y : Mailbox) (q : y .id ≡ i) where
       go false e =
           let a = and-l (known (s .selected) l) _ e in
           let b = leb-true (s .told) (theMailbox (s .selected) l .uidnext) (and-r (known (s .selected) l) _ e) in
-          let c = next-set (s .selected) l k h in
+          let c = rise-set (λ (z : Mailbox). z .uidnext) (s .selected) l k h in
           rw (known-set (s .selected) l, a) (le-leb (s .told) (theMailbox (s .selected) (set l (place i l) y) .uidnext) (omega arith))
 
 -- ---- a row more

@@ -9,12 +9,13 @@ use lib.Dec.{eqb, leb, ltb, leb·zero}
 use lib.ListN.{length, length-map, length-append}
 use Rattle.model.specs.Lists.{filterb}
 use Rattle.model.specs.Laws.{tf, and-l, and-r, all-filtered, filter-length, each, all-hold}
-use Rattle.model.specs.Memory.{Memory, boxes, mails, filled, theMailbox, selectedBox, known, isMessage, inMailbox, uidOf, withStates, withView, dropMails, changeMails, silenced}
-use Rattle.model.specs.Lines.{Line, status, statusAtSet, list, renamed, exists, expunge, fetch, found, overflow, answer, render, renderAll}
+use Rattle.model.specs.Memory.{Memory, boxes, mails, filled, selectedBox, known, isMessage, inMailbox, uidOf, withStates, withView, dropMails, changeMails, silenced}
+use Rattle.model.specs.Lines.{Line, status, list, renamed, exists, expunge, fetch, found, overflow, answer, render, renderAll}
 use Rattle.model.specs.Queue.{room, fits, fitting, written, enqueue, announce, unmark, showsFlags, effect, effects, say}
 use Rattle.model.specs.Events.{Event, silence, tellings, settled}
 use Rattle.model.specs.Rules.{told}
-use Rattle.model.specs.Lawful.{messageOk, twin, owned, viewOk, stateOk}
+use Rattle.model.specs.Lawful.{counterOk, messageOk, twin, owned, viewOk, stateOk}
+use Rattle.model.specs.declared.Mailbox.{Mailbox}
 use Rattle.model.specs.declared.Message.{Message}
 use Rattle.model.specs.declared.Session.{Session}
 use Rattle.demands.specs.Isolation.Alike.{mails-fit, length-written}
@@ -30,28 +31,31 @@ law-drop-mails m k p = law-mails m k (filterb (λ (e : Message). not (p e)) (mai
     (all-filtered (owned (boxes m)) (λ (e : Message). not (p e)) (mails m) (k .owners))
     (all-filtered (stateOk (m .session)) (λ (e : Message). not (p e)) (mails m) (k .states))
 
--- a change that keeps each message's mailbox and UID, its ranges, and what its states ask for
-pub record Mild (s : Session) (f : Message → Message) : Type 0 where
+-- a change that keeps each message's mailbox and UID, its ranges, what its mailbox says of it, and what its states ask for
+pub record Mild (l : List Mailbox) (s : Session) (f : Message → Message) : Type 0 where
   pub mailbox : (e : Message) → f e .mailbox ≡ e .mailbox
   pub uid : (e : Message) → f e .uid ≡ e .uid
   pub range : (e : Message) → messageOk e ≡ true → messageOk (f e) ≡ true
+  pub owner : (e : Message) → owned l e ≡ true → owned l (f e) ≡ true
   pub state : (e : Message) → stateOk s e ≡ true → stateOk s (f e) ≡ true
 
-pub law-change : (m : Memory) → Law m → (f : Message → Message) → Mild (m .session) f → Law (changeMails m f)
+pub law-change : (m : Memory) → Law m → (f : Message → Message) → Mild (boxes m) (m .session) f → Law (changeMails m f)
 law-change m k f h = law-mails m k (map f (mails m))
     (let n = length-map (mails m) f in let g = mails-fit m in omega arith)
     (all-map messageOk messageOk f (h .range) (mails m) (k .mail))
     (apart-map twin f (λ x y. λ j. eqb (h .mailbox x j) (h .mailbox y j) && eqb (h .uid x j .0) (h .uid y j .0)) (mails m) ∙ k .twins)
-    (all-map (owned (boxes m)) (owned (boxes m)) f (λ e o. (λ j. known (h .mailbox e j) (boxes m) && ltb (h .uid e j .0) (theMailbox (h .mailbox e j) (boxes m) .uidnext)) ∙ o) (mails m) (k .owners))
+    (all-map (owned (boxes m)) (owned (boxes m)) f (h .owner) (mails m) (k .owners))
     (all-map (stateOk (m .session)) (stateOk (m .session)) f (h .state) (mails m) (k .states))
 
--- a change of one message; what its states ask for needs to hold of that one alone
-pub one-of : (s : Session) (i u : ℕ) (g : Message → Message) → ((e : Message) → g e .mailbox ≡ e .mailbox) → ((e : Message) → g e .uid ≡ e .uid) → ((e : Message) → messageOk e ≡ true → messageOk (g e) ≡ true)
-    → ((e : Message) → isMessage i u e ≡ true → stateOk s e ≡ true → stateOk s (g e) ≡ true) → Mild s (λ (e : Message). cond (isMessage i u e) (g e) e)
-one-of s i u g a b c d = record {
+-- a change of one message; what its mailbox says of it and what its states ask for need to hold of that one alone
+pub one-of : (l : List Mailbox) (s : Session) (i u : ℕ) (g : Message → Message) → ((e : Message) → g e .mailbox ≡ e .mailbox) → ((e : Message) → g e .uid ≡ e .uid) → ((e : Message) → messageOk e ≡ true → messageOk (g e) ≡ true)
+    → ((e : Message) → isMessage i u e ≡ true → owned l e ≡ true → owned l (g e) ≡ true)
+    → ((e : Message) → isMessage i u e ≡ true → stateOk s e ≡ true → stateOk s (g e) ≡ true) → Mild l s (λ (e : Message). cond (isMessage i u e) (g e) e)
+one-of l s i u g a b c p d = record {
   mailbox = λ e. mailbox′ (isMessage i u e) e;
   uid = λ e. uid′ (isMessage i u e) e;
   range = λ e. range′ (isMessage i u e) e;
+  owner = λ e. owner′ e (isMessage i u e) refl;
   state = λ e. state′ e (isMessage i u e) refl;
 }
   where
@@ -67,6 +71,10 @@ one-of s i u g a b c d = record {
     range′ true e o = c e o
     range′ false e o = o
 
+    owner′ : (e : Message) (b : Bool) → isMessage i u e ≡ b → owned l e ≡ true → owned l (cond b (g e) e) ≡ true
+    owner′ e true h o = p e h o
+    owner′ e false h o = o
+
     state′ : (e : Message) (b : Bool) → isMessage i u e ≡ b → stateOk s e ≡ true → stateOk s (cond b (g e) e) ≡ true
     state′ e true h o = d e h o
     state′ e false h o = o
@@ -74,15 +82,16 @@ one-of s i u g a b c d = record {
 -- other states, in their range
 pub state-range : (e : Message) (n : ℕ) → leb n 2 ≡ true → messageOk e ≡ true → messageOk (withStates e n) ≡ true
 state-range e n h o =
-    let f = each (leb 1 (uidOf e) ∷ leb (e .flags) 31 ∷ leb (e .size) 4294967295 ∷ leb (e .states) 2 ∷ []) o in
-    all-hold (leb 1 (uidOf e) ∷ leb (e .flags) 31 ∷ leb (e .size) 4294967295 ∷ leb n 2 ∷ []) (f .0, (f .1 .0, (f .1 .1 .0, (h, tt))))
+    let f = each (leb 1 (uidOf e) ∷ leb (e .flags) 31 ∷ leb (e .size) 4294967295 ∷ leb (e .states) 2 ∷ counterOk (e .counter) ∷ []) o in
+    all-hold (leb 1 (uidOf e) ∷ leb (e .flags) 31 ∷ leb (e .size) 4294967295 ∷ leb n 2 ∷ counterOk (e .counter) ∷ []) (f .0, (f .1 .0, (f .1 .1 .0, (h, (f .1 .1 .1 .1 .0, tt)))))
 
 -- a message that waits for nothing
-pub rest-mild : (s : Session) → Mild s (λ (e : Message). withStates e 0)
-rest-mild s = record {
+pub rest-mild : (l : List Mailbox) (s : Session) → Mild l s (λ (e : Message). withStates e 0)
+rest-mild l s = record {
   mailbox = λ e. refl;
   uid = λ e. refl;
   range = λ e o. state-range e 0 refl o;
+  owner = λ e o. o;
   state = λ e o. refl;
 }
 
@@ -120,10 +129,9 @@ law-effect m k (expunge n u) = law-drop-mails m k (isMessage (m .session .select
 law-effect m k (fetch n u is) = go (showsFlags is)
   where
     go : (b : Bool) → Law (cond b (changeMails m (unmark (m .session .selected) (u .0))) m)
-    go true = law-change m k (unmark (m .session .selected) (u .0)) (one-of (m .session) (m .session .selected) (u .0) (λ (e : Message). withStates e 0) (λ e. refl) (λ e. refl) (λ e o. state-range e 0 refl o) (λ e h o. refl))
+    go true = law-change m k (unmark (m .session .selected) (u .0)) (one-of (boxes m) (m .session) (m .session .selected) (u .0) (λ (e : Message). withStates e 0) (λ e. refl) (λ e. refl) (λ e o. state-range e 0 refl o) (λ e h o. o) (λ e h o. refl))
     go false = k
-law-effect m k (status n u c) = k
-law-effect m k (statusAtSet n c u v) = k
+law-effect m k (status n is) = k
 law-effect m k (list c n) = k
 law-effect m k (renamed c new old) = k
 law-effect m k (found t n v rs) = k

@@ -9,9 +9,9 @@ use Rattle.model.specs.Laws.{and-false, cond-same}
 use Rattle.model.specs.Names.{Name}
 use Rattle.model.specs.Memory.{Memory, boxes, nameOf, theMailbox, mayList, bothRights, isSelected, selectedBox, dropMails, isMessage}
 use Rattle.model.specs.Groups.{asked, askedOf, selectedAsks, asksNew, asksExpunge, asksFlags}
-use Rattle.model.specs.Lines.{Line}
+use Rattle.model.specs.Lines.{Line, StatusItem}
 use Rattle.model.specs.View.{newAtOnce, expungeAtOnce, flagsAtOnce, flagsWait, announcing}
-use Rattle.model.specs.Events.{Event, loud, createLines, deleteLines, subscriptionLines, newBox, created, deleted, renamedTo, subscribedTo, withRights, granted, statusLines, withArrived, arrived, inView, removed, reflagged}
+use Rattle.model.specs.Events.{Event, loud, createLines, deleteLines, subscriptionLines, newBox, created, deleted, renamedTo, subscribedTo, withRights, granted, statusLines, countsOf, changesOf, withArrived, arrived, inView, removed, reflagged}
 use Rattle.model.specs.declared.Mailbox.{Mailbox}
 use Rattle.model.specs.declared.Group.{Group}
 
@@ -44,8 +44,8 @@ module _ (m : Memory) (e : m .session .groupcount ≡ 0) where
   no-delete : (x : Mailbox) → deleteLines (m .session) x ≡ []
   no-delete x = no-line (bothRights x) _ _ (nobody (nameOf x) (x .attributes) _)
 
-  pub created-none : (i a q v : ℕ) (n : Name) → created m i a q v n .lines ≡ []
-  created-none i a q v n = quiet q _ (no-create (newBox i a v n))
+  pub created-none : (i a q v c : ℕ) (n : Name) → created m i a q v c n .lines ≡ []
+  created-none i a q v c n = quiet q _ (no-create (newBox i a v c n))
 
   pub deleted-none : (i q : ℕ) → deleted m i q .lines ≡ []
   deleted-none i q = quiet q _ (no-delete (theMailbox i (boxes m)))
@@ -74,17 +74,21 @@ module _ (m : Memory) (e : m .session .groupcount ≡ 0) where
   no-flags : flagsAtOnce m ≡ false
   no-flags = ap (λ (b : Bool). bothRights (selectedBox m) && b) (unselected asksFlags) ∙ and-false (bothRights (selectedBox m))
 
-  no-status : (k : Memory) (x : Mailbox) (asks : Group → Bool) → statusLines k x (askedOf (m .session) x asks) ≡ []
-  no-status k x asks = no-line (bothRights x) _ _ (nobody (nameOf x) (x .attributes) asks)
+  no-status : (x : Mailbox) (asks : Group → Bool) (is : List StatusItem) → statusLines x (askedOf (m .session) x asks) is ≡ []
+  no-status x asks is = no-line (bothRights x) _ _ (nobody (nameOf x) (x .attributes) asks)
 
-  pub arrived-none : (i u f z : ℕ) → arrived m i u f z .lines ≡ []
-  arrived-none i u f z =
-      (λ j. cond (isSelected m i) (cond (no-new j) (announcing (withArrived m i u f z)) []) (no-status (withArrived m i u f z) (theMailbox i (boxes (withArrived m i u f z))) asksNew j))
-      ∙ cond-same (isSelected m i) []
+  pub arrived-none : (i u f z c : ℕ) → arrived m i u f z c .lines ≡ []
+  arrived-none i u f z c =
+      let w = withArrived m i u f z c in
+      let x = theMailbox i (boxes (withArrived m i u f z c)) in
+      (λ j. cond (isSelected m i) (cond (no-new j) (announcing w) []) (no-status x asksNew (countsOf w x) j)) ∙ cond-same (isSelected m i) []
 
   pub removed-none : (i u : ℕ) → removed m i u .lines ≡ []
-  removed-none i u = of-two (inView m i u) _ _ (not-first (expungeAtOnce m) _ _ no-expunge refl)
-      (ap (cond (isSelected m i) []) (no-status (dropMails m (isMessage i u)) (theMailbox i (boxes m)) asksExpunge) ∙ cond-same (isSelected m i) [])
+  removed-none i u =
+      let x = theMailbox i (boxes m) in
+      of-two (inView m i u) _ _ (not-first (expungeAtOnce m) _ _ no-expunge refl)
+      (ap (cond (isSelected m i) []) (no-status x asksExpunge (countsOf (dropMails m (isMessage i u)) x)) ∙ cond-same (isSelected m i) [])
 
-  pub reflagged-none : (i u f : ℕ) → reflagged m i u f .lines ≡ []
-  reflagged-none i u f = of-two (inView m i u) _ _ (not-first (flagsAtOnce m) _ _ no-flags (of-two (flagsWait m) _ _ refl refl)) refl
+  pub reflagged-none : (i u f c : ℕ) → reflagged m i u f c .lines ≡ []
+  reflagged-none i u f c = of-two (inView m i u) _ _ (not-first (flagsAtOnce m) _ _ no-flags (of-two (flagsWait m) _ _ refl refl))
+      (ap (cond (isSelected m i) []) (no-status (theMailbox i (boxes m)) asksFlags (changesOf (theMailbox i (boxes m)))) ∙ cond-same (isSelected m i) [])

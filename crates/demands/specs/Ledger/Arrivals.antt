@@ -10,12 +10,12 @@ use lib.ListN.{length, length-map, set}
 use Rattle.model.specs.Lists.{filterb, anyb}
 use Rattle.model.specs.Laws.{tf, or-l, or-r, or-true, or-false, filter-map, filter-append, any-snoc, and-false}
 use Rattle.model.specs.Records.{Record, arrive}
-use Rattle.model.specs.Memory.{Memory, boxes, mails, known, place, theMailbox, selectedBox, isSelected, uidOf, isMessage, inMailbox, byUid, messagesOf, existing, withNext, putBox}
+use Rattle.model.specs.Memory.{Memory, boxes, mails, known, place, theMailbox, selectedBox, isSelected, uidOf, isMessage, inMailbox, byUid, messagesOf, existing, withNext, counterOf, withCounter, putBox}
 use Rattle.model.specs.Groups.{askedOf, asksNew}
-use Rattle.model.specs.Lines.{Line, fetch, overflow, renderAll}
+use Rattle.model.specs.Lines.{Line, modseq, mailItems, fetch, overflow, renderAll}
 use Rattle.model.specs.Queue.{enqueue, effects}
 use Rattle.model.specs.View.{announced, selectedMessages, view, unannounced, existsLine, newAtOnce, shownItems, showsAny, newLines, announcing}
-use Rattle.model.specs.Events.{Event, message, withArrived, arrived, statusLines, silence}
+use Rattle.model.specs.Events.{Event, message, withArrived, arrived, statusLines, countsOf, silence}
 use Rattle.model.specs.Rules.{rested, told as toldOf}
 use Rattle.model.specs.Lawful.{stateOk}
 use Rattle.demands.specs.Lasting.Law.{Law}
@@ -27,18 +27,17 @@ use Rattle.model.specs.declared.Message.{Message}
 use Rattle.model.specs.declared.Session.{Session}
 use Rattle.model.specs.Fates.{arrival, told, waits, isExists, isRemoval, isMarking}
 use Rattle.model.specs.Seen.{apparent}
-use Rattle.model.specs.Due.{Account, waiting, atOnce, later, statusDue, arrivals, isNew, due}
+use Rattle.model.specs.Due.{Account, waiting, atOnce, later, statusDue, countsDue, arrivals, isNew, due}
 use Rattle.model.specs.Account.{owedNow}
 use Rattle.demands.specs.Ledger.Each.{twice, All, none, also, all-yes, all-to, all-with, all-pass, all-ordered, filter-agree, all-append, any-ordered, any-passed}
 use Rattle.demands.specs.Ledger.Entries.{present, stateOf, state-snoc, found, present-snoc}
 use Rattle.demands.specs.Ledger.Books.{exists-some, Books, same-exists}
 use Rattle.demands.specs.Ledger.Effects.{flip, Calm, Ended, ended-all}
 use Rattle.demands.specs.Ledger.Steps.{plainly, page, turned, Step, fairLine, told-step-by}
-use Rattle.demands.specs.Ledger.Plain.{Inert, inert-removal, inert-marking, inert-exists, said-books, plain-by}
+use Rattle.demands.specs.Ledger.Plain.{Inert, inert-removal, inert-marking, inert-exists, said-books}
 use Rattle.demands.specs.Ledger.Reach.{not-selected, below}
 use Rattle.demands.specs.Ledger.Calm.{calm-exists, calm-same}
-use Rattle.demands.specs.Ledger.Messages.{hush-new, messages-rested, map-append, existing-all, rest-of, is-selected, unremoved}
-use Rattle.demands.specs.Ledger.Expunges.{status-lines, status-plain}
+use Rattle.demands.specs.Ledger.Messages.{hush-new, status-by, messages-rested, map-append, existing-all, rest-of, is-selected, unremoved}
 
 any-front : (p : Line → Bool) (l r : List Line) → anyb p l ≡ true → anyb p (l ++ r) ≡ true
 any-front p [] r h = tf false h refl
@@ -73,12 +72,12 @@ fair-new s n (e ∷ l) = also (refl, refl) (fair-new s (n + 1) l)
 calm-new : (m : Memory) (s : Session) (n : ℕ) {l : List Message} → All (λ (e : Message). eqb (stateOf (m .session .selected) (uidOf e) (mails m)) 1 ≡ false) l → All (Calm m) (newLines s n l)
 unfolding newLines
 calm-new m s n none = none
-calm-new m s n (also {x = e} p h) = also {x = fetch (record { 0 = n }) (e .uid) (shownItems s e)} p (calm-new m s (n + 1) h)
+calm-new m s n (also {x = e} p h) = also {x = fetch (record { 0 = n }) (e .uid) (shownItems s e ++ (modseq (e .counter) ∷ []))} p (calm-new m s (n + 1) h)
 
 same-new : (s : Session) (n : ℕ) (l : List Message) → newLines s n (map rested l) ≡ newLines s n l
 unfolding newLines
 same-new s n [] = refl
-same-new s n (e ∷ l) = ap (λ (t : List Line). fetch (record { 0 = n }) (e .uid) (shownItems s e) ∷ t) (same-new s (n + 1) l)
+same-new s n (e ∷ l) = ap (λ (t : List Line). fetch (record { 0 = n }) (e .uid) (shownItems s e ++ (modseq (e .counter) ∷ [])) ∷ t) (same-new s (n + 1) l)
 
 same-arrivals : (w : Memory) (old new : List Message) → arrivals w (map rested old) (map rested new) ≡ arrivals w old new
 same-arrivals w old new =
@@ -88,27 +87,27 @@ same-arrivals w old new =
 session-new : (m : Memory) (n : ℕ) (l : List Message) → newLines (apparent m .session) n l ≡ newLines (m .session) n l
 unfolding newLines
 session-new m n [] = refl
-session-new m n (e ∷ l) = ap (λ (t : List Line). fetch (record { 0 = n }) (e .uid) (shownItems (m .session) e) ∷ t) (session-new m (n + 1) l)
+session-new m n (e ∷ l) = ap (λ (t : List Line). fetch (record { 0 = n }) (e .uid) (shownItems (m .session) e ++ (modseq (e .counter) ∷ [])) ∷ t) (session-new m (n + 1) l)
 
 session-arrivals : (m : Memory) (old new : List Message) → arrivals (apparent m) old new ≡ (existsLine (length old) new ++ cond (showsAny (m .session)) (newLines (m .session) (length old + 1) new) [])
 session-arrivals m old new = ap (λ (ls : List Line). existsLine (length old) new ++ cond (showsAny (m .session)) ls []) (session-new m (length old + 1) new)
 
 module _ (m : Memory) (k : Law m) (a : Account) (b : Books m a) where
-  module _ (u f z : ℕ) (law : Law (withArrived m (m .session .selected) u f z)) (fresh : ltb u (selectedBox m .uidnext) ≡ false) where
+  module _ (u f z c : ℕ) (law : Law (withArrived m (m .session .selected) u f z c)) (fresh : ltb u (selectedBox m .uidnext) ≡ false) where
     abbrev s : ℕ
     s = m .session .selected
 
     abbrev r : Record
-    r = arrive (m .session .selected) u f z
+    r = arrive (m .session .selected) u f z c
 
     abbrev event : Memory → Event
-    event x = arrived x (m .session .selected) u f z
+    event x = arrived x (m .session .selected) u f z c
 
     abbrev x : Memory
-    x = withArrived m (m .session .selected) u f z
+    x = withArrived m (m .session .selected) u f z c
 
     abbrev e₀ : Message
-    e₀ = message (m .session .selected) u f z
+    e₀ = message (m .session .selected) u f z c
 
     stored-mails : mails x ≡ mails m ++ (e₀ ∷ [])
     stored-mails = mails-with (putBox m s (withNext (theMailbox s (boxes m)) (u + 1))) (mails m ++ (e₀ ∷ []))
@@ -136,8 +135,8 @@ module _ (m : Memory) (k : Law m) (a : Account) (b : Books m a) where
         seen v true h = rw (eqb-true v u h, eq-eqb u u refl, unseen-yet, or-true (present s u (mails m)), or-true ((present s u (mails m) && true) && true))
         seen v false h = rw (flip u v h, or-false (present s v (mails m))) (plainly (present s v (mails m) && not (ltb v (m .session .told))))
 
-    hushed-arrival : Books (withArrived (silence m) s u f z) (page (apparent m) a r (overflow ∷ []) (waits (arrival u)))
-    hushed-arrival = awaits (withArrived (silence m) s u f z) (mails-with (putBox (silence m) s (withNext (theMailbox s (boxes m)) (u + 1))) (mails m ++ (e₀ ∷ []))) refl refl (overflow ∷ [])
+    hushed-arrival : Books (withArrived (silence m) s u f z c) (page (apparent m) a r (overflow ∷ []) (waits (arrival u)))
+    hushed-arrival = awaits (withArrived (silence m) s u f z c) (mails-with (putBox (silence m) s (withNext (theMailbox s (boxes m)) (u + 1))) (mails m ++ (e₀ ∷ []))) refl refl (overflow ∷ [])
         (also refl none)
 
     arrive-waiting : due (apparent m) a r ≡ later (arrival u) → due (silence (apparent m)) a r ≡ later (arrival u) → event m .lines ≡ [] → Step m a r (toldOf m event)
@@ -223,7 +222,7 @@ module _ (m : Memory) (k : Law m) (a : Account) (b : Books m a) where
         unremoving v = any-neither (isRemoval v) (existsLine (length (view x)) (unannounced x)) _ (unremoving-exists v (length (view x)) (unannounced x)) (fewer v (showsAny (m .session)))
 
         n : Memory
-        n = enqueue (withArrived m (m .session .selected) u f z) (renderAll (announcing (withArrived m (m .session .selected) u f z)))
+        n = enqueue (withArrived m (m .session .selected) u f z c) (renderAll (announcing (withArrived m (m .session .selected) u f z c)))
 
         end : Ended n (effects n (announcing x)) (announcing x)
         end = ended-all n (record { reach = below x law .reach; wide = below x law .wide }) (announcing x)
@@ -260,25 +259,26 @@ module _ (m : Memory) (k : Law m) (a : Account) (b : Books m a) where
         go true y = arrive-told (rw (h, y) (ap atOnce same-announcing)) (rw (h, hush-new m)) (rw (h, y))
         go false y = arrive-waiting (rw (h, y)) (rw (h, hush-new m)) (rw (h, y))
 
-  pub arrived-step : (i u f z : ℕ) → known i (boxes m) ≡ true → Law (withArrived m i u f z) → ltb u (theMailbox i (boxes m) .uidnext) ≡ false
-      → Step m a (arrive i u f z) (toldOf m (λ (x : Memory). arrived x i u f z))
+  -- the row has the record's counter already
+  pub arrived-step : (i u f z c : ℕ) → known i (boxes m) ≡ true → Law (withArrived m i u f z c) → ltb u (theMailbox i (boxes m) .uidnext) ≡ false
+      → withCounter (theMailbox i (boxes m)) c ≡ theMailbox i (boxes m) → Step m a (arrive i u f z c) (toldOf m (λ (x : Memory). arrived x i u f z c))
   unfolding due owedNow
-  arrived-step i u f z kn law fresh = go (isSelected m i) refl
+  arrived-step i u f z c kn law fresh has = go (isSelected m i) refl
     where
       y : Mailbox
       y = withNext (theMailbox i (boxes m)) (u + 1)
 
-      row : theMailbox i (boxes (withArrived m i u f z)) ≡ withNext (theMailbox i (boxes m)) (u + 1)
+      row : theMailbox i (boxes (withArrived m i u f z c)) ≡ withNext (theMailbox i (boxes m)) (u + 1)
       row = ap (theMailbox i) (boxes-with m (set (boxes m) (place i (boxes m)) (withNext (theMailbox i (boxes m)) (u + 1))))
           ∙ row-set i (withNext (theMailbox i (boxes m)) (u + 1)) (box-id i (boxes m) kn) (boxes m) kn
 
-      go : (c : Bool) → isSelected m i ≡ c → Step m a (arrive i u f z) (toldOf m (λ (x : Memory). arrived x i u f z))
+      go : (d : Bool) → isSelected m i ≡ d → Step m a (arrive i u f z c) (toldOf m (λ (x : Memory). arrived x i u f z c))
       go true h =
           let p = is-selected m k i h in
-          subst (λ (j : ℕ). Step m a (arrive j u f z) (toldOf m (λ (x : Memory). arrived x j u f z))) (sym p)
-          (arrive-selected u f z (subst (λ (j : ℕ). Law (withArrived m j u f z)) p law) (subst (λ (j : ℕ). ltb u (theMailbox j (boxes m) .uidnext) ≡ false) p fresh) (rw p at h))
+          subst (λ (j : ℕ). Step m a (arrive j u f z c) (toldOf m (λ (x : Memory). arrived x j u f z c))) (sym p)
+          (arrive-selected u f z c (subst (λ (j : ℕ). Law (withArrived m j u f z c)) p law) (subst (λ (j : ℕ). ltb u (theMailbox j (boxes m) .uidnext) ≡ false) p fresh) (rw p at h))
       go false h =
-          let e = message i u f z in
+          let e = message i u f z c in
           let q = mails-with (putBox m i (withNext (theMailbox i (boxes m)) (u + 1))) (mails m ++ (e ∷ [])) in
           let q′ = mails-with (putBox (silence m) i (withNext (theMailbox i (boxes m)) (u + 1))) (mails m ++ (e ∷ [])) in
           let o = not-selected m k i kn h in
@@ -286,18 +286,17 @@ module _ (m : Memory) (k : Law m) (a : Account) (b : Books m a) where
           let o′ : eqb (m .session .selected) j ≡ false = rw (box-id i (boxes m) kn) o in
           let more : a .kept ++ (e ∷ []) ≡ map rested (mails m ++ (e ∷ [])) = ap (λ (l : List Message). l ++ (e ∷ [])) (b .kept) ∙ sym (map-append rested (mails m) (e ∷ [])) in
           let away : (v : ℕ) → isMessage (m .session .selected) v e ≡ false = λ v. rw (ne-eqb i (m .session .selected) (λ w. eqb-false (m .session .selected) i o (sym w))) in
-          let count : length (existing j (mails (withArrived m i u f z))) ≡ length (messagesOf j (a .kept ++ (e ∷ []))) =
+          let count : length (existing j (mails (withArrived m i u f z c))) ≡ length (messagesOf j (a .kept ++ (e ∷ []))) =
           ap (λ (l : List Message). length (existing j l)) q
           ∙ (ap length (existing-all j (all-append (rest-of m k j o′) (also {x = e} (λ _. refl) none)))
           ∙ (sym (length-map (messagesOf j (mails m ++ (e ∷ []))) rested)
           ∙ ap length (sym (ap (messagesOf j) more ∙ messages-rested j (mails m ++ (e ∷ [])))))) in
-          plain-by m a b (arrive i u f z) (λ (x : Memory). arrived x i u f z)
-          (statusDue (apparent m) (withNext (theMailbox i (boxes m)) (u + 1)) (a .kept ++ (e ∷ [])) asksNew)
-          (statusDue (silence (apparent m)) (withNext (theMailbox i (boxes m)) (u + 1)) (a .kept ++ (e ∷ [])) asksNew) (rw h) (rw h)
-          (rw h (ap (λ (x : Mailbox). statusLines (withArrived m i u f z) x (askedOf (m .session) x asksNew)) row
-          ∙ status-lines (apparent m) (withNext (theMailbox i (boxes m)) (u + 1)) (a .kept ++ (e ∷ [])) asksNew (length (existing j (mails (withArrived m i u f z)))) count))
-          (status-plain (apparent m) (withNext (theMailbox i (boxes m)) (u + 1)) (a .kept ++ (e ∷ [])) asksNew)
-          (status-plain (silence (apparent m)) (withNext (theMailbox i (boxes m)) (u + 1)) (a .kept ++ (e ∷ [])) asksNew)
+          let es = a .kept ++ (e ∷ []) in
+          status-by m a b (arrive i u f z c) (λ (x : Memory). arrived x i u f z c) y asksNew (countsDue y es)
+          (rw h (ap (λ (x : Mailbox). statusDue (apparent m) (withNext x (u + 1)) asksNew (countsDue (withNext x (u + 1)) es)) has))
+          (rw h (ap (λ (x : Mailbox). statusDue (silence (apparent m)) (withNext x (u + 1)) asksNew (countsDue (withNext x (u + 1)) es)) has))
+          (rw h (ap (λ (x : Mailbox). statusLines x (askedOf (m .session) x asksNew) (countsOf (withArrived m i u f z c) x)) row
+          ∙ ap (λ (n : ℕ). statusLines y (askedOf (m .session) y asksNew) (mailItems (u + 1) n (counterOf y))) count)) refl
           (λ ls. refl) (λ d. refl)
           (record {
             selected = refl;

@@ -15,7 +15,7 @@ use Rattle.model.specs.Lines.{Line, exists, expunge, render}
 use Rattle.model.specs.Queue.{fitting}
 use Rattle.model.specs.View.{announced, selectedMessages, view, unannounced, expungeLines, flagsLine, markedLines, existsLine, remainder, owed, placeOf}
 use Rattle.model.specs.Rules.{rested}
-use Rattle.model.specs.Lawful.{messageOk}
+use Rattle.model.specs.Lawful.{messageOk, counterOk}
 use Rattle.demands.specs.Lasting.Law.{Law}
 use Rattle.model.specs.declared.Message.{Message}
 use Rattle.model.specs.Fates.{arrival, removal, marking, isNotice, isExists}
@@ -40,7 +40,7 @@ two-bits (suc (suc zero)) h = (refl, refl)
 two-bits (suc (suc (suc n))) h = let z = leb-true (suc (suc (suc n))) 2 h in absurd (let b : ⊥ = omega arith in b)
 
 pub small-states : (e : Message) → messageOk e ≡ true → leb (e .states) 2 ≡ true
-small-states e h = each (leb 1 (uidOf e) ∷ leb (e .flags) 31 ∷ leb (e .size) 4294967295 ∷ leb (e .states) 2 ∷ []) h .1 .1 .1 .0
+small-states e h = each (leb 1 (uidOf e) ∷ leb (e .flags) 31 ∷ leb (e .size) 4294967295 ∷ leb (e .states) 2 ∷ counterOk (e .counter) ∷ []) h .1 .1 .1 .0
 
 pub record Booked (m : Memory) (a : Account) (e : Message) : Type 0 where
   pub gone : waiting (a .fates) (removal (uidOf e)) ≡ expunged e

@@ -132,11 +132,11 @@ module _ (m : Memory) (k : Law m) (a : Account) (b : Books m a) where
       → Step m a r (toldOf m event)
   quietly r event e p o d x y s t = plain-step m a b r event e (p (apparent m)) (p (silence (apparent m))) o d x y (λ f ls _. s f ls) (λ f ls _. t f ls)
 
-  pub created-step : (i c q v : ℕ) (n : Name) → Step m a (create i c q v n) (toldOf m (λ (x : Memory). created x i c q v n))
+  pub created-step : (i c q v h : ℕ) (n : Name) → Step m a (create i c q v h n) (toldOf m (λ (x : Memory). created x i c q v h n))
   unfolding due owedNow
-  created-step i c q v n =
-      let x = newBox i c v n in
-      quietly (create i c q v n) (λ (h : Memory). created h i c q v n) (loud-lines q _ (appears (apparent m) x) (appears-lines (apparent m) x))
+  created-step i c q v h n =
+      let x = newBox i c v h n in
+      quietly (create i c q v h n) (λ (k : Memory). created k i c q v h n) (loud-lines q _ (appears (apparent m) x) (appears-lines (apparent m) x))
       (λ w. plain-unless (isQuiet q) quiet (appears w x) (appears-plain w x))
       (λ ls. refl) (λ d. refl) (unmoved m _ refl refl refl) (unmoved m _ refl refl refl) (λ f ls. b .kept) (λ f ls. b .kept)
 

@@ -8,7 +8,7 @@ use lib.Dec.{eqb, leb}
 use lib.ListN.{length}
 use Rattle.model.specs.Lists.{filterb}
 use Rattle.model.specs.Memory.{Memory, mails, bothRights, selectedBox, uidOf, expunged, marked, inMailbox, byUid}
-use Rattle.model.specs.Lines.{Line, status, statusAtSet, found as foundLine, answer, list, renamed, exists, expunge as expungeLine, fetch, overflow}
+use Rattle.model.specs.Lines.{Line, status, found as foundLine, answer, list, renamed, exists, expunge as expungeLine, fetch, overflow}
 use Rattle.model.specs.View.{announced, selectedMessages, view, unannounced, expungeLines, flagsLine, markedLines, existsLine, remainder, owed}
 use Rattle.model.specs.Lawful.{messageOk}
 use Rattle.demands.specs.Lasting.Law.{Law}
@@ -77,8 +77,7 @@ calm-owed m k c = go (bothRights (selectedBox m)) (eqb c 1) refl
     go false d e = none
 
 pub calm-same : (m n : Memory) → mails n ≡ mails m → n .session .selected ≡ m .session .selected → n .session .told ≡ m .session .told → (l : Line) → Calm m l → Calm n l
-calm-same m n e s t (status a b c) h = tt
-calm-same m n e s t (statusAtSet a b c d) h = tt
+calm-same m n e s t (status a is) h = tt
 calm-same m n e s t (list a b) h = tt
 calm-same m n e s t (renamed a b c) h = tt
 calm-same m n e s t (exists a) h = tt

@@ -10,9 +10,9 @@ use Rattle.model.specs.Requests.{Command, notifyNone, notifySet, search, Search
 use Rattle.model.specs.Reading.{Parsed, bad, ok}
 use Rattle.model.specs.Commands.{tagOf, commandOf}
 use Rattle.model.specs.Records.{command}
-use Rattle.model.specs.Memory.{Memory, boxes, mails, nameOf, mayList, mayRead, isSelected, existing}
+use Rattle.model.specs.Memory.{Memory, boxes, mails, nameOf, mayList, mayRead, counterOf, isSelected, existing}
 use Rattle.model.specs.Groups.{askedOf, asksMessages}
-use Rattle.model.specs.Lines.{Line, status, statusAtSet, list, renamed, exists, expunge as expungeLine, fetch, found as foundData, overflow, answer, noAccess, renderAll}
+use Rattle.model.specs.Lines.{Line, status, setItems, list, renamed, exists, expunge as expungeLine, fetch, found as foundData, overflow, answer, noAccess, renderAll}
 use Rattle.model.specs.Queue.{say}
 use Rattle.model.specs.View.{owed}
 use Rattle.model.specs.Listing.{listing, listingLine, concerns, byName, watching}
@@ -45,8 +45,7 @@ aside-none none = refl
 aside-none (also p h) = rw p (aside-none h)
 
 aside-one : (m : Memory) (l : Line) → isNotice l ≡ false → Calm m l
-aside-one m (status n u k) h = tf true refl h
-aside-one m (statusAtSet n k u v) h = tt
+aside-one m (status n is) h = tt
 aside-one m (list k n) h = tt
 aside-one m (renamed k new old) h = tt
 aside-one m (exists n) h = tt
@@ -66,7 +65,7 @@ aside-listing m s b = aside-each (listingLine m s b) one (sorted byName (filterb
     one : (x : Mailbox) → Aside (listingLine m s b x)
     one x = go (mayRead x) (b && (not (isSelected m (x .id)) && askedOf s x asksMessages))
       where
-        go : (c d : Bool) → Aside (cond c (when d (statusAtSet (nameOf x) (length (existing (x .id) (mails m))) (x .uidnext) (x .uidvalidity))) (list noAccess (nameOf x) ∷ []))
+        go : (c d : Bool) → Aside (cond c (when d (status (nameOf x) (setItems (length (existing (x .id) (mails m))) (x .uidnext) (x .uidvalidity) (counterOf x)))) (list noAccess (nameOf x) ∷ []))
         go true true = also refl none
         go true false = none
         go false d = also refl none

@@ -11,6 +11,11 @@ twice false = refl
 
 -- ---- a fact for each of a list
 module _ {A : Type 0} where
+  -- a fact of both is one of either
+  pub of-two : (P : A → Type 0) (c : Bool) (x y : A) → P x → P y → P (cond c x y)
+  of-two P true x y p q = p
+  of-two P false x y p q = q
+
   pub data All (P : A → Type 0) : List A → Type 0 where
     none : All P []
     also : {x : A} {l : List A} → P x → All P l → All P (x ∷ l)

@@ -8,7 +8,7 @@ use lib.Dec.{eqb, ltb}
 use Rattle.model.specs.Lists.{filterb, keep, anyb}
 use Rattle.model.specs.Laws.{tf, and-l, and-r, or-false, cond-same, any-fewer, and-true, and-false}
 use Rattle.model.specs.Memory.{Memory, mails, selectedBox, uidOf, isMessage, inMailbox, withStates, dropMails, changeMails}
-use Rattle.model.specs.Lines.{Line, status, statusAtSet, list, renamed, exists, expunge, fetch, found as foundLine, overflow, answer}
+use Rattle.model.specs.Lines.{Line, status, list, renamed, exists, expunge, fetch, found as foundLine, overflow, answer}
 use Rattle.model.specs.Queue.{announce, unmark, showsFlags, effect, effects}
 use Rattle.model.specs.Rules.{rested}
 use Rattle.demands.specs.Isolation.Alike.{mails-with}
@@ -25,8 +25,7 @@ pub record Below (m : Memory) : Type 0 where
 
 -- no line ends what it does not tell: no EXPUNGE of a marked or unannounced message, no FETCH of an expunged one
 abbrev pub Calm : Memory → Line → Type 0
-Calm m (status n u k) = Unit {0}
-Calm m (statusAtSet n k u v) = Unit {0}
+Calm m (status n is) = Unit {0}
 Calm m (list k n) = Unit {0}
 Calm m (renamed k new old) = Unit {0}
 Calm m (exists n) = Unit {0}
@@ -178,8 +177,7 @@ ended-one m b (fetch n v is) c = go (showsFlags is) refl
     go : (f : Bool) → showsFlags is ≡ f → Ended m (cond f (changeMails m (unmark (m .session .selected) (v .0))) m) (fetch n v is ∷ [])
     go true h = ended-fetch m (v .0) (fetch n v is) (λ u. refl) (λ u. rw (h, and-true (eqb u (v .0)))) refl c
     go false h = nothing-ended m m refl refl refl (fetch n v is ∷ []) (λ u. refl) (λ u. rw (h, and-false (eqb u (v .0)))) refl
-ended-one m b (status n u k) c = nothing-ended m m refl refl refl (status n u k ∷ []) (λ u. refl) (λ u. refl) refl
-ended-one m b (statusAtSet n k u v) c = nothing-ended m m refl refl refl (statusAtSet n k u v ∷ []) (λ u. refl) (λ u. refl) refl
+ended-one m b (status n is) c = nothing-ended m m refl refl refl (status n is ∷ []) (λ u. refl) (λ u. refl) refl
 ended-one m b (list k n) c = nothing-ended m m refl refl refl (list k n ∷ []) (λ u. refl) (λ u. refl) refl
 ended-one m b (renamed k new old) c = nothing-ended m m refl refl refl (renamed k new old ∷ []) (λ u. refl) (λ u. refl) refl
 ended-one m b (foundLine t n v rs) c = nothing-ended m m refl refl refl (foundLine t n v rs ∷ []) (λ u. refl) (λ u. refl) refl
@@ -188,8 +186,7 @@ ended-one m b (answer t v r) c = nothing-ended m m refl refl refl (answer t v r 
 
 -- and the next is calm still
 calm-after : (m n : Memory) (l : Line) → Ended m n (l ∷ []) → ((u : ℕ) → ltb u (m .session .told) ≡ true → ltb u (n .session .told) ≡ true) → (k : Line) → Calm m k → Calm n k
-calm-after m n l e w (status a b c) h = tt
-calm-after m n l e w (statusAtSet a b c d) h = tt
+calm-after m n l e w (status a is) h = tt
 calm-after m n l e w (list a b) h = tt
 calm-after m n l e w (renamed a b c) h = tt
 calm-after m n l e w (exists a) h = tt
@@ -231,8 +228,7 @@ below-after m b (fetch n v is) = go (showsFlags is)
       wide = b .wide;
     }
     go false = b
-below-after m b (status n u k) = b
-below-after m b (statusAtSet n k u v) = b
+below-after m b (status n is) = b
 below-after m b (list k n) = b
 below-after m b (renamed k new old) = b
 below-after m b (foundLine t n v rs) = b
@@ -247,8 +243,7 @@ wider m b (fetch n v is) u h = go (showsFlags is)
     go : (f : Bool) → ltb u (cond f (changeMails m (unmark (m .session .selected) (v .0))) m .session .told) ≡ true
     go true = h
     go false = h
-wider m b (status n v k) u h = h
-wider m b (statusAtSet n k v w) u h = h
+wider m b (status n is) u h = h
 wider m b (list k n) u h = h
 wider m b (renamed k new old) u h = h
 wider m b (foundLine t n v rs) u h = h

@@ -6,15 +6,15 @@ use Prim.Native.Nat.{ℕ, suc}
 use borrow.Author.Tests.{eqb-true, eq-eqb}
 use lib.Dec.{eqb, ltb}
 use lib.ListN.{length, length-map}
-use Rattle.model.specs.Lists.{filterb, anyb, when}
+use Rattle.model.specs.Lists.{filterb, anyb}
 use Rattle.model.specs.Laws.{or-true, filter-map, and-false}
 use Rattle.model.specs.Records.{Record, expunge}
-use Rattle.model.specs.Memory.{Memory, boxes, mails, nameOf, bothRights, known, theMailbox, isSelected, isMessage, messagesOf, existing, withStates, dropMails, changeMails}
-use Rattle.model.specs.Groups.{asked, asksExpunge}
-use Rattle.model.specs.Lines.{Line, status, expunge as expungeLine, overflow, renderAll}
+use Rattle.model.specs.Memory.{Memory, boxes, mails, known, theMailbox, counterOf, withCounter, isSelected, isMessage, messagesOf, existing, withStates, dropMails, changeMails}
+use Rattle.model.specs.Groups.{askedOf, asksExpunge}
+use Rattle.model.specs.Lines.{Line, mailItems, expunge as expungeLine, overflow, renderAll}
 use Rattle.model.specs.Queue.{enqueue, effects, say}
 use Rattle.model.specs.View.{view, placeOf, expungeAtOnce}
-use Rattle.model.specs.Events.{Event, expire, removed, silence}
+use Rattle.model.specs.Events.{Event, statusLines, expire, removed, silence}
 use Rattle.model.specs.Rules.{rested, told as toldOf}
 use Rattle.model.specs.Refusals.{absent}
 use Rattle.demands.specs.Lasting.Law.{Law}
@@ -24,35 +24,24 @@ use Rattle.model.specs.declared.Mailbox.{Mailbox}
 use Rattle.model.specs.declared.Message.{Message}
 use Rattle.model.specs.Fates.{arrival, removal, marking, Why, notAnnounced, Fate, told, waits, isExists, isRemoval, isMarking}
 use Rattle.model.specs.Seen.{apparent}
-use Rattle.model.specs.Due.{Account, waiting, nothing, atOnce, later, met, messageDue, statusDue, arrivals, viewed, due}
+use Rattle.model.specs.Due.{Account, waiting, nothing, atOnce, later, messageDue, statusDue, countsDue, arrivals, viewed, due}
 use Rattle.model.specs.Account.{overflowed, owedNow}
 use Rattle.demands.specs.Ledger.Each.{none, also, all-kept, map-over}
 use Rattle.demands.specs.Ledger.Entries.{present, stateOf, state-kept, state-gone, state-map, state-put, present-kept, present-gone, present-map}
 use Rattle.demands.specs.Ledger.Books.{same-place, Books}
 use Rattle.demands.specs.Ledger.Effects.{flip, is-other}
 use Rattle.demands.specs.Ledger.Steps.{plainly, page, turned, Unending, Unwaiting, Step, once, fateNow, told-step-by}
-use Rattle.demands.specs.Ledger.Plain.{Inert, inert-removal, inert-marking, inert-exists, said-books, Plain, plain-notice, plain-fair, plain-inert, plain-now, plain-over, drop-elsewhere, notice-lines, plain-by}
+use Rattle.demands.specs.Ledger.Plain.{Inert, inert-removal, inert-marking, inert-exists, said-books, plain-fair, plain-inert, plain-now, plain-over, drop-elsewhere}
 use Rattle.demands.specs.Ledger.Reach.{not-selected, not-of}
-use Rattle.demands.specs.Ledger.Messages.{hush-expunge, message-none, still-none, messages-rested, existing-all, rest-of, is-selected, message-once, there, seen-by}
-
--- ---- a STATUS, for expunges and arrivals elsewhere
-pub status-lines : (w : Memory) (x : Mailbox) (es : List Message) (asks : _) (n : ℕ) → n ≡ length (messagesOf (x .id) es)
-    → when (bothRights x && asked (w .session) (nameOf x) (x .attributes) asks) (status (nameOf x) (x .uidnext) n) ≡ once (statusDue w x es asks)
-status-lines w x es asks n e =
-    ap (λ (j : ℕ). when (bothRights x && asked (w .session) (nameOf x) (x .attributes) asks) (status (nameOf x) (x .uidnext) j)) e
-    ∙ notice-lines (bothRights x) (met w (x .id) (nameOf x) (x .attributes)) (asked (w .session) (nameOf x) (x .attributes) asks) (status (nameOf x) (x .uidnext) (length (messagesOf (x .id) es)))
-
-pub status-plain : (w : Memory) (x : Mailbox) (es : List Message) (asks : _) → Plain (statusDue w x es asks)
-status-plain w x es asks = plain-notice (bothRights x) (met w (x .id) (nameOf x) (x .attributes)) (asked (w .session) (nameOf x) (x .attributes) asks)
-    (atOnce (status (nameOf x) (x .uidnext) (length (messagesOf (x .id) es)) ∷ [])) (also ((refl, refl), refl) none)
+use Rattle.demands.specs.Ledger.Messages.{hush-expunge, message-none, still-none, status-by, messages-rested, existing-all, rest-of, is-selected, message-once, there, seen-by}
 
 module _ (m : Memory) (k : Law m) (a : Account) (b : Books m a) where
-  module _ (u : ℕ) where
+  module _ (u c : ℕ) where
     abbrev s : ℕ
     s = m .session .selected
 
     abbrev r : Record
-    r = expunge (m .session .selected) u
+    r = expunge (m .session .selected) u c
 
     abbrev event : Memory → Event
     event x = removed x (m .session .selected) u
@@ -206,17 +195,19 @@ module _ (m : Memory) (k : Law m) (a : Account) (b : Books m a) where
             let v : waiting (a .fates) (arrival u) ≡ false = seen-by m k a b u (t .0) ∙ rw x in
             expunge-waiting h (t .0) x (rw (h, v, y)) (rw (h, v, hush-expunge m)) (rw (h, x, y)) (rw (h, x, hush-expunge m))
 
-  pub removed-step : (i u : ℕ) → known i (boxes m) ≡ true → absent m i u ≡ false → Step m a (expunge i u) (toldOf m (λ (x : Memory). removed x i u))
+  -- the row has the record's counter already
+  pub removed-step : (i u c : ℕ) → known i (boxes m) ≡ true → absent m i u ≡ false → withCounter (theMailbox i (boxes m)) c ≡ theMailbox i (boxes m)
+      → Step m a (expunge i u c) (toldOf m (λ (x : Memory). removed x i u))
   unfolding due owedNow
-  removed-step i u kn n = go (isSelected m i) refl
+  removed-step i u c kn n has = go (isSelected m i) refl
     where
-      ends-not : isSelected m i ≡ false → Unending (apparent m) (expunge i u)
+      ends-not : isSelected m i ≡ false → Unending (apparent m) (expunge i u c)
       ends-not h d = rw h
 
-      go : (c : Bool) → isSelected m i ≡ c → Step m a (expunge i u) (toldOf m (λ (x : Memory). removed x i u))
+      go : (d : Bool) → isSelected m i ≡ d → Step m a (expunge i u c) (toldOf m (λ (x : Memory). removed x i u))
       go true h =
           let p = is-selected m k i h in
-          subst (λ (j : ℕ). Step m a (expunge j u) (toldOf m (λ (x : Memory). removed x j u))) (sym p) (expunge-selected u (rw p at h) (rw p at n))
+          subst (λ (j : ℕ). Step m a (expunge j u c) (toldOf m (λ (x : Memory). removed x j u))) (sym p) (expunge-selected u c (rw p at h) (rw p at n))
       go false h =
           let x = theMailbox i (boxes m) in
           let z = mails-with m (filterb (λ (e : Message). not (isMessage i u e)) (mails m)) in
@@ -230,12 +221,11 @@ module _ (m : Memory) (k : Law m) (a : Account) (b : Books m a) where
           ∙ (ap length (existing-all (x .id) (all-kept (λ (e : Message). not (isMessage i u e)) (rest-of m k (x .id) (rw (box-id i (boxes m) kn) o))))
           ∙ (sym (length-map (messagesOf (x .id) (filterb (λ (e : Message). not (isMessage i u e)) (mails m))) rested)
           ∙ ap length (sym (ap (messagesOf (x .id)) kf ∙ messages-rested (x .id) (filterb (λ (e : Message). not (isMessage i u e)) (mails m)))))) in
-          plain-by m a b (expunge i u) (λ (x : Memory). removed x i u)
-          (statusDue (apparent m) x (filterb (λ (e : Message). not (isMessage i u e)) (a .kept)) asksExpunge)
-          (statusDue (silence (apparent m)) x (filterb (λ (e : Message). not (isMessage i u e)) (a .kept)) asksExpunge) (rw h) (rw h)
-          (rw h (status-lines (apparent m) x (filterb (λ (e : Message). not (isMessage i u e)) (a .kept)) asksExpunge (length (existing (x .id) (mails (dropMails m (isMessage i u))))) count))
-          (status-plain (apparent m) x (filterb (λ (e : Message). not (isMessage i u e)) (a .kept)) asksExpunge)
-          (status-plain (silence (apparent m)) x (filterb (λ (e : Message). not (isMessage i u e)) (a .kept)) asksExpunge)
+          let es = filterb (λ (e : Message). not (isMessage i u e)) (a .kept) in
+          status-by m a b (expunge i u c) (λ (x : Memory). removed x i u) x asksExpunge (countsDue x es)
+          (rw h (ap (λ (y : Mailbox). statusDue (apparent m) y asksExpunge (countsDue y es)) has))
+          (rw h (ap (λ (y : Mailbox). statusDue (silence (apparent m)) y asksExpunge (countsDue y es)) has))
+          (rw h (ap (λ (n : ℕ). statusLines x (askedOf (m .session) x asksExpunge) (mailItems (x .uidnext) n (counterOf x))) count)) refl
           (λ ls. refl) (ends-not h)
           (rw h (drop-elsewhere m (dropMails m (isMessage i u)) (λ (e : Message). not (isMessage i u e)) z refl refl other))
           (rw h (drop-elsewhere m (dropMails (silence m) (isMessage i u)) (λ (e : Message). not (isMessage i u e)) z′ refl refl other))

@@ -8,25 +8,27 @@ use lib.Dec.{eqb, ltb}
 use Rattle.model.specs.Lists.{filterb, anyb}
 use Rattle.model.specs.Laws.{tf, and-l, and-r, or-false, filter-map, and-false}
 use Rattle.model.specs.Records.{Record}
-use Rattle.model.specs.Memory.{Memory, mails, bothRights, selectedBox, isSelected, uidOf, expunged, isMessage, inMailbox, byUid, messagesOf, existing}
-use Rattle.model.specs.Groups.{selectedAsks}
-use Rattle.model.specs.Lines.{Line}
+use Rattle.model.specs.Memory.{Memory, mails, nameOf, bothRights, selectedBox, isSelected, uidOf, expunged, isMessage, inMailbox, byUid, messagesOf, existing}
+use Rattle.model.specs.Groups.{askedOf, selectedAsks}
+use Rattle.model.specs.Lines.{Line, StatusItem, status}
 use Rattle.model.specs.View.{newAtOnce, expungeAtOnce, flagsAtOnce}
-use Rattle.model.specs.Events.{silence}
-use Rattle.model.specs.Rules.{rested}
+use Rattle.model.specs.Events.{Event, statusLines, silence}
+use Rattle.model.specs.Rules.{rested, told as toldOf}
 use Rattle.model.specs.Refusals.{absent}
 use Rattle.model.specs.Lawful.{messageOk, stateOk}
 use Rattle.demands.specs.Lasting.Law.{Law}
+use Rattle.model.specs.declared.Mailbox.{Mailbox}
 use Rattle.model.specs.declared.Message.{Message}
-use Rattle.model.specs.Fates.{arrival, removal, marking, Why, Fate, refused, unowed, told, waits, dropped, lost, silent, waitsStill, isExists, isRemoval, isMarking}
+use Rattle.model.specs.Fates.{arrival, removal, marking, Why, Fate, refused, unowed, told, waits, dropped, lost, silent, waitsStill, listsAll, isExists, isRemoval, isMarking}
 use Rattle.model.specs.Seen.{apparent}
-use Rattle.model.specs.Due.{Account, waiting, nothing, notice, selectedMet, messageDue, arrivals}
-use Rattle.demands.specs.Ledger.Each.{All, all-yes, all-to, all-with, all-pass, all-ordered, filter-all, sort-map, any-fact}
+use Rattle.model.specs.Due.{Account, waiting, nothing, atOnce, notice, met, statusDue, selectedMet, messageDue, arrivals, due}
+use Rattle.model.specs.Account.{dueLines, keptBy, owedNow}
+use Rattle.demands.specs.Ledger.Each.{All, none, also, all-yes, all-to, all-with, all-pass, all-ordered, filter-all, sort-map, any-fact}
 use Rattle.demands.specs.Ledger.Entries.{present, stateOf, found}
 use Rattle.demands.specs.Ledger.Books.{Books, two-bits, small-states}
 use Rattle.demands.specs.Ledger.Effects.{Ended, filter-no}
-use Rattle.demands.specs.Ledger.Steps.{Turn, Unending, Unwaiting, once, simple}
-use Rattle.demands.specs.Ledger.Plain.{Plain, plain-notice, Elsewhere}
+use Rattle.demands.specs.Ledger.Steps.{Turn, Unending, Unwaiting, Step, once, simple}
+use Rattle.demands.specs.Ledger.Plain.{Plain, plain-notice, notice-lines, Elsewhere, plain-by}
 
 -- ---- after an overflow nothing is asked
 pub hush-new : (m : Memory) → newAtOnce (silence (apparent m)) ≡ false
@@ -52,6 +54,26 @@ still-none (waits (marking u)) h = tf (eqb u u) (eq-eqb u u refl) (h (marking u)
 still-none (dropped y n) h = refl
 still-none lost h = refl
 still-none silent h = refl
+
+-- ---- a STATUS, of a mailbox that is not selected
+status-lines : (w : Memory) (x : Mailbox) (asks : _) (is : List StatusItem) → statusLines x (askedOf (w .session) x asks) is ≡ once (statusDue w x asks is)
+status-lines w x asks is = notice-lines (bothRights x) (met w (x .id) (nameOf x) (x .attributes)) (askedOf (w .session) x asks) (status (nameOf x) is)
+
+status-plain : (w : Memory) (x : Mailbox) (asks : _) (is : List StatusItem) → listsAll is ≡ false → Plain (statusDue w x asks is)
+status-plain w x asks is h = plain-notice (bothRights x) (met w (x .id) (nameOf x) (x .attributes)) (askedOf (w .session) x asks)
+    (atOnce (status (nameOf x) is ∷ [])) (also ((ap not h, refl), refl) none)
+
+-- a message event elsewhere: x is the row after it, and the list is not that of NOTIFY SET
+pub status-by : (m : Memory) (a : Account) → Books m a → (r : Record) (event : Memory → Event) (x : Mailbox) (asks : _) (is : List StatusItem)
+    → due (apparent m) a r ≡ statusDue (apparent m) x asks is → due (silence (apparent m)) a r ≡ statusDue (silence (apparent m)) x asks is
+    → event m .lines ≡ statusLines x (askedOf (m .session) x asks) is → listsAll is ≡ false
+    → ((ls : List Line) → owedNow (apparent m) a r ls ≡ dueLines (apparent m) (due (apparent m) a r)) → Unending (apparent m) r
+    → Elsewhere m (event m .stored) → Elsewhere m (event (silence m) .stored)
+    → ((f : Fate) (ls : List Line) → Unwaiting f → keptBy (apparent m) a r f ls ≡ map rested (mails (event m .stored)))
+    → ((f : Fate) (ls : List Line) → Unwaiting f → keptBy (apparent m) a r f ls ≡ map rested (mails (event (silence m) .stored)))
+    → Step m a r (toldOf m event)
+status-by m a b r event x asks is p q e h o d v w s t = plain-by m a b r event (statusDue (apparent m) x asks is) (statusDue (silence (apparent m)) x asks is) p q
+    (e ∙ status-lines (apparent m) x asks is) (status-plain (apparent m) x asks is h) (status-plain (silence (apparent m)) x asks is h) o d v w s t
 
 -- ---- lists of messages, the states aside
 pub messages-rested : (j : ℕ) (l : List Message) → messagesOf j (map rested l) ≡ map rested (messagesOf j l)

@@ -9,7 +9,7 @@ use Rattle.model.specs.Lists.{anyb, filterb, when}
 use Rattle.model.specs.Laws.{tf, and-true}
 use Rattle.model.specs.Records.{Record}
 use Rattle.model.specs.Memory.{Memory, mails, isMessage}
-use Rattle.model.specs.Lines.{Line, status, statusAtSet, list, renamed, exists, expunge, fetch, found as foundLine, overflow, answer, renderAll}
+use Rattle.model.specs.Lines.{Line, status, list, renamed, exists, expunge, fetch, found as foundLine, overflow, answer, renderAll}
 use Rattle.model.specs.Queue.{enqueue, effect, effects, say}
 use Rattle.model.specs.Events.{Event, silence}
 use Rattle.model.specs.Rules.{rested, told as toldOf}
@@ -32,8 +32,7 @@ Inert ls = All (λ (l : Line). inert l ≡ true) ls
 
 -- a line that is no notice is one of them
 pub aside-inert : (l : Line) → isNotice l ≡ false → inert l ≡ true
-aside-inert (status n u k) h = refl
-aside-inert (statusAtSet n k u v) h = refl
+aside-inert (status n is) h = refl
 aside-inert (list k n) h = refl
 aside-inert (renamed k new old) h = refl
 aside-inert (exists n) h = tf true refl h
@@ -44,8 +43,7 @@ aside-inert overflow h = refl
 aside-inert (answer t v r) h = refl
 
 pub inert-one : (m : Memory) (l : Line) → inert l ≡ true → (effect m l ≡ m) × (((u : ℕ) → isRemoval u l ≡ false) × (((u : ℕ) → isMarking u l ≡ false) × (isExists l ≡ false)))
-inert-one m (status n u k) h = (refl, ((λ v. refl), ((λ v. refl), refl)))
-inert-one m (statusAtSet n k u w) h = (refl, ((λ v. refl), ((λ v. refl), refl)))
+inert-one m (status n is) h = (refl, ((λ v. refl), ((λ v. refl), refl)))
 inert-one m (list k n) h = (refl, ((λ v. refl), ((λ v. refl), refl)))
 inert-one m (renamed k new old) h = (refl, ((λ v. refl), ((λ v. refl), refl)))
 inert-one m (exists n) h = tf false h refl

@@ -13,7 +13,7 @@ use Rattle.model.specs.Memory.{Memory, boxes, mails, known, place, theMailbox, 
 use Rattle.model.specs.View.{view}
 use Rattle.model.specs.Lawful.{mailboxOk, owned}
 use Rattle.demands.specs.Lasting.Law.{Law}
-use Rattle.demands.specs.Lasting.Rows.{told-next}
+use Rattle.demands.specs.Lasting.Rows.{owned-next, told-next}
 use Rattle.model.specs.declared.Mailbox.{Mailbox}
 use Rattle.model.specs.declared.Message.{Message}
 use Rattle.demands.specs.Ledger.Each.{All, all-yes, all-to, any-fact}
@@ -53,7 +53,7 @@ reached m k i u h = present-fact (ltb u (theMailbox i (boxes m) .uidnext) ≡ tr
     below e o g =
         let a : e .mailbox ≡ i = eqb-true (e .mailbox) i (and-l (eqb (e .mailbox) i) _ g) in
         let b : uidOf e ≡ u = eqb-true (uidOf e) u (and-r (eqb (e .mailbox) i) _ g) in
-        let c : ltb (uidOf e) (theMailbox (e .mailbox) (boxes m) .uidnext) ≡ true = and-r (known (e .mailbox) (boxes m)) _ o in
+        let c : ltb (uidOf e) (theMailbox (e .mailbox) (boxes m) .uidnext) ≡ true = owned-next (boxes m) e o in
         rw (a, b) at c
 
 pub below : (m : Memory) → Law m → Below m

@@ -5,33 +5,35 @@ use mathlib.Core.Bool.{Bool, true, false, not, cond}
 use Prim.Native.Nat.{ℕ, _+_, _-_, _≤_}
 use native.Mathlib.Omega.{arith}
 use borrow.Author.Tests.{ltb-false, leb-true, le-leb, eqb-true, not-false}
-use lib.Dec.{eqb, leb, leb·zero}
+use lib.Dec.{eqb, leb, ltb, leb·zero}
 use lib.ListN.{length, take, drop}
 use Rattle.model.specs.Commands.{commandOf}
 use Rattle.model.specs.Records.{Record, create, delete, rename, subscribe, grant, arrive, expunge, reflag, select, ended, command, drained, noRecord, isRecord, recordOf}
-use Rattle.model.specs.Memory.{Memory, boxes, filled, held, isMessage, isSelected, theMailbox, dropMails, changeMails}
-use Rattle.model.specs.Groups.{askedOf, asksExpunge}
-use Rattle.model.specs.Lines.{Line, status, statusAtSet, list, renamed, exists, expunge as expungeLine, fetch, found, overflow, answer, render, renderAll}
+use Rattle.model.specs.Memory.{Memory, boxes, filled, held, theMailbox, changeMails}
+use Rattle.model.specs.Lines.{Line, status, list, renamed, exists, expunge as expungeLine, fetch, found, overflow, answer, render, renderAll}
 use Rattle.model.specs.Queue.{room, fits, enqueue, unmark, showsFlags, effect, effects, say}
-use Rattle.model.specs.View.{owed, view, placeOf, flagsLine, expungeAtOnce, flagsAtOnce, flagsWait}
-use Rattle.model.specs.Events.{Event, message, created, deleted, renamedTo, subscribedTo, granted, arrived, statusLines, inView, expire, removed, reflag as reflagOne, mark, reflagged, silence, tellings, settled}
+use Rattle.model.specs.View.{owed, expungeAtOnce, flagsAtOnce, flagsWait}
+use Rattle.model.specs.Events.{Event, created, deleted, renamedTo, subscribedTo, granted, arrived, inView, removed, reflagged, silence, tellings, settled}
 use Rattle.model.specs.Answering.{noRoom, isAccepted, reply, answerLines, withAsked, answered}
 use Rattle.model.specs.Answers.{numberOf}
 use Rattle.model.specs.Lawful.{lawful}
-use Rattle.model.specs.Refusals.{wrongId, nameHeld, wrongUid, wrongState, tableFull}
-use Rattle.model.specs.Rules.{Outcome, endLines, told as toldOf, accepted}
+use Rattle.model.specs.Refusals.{wrongId, nameHeld, absent, stale, wrongUid, wrongState, tableFull}
+use Rattle.model.specs.Rules.{Outcome, endLines, raised, told as toldOf, accepted}
 use Rattle.model.specs.Call.{call, refuse, roomless}
 use Rattle.model.specs.Hidden.{Octets}
-use Rattle.model.specs.Laws.{tf, and-r}
+use Rattle.model.specs.Laws.{tf, and-r, or-r}
 use Rattle.demands.specs.Lasting.Law.{Law, inside, big}
+use Rattle.demands.specs.Lasting.Ranges.{InRange, in-range}
 use Rattle.demands.specs.Lasting.Spoken.{fitting-fits}
+use Rattle.demands.specs.Lasting.Kinds.{raised-law}
 use Rattle.demands.specs.Lasting.Unasked.{created-none, deleted-none, renamed-none, subscribed-none, granted-none, arrived-none, removed-none, reflagged-none}
 use Rattle.demands.specs.Isolation.Alike.{held-written, held-shifted, length-written, length-shifted}
 use Rattle.model.specs.declared.Refusal.{Refusal}
 use Rattle.model.specs.declared.Refusal.the-variants.{UnlawfulMemory, BadRecord, WrongId, NameHeld, WrongUid, WrongState, TableFull, NoRoom}
 use Rattle.model.specs.Fates.{drainedBy}
 use Rattle.model.specs.Seen.{heldBy}
-use Rattle.demands.specs.Ledger.Streams.{unrefused}
+use Rattle.demands.specs.Ledger.Each.{of-two}
+use Rattle.demands.specs.Counted.Taken.{unrefused}
 
 -- ---- F and the queue are as they were
 record Untouched (m n : Memory) : Type 0 where
@@ -50,8 +52,7 @@ untouched-line m (fetch n u is) = go (showsFlags is)
     go : (c : Bool) → Untouched m (cond c (changeMails m (unmark (m .session .selected) (u .0))) m)
     go true = record { fill = refl; queue = refl }
     go false = record { fill = refl; queue = refl }
-untouched-line m (status n u k) = record { fill = refl; queue = refl }
-untouched-line m (statusAtSet n k u v) = record { fill = refl; queue = refl }
+untouched-line m (status n is) = record { fill = refl; queue = refl }
 untouched-line m (list k n) = record { fill = refl; queue = refl }
 untouched-line m (renamed k new old) = record { fill = refl; queue = refl }
 untouched-line m (found t n v rs) = record { fill = refl; queue = refl }
@@ -67,29 +68,19 @@ untouched-lines m (l ∷ ls) =
     record { fill = u .fill ∙ v .fill; queue = u .queue ∙ v .queue }
 
 -- after an expunge, and after a change of flags
-untouched-removed : (x : Memory) (i u : ℕ) → Untouched x (removed x i u .stored)
-untouched-removed x i u = go (inView x i u) (expungeAtOnce x)
-  where
-    go : (c d : Bool) → Untouched x
-        (cond {A = Event} c (cond d (record { stored = x; lines = expungeLine (placeOf u (view x)) (record { 0 = u }) ∷ [] }) (record { stored = changeMails x (expire i u); lines = [] }))
-        (record {
-          stored = dropMails x (isMessage i u);
-          lines = cond (isSelected x i) [] (statusLines (dropMails x (isMessage i u)) (theMailbox i (boxes x)) (askedOf (x .session) (theMailbox i (boxes x)) asksExpunge));
-        }) .stored)
-    go true true = record { fill = refl; queue = refl }
-    go true false = record { fill = refl; queue = refl }
-    go false d = record { fill = refl; queue = refl }
+abbrev Stays : Memory → Event → Type 0
+Stays x e = Untouched x (e .stored)
 
-untouched-reflagged : (x : Memory) (i u g : ℕ) → Untouched x (reflagged x i u g .stored)
-untouched-reflagged x i u g = go (inView x i u) (flagsAtOnce x) (flagsWait x)
-  where
-    go : (c d e : Bool) → Untouched x (cond {A = Event} c (cond d (record { stored = changeMails x (reflagOne i u g); lines = flagsLine (placeOf u (view x) .0) (message i u g 0) ∷ [] })
-        (cond e (record { stored = changeMails (changeMails x (reflagOne i u g)) (mark i u); lines = [] }) (record { stored = changeMails x (reflagOne i u g); lines = [] })))
-        (record { stored = changeMails x (reflagOne i u g); lines = [] }) .stored)
-    go true true e = record { fill = refl; queue = refl }
-    go true false true = record { fill = refl; queue = refl }
-    go true false false = record { fill = refl; queue = refl }
-    go false d e = record { fill = refl; queue = refl }
+untouched-removed : (x : Memory) (i u : ℕ) → Stays x (removed x i u)
+untouched-removed x i u = of-two (Stays x) (inView x i u) _ _
+    (of-two (Stays x) (expungeAtOnce x) _ _ (record { fill = refl; queue = refl }) (record { fill = refl; queue = refl }))
+    (record { fill = refl; queue = refl })
+
+untouched-reflagged : (x : Memory) (i u g c : ℕ) → Stays x (reflagged x i u g c)
+untouched-reflagged x i u g c = of-two (Stays x) (inView x i u) _ _
+    (of-two (Stays x) (flagsAtOnce x) _ _ (record { fill = refl; queue = refl })
+    (of-two (Stays x) (flagsWait x) _ _ (record { fill = refl; queue = refl }) (record { fill = refl; queue = refl })))
+    (record { fill = refl; queue = refl })
 
 -- ---- lines are written
 held-say : (m : Memory) (ls : List Line) → held (say m ls) ≡ held m ++ renderAll ls
@@ -147,6 +138,10 @@ pub record Queued (m n : Memory) (r : Record) (ls : List Line) : Type 0 where
   pub octets : held n ≡ heldBy (held m) r ls
   pub wide : length (n .queue) ≡ length (m .queue)
 
+told : (m : Memory) → Law m → (event : Memory → Event) → ((x : Memory) → Untouched x (event x .stored)) → (m .session .groupcount ≡ 0 → event m .lines ≡ [])
+    → {r : Record} → drainedBy r ≡ 0 → Queued m (toldOf m event .after) r (toldOf m event .lines)
+told m k event same none {r} z = record { octets = rw z (told-held m event same); wide = told-length m event same k none }
+
 module _ (m : Memory) (k : Law m) where
   command-queued : (t : List ℕ) → noRoom m t ≡ false → Queued m (answered m t) (command t) (answerLines m t)
   unfolding answered
@@ -159,33 +154,39 @@ module _ (m : Memory) (k : Law m) where
       go true = record { octets = held-say m (answerLines m t); wide = wide′ }
       go false = record { octets = held-say m (answerLines m t); wide = wide′ }
 
-  told : (event : Memory → Event) → ((x : Memory) → Untouched x (event x .stored)) → (m .session .groupcount ≡ 0 → event m .lines ≡ [])
-      → {r : Record} → drainedBy r ≡ 0 → Queued m (toldOf m event .after) r (toldOf m event .lines)
-  told event same none {r} z = record { octets = rw z (told-held m event same); wide = told-length m event same k none }
+  -- queue, F and session are those of the memory with the raised row
+  lift : (i c : ℕ) {n : Memory} {r : Record} {ls : List Line} → Queued (raised m i c) n r ls → Queued m n r ls
+  lift i c q = record { octets = q .octets; wide = q .wide }
 
-  kind-queued : (r : Record) → wrongState m r ≡ false → roomless m r ≡ false → Queued m (accepted m r .after) r (accepted m r .lines)
+  kind-queued : (r : Record) → InRange r → wrongId m r ≡ false → wrongUid m r ≡ false → wrongState m r ≡ false → roomless m r ≡ false → Queued m (accepted m r .after) r (accepted m r .lines)
   unfolding accepted renderAll
-  kind-queued (create i a q v n) f g = told (λ (x : Memory). created x i a q v n) (λ x. record { fill = refl; queue = refl }) (λ z. created-none m z i a q v n) refl
-  kind-queued (delete i q) f g = told (λ (x : Memory). deleted x i q) (λ x. record { fill = refl; queue = refl }) (λ z. deleted-none m z i q) refl
-  kind-queued (rename i q n) f g = told (λ (x : Memory). renamedTo x i q n) (λ x. record { fill = refl; queue = refl }) (λ z. renamed-none m z i q n) refl
-  kind-queued (subscribe i b q) f g = told (λ (x : Memory). subscribedTo x i b q) (λ x. record { fill = refl; queue = refl }) (λ z. subscribed-none m z i b q) refl
-  kind-queued (grant i r) f g = told (λ (x : Memory). granted x i r) (λ x. record { fill = refl; queue = refl }) (λ z. granted-none m z i r) refl
-  kind-queued (arrive i u c z) f g = told (λ (x : Memory). arrived x i u c z) (λ x. record { fill = refl; queue = refl }) (λ w. arrived-none m w i u c z) refl
-  kind-queued (expunge i u) f g = told (λ (x : Memory). removed x i u) (λ x. untouched-removed x i u) (λ z. removed-none m z i u) refl
-  kind-queued (reflag i u c) f g = told (λ (x : Memory). reflagged x i u c) (λ x. untouched-reflagged x i u c) (λ z. reflagged-none m z i u c) refl
-  kind-queued (select i) f g = record { octets = sym (append-nil (held m)); wide = refl }
-  kind-queued (ended c) f g = record {
+  kind-queued (create i a q v c n) o d e f g = told m k (λ (x : Memory). created x i a q v c n) (λ x. record { fill = refl; queue = refl }) (λ z. created-none m z i a q v c n) refl
+  kind-queued (delete i q) o d e f g = told m k (λ (x : Memory). deleted x i q) (λ x. record { fill = refl; queue = refl }) (λ z. deleted-none m z i q) refl
+  kind-queued (rename i q n) o d e f g = told m k (λ (x : Memory). renamedTo x i q n) (λ x. record { fill = refl; queue = refl }) (λ z. renamed-none m z i q n) refl
+  kind-queued (subscribe i b q) o d e f g = told m k (λ (x : Memory). subscribedTo x i b q) (λ x. record { fill = refl; queue = refl }) (λ z. subscribed-none m z i b q) refl
+  kind-queued (grant i r) o d e f g = told m k (λ (x : Memory). granted x i r) (λ x. record { fill = refl; queue = refl }) (λ z. granted-none m z i r) refl
+  kind-queued (arrive i u c z h) o d e f g =
+      let l : Law (raised m i h) = raised-law m k i (not-false _ d) h (o .3) (or-r (ltb u (theMailbox i (boxes m) .uidnext)) (stale m i h) e) in
+      lift i h (told (raised m i h) l (λ (x : Memory). arrived x i u c z h) (λ x. record { fill = refl; queue = refl }) (λ w. arrived-none (raised m i h) w i u c z h) refl)
+  kind-queued (expunge i u h) o d e f g =
+      let l : Law (raised m i h) = raised-law m k i (not-false _ d) h o (or-r (absent m i u) (stale m i h) e) in
+      lift i h (told (raised m i h) l (λ (x : Memory). removed x i u) (λ x. untouched-removed x i u) (λ z. removed-none (raised m i h) z i u) refl)
+  kind-queued (reflag i u c h) o d e f g =
+      let l : Law (raised m i h) = raised-law m k i (not-false _ d) h (o .1) (or-r (absent m i u) (stale m i h) e) in
+      lift i h (told (raised m i h) l (λ (x : Memory). reflagged x i u c h) (λ x. untouched-reflagged x i u c h) (λ z. reflagged-none (raised m i h) z i u c h) refl)
+  kind-queued (select i) o d e f g = record { octets = sym (append-nil (held m)); wide = refl }
+  kind-queued (ended c) o d e f g = record {
     octets = held-say m (endLines m c);
     wide = length-say m (endLines m c) (fits-inside m k (endLines m c) (le-leb (length (renderAll (endLines m c))) (room m) (fitting-fits (room m) (owed m c))));
   }
-  kind-queued (command t) f g = command-queued t g
-  kind-queued (drained n) f g =
-      let d = ltb-false _ _ f in
+  kind-queued (command t) o d e f g = command-queued t g
+  kind-queued (drained n) o d e f g =
+      let p = ltb-false _ _ f in
       record {
-        octets = held-shifted (m .queue) (filled m) n (inside m k) d ∙ sym (append-nil (drop n (held m)));
-        wide = length-shifted (m .queue) (filled m) n (inside m k) d;
+        octets = held-shifted (m .queue) (filled m) n (inside m k) p ∙ sym (append-nil (drop n (held m)));
+        wide = length-shifted (m .queue) (filled m) n (inside m k) p;
       }
-  kind-queued noRecord f g = record { octets = sym (append-nil (held m)); wide = refl }
+  kind-queued noRecord o d e f g = record { octets = sym (append-nil (held m)); wide = refl }
 
 -- ---- a call
 pub record Sent (m : Memory) (o : Octets) (x : Outcome) : Type 0 where
@@ -207,10 +208,10 @@ module _ (m : Memory) (k : Law m) (o : Octets) where
   unfolding call
   call-sent =
       rung (not (lawful m)) _ _ (refused-sent UnlawfulMemory refl) λ _.
-      rung (not (isRecord o)) _ _ (refused-sent BadRecord refl) λ _.
-      rung (wrongId m (recordOf o)) _ _ (refused-sent WrongId refl) λ _.
+      rung (not (isRecord o)) _ _ (refused-sent BadRecord refl) λ r.
+      rung (wrongId m (recordOf o)) _ _ (refused-sent WrongId refl) λ d.
       rung (nameHeld m (recordOf o)) _ _ (refused-sent NameHeld refl) λ _.
-      rung (wrongUid m (recordOf o)) _ _ (refused-sent WrongUid refl) λ _.
+      rung (wrongUid m (recordOf o)) _ _ (refused-sent WrongUid refl) λ e.
       rung (wrongState m (recordOf o)) _ _ (refused-sent WrongState refl) λ f.
       rung (tableFull m (recordOf o)) _ _ (refused-sent TableFull refl) λ _.
-      rung (roomless m (recordOf o)) _ _ (refused-sent NoRoom refl) λ g. taken-sent (kind-queued m k (recordOf o) f g)
+      rung (roomless m (recordOf o)) _ _ (refused-sent NoRoom refl) λ g. taken-sent (kind-queued m k (recordOf o) (in-range o (not-false (isRecord o) r)) d e f g)

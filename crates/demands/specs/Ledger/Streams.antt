@@ -4,23 +4,23 @@ use mathlib.Core.List.{List, [], _∷_, map}
 use mathlib.Core.Bool.{_||_, Bool, true, false, not, cond}
 use Prim.Native.Nat.{ℕ, suc}
 use borrow.Author.Tests.{leb-false, not-false}
-use lib.Dec.{eqb, leb}
+use lib.Dec.{eqb, leb, ltb}
 use lib.ListN.{length}
 use Rattle.model.specs.Lists.{anyb}
-use Rattle.model.specs.Laws.{or-false, any-snoc}
+use Rattle.model.specs.Laws.{or-l, or-r, or-false, any-snoc}
 use Rattle.model.specs.Records.{Record, create, delete, rename, subscribe, grant, arrive, expunge, reflag, select, ended, command, drained, noRecord, isRecord, recordOf}
-use Rattle.model.specs.Memory.{Memory}
+use Rattle.model.specs.Memory.{Memory, boxes, theMailbox}
 use Rattle.model.specs.Lines.{Line}
 use Rattle.model.specs.Lawful.{queueOk, lawful}
 use Rattle.model.specs.Answers.{numberOf}
-use Rattle.model.specs.Refusals.{wrongId, nameHeld, wrongUid, wrongState, tableFull}
+use Rattle.model.specs.Refusals.{wrongId, nameHeld, absent, stale, wrongUid, wrongState, tableFull}
 use Rattle.model.specs.Rules.{Outcome, accepted}
 use Rattle.model.specs.Call.{call, refuse, roomless}
 use Rattle.model.specs.Hidden.{Octets, Starts}
 use Rattle.demands.specs.Theorems.{stays-lawful, start-lawful}
 use Rattle.demands.specs.Lasting.Law.{Law, law-out, law-in}
 use Rattle.demands.specs.Lasting.Ranges.{InRange, in-range}
-use Rattle.demands.specs.Lasting.Kinds.{arrived-law}
+use Rattle.demands.specs.Counted.Taken.{unrefused}
 use Rattle.model.specs.declared.Refusal.{Refusal}
 use Rattle.model.specs.declared.Refusal.the-variants.{UnlawfulMemory, BadRecord, WrongId, NameHeld, WrongUid, WrongState, TableFull, NoRoom}
 use Rattle.model.specs.Fates.{arrival, removal, marking, Fate, refused, unowed, told, waits, dropped, lost, silent, reselected, expungedFirst, tells, reselects, expungesFirst, isSilent}
@@ -34,43 +34,27 @@ use Rattle.demands.specs.Ledger.Steps.{Step}
 use Rattle.demands.specs.Ledger.Boxes.{created-step, renamed-step, subscribed-step, granted-step, deleted-step}
 use Rattle.demands.specs.Ledger.Ends.{ended-step, drained-step, none-step, selected-step}
 use Rattle.demands.specs.Ledger.Commanded.{command-step}
-use Rattle.demands.specs.Ledger.Flags.{reflagged-step}
-use Rattle.demands.specs.Ledger.Expunges.{removed-step}
-use Rattle.demands.specs.Ledger.Arrivals.{arrived-step}
+use Rattle.demands.specs.Ledger.Raised.{mail-arrived, mail-removed, mail-reflagged}
 
 -- ---- every kind
 kind-step : (m : Memory) (k : Law m) (a : Account) → Books m a → (r : Record) → InRange r → wrongId m r ≡ false → wrongUid m r ≡ false → wrongState m r ≡ false → tableFull m r ≡ false
     → Step m a r (accepted m r)
 unfolding accepted
-kind-step m k a b (create i c q v n) o d e f g = created-step m k a b i c q v n
+kind-step m k a b (create i c q v h n) o d e f g = created-step m k a b i c q v h n
 kind-step m k a b (delete i q) o d e f g = deleted-step m k a b i q (not-false _ d) f
 kind-step m k a b (rename i q n) o d e f g = renamed-step m k a b i q n
 kind-step m k a b (subscribe i c q) o d e f g = subscribed-step m k a b i c q
 kind-step m k a b (grant i r) o d e f g = granted-step m k a b i r
-kind-step m k a b (arrive i u c z) o d e f g = arrived-step m k a b i u c z (not-false _ d) (arrived-law m k i (not-false _ d) u c z (o .0) (o .1) (o .2) e (leb-false _ _ g) .law) e
-kind-step m k a b (expunge i u) o d e f g = removed-step m k a b i u (not-false _ d) e
-kind-step m k a b (reflag i u c) o d e f g = reflagged-step m k a b i u c e
+kind-step m k a b (arrive i u c z h) o d e f g =
+    let y = ltb u (theMailbox i (boxes m) .uidnext) in
+    mail-arrived m k a b i h (not-false _ d) (o .3) (or-r y (stale m i h) e) u c z (o .0) (o .1) (o .2) (or-l y (stale m i h) e) (leb-false _ _ g)
+kind-step m k a b (expunge i u h) o d e f g = let y = absent m i u in mail-removed m k a b i h (not-false _ d) o (or-r y (stale m i h) e) u (or-l y (stale m i h) e)
+kind-step m k a b (reflag i u c h) o d e f g = let y = absent m i u in mail-reflagged m k a b i h (not-false _ d) (o .1) (or-r y (stale m i h) e) u c (or-l y (stale m i h) e)
 kind-step m k a b (select i) o d e f g = selected-step m k a b i
 kind-step m k a b (ended c) o d e f g = ended-step m k a b c
 kind-step m k a b (command t) o d e f g = command-step m k a b t
 kind-step m k a b (drained n) o d e f g = drained-step m k a b n
 kind-step m k a b noRecord o d e f g = none-step m k a b
-
-pub unrefused : (m : Memory) (r : Record) → numberOf (accepted m r .answer) ≡ 0
-unfolding accepted
-unrefused m (create i a q v n) = refl
-unrefused m (delete i q) = refl
-unrefused m (rename i q n) = refl
-unrefused m (subscribe i s q) = refl
-unrefused m (grant i r) = refl
-unrefused m (arrive i u f z) = refl
-unrefused m (expunge i u) = refl
-unrefused m (reflag i u f) = refl
-unrefused m (select i) = refl
-unrefused m (ended c) = refl
-unrefused m (command t) = refl
-unrefused m (drained n) = refl
-unrefused m noRecord = refl
 
 -- ---- what is settled is not silent
 settled-one : (w : Memory) (n : ℕ) (r : Record) (ls : List Line) (f : Fate) → isSilent (settle w n r ls f) ≡ isSilent f

@@ -1,0 +1,4 @@
+-- Change counters over streams, proved of the definitions.
+pub mod Taken
+pub mod Highest
+pub mod Own

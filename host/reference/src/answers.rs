@@ -90,7 +90,8 @@ fn first_lines(memory: &Memory, notify: &Notify, out: &mut Out) -> Owed {
             lines::list(out, "\\NoAccess", &row.name);
         } else if notify.status && row.id != selected && watches_messages(groups, row) {
             let messages = memory.count_in(row.id);
-            lines::status_first(out, &row.name, messages, row.uid_next, row.uid_validity);
+            let (next, validity) = (row.uid_next, row.uid_validity);
+            lines::status_first(out, &row.name, messages, next, validity, row.counter);
         }
     }
     owed

@@ -78,20 +78,24 @@ fn refusal(memory: &Memory, record: &Record) -> u8 {
             }
         }
         Record::Subscribe { id, .. } | Record::Rights { id, .. } => 3 * u8::from(unknown(id)),
-        Record::Message { id, uid, .. } => match memory.mailbox(id) {
+        Record::Message {
+            id, uid, counter, ..
+        } => match memory.mailbox(id) {
             None => 3,
-            Some(row) if uid < row.uid_next => 5,
+            Some(row) if uid < row.uid_next || counter <= row.counter => 5,
             Some(_) if memory.message_count == memory.messages.len() => 7,
             Some(_) => 0,
         },
-        Record::Expunge { id, uid } | Record::Flags { id, uid, .. } => {
+        Record::Expunge { id, uid, counter }
+        | Record::Flags {
+            id, uid, counter, ..
+        } => {
             let there = |place: usize| !memory.messages[place].is_expunged();
-            if unknown(id) {
-                3
-            } else if memory.message_at(id, uid).is_some_and(there) {
-                0
-            } else {
-                5
+            match memory.mailbox(id) {
+                None => 3,
+                Some(row) if counter <= row.counter => 5,
+                Some(_) if memory.message_at(id, uid).is_some_and(there) => 0,
+                Some(_) => 5,
             }
         }
         Record::Select { id: 0 } => 0,
@@ -128,6 +132,7 @@ fn step(memory: &mut Memory, octets: &[u8]) -> Answer {
             attributes,
             quiet,
             uid_validity,
+            counter,
             name,
         } => {
             let row = Mailbox {
@@ -135,6 +140,7 @@ fn step(memory: &mut Memory, octets: &[u8]) -> Answer {
                 attributes,
                 uid_validity,
                 uid_next: 1,
+                counter,
                 name,
             };
             mailboxes::create(memory, row, quiet)
@@ -156,6 +162,7 @@ fn step(memory: &mut Memory, octets: &[u8]) -> Answer {
 
 /// Records about a mailbox that is in the table.
 fn known(memory: &mut Memory, place: usize, record: &Record) {
+    raise(&mut memory.mailboxes[place], record);
     match *record {
         Record::Delete { quiet, .. } => mailboxes::delete(memory, place, quiet),
         Record::Rename { quiet, name, .. } => mailboxes::rename(memory, place, name, quiet),
@@ -168,6 +175,7 @@ fn known(memory: &mut Memory, place: usize, record: &Record) {
             uid,
             flags,
             size,
+            counter,
         } => {
             let message = Message {
                 mailbox: id,
@@ -175,20 +183,38 @@ fn known(memory: &mut Memory, place: usize, record: &Record) {
                 flags,
                 size,
                 state: 0,
+                counter,
             };
             messages::arrive(memory, place, message)
         }
-        Record::Expunge { id, uid } => {
+        Record::Expunge { id, uid, .. } => {
             if let Some(entry) = memory.message_at(id, uid) {
                 messages::expunge(memory, memory.mailboxes[place], entry)
             }
         }
-        Record::Flags { id, uid, flags } => {
+        Record::Flags {
+            id,
+            uid,
+            flags,
+            counter,
+        } => {
             if let Some(entry) = memory.message_at(id, uid) {
-                messages::change_flags(memory, memory.mailboxes[place], entry, flags)
+                memory.messages[entry].flags = flags;
+                memory.messages[entry].counter = counter;
+                messages::flags_changed(memory, memory.mailboxes[place], entry)
             }
         }
         _ => {}
+    }
+}
+
+/// A change of messages raises their mailbox's counter, whoever hears of it.
+fn raise(row: &mut Mailbox, record: &Record) {
+    if let Record::Message { counter, .. }
+    | Record::Expunge { counter, .. }
+    | Record::Flags { counter, .. } = *record
+    {
+        row.counter = counter;
     }
 }
 

@@ -37,6 +37,7 @@ fn row_lawful(row: &Mailbox) -> bool {
         && row.attributes <= 0x3F
         && row.uid_validity != 0
         && row.uid_next != 0
+        && (1..=COUNTER_MOST).contains(&row.counter)
         && row.name.is_lawful()
 }
 
@@ -120,7 +121,8 @@ fn messages_lawful(memory: &Memory, places: &Places) -> bool {
         let state =
             entry.state == 0 || (entry.state == EXPUNGED || entry.state == MARKED) && in_view;
         let uid = entry.uid != 0 && entry.uid < rows[place].uid_next;
-        if !(state && uid && entry.flags <= FLAG_BITS) {
+        let counter = entry.counter != 0 && entry.counter <= rows[place].counter;
+        if !(state && uid && counter && entry.flags <= FLAG_BITS) {
             return false;
         }
         rising &= last[place] < entry.uid;

@@ -1,5 +1,6 @@
-//! The independent implementation of document 01: one session beside one store, written from the
-//! papers alone, to find wrong definitions elsewhere and to measure against.
+//! The independent implementation of document 01 with change counters (request 1 of 02): one session
+//! beside one store, written from the papers alone, to find wrong definitions elsewhere and to measure
+//! against.
 
 pub mod abnf;
 pub mod account;

@@ -19,8 +19,9 @@ fn end(out: &mut Out) {
 }
 
 /// A decimal number, no line.
-pub fn number(out: &mut Out, mut value: u32) {
-    let mut digits = [0u8; 10];
+pub fn number(out: &mut Out, value: impl Into<u64>) {
+    let mut value = value.into();
+    let mut digits = [0u8; 20];
     let mut first = digits.len();
     loop {
         first -= 1;
@@ -91,8 +92,23 @@ fn status_open(out: &mut Out, name: &Name) {
     quoted(out, name.as_octets());
 }
 
+/// The last item of every STATUS list.
+fn status_end(out: &mut Out, highest: u64) {
+    out.extend_from_slice(b" HIGHESTMODSEQ ");
+    number(out, highest);
+    out.push(b')');
+    end(out);
+}
+
 /// The status that NOTIFY SET gives.
-pub fn status_first(out: &mut Out, name: &Name, messages: u32, next: u32, validity: u32) {
+pub fn status_first(
+    out: &mut Out,
+    name: &Name,
+    messages: u32,
+    next: u32,
+    validity: u32,
+    highest: u64,
+) {
     status_open(out, name);
     out.extend_from_slice(b" (MESSAGES ");
     number(out, messages);
@@ -100,19 +116,25 @@ pub fn status_first(out: &mut Out, name: &Name, messages: u32, next: u32, validi
     number(out, next);
     out.extend_from_slice(b" UIDVALIDITY ");
     number(out, validity);
-    out.push(b')');
-    end(out);
+    status_end(out, highest);
 }
 
 /// The status that a message's coming or going gives.
-pub fn status_later(out: &mut Out, name: &Name, next: u32, messages: u32) {
+pub fn status_later(out: &mut Out, name: &Name, next: u32, messages: u32, highest: u64) {
     status_open(out, name);
     out.extend_from_slice(b" (UIDNEXT ");
     number(out, next);
     out.extend_from_slice(b" MESSAGES ");
     number(out, messages);
-    out.push(b')');
-    end(out);
+    status_end(out, highest);
+}
+
+/// The status that a change of flags gives.
+pub fn status_flags(out: &mut Out, name: &Name, validity: u32, highest: u64) {
+    status_open(out, name);
+    out.extend_from_slice(b" (UIDVALIDITY ");
+    number(out, validity);
+    status_end(out, highest);
 }
 
 fn numbered(out: &mut Out, place: u32) {
@@ -130,32 +152,28 @@ pub fn expunge(out: &mut Out, place: u32) {
     out.extend_from_slice(b" EXPUNGE\r\n");
 }
 
-/// A FETCH with those of the three items that are asked.
+/// A FETCH with those of the three items that are asked, one at least, and the message's counter.
 pub fn fetch(out: &mut Out, place: u32, attributes: u8, message: &Message) {
     numbered(out, place);
     out.extend_from_slice(b" FETCH (");
-    let first = out.len();
-    let apart = |out: &mut Out| {
-        if out.len() > first {
-            out.push(b' ');
-        }
-    };
     if attributes & WITH_UID != 0 {
         out.extend_from_slice(b"UID ");
         number(out, message.uid);
+        out.push(b' ');
     }
     if attributes & WITH_FLAGS != 0 {
-        apart(out);
         out.extend_from_slice(b"FLAGS (");
         flags(out, message.flags);
-        out.push(b')');
+        out.extend_from_slice(b") ");
     }
     if attributes & WITH_SIZE != 0 {
-        apart(out);
         out.extend_from_slice(b"RFC822.SIZE ");
         number(out, message.size);
+        out.push(b' ');
     }
-    out.push(b')');
+    out.extend_from_slice(b"MODSEQ (");
+    number(out, message.counter);
+    out.extend_from_slice(b"))");
     end(out);
 }
 

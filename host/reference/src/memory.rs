@@ -12,6 +12,7 @@ pub const RESERVE: usize = 64;
 pub const GROUPS: usize = 8;
 pub const NAMES: usize = 16;
 pub const UID_MOST: u32 = u32::MAX - 1;
+pub const COUNTER_MOST: u64 = i64::MAX as u64;
 
 pub const SELECTABLE: u8 = 1;
 pub const PERSONAL: u8 = 2;
@@ -62,6 +63,8 @@ pub struct Mailbox {
     pub attributes: u8,
     pub uid_validity: u32,
     pub uid_next: u32,
+    /// That of the last change: a later one has a higher.
+    pub counter: u64,
     pub name: Name,
 }
 
@@ -79,6 +82,8 @@ pub struct Message {
     pub flags: u8,
     pub size: u32,
     pub state: u8,
+    /// That of its arrival or of its last flag change.
+    pub counter: u64,
 }
 
 impl Message {

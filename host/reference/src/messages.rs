@@ -20,7 +20,12 @@ fn at_once(memory: &Memory, row: &Mailbox, event: u8) -> Option<Group> {
 fn tell_status(memory: &mut Memory, row: &Mailbox, event: u8) {
     if row.has(RIGHTS) && asked(&memory.session, event, &row.name, row.attributes) {
         let mut out = Out::new();
-        lines::status_later(&mut out, &row.name, row.uid_next, memory.count_in(row.id));
+        if event == FLAGS {
+            lines::status_flags(&mut out, &row.name, row.uid_validity, row.counter);
+        } else {
+            let messages = memory.count_in(row.id);
+            lines::status_later(&mut out, &row.name, row.uid_next, messages, row.counter);
+        }
         deliver(memory, &out);
     }
 }
@@ -77,11 +82,13 @@ pub fn expunge(memory: &mut Memory, row: Mailbox, entry: usize) {
     memory.messages[entry].state = EXPUNGED;
 }
 
-pub fn change_flags(memory: &mut Memory, row: Mailbox, entry: usize, flags: u8) {
-    memory.messages[entry].flags = flags;
+/// The entry has its new flags already; it is told even if they are the old ones.
+pub fn flags_changed(memory: &mut Memory, row: Mailbox, entry: usize) {
     let message = memory.messages[entry];
-    let announced = row.id == memory.session.selected && message.uid < memory.session.told;
-    if !announced {
+    if row.id != memory.session.selected {
+        return tell_status(memory, &row, FLAGS);
+    }
+    if message.uid >= memory.session.told {
         return;
     }
     if memory.session.mode == FRESH {

@@ -3,28 +3,43 @@
 use crate::generate::record;
 
 /// Marks, the widths of their numbers, and whether text follows.
-const LAYOUTS: [(&str, &[usize], bool); 12] = [
-    ("MB", &[2, 1, 1, 4], true),
+type Layout = (&'static str, &'static [usize], bool);
+
+const LAYOUTS: [Layout; 12] = [
+    ("MB", &[2, 1, 1, 4, 8], true),
     ("DL", &[2, 1], false),
     ("RN", &[2, 1], true),
     ("SB", &[2, 1, 1], false),
     ("RT", &[2, 1], false),
-    ("ME", &[2, 4, 1, 4], false),
-    ("XP", &[2, 4], false),
-    ("FL", &[2, 4, 1], false),
+    ("ME", &[2, 4, 1, 4, 8], false),
+    ("XP", &[2, 4, 8], false),
+    ("FL", &[2, 4, 1, 8], false),
     ("SE", &[2], false),
     ("CE", &[1], false),
     ("CM", &[], true),
     ("DR", &[4], false),
 ];
 
+/// The same of the records that had another layout before change counters.
+const OLD_LAYOUTS: [Layout; 4] = [
+    ("MB", &[2, 1, 1, 4], true),
+    ("ME", &[2, 4, 1, 4], false),
+    ("XP", &[2, 4], false),
+    ("FL", &[2, 4, 1], false),
+];
+
 /// One record from one line of text, or what is wrong with the line.
 pub fn assemble(line: &str) -> Result<Vec<u8>, String> {
-    let (mark, mut rest) = line.split_once(' ').unwrap_or((line, ""));
-    if mark == "HEX" {
-        return from_hex(rest);
+    match line.split_once(' ') {
+        Some(("HEX", rest)) => from_hex(rest),
+        Some(("OLD", rest)) => laid_out(rest, &OLD_LAYOUTS),
+        _ => laid_out(line, &LAYOUTS),
     }
-    let (_, widths, text) = LAYOUTS
+}
+
+fn laid_out(line: &str, layouts: &[Layout]) -> Result<Vec<u8>, String> {
+    let (mark, mut rest) = line.split_once(' ').unwrap_or((line, ""));
+    let (_, widths, text) = layouts
         .iter()
         .find(|layout| layout.0 == mark)
         .ok_or_else(|| format!("no mark: {line}"))?;

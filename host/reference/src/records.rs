@@ -1,6 +1,6 @@
 //! One octet string to one record, or to none (refusal 2).
 
-use crate::memory::{FLAG_BITS, RIGHTS, UID_MOST};
+use crate::memory::{COUNTER_MOST, FLAG_BITS, RIGHTS, UID_MOST};
 use crate::names::Name;
 
 pub const LINE_OCTETS: usize = 1024;
@@ -12,6 +12,7 @@ pub enum Record<'a> {
         attributes: u8,
         quiet: bool,
         uid_validity: u32,
+        counter: u64,
         name: Name,
     },
     Delete {
@@ -37,15 +38,18 @@ pub enum Record<'a> {
         uid: u32,
         flags: u8,
         size: u32,
+        counter: u64,
     },
     Expunge {
         id: u16,
         uid: u32,
+        counter: u64,
     },
     Flags {
         id: u16,
         uid: u32,
         flags: u8,
+        counter: u64,
     },
     Select {
         id: u16,
@@ -83,6 +87,12 @@ impl<'a> Body<'a> {
         Some(u32::from_le_bytes(*first))
     }
 
+    fn eight(&mut self) -> Option<u64> {
+        let (first, rest) = self.0.split_first_chunk::<8>()?;
+        self.0 = rest;
+        Some(u64::from_le_bytes(*first))
+    }
+
     fn id(&mut self) -> Option<u16> {
         self.two().filter(|&id| id != 0)
     }
@@ -97,6 +107,11 @@ impl<'a> Body<'a> {
 
     fn uid(&mut self) -> Option<u32> {
         self.four().filter(|uid| (1..=UID_MOST).contains(uid))
+    }
+
+    fn counter(&mut self) -> Option<u64> {
+        self.eight()
+            .filter(|counter| (1..=COUNTER_MOST).contains(counter))
     }
 
     /// An octet with no bits beside these.
@@ -127,6 +142,7 @@ pub fn read(octets: &[u8]) -> Option<Record<'_>> {
             attributes: body.bits(0x3F)?,
             quiet: body.bit()?,
             uid_validity: body.four().filter(|&validity| validity != 0)?,
+            counter: body.counter()?,
             name: body.name()?,
         },
         b"DL" => Record::Delete {
@@ -152,15 +168,18 @@ pub fn read(octets: &[u8]) -> Option<Record<'_>> {
             uid: body.uid()?,
             flags: body.bits(FLAG_BITS)?,
             size: body.four()?,
+            counter: body.counter()?,
         },
         b"XP" => Record::Expunge {
             id: body.id()?,
             uid: body.uid()?,
+            counter: body.counter()?,
         },
         b"FL" => Record::Flags {
             id: body.id()?,
             uid: body.uid()?,
             flags: body.bits(FLAG_BITS)?,
+            counter: body.counter()?,
         },
         b"SE" => Record::Select { id: body.two()? },
         b"CE" => Record::End {

@@ -17,7 +17,7 @@ const RECORDS: usize = 150;
 const LEAST: usize = 40;
 
 /// Every way in which a call may begin its account.
-const FIRST_FATES: [&str; 23] = [
+const FIRST_FATES: [&str; 22] = [
     "refused",
     "unowed: Quiet",
     "unowed: NoEvent",
@@ -25,7 +25,6 @@ const FIRST_FATES: [&str; 23] = [
     "unowed: NoGroup",
     "unowed: NotAsked",
     "unowed: Unannounced",
-    "unowed: Elsewhere",
     "told at once",
     "lost",
     "arrival waits: BeforeNotify",

@@ -79,7 +79,7 @@ fn p9_subtree_misses_opsroom() {
     gives(
         "MB 1 0x33 1 1 Opsroom\nMB 2 0x33 1 2 Ops/a\nCM a NOTIFY SET STATUS (subtree Ops (MessageNew MessageExpunge))",
         &[
-            "* STATUS \"Ops/a\" (MESSAGES 0 UIDNEXT 1 UIDVALIDITY 2)",
+            "* STATUS \"Ops/a\" (MESSAGES 0 UIDNEXT 1 UIDVALIDITY 2 HIGHESTMODSEQ 1)",
             "a OK NOTIFY done",
         ],
     );
@@ -90,7 +90,7 @@ fn p10_inbox_in_any_case() {
     gives(
         "MB 1 0x33 1 1 INBOX\nCM a NOTIFY SET STATUS (mailboxes inbox (MessageNew MessageExpunge))",
         &[
-            "* STATUS \"INBOX\" (MESSAGES 0 UIDNEXT 1 UIDVALIDITY 1)",
+            "* STATUS \"INBOX\" (MESSAGES 0 UIDNEXT 1 UIDVALIDITY 1 HIGHESTMODSEQ 1)",
             "a OK NOTIFY done",
         ],
     );
@@ -156,12 +156,12 @@ fn rfc_5465_session() {
          ME 3 127001 0 0\n\
          CM e notify set (selected (MessageNew (uid) MessageExpunge)) (subtree Lists (MessageNew MessageExpunge)) (mailboxes misc (MessageNew MessageExpunge))",
         &[
-            "* STATUS \"Lists/Im2000\" (MESSAGES 0 UIDNEXT 1 UIDVALIDITY 901)",
-            "* STATUS \"Lists/Lemonade\" (MESSAGES 1 UIDNEXT 9999 UIDVALIDITY 4)",
+            "* STATUS \"Lists/Im2000\" (MESSAGES 0 UIDNEXT 1 UIDVALIDITY 901 HIGHESTMODSEQ 1)",
+            "* STATUS \"Lists/Lemonade\" (MESSAGES 1 UIDNEXT 9999 UIDVALIDITY 4 HIGHESTMODSEQ 2)",
             "b OK NOTIFY done",
-            "* STATUS \"Lists/Lemonade\" (UIDNEXT 10000 MESSAGES 2)",
+            "* STATUS \"Lists/Lemonade\" (UIDNEXT 10000 MESSAGES 2 HIGHESTMODSEQ 3)",
             "* 1 EXISTS",
-            "* 1 FETCH (UID 127001)",
+            "* 1 FETCH (UID 127001 MODSEQ (2))",
             "e OK NOTIFY done",
         ],
     );
@@ -194,9 +194,10 @@ fn rfc_5465_lines() {
          FL 1 1 1",
         &[
             "a OK NOTIFY done",
-            "* STATUS \"INBOX\" (UIDNEXT 2 MESSAGES 1)",
+            "* STATUS \"INBOX\" (UIDNEXT 2 MESSAGES 1 HIGHESTMODSEQ 2)",
             "* LIST (\\Subscribed) \"/\" \"INBOX\"",
             "a OK NOTIFY done",
+            "* STATUS \"INBOX\" (UIDVALIDITY 1 HIGHESTMODSEQ 3)",
         ],
     );
 }
@@ -246,7 +247,7 @@ fn names_are_escaped() {
          CM b ESEARCH IN (mailboxes \"q\\\"\\\\\") ALL\n\
          RN 1 0 z\\",
         &[
-            "* STATUS \"q\\\"\\\\\" (MESSAGES 1 UIDNEXT 2 UIDVALIDITY 1)",
+            "* STATUS \"q\\\"\\\\\" (MESSAGES 1 UIDNEXT 2 UIDVALIDITY 1 HIGHESTMODSEQ 2)",
             "a OK NOTIFY done",
             "* ESEARCH (TAG \"b\" MAILBOX \"q\\\"\\\\\" UIDVALIDITY 1) UID ALL 1",
             "b OK ESEARCH done",
@@ -320,9 +321,7 @@ fn answers_at_the_edge() {
     ];
     let prepared = |queue: usize, filler: bool| {
         let mut memory = Memory::new(queue, 64, 1024);
-        for octets in records(&text) {
-            assert_eq!(call(&mut memory, &octets).refusal, 0);
-        }
+        prepare(&mut memory, &text);
         if filler {
             call(&mut memory, &assemble("CM x"));
         }
@@ -363,7 +362,7 @@ fn no_status_of_the_selected() {
          CM n NOTIFY SET STATUS (selected (MessageNew MessageExpunge)) \
          (personal (MessageNew MessageExpunge MailboxName SubscriptionChange))",
         &[
-            "* STATUS \"c\" (MESSAGES 0 UIDNEXT 1 UIDVALIDITY 1)",
+            "* STATUS \"c\" (MESSAGES 0 UIDNEXT 1 UIDVALIDITY 1 HIGHESTMODSEQ 1)",
             "n OK NOTIFY done",
         ],
     );

@@ -17,9 +17,7 @@ struct Kept(Memory);
 impl Kept {
     fn after(text: &str) -> Kept {
         let mut kept = Kept(Memory::new(1024, 64, 1024));
-        for octets in records(text) {
-            assert_eq!(call(&mut kept.0, &octets).refusal, 0, "{text}");
-        }
+        prepare(&mut kept.0, text);
         kept
     }
 
@@ -42,7 +40,8 @@ impl Kept {
     /// A refusal, a count and the lines of one call.
     fn says(&mut self, record: &str) -> String {
         let before = self.0.filled;
-        let answer = call(&mut self.0, &assemble(record));
+        let octets = counted(&self.0, record);
+        let answer = call(&mut self.0, &octets);
         let refusal = (answer.refusal != 0).then(|| format!("! {}\r\n", answer.refusal));
         let count = answer.count.map(|count| format!("= {count}\r\n"));
         let lines = std::str::from_utf8(&self.0.held()[before..]).expect("lines are ASCII");
@@ -57,13 +56,20 @@ fn lines_that_fit_exactly_are_written() {
     let store = format!(
         "MB 2 0x33 1 1 c\n{OPENED}\n\
          CM n NOTIFY SET (selected (MessageNew (UID) MessageExpunge FlagChange)) \
-         (personal (MessageNew MessageExpunge MailboxName))"
+         (personal (MessageNew MessageExpunge FlagChange MailboxName))"
     );
+    let status = "* STATUS \"c\" (UIDNEXT 2 MESSAGES 1 HIGHESTMODSEQ 2)\r\n";
     for (record, lines) in [
-        ("ME 1 3 0 0", "* 3 EXISTS\r\n* 3 FETCH (UID 3)\r\n"),
+        (
+            "ME 1 3 0 0",
+            "* 3 EXISTS\r\n* 3 FETCH (UID 3 MODSEQ (4))\r\n",
+        ),
         ("XP 1 1", "* 1 EXPUNGE\r\n"),
-        ("FL 1 2 1", "* 2 FETCH (UID 2 FLAGS (\\Answered))\r\n"),
-        ("ME 2 1 0 0", "* STATUS \"c\" (UIDNEXT 2 MESSAGES 1)\r\n"),
+        (
+            "FL 1 2 1",
+            "* 2 FETCH (UID 2 FLAGS (\\Answered) MODSEQ (4))\r\n",
+        ),
+        ("ME 2 1 0 0", status),
         (
             "RN 2 0 d",
             "* LIST () \"/\" \"d\" (\"OLDNAME\" (\"c\"))\r\n",
@@ -84,8 +90,8 @@ fn a_command_end_stops_at_the_first_line_without_room() {
     let mut session = Kept::after(&format!("{OPENED}\nXP 1 1\nME 1 3 0 0")).leave(12);
     assert_eq!(session.says("CE 1"), "= 2\r\n");
     assert_eq!(session.says("CE 0"), "= 0\r\n* 3 EXISTS\r\n");
-    // the first mark's line has 37 octets, the second's 28
-    let mut session = Kept::after(&format!("{OPENED}\nFL 1 1 1\nFL 1 2 0")).leave(36);
+    // the first mark's line has 48 octets, the second's 39
+    let mut session = Kept::after(&format!("{OPENED}\nFL 1 1 1\nFL 1 2 0")).leave(47);
     assert_eq!(session.says("CE 0"), "= 2\r\n");
 }
 
@@ -100,7 +106,7 @@ fn a_fetch_at_once_ends_the_older_mark() {
         ),
         &[
             "n OK NOTIFY done",
-            "* 1 FETCH (UID 1 FLAGS (\\Flagged))",
+            "* 1 FETCH (UID 1 FLAGS (\\Flagged) MODSEQ (5))",
             "= 0",
             "= 0",
         ],
@@ -162,8 +168,8 @@ fn notify_set_first_writes_what_class_1_is_owed() {
         &[
             "* 1 EXPUNGE",
             "* 2 EXISTS",
-            "* 1 FETCH (UID 2 FLAGS (\\Answered))",
-            "* STATUS \"c\" (MESSAGES 0 UIDNEXT 1 UIDVALIDITY 4)",
+            "* 1 FETCH (UID 2 FLAGS (\\Answered) MODSEQ (4))",
+            "* STATUS \"c\" (MESSAGES 0 UIDNEXT 1 UIDVALIDITY 4 HIGHESTMODSEQ 1)",
             "n OK NOTIFY done",
             "= 0",
         ],
@@ -192,7 +198,10 @@ fn only_lists_count_as_depth() {
 #[test]
 fn a_full_table_is_the_last_reason() {
     let mut memory = Memory::new(1024, 1, 1);
-    let mut refusal = |record: &str| call(&mut memory, &assemble(record)).refusal;
+    let mut refusal = |record: &str| {
+        let octets = counted(&memory, record);
+        call(&mut memory, &octets).refusal
+    };
     assert_eq!(refusal("MB 1 0x33 1 1 b"), 0);
     assert_eq!(refusal("ME 1 5 0 0"), 0);
     assert_eq!(refusal("MB 1 0x33 1 1 b"), 3);
@@ -212,11 +221,11 @@ fn every_announced_message_is_fetched() {
         &[
             "n OK NOTIFY done",
             "* 1 EXISTS",
-            "* 1 FETCH (UID 1)",
+            "* 1 FETCH (UID 1 MODSEQ (2))",
             "* 4 EXISTS",
-            "* 2 FETCH (UID 2)",
-            "* 3 FETCH (UID 3)",
-            "* 4 FETCH (UID 4)",
+            "* 2 FETCH (UID 2 MODSEQ (3))",
+            "* 3 FETCH (UID 3 MODSEQ (4))",
+            "* 4 FETCH (UID 4 MODSEQ (5))",
         ],
     );
 }

@@ -23,6 +23,7 @@ struct Seen {
     hidden_taken: usize,
     hidden_refused: usize,
     hidden_messages: usize,
+    hidden_above_all: usize,
     results: usize,
     differing: usize,
 }
@@ -39,6 +40,7 @@ impl AddAssign<&Run> for Seen {
         self.hidden_taken += run.hidden_taken;
         self.hidden_refused += run.hidden_refused;
         self.hidden_messages += run.hidden_messages;
+        self.hidden_above_all += usize::from(run.hidden_above_all);
     }
 }
 
@@ -56,6 +58,14 @@ struct Run {
     hidden_taken: usize,
     hidden_refused: usize,
     hidden_messages: usize,
+    /// A hidden mailbox's counter ran ahead of every other's.
+    hidden_above_all: bool,
+}
+
+/// Is the highest counter a hidden mailbox's?
+fn hidden_above_all(memory: &Memory) -> bool {
+    let highest = memory.rows().iter().max_by_key(|row| row.counter);
+    memory.mailbox_count > 1 && highest.is_some_and(|row| HIDDEN_IDS.contains(&row.id))
 }
 
 fn run(sizes: (usize, usize, usize), steps: &[Step]) -> Run {
@@ -65,6 +75,7 @@ fn run(sizes: (usize, usize, usize), steps: &[Step]) -> Run {
         hidden_taken: 0,
         hidden_refused: 0,
         hidden_messages: 0,
+        hidden_above_all: false,
     };
     for step in steps {
         let answer = call_trusting(&mut memory, &step.octets);
@@ -83,6 +94,7 @@ fn run(sizes: (usize, usize, usize), steps: &[Step]) -> Run {
         } else if answer.refusal == 0 {
             run.hidden_taken += 1;
             run.hidden_messages += usize::from(step.octets.starts_with(b"ME"));
+            run.hidden_above_all |= hidden_above_all(&memory);
         } else {
             run.hidden_refused += 1;
         }
@@ -116,5 +128,6 @@ fn hidden_records_change_nothing_seen() {
     assert!(seen.hidden_taken > 10_000);
     assert!(seen.hidden_refused > 10_000);
     assert!(seen.hidden_messages > 10_000);
+    assert!(seen.hidden_above_all > 1_000);
     assert!(seen.differing > PAIRS as usize / 2);
 }

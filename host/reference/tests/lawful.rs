@@ -26,15 +26,17 @@ fn rich() -> Memory {
         (subtree (Ops \"a//b\") (MessageNew MessageExpunge MailboxName)) (personal (MailboxName)) \
         (mailboxes (inbox x) (SubscriptionChange)) (inboxes NONE)\n\
         ME 1 4 0 10";
-    for octets in records(text) {
-        assert_eq!(call(&mut memory, &octets).refusal, 0);
-    }
+    prepare(&mut memory, text);
     assert_eq!((memory.mailbox_count, memory.message_count), (3, 6));
     assert_eq!(memory.session.groups.count, 5);
     assert_eq!(memory.session.groups.name_count, 4);
     assert_eq!(memory.messages[0].state, MARKED);
     assert_eq!(memory.messages[1].state, EXPUNGED);
     assert_eq!((memory.session.selected, memory.session.told), (1, 4));
+    let counters = memory.entries().iter().map(|entry| entry.counter);
+    assert_eq!(counters.collect::<Vec<u64>>(), [5, 3, 4, 2, 2, 7]);
+    let counters = memory.rows().iter().map(|row| row.counter);
+    assert_eq!(counters.collect::<Vec<u64>>(), [7, 2, 2]);
     memory
 }
 
@@ -49,7 +51,7 @@ fn name(text: &str) -> Name {
 
 /// Damaged memory is refused with 1, whatever the record, and stays as it was.
 fn refused(cases: &[(&str, Damage)]) {
-    let tried = records("CE 1\nCM a NOTIFY NONE\nDR 0\nSE 0\nME 1 9 0 0\nHEX 00\nMB 0 0 0 0 x");
+    let tried = records("CE 1\nCM a NOTIFY NONE\nDR 0\nSE 0\nME 1 9 0 0 9\nHEX 00\nMB 0 0 0 0 0 x");
     for (title, damage) in cases {
         let mut memory = rich();
         damage(&mut memory);
@@ -114,6 +116,22 @@ fn mailboxes() {
         ("UIDNEXT below the view", |memory| {
             memory.mailboxes[0].uid_next = 3
         }),
+        ("counter 0", |memory| memory.mailboxes[2].counter = 0),
+        ("counter 2^63", |memory| {
+            memory.mailboxes[2].counter = COUNTER_MOST + 1
+        }),
+        ("counter 2^64 - 1", |memory| {
+            memory.mailboxes[2].counter = u64::MAX
+        }),
+        ("counter below a message's", |memory| {
+            memory.mailboxes[1].counter = 1
+        }),
+        ("counter below the expunged one's", |memory| {
+            memory.messages[0].counter = 1;
+            memory.messages[2].counter = 1;
+            memory.messages[5].counter = 1;
+            memory.mailboxes[0].counter = 2;
+        }),
         ("empty name", |memory| {
             memory.mailboxes[1].name = Name::EMPTY
         }),
@@ -172,6 +190,27 @@ fn messages() {
         }),
         ("flag bit 5", |memory| memory.messages[3].flags = 0x20),
         ("flag bit 7", |memory| memory.messages[3].flags |= 0x80),
+        ("counter 0", |memory| memory.messages[3].counter = 0),
+        ("counter above", |memory| memory.messages[3].counter = 3),
+        ("counter above, another's higher", |memory| {
+            memory.messages[3].counter = 7
+        }),
+        ("counter above, marked", |memory| {
+            memory.messages[0].counter = 8
+        }),
+        ("counter above, expunged", |memory| {
+            memory.messages[1].counter = 8
+        }),
+        ("counter 0, expunged", |memory| {
+            memory.messages[1].counter = 0
+        }),
+        ("counter 2^63", |memory| {
+            memory.mailboxes[1].counter = COUNTER_MOST;
+            memory.messages[3].counter = COUNTER_MOST + 1;
+        }),
+        ("counter 2^64 - 1", |memory| {
+            memory.messages[3].counter = u64::MAX
+        }),
         ("state 3", |memory| memory.messages[0].state = 3),
         ("state 4", |memory| memory.messages[0].state = 4),
         ("state 0x81", |memory| memory.messages[1].state = 0x81),
@@ -320,7 +359,7 @@ fn groups() {
 /// What the list doesn't name is no reason.
 #[test]
 fn allowed() {
-    let cases: [(&str, Damage); 14] = [
+    let cases: [(&str, Damage); 18] = [
         ("as it is", |_| {}),
         ("rubbish behind the rows", |memory| {
             memory.mailboxes[7].attributes = 0xFF
@@ -350,6 +389,21 @@ fn allowed() {
         ("told at UIDNEXT", |memory| memory.session.told = 5),
         ("UIDNEXT far above", |memory| {
             memory.mailboxes[1].uid_next = u32::MAX
+        }),
+        ("counters at the top", |memory| {
+            memory.mailboxes[1].counter = COUNTER_MOST;
+            memory.messages[3].counter = COUNTER_MOST;
+        }),
+        ("an expunged one's counter as its mailbox's", |memory| {
+            memory.messages[1].counter = 7
+        }),
+        ("counters of 1", |memory| {
+            memory.mailboxes[1].counter = 1;
+            memory.messages[3].counter = 1;
+        }),
+        ("counters of no use behind the counts", |memory| {
+            memory.mailboxes[7].counter = u64::MAX;
+            memory.messages[11].counter = u64::MAX;
         }),
         ("filled up to the reserve", |memory| memory.filled = 960),
         ("filled to the brim without groups", |memory| {
@@ -409,6 +463,9 @@ fn random_damage() {
     assert!(kept > 1_000 && broken > 1_000);
 }
 
+/// Counters at and beyond the ends, and some that lie among those of a stream.
+const EDGES: [u64; 8] = [0, 1, 20, 60, 100, COUNTER_MOST, COUNTER_MOST + 1, u64::MAX];
+
 fn damage(random: &mut Random, memory: &mut Memory) {
     let small = random.below(12);
     let octet = if random.chance(50) {
@@ -422,7 +479,7 @@ fn damage(random: &mut Random, memory: &mut Memory) {
     let name = random.below(16);
     let place = random.below(64);
     let groups = &mut memory.session.groups;
-    match random.below(24) {
+    match random.below(26) {
         0 => memory.mailboxes[row].id = small as u16,
         1 => memory.mailboxes[row].attributes = octet,
         2 => memory.mailboxes[row].uid_validity = small as u32,
@@ -446,6 +503,8 @@ fn damage(random: &mut Random, memory: &mut Memory) {
         20 => groups.name[name].len = octet,
         21 => groups.name[name].octets[place] = octet,
         22 => memory.filled = random.below(1100),
+        23 => memory.mailboxes[row].counter = random.pick(&EDGES),
+        24 => memory.messages[entry].counter = random.pick(&EDGES),
         _ => memory.mailbox_count = small,
     }
 }
@@ -515,6 +574,7 @@ fn full(random: &mut Random) -> Memory {
             attributes: 0x3F,
             uid_validity: 1,
             uid_next: 2_000,
+            counter: 1,
             name: name(&format!("box/{place}")),
         };
         memory.mailbox_count = place + 1;
@@ -523,6 +583,7 @@ fn full(random: &mut Random) -> Memory {
         memory.messages[place] = Message {
             mailbox: memory.mailboxes[random.below(MAILBOXES)].id,
             uid: place as u32 + 1,
+            counter: 1,
             ..Message::default()
         };
     }

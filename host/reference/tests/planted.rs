@@ -135,6 +135,7 @@ fn a_line_left_out() {
     });
     noticed_at_once(&["lines", "silent"], |seen| seen.leave_out("* LIST ("));
     noticed_at_once(&["lines", "silent"], |seen| seen.leave_out("(UIDNEXT"));
+    noticed_at_once(&["lines", "silent"], |seen| seen.leave_out("(UIDVALIDITY"));
 }
 
 #[test]

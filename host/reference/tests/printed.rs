@@ -21,27 +21,16 @@ fn pushrun(stream: &[u8]) -> Vec<u8> {
     child.wait_with_output().expect("pushrun ends").stdout
 }
 
-const PRINTED: &str = "\
-* STATUS \"Ops/Mains\" (MESSAGES 0 UIDNEXT 1 UIDVALIDITY 4)\r
-a OK NOTIFY done\r
-* STATUS \"Ops/Mains\" (UIDNEXT 6 MESSAGES 1)\r
-* 1 EXISTS\r
-* 1 FETCH (UID 3)\r
-* ESEARCH (TAG \"b\" MAILBOX \"INBOX\" UIDVALIDITY 7) UID MIN 3 COUNT 1\r
-* ESEARCH (TAG \"b\" MAILBOX \"Ops/Mains\" UIDVALIDITY 4) UID MIN 5 COUNT 1\r
-b OK ESEARCH done\r
-* 1 EXPUNGE\r
-";
-
 #[test]
 fn session_is_printed() {
     let stream = records(&vector("session.txt")).concat();
-    assert_eq!(String::from_utf8(pushrun(&stream)).unwrap(), PRINTED);
+    let printed = String::from_utf8(pushrun(&stream)).expect("lines are ASCII");
+    assert_eq!(printed, vector("session.printed"));
 }
 
 #[test]
 fn torn_end_is_one_more_record() {
-    let mut stream = records("MB 1 0x33 1 1 b\nCE 1").concat();
+    let mut stream = records("MB 1 0x33 1 1 1 b\nCE 1").concat();
     assert_eq!(pushrun(&stream), b"");
     for torn in [
         &b"C"[..],
@@ -61,6 +50,6 @@ fn torn_end_is_one_more_record() {
 #[test]
 fn refusals_are_printed_and_counts_are_not() {
     let stream =
-        records("SE 3\nMB 1 0x33 1 1 b\nME 1 1 0 0\nSE 1\nXP 1 1\nCE 0\nCE 1\nDR 1").concat();
+        records("SE 3\nMB 1 0x33 1 1 1 b\nME 1 1 0 0 2\nSE 1\nXP 1 1 3\nCE 0\nCE 1\nDR 1").concat();
     assert_eq!(pushrun(&stream), b"! 3\r\n* 1 EXPUNGE\r\n! 6\r\n");
 }

@@ -2,6 +2,7 @@
 
 mod support;
 
+use reference::Memory;
 use support::*;
 
 /// What a text gives after a preparation that is not looked at.
@@ -103,10 +104,12 @@ fn selectors() {
             if selector.starts_with("subtree-one") {
                 continue;
             }
-            let both = "(MessageNew MessageExpunge MailboxName)";
+            let both = "(MessageNew MessageExpunge FlagChange MailboxName)";
             let set = format!("CM n NOTIFY SET STATUS ({selector} {both})");
             let first = match (meets && list, read) {
-                (true, true) => "* STATUS \"a/b\" (MESSAGES 1 UIDNEXT 2 UIDVALIDITY 1)\r\n",
+                (true, true) => {
+                    "* STATUS \"a/b\" (MESSAGES 1 UIDNEXT 2 UIDVALIDITY 1 HIGHESTMODSEQ 2)\r\n"
+                }
                 (true, false) => "* LIST (\\NoAccess) \"/\" \"a/b\"\r\n",
                 _ => "",
             };
@@ -114,11 +117,12 @@ fn selectors() {
             assert_eq!(after(&store, &set), wanted, "{attributes} {selector}");
             let told = after(
                 &format!("{store}\n{set}"),
-                "ME 1 2 0 0\nXP 1 1\nRN 1 1 z\nRN 1 1 a/b\nDL 1 0",
+                "ME 1 2 0 0\nXP 1 1\nFL 1 2 0\nRN 1 1 z\nRN 1 1 a/b\nDL 1 0",
             );
             let wanted = if meets && list && read {
-                "* STATUS \"a/b\" (UIDNEXT 3 MESSAGES 2)\r\n\
-                 * STATUS \"a/b\" (UIDNEXT 3 MESSAGES 1)\r\n\
+                "* STATUS \"a/b\" (UIDNEXT 3 MESSAGES 2 HIGHESTMODSEQ 3)\r\n\
+                 * STATUS \"a/b\" (UIDNEXT 3 MESSAGES 1 HIGHESTMODSEQ 4)\r\n\
+                 * STATUS \"a/b\" (UIDVALIDITY 1 HIGHESTMODSEQ 5)\r\n\
                  * LIST (\\NonExistent) \"/\" \"a/b\"\r\n"
             } else {
                 ""
@@ -242,7 +246,7 @@ fn selected_events() {
             false,
         ),
     ];
-    let fetch = "* 2 FETCH (UID 20 FLAGS (\\Flagged \\Seen))\r\n";
+    let fetch = "* 2 FETCH (UID 20 FLAGS (\\Flagged \\Seen) MODSEQ (4))\r\n";
     for (session, new, expunge, flags, marks) in sessions {
         for rights in [0, 0x10, 0x20, 0x30] {
             let store = format!(
@@ -310,7 +314,8 @@ fn fetch_attributes() {
             "MB 1 0x33 1 1 b\nSE 1\nCM n NOTIFY SET (selected (MessageExpunge MessageNew ({})))",
             wanted.join(" ")
         );
-        let line = format!("* 1 EXISTS\r\n* 1 FETCH ({})\r\n", chosen(items).join(" "));
+        let items = chosen(items).join(" ");
+        let line = format!("* 1 EXISTS\r\n* 1 FETCH ({items} MODSEQ (2))\r\n");
         assert_eq!(after(&store, "ME 1 7 0x15 99"), line);
     }
 }
@@ -336,7 +341,9 @@ fn lengths_and_ranges() {
     ];
     for text in lawful {
         assert!(!after(store, text).starts_with('!'), "{text}");
-        let octets = assemble(text);
+        let mut memory = Memory::new(8192, 64, 1024);
+        prepare(&mut memory, store);
+        let octets = counted(&memory, text);
         let named = text.starts_with("MB") || text.starts_with("RN");
         for change in [-1, 1] {
             let mut body = octets[4..].to_vec();

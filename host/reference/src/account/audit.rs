@@ -169,7 +169,7 @@ impl Account {
     fn drops(&self, taken: Option<&Record>, wait: Wait) -> bool {
         match taken {
             Some(Record::Select { .. }) => true,
-            Some(&Record::Expunge { id, uid }) => {
+            Some(&Record::Expunge { id, uid, .. }) => {
                 id == self.selected && (wait == Wait::Arrival(uid) || wait == Wait::Mark(uid))
             }
             _ => false,

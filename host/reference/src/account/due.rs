@@ -35,10 +35,12 @@ impl Account {
                 id,
                 attributes,
                 quiet,
+                uid_validity,
+                counter,
                 name,
-                ..
             } => {
-                self.mailboxes.insert(id, Mailbox::new(name, attributes));
+                let made = Mailbox::new(name, attributes, uid_validity, counter);
+                self.mailboxes.insert(id, made);
                 Some(self.listed(quiet, &name, attributes, lines::kind(attributes)))
             }
             Record::Delete { id, quiet } => {
@@ -57,15 +59,22 @@ impl Account {
                 uid,
                 flags,
                 size,
+                counter,
             } => self.arrived(Message {
                 mailbox: id,
                 uid,
                 flags,
                 size,
                 state: 0,
+                counter,
             }),
-            Record::Expunge { id, uid } => self.expunged(id, uid),
-            Record::Flags { id, uid, flags } => self.flagged(id, uid, flags),
+            Record::Expunge { id, uid, counter } => self.expunged(id, uid, counter),
+            Record::Flags {
+                id,
+                uid,
+                flags,
+                counter,
+            } => self.flagged(id, uid, flags, counter),
             Record::Select { id } => self.select(id),
             Record::End { class } => Some(Due::Older(self.fitting(self.owed_to(class)))),
             Record::Command { line } => self.command(line, written),
@@ -125,12 +134,16 @@ impl Account {
         self.notice(MAILBOX_NAME, &[*name], attributes, line)
     }
 
-    /// The counts of a mailbox that is not selected.
+    /// The numbers of a mailbox that is not selected.
     pub(super) fn counted(&self, id: u16, event: u8) -> Option<Due> {
         let mailbox = self.mailboxes.get(&id)?;
+        let (name, highest) = (&mailbox.name, mailbox.counter);
         let messages = mailbox.messages.len() as u32;
-        let line = line(|out| lines::status_later(out, &mailbox.name, mailbox.uid_next, messages));
-        Some(self.notice(event, &[mailbox.name], mailbox.attributes, line))
+        let line = line(|out| match event {
+            FLAGS => lines::status_flags(out, name, mailbox.uid_validity, highest),
+            _ => lines::status_later(out, name, mailbox.uid_next, messages, highest),
+        });
+        Some(self.notice(event, &[*name], mailbox.attributes, line))
     }
 
     /// A notice that any group but the selected one may ask for, by any of the names.

@@ -43,10 +43,8 @@ pub enum Rule {
     NoGroup,
     /// A group meets it and asks for other events.
     NotAsked,
-    /// The message that went had never been announced.
+    /// The message that went or changed had never been announced.
     Unannounced,
-    /// A flag change outside the client's view.
-    Elsewhere,
 }
 
 /// What the client has yet to hear, by its UID in the selected mailbox.

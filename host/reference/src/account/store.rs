@@ -9,17 +9,21 @@ use std::collections::BTreeMap;
 pub struct Mailbox {
     pub name: Name,
     pub attributes: u8,
+    pub uid_validity: u32,
     pub uid_next: u32,
+    pub counter: u64,
     /// By UID, none that was expunged.
     pub messages: BTreeMap<u32, Message>,
 }
 
 impl Mailbox {
-    pub fn new(name: Name, attributes: u8) -> Mailbox {
+    pub fn new(name: Name, attributes: u8, uid_validity: u32, counter: u64) -> Mailbox {
         Mailbox {
             name,
             attributes,
+            uid_validity,
             uid_next: 1,
+            counter,
             messages: BTreeMap::new(),
         }
     }

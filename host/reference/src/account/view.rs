@@ -19,6 +19,7 @@ impl Account {
     pub(super) fn arrived(&mut self, message: Message) -> Option<Due> {
         let mailbox = self.mailboxes.get_mut(&message.mailbox)?;
         mailbox.uid_next = message.uid + 1;
+        mailbox.counter = message.counter;
         mailbox.messages.insert(message.uid, message);
         if message.mailbox != self.selected {
             return self.counted(message.mailbox, NEW);
@@ -31,8 +32,10 @@ impl Account {
     }
 
     /// What was still to be said of the message itself is pointless once it is gone.
-    pub(super) fn expunged(&mut self, id: u16, uid: u32) -> Option<Due> {
-        self.mailboxes.get_mut(&id)?.messages.remove(&uid);
+    pub(super) fn expunged(&mut self, id: u16, uid: u32, counter: u64) -> Option<Due> {
+        let mailbox = self.mailboxes.get_mut(&id)?;
+        mailbox.counter = counter;
+        mailbox.messages.remove(&uid);
         if id != self.selected {
             return self.counted(id, EXPUNGE);
         }
@@ -48,13 +51,17 @@ impl Account {
     }
 
     /// Of the three events only a flag change may be passed over.
-    pub(super) fn flagged(&mut self, id: u16, uid: u32, flags: u8) -> Option<Due> {
-        let message = self.mailboxes.get_mut(&id)?.messages.get_mut(&uid)?;
-        message.flags = flags;
+    pub(super) fn flagged(&mut self, id: u16, uid: u32, flags: u8, counter: u64) -> Option<Due> {
+        let mailbox = self.mailboxes.get_mut(&id)?;
+        mailbox.counter = counter;
+        let message = mailbox.messages.get_mut(&uid)?;
+        (message.flags, message.counter) = (flags, counter);
         let message = *message;
-        let place = self.place_of(uid).filter(|_| id == self.selected);
-        let Some(place) = place else {
-            return Some(Due::Nothing(Rule::Elsewhere));
+        if id != self.selected {
+            return self.counted(id, FLAGS);
+        }
+        let Some(place) = self.place_of(uid) else {
+            return Some(Due::Nothing(Rule::Unannounced));
         };
         Some(match self.delay(FLAGS) {
             None => Due::Now(vec![fetch(place, &message)], None),

@@ -4,7 +4,7 @@
 //! case NAME                   a case begins
 //! size Q MAILBOXES MESSAGES   its sizes; without this line 8,192, 64 and 1,024
 //! RECORD                      a call, in the notation of `host/vectors`
-//! each FIRST LAST RECORD      a call for each number, which stands for `$`, and its double for `$$`
+//! each FIRST LAST RECORD      a call for each number, which stands for `$`, its double for `$$`, the next one for `$+`
 //! ! N                         the call above is refused with this number
 //! = N                         it answers this count
 //! > LINE                      it writes this line, ended by CR LF
@@ -63,8 +63,9 @@ pub fn cases(text: &str) -> Result<Vec<Case>, String> {
                 };
                 let number = |word: &str| word.parse::<u32>().map_err(|_| fault("no number"));
                 for place in number(first)?..=number(last)? {
-                    let double = (2 * place).to_string();
-                    let record = record.replace("$$", &double);
+                    let record = record
+                        .replace("$$", &(2 * place).to_string())
+                        .replace("$+", &(place + 1).to_string());
                     add(case, &record.replace('$', &place.to_string()))?;
                 }
             }

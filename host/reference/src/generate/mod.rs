@@ -2,6 +2,7 @@
 //! makes is to the point; a share of it is damaged.
 
 pub mod commands;
+pub mod counters;
 pub mod long;
 pub mod pairs;
 pub mod pools;
@@ -152,10 +153,16 @@ impl Generator {
             }
             4 => self.rights(memory),
             5 => self.message(memory),
-            6 => record("XP", &self.existing(memory)),
+            6 => {
+                let (id, uid) = self.existing(memory);
+                let counter = self.counter(memory, id);
+                record("XP", &[&id[..], &uid, &counter].concat())
+            }
             7 => {
                 let flags = self.random.octet() & FLAG_BITS;
-                record("FL", &[self.existing(memory), vec![flags]].concat())
+                let (id, uid) = self.existing(memory);
+                let counter = self.counter(memory, id);
+                record("FL", &[&id[..], &uid, &[flags], &counter].concat())
             }
             8 => self.select(memory),
             9 => record("CE", &[self.random.below(2) as u8]),
@@ -187,6 +194,14 @@ impl Generator {
             self.random.pick(STRAY_IDS)
         };
         id.to_le_bytes()
+    }
+
+    /// A counter for a change in this mailbox.
+    fn counter(&mut self, memory: &Memory, id: [u8; 2]) -> [u8; 8] {
+        let own = memory
+            .mailbox(u16::from_le_bytes(id))
+            .map_or(1, |row| row.counter);
+        counters::next(&mut self.random, own).to_le_bytes()
     }
 
     /// A name, mostly one that is free.
@@ -235,6 +250,7 @@ impl Generator {
         let mut body = id.to_le_bytes().to_vec();
         body.extend([attributes, self.quiet()]);
         body.extend(validity.to_le_bytes());
+        body.extend(counters::first(&mut self.random).to_le_bytes());
         body.extend(self.name(memory));
         record("MB", &body)
     }
@@ -269,11 +285,12 @@ impl Generator {
         body.extend(uid.to_le_bytes());
         body.push(flags);
         body.extend(size.to_le_bytes());
+        body.extend(self.counter(memory, id));
         record("ME", &body)
     }
 
     /// Id and UID of a message, mostly one that is there and not expunged.
-    fn existing(&mut self, memory: &Memory) -> Vec<u8> {
+    fn existing(&mut self, memory: &Memory) -> ([u8; 2], [u8; 4]) {
         let selected = memory.session.selected;
         let entries = memory.entries();
         for _ in 0..6 {
@@ -283,11 +300,11 @@ impl Generator {
             let wanted = entry.mailbox == selected || self.random.chance(50);
             let there = !entry.is_expunged() || self.random.chance(10);
             if wanted && there && self.ids.contains(&entry.mailbox) {
-                return [&entry.mailbox.to_le_bytes()[..], &entry.uid.to_le_bytes()].concat();
+                return (entry.mailbox.to_le_bytes(), entry.uid.to_le_bytes());
             }
         }
         let uid = self.random.below(6) as u32;
-        [&self.id(memory)[..], &uid.to_le_bytes()].concat()
+        (self.id(memory), uid.to_le_bytes())
     }
 
     fn select(&mut self, memory: &Memory) -> Vec<u8> {
@@ -311,7 +328,7 @@ impl Generator {
     /// Spoils an octet string in one of several ways; now and then it stays lawful.
     fn damage(&mut self, mut octets: Vec<u8>) -> Vec<u8> {
         let random = &mut self.random;
-        match random.below(8) {
+        match random.below(9) {
             0 => octets.truncate(random.below(octets.len() + 1)),
             1 => octets.extend((0..random.between(1, 3)).map(|place| place as u8)),
             2 => octets[2 + random.below(2)] = random.octet(),
@@ -321,6 +338,7 @@ impl Generator {
                 octets.clear();
                 octets.extend((0..random.below(12)).map(|_| random.octet()));
             }
+            6 => counters::old_layout(&mut octets),
             _ if octets.len() > 4 => {
                 let place = random.between(4, octets.len() - 1);
                 octets[place] = random.octet();

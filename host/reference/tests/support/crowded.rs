@@ -1,7 +1,7 @@
 //! Streams about a selected mailbox of few messages beside a queue that is seldom empty: much of
 //! what happens in them waits, overflows or is dropped.
 
-use super::assemble;
+use super::counted;
 use reference::random::Random;
 use reference::Memory;
 
@@ -42,7 +42,7 @@ impl Crowded {
             self.planned = plan.lines().map(String::from).collect();
         }
         let text = self.planned.pop();
-        assemble(&text.unwrap_or_else(|| self.record(memory)))
+        counted(memory, &text.unwrap_or_else(|| self.record(memory)))
     }
 
     fn record(&mut self, memory: &Memory) -> String {
@@ -102,14 +102,15 @@ impl Crowded {
     fn notify(&mut self) -> String {
         let with = "(MessageNew (UID FLAGS) MessageExpunge FlagChange)";
         let two = "(MessageNew (RFC822.SIZE) MessageExpunge)";
-        let named = "(MessageNew MessageExpunge MailboxName SubscriptionChange)";
+        let named = "(MessageNew MessageExpunge FlagChange MailboxName SubscriptionChange)";
+        let few = "(MessageNew MessageExpunge MailboxName)";
         let groups = match self.random.below(9) {
             0 => return "CM n NOTIFY NONE".to_string(),
             1 => "(selected NONE)".to_string(),
             2 => format!("(personal {named})"),
             3 => format!("(mailboxes e (MailboxName)) (selected {two})"),
             4 => format!("(selected-delayed {with})"),
-            5 => format!("(selected-delayed {ALL}) (mailboxes (c/d e) {named})"),
+            5 => format!("(selected-delayed {ALL}) (mailboxes (c/d e) {few})"),
             6 => format!("(selected {ALL}) (personal {named})"),
             _ => format!("(selected {with}) (inboxes {named})"),
         };

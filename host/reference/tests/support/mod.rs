@@ -2,6 +2,7 @@
 #![allow(dead_code)]
 
 pub mod crowded;
+pub mod wrong;
 
 use reference::records::{read, Record};
 use reference::{call, call_trusting, Answer, Memory};
@@ -15,6 +16,30 @@ pub fn assemble(line: &str) -> Vec<u8> {
 /// All records of a text; empty lines and lines that begin with `#` are passed over.
 pub fn records(text: &str) -> Vec<Vec<u8>> {
     reference::notation::records(text).expect("records in text")
+}
+
+/// One record from a line that leaves its counter out: `MB` gets 1, each other one more than its mailbox has.
+pub fn counted(memory: &Memory, line: &str) -> Vec<u8> {
+    let words: Vec<&str> = line.splitn(6, ' ').collect();
+    assemble(&match words[..] {
+        ["MB", id, attributes, quiet, validity, name] => {
+            format!("MB {id} {attributes} {quiet} {validity} 1 {name}")
+        }
+        ["ME" | "XP" | "FL", id, ..] => {
+            let id = id.parse().expect("an id");
+            let own = memory.mailbox(id).map_or(0, |row| row.counter);
+            format!("{line} {}", own + 1)
+        }
+        _ => line.to_string(),
+    })
+}
+
+/// Calls from lines without counters, none of which is refused.
+pub fn prepare(memory: &mut Memory, text: &str) {
+    for line in text.lines().filter(|line| !line.is_empty()) {
+        let octets = counted(memory, line);
+        assert_eq!(call(memory, &octets).refusal, 0, "{line}");
+    }
 }
 
 pub fn hex(octets: &[u8]) -> String {
@@ -70,12 +95,13 @@ pub fn index() -> Vec<Listed> {
         .collect()
 }
 
-/// Runs a text on fresh memory, checked, drained after each record: what `pushrun` prints, with
+/// Runs a text without counters on fresh memory, checked, drained after each record: what `pushrun` prints, with
 /// `= n` for a count.
 pub fn transcript(queue: usize, text: &str) -> String {
     let mut memory = Memory::new(queue, 64, 1024);
     let mut out = String::new();
-    for octets in records(text) {
+    for line in text.lines().filter(|line| !line.is_empty()) {
+        let octets = counted(&memory, line);
         let answer = call(&mut memory, &octets);
         if answer.refusal != 0 {
             out += &format!("! {}\r\n", answer.refusal);

@@ -44,7 +44,7 @@ fn row_of(slots: &[u8; 1024], ids: &[u64; 64], n: usize, id: u64) -> usize
 
 // Entry i is counted for its row, if it exists.
 fn tally(words: &[u64], i: usize, slots: &[u8; 1024], ids: &[u64; 64], n: usize, counts: &mut [u64])
-    requires { ⌜ ((i + 1) * 5 ≤ length (now words)) × (n ≤ 64) × (n ≤ length (now counts)) × (i ≤ 1048576) × ((k : ℕ) → getD (now counts) k 0 ≤ i) ⌝ }
+    requires { ⌜ ((i + 1) * 6 ≤ length (now words)) × (n ≤ 64) × (n ≤ length (now counts)) × (i ≤ 1048576) × ((k : ℕ) → getD (now counts) k 0 ≤ i) ⌝ }
     ensures { λ _. ⌜ Tallied (now (ids .entry)) n (getD (messages (now (words .entry))) i noMessage) i (now (counts .entry)) (now (counts .exit)) ⌝ }
 {
     let e = entries::get(words, i);
@@ -68,7 +68,7 @@ fn tally_all(
     n: usize,
     counts: &mut [u64],
 )
-    requires { ⌜ (used * 5 ≤ length (now words)) × (used ≤ 1048576) × (n ≤ 64) × (n ≤ length (now counts)) × ((k : ℕ) → getD (now counts) k 0 ≡ 0) ⌝ }
+    requires { ⌜ (used * 6 ≤ length (now words)) × (used ≤ 1048576) × (n ≤ 64) × (n ≤ length (now counts)) × ((k : ℕ) → getD (now counts) k 0 ≡ 0) ⌝ }
     ensures { λ _. ⌜ (Apart (now (ids .entry)) n → (k : ℕ) → k < n → getD (now (counts .exit)) k 0 ≡ length (existing (getD (now (ids .entry)) k 0) (take used (messages (now (words .entry)))))) ⌝ }
 {
     let mut i = 0;
@@ -80,7 +80,7 @@ fn tally_all(
 
 // For each of n rows with these ids, how many of its messages among the used entries exist.
 pub fn count(words: &[u64], used: usize, ids: &[u64; 64], n: usize) -> [u64; 64]
-    requires { ⌜ (used * 5 ≤ length (now words)) × (used ≤ 1048576) × (n ≤ 64) ⌝ }
+    requires { ⌜ (used * 6 ≤ length (now words)) × (used ≤ 1048576) × (n ≤ 64) ⌝ }
     ensures { λ r. ⌜ ((l : List Mailbox) → length l ≡ n → Column (λ (x : Mailbox). x .id) l (now (ids .entry)) → apart clash l ≡ true → (k : ℕ) → k < n → getD r k 0 ≡ length (existing (getD l k noMailbox .id) (take used (messages (now (words .entry)))))) ⌝ }
 {
     let slots = quick::guesses(ids, n);

@@ -57,12 +57,12 @@ module _ (id : ℕ) (e x : Message) (p : e ≡ x) where
   one-here h k = rw (← p, eq-eqb (e .mailbox) id h, ne-eqb (e .states % 2) 1 k)
 
 -- ---- the quick pass: the mailbox's entries, and all states joined bit by bit
-module _ (id : ℕ) (ws : List ℕ) (i : ℕ) (h : i * 5 + 4 < length ws) where
-  pub of-this : getD ws (i * 5) 0 ≡ id → _≡_ {A = ℕ} 1 (cond (inMailbox id (getD (messages ws) i noMessage)) 1 0)
-  of-this e = rw (messages-get i ws h, eq-eqb (getD ws (i * 5) 0) id e)
+module _ (id : ℕ) (ws : List ℕ) (i : ℕ) (h : i * 6 + 5 < length ws) where
+  pub of-this : getD ws (i * 6) 0 ≡ id → _≡_ {A = ℕ} 1 (cond (inMailbox id (getD (messages ws) i noMessage)) 1 0)
+  of-this e = rw (messages-get i ws h, eq-eqb (getD ws (i * 6) 0) id e)
 
-  pub of-other : (getD ws (i * 5) 0 ≡ id → ⊥) → _≡_ {A = ℕ} 0 (cond (inMailbox id (getD (messages ws) i noMessage)) 1 0)
-  of-other e = rw (messages-get i ws h, ne-eqb (getD ws (i * 5) 0) id e)
+  pub of-other : (getD ws (i * 6) 0 ≡ id → ⊥) → _≡_ {A = ℕ} 0 (cond (inMailbox id (getD (messages ws) i noMessage)) 1 0)
+  of-other e = rw (messages-get i ws h, ne-eqb (getD ws (i * 6) 0) id e)
 
 -- an entry without a state is not expunged
 at-rest : (id : ℕ) (x : Message) → x .states ≡ 0 → inMailbox id x ≡ lives id x
@@ -73,14 +73,14 @@ at-rest id x h = let k : x .states % 2 ≡ 1 → ⊥ = λ z. omega arith in rw (
     all false = refl
 
 -- where the join is zero, so are the states so far and those of the entry
-pub tally-next : (id : ℕ) (ws : List ℕ) (i n r s : ℕ) → (i + 1) * 5 ≤ length ws → (s ≡ 0 → n ≡ countb (lives id) (take i (messages ws))) → r ≡ cond (inMailbox id (getD (messages ws) i noMessage)) 1 0 → bitOr s (getD ws (i * 5 + 4) 0) ≡ 0 → n + r ≡ countb (lives id) (take (i + 1) (messages ws))
+pub tally-next : (id : ℕ) (ws : List ℕ) (i n r s : ℕ) → (i + 1) * 6 ≤ length ws → (s ≡ 0 → n ≡ countb (lives id) (take i (messages ws))) → r ≡ cond (inMailbox id (getD (messages ws) i noMessage)) 1 0 → bitOr s (getD ws (i * 6 + 4) 0) ≡ 0 → n + r ≡ countb (lives id) (take (i + 1) (messages ws))
 tally-next id ws i n r s h e q z =
     let es = messages ws in
     let x = getD es i noMessage in
     let k = messages-length (i + 1) ws h in
-    let a = join-l s (getD ws (i * 5 + 4) 0) in
-    let b = join-r s (getD ws (i * 5 + 4) 0) in
-    let f : x .states ≡ getD ws (i * 5 + 4) 0 = ap (λ (m : Message). m .states) (messages-get i ws (omega arith)) in
+    let a = join-l s (getD ws (i * 6 + 4) 0) in
+    let b = join-r s (getD ws (i * 6 + 4) 0) in
+    let f : x .states ≡ getD ws (i * 6 + 4) 0 = ap (λ (m : Message). m .states) (messages-get i ws (omega arith)) in
     count-next (lives id) es i n r (omega arith) (e (omega arith)) (q ∙ ap (λ (c : Bool). cond c 1 0) (at-rest id x (omega arith)))
 
 -- ---- a place in the view: one more than the mailbox's entries that are announced and have a lower UID

@@ -68,7 +68,7 @@ calm-same (Told id gone shown) e h = go (marked e && (inMailbox id e && ltb (uid
     go false h = refl
 calm-same (Deleted id) e h = refl
 
-stored-same : (ws : List ℕ) (i : ℕ) (e : Message) → e ≡ getD (messages ws) i noMessage → (i + 1) * 5 ≤ length ws → stored ws i e ≡ ws
+stored-same : (ws : List ℕ) (i : ℕ) (e : Message) → e ≡ getD (messages ws) i noMessage → (i + 1) * 6 ≤ length ws → stored ws i e ≡ ws
 stored-same ws i e h w = laid-put ws ws (messages ws) i e (laid-own ws) w ∙ (ap (laid ws) (ap (set (messages ws) i) h ∙ set-getD (messages ws) i noMessage) ∙ sym (laid-own ws))
 
 map-append : (f : Message → Message) (l r : List Message) → map f (l ++ r) ≡ map f l ++ map f r
@@ -138,7 +138,7 @@ module _ (sweep : Sweep) where
         let g : kept sweep (take (i + 1) es) ≡ stay = grow ∙ (ap (λ (l : List Message). stay ++ l) (kept-go e z) ∙ append-nil stay) in
         record { is = p .is ∙ ap (λ (l : List Message). laid vs (l ++ drop o es)) (sym g); count = p .count ∙ ap length (sym g); most = let m = p .most in omega arith }
 
-    pub passing-stay : (x : Message) → x ≡ calm sweep e → goes sweep e ≡ false → (o + 1) * 5 ≤ length ws → Passing vs (stored ws o x) (i + 1) (o + 1)
+    pub passing-stay : (x : Message) → x ≡ calm sweep e → goes sweep e ≡ false → (o + 1) * 6 ≤ length ws → Passing vs (stored ws o x) (i + 1) (o + 1)
     passing-stay x y z w =
         let g : kept sweep (take (i + 1) es) ≡ stay ++ (x ∷ []) = grow ∙ ap (λ (l : List Message). stay ++ l) (kept-stay e z ∙ ap (λ (w : Message). w ∷ []) (sym y)) in
         let m = p .most in
@@ -151,7 +151,7 @@ module _ (sweep : Sweep) where
         }
 
     -- an entry that becomes what it is needs no writing where it stands
-    pub passing-rest : (x : Message) → x ≡ calm sweep e → goes sweep e ≡ false → o ≡ i → x .states ≡ e .states → (o + 1) * 5 ≤ length ws → Passing vs ws (i + 1) (o + 1)
+    pub passing-rest : (x : Message) → x ≡ calm sweep e → goes sweep e ≡ false → o ≡ i → x .states ≡ e .states → (o + 1) * 6 ≤ length ws → Passing vs ws (i + 1) (o + 1)
     passing-rest x y z a b w =
         let f : x ≡ getD (messages ws) o noMessage = (y ∙ (calm-same sweep e (sym (ap (λ (m : Message). m .states) y) ∙ b) ∙ q)) ∙ ap (λ (j : ℕ). getD (messages ws) j noMessage) (sym a) in
         rw (stored-same ws o x f w) at (passing-stay x y z w)
@@ -173,7 +173,7 @@ module _ (vs : List ℕ) (from : ℕ) where
       let z : from - from ≡ 0 = omega arith in
       record { is = laid-own vs ∙ ap (laid vs) (sym (ap (λ (n : ℕ). (take from (messages vs) ++ replicate n noMessage) ++ drop from (messages vs)) z ∙ (ap (λ (l : List Message). l ++ drop from (messages vs)) (append-nil (take from (messages vs))) ∙ take-append-drop from (messages vs)))) }
 
-  pub wiping-next : (ws : List ℕ) (j : ℕ) (x : Message) → from ≤ j → j < length (messages vs) → Wiping ws j → x ≡ noMessage → (j + 1) * 5 ≤ length ws → Wiping (stored ws j x) (j + 1)
+  pub wiping-next : (ws : List ℕ) (j : ℕ) (x : Message) → from ≤ j → j < length (messages vs) → Wiping ws j → x ≡ noMessage → (j + 1) * 6 ≤ length ws → Wiping (stored ws j x) (j + 1)
   wiping-next ws j x h k w y b =
       let es = messages vs in
       let a = length-take-le from (messages vs) (omega arith) in
@@ -208,7 +208,7 @@ settled vs us ws k o used e h p q =
     ∙ ap (laid vs) (refilled (messages vs) (messages us) (take o (messages us) ++ (replicate (used - o) noMessage ++ drop used (messages us))) k o used e h (laid-entries vs us (k ++ drop o (messages vs)) p) refl)
 
 -- nothing goes and nothing changes
-pub unsettled : (sweep : Sweep) (vs : List ℕ) (used : ℕ) → used * 5 ≤ length vs → idle sweep ≡ true
+pub unsettled : (sweep : Sweep) (vs : List ℕ) (used : ℕ) → used * 6 ≤ length vs → idle sweep ≡ true
     → (vs ≡ laid vs (refill noMessage (messages vs) used (kept sweep (take used (messages vs))))) × (used ≡ length (kept sweep (take used (messages vs)))) × (used ≤ used)
 unsettled sweep vs used h i =
     let e = kept-idle sweep (take used (messages vs)) i in

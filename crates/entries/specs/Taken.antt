@@ -28,27 +28,27 @@ shift-end k n j l h w e =
     ∙ (set-at (take j (without k l)) (getD l j noMessage) (drop (suc j) l) noMessage j (length-take-le j (without k l) hw)
     ∙ rw (a, ← b))
 
--- ---- words that move down by five places
-pub down-start : (l : List ℕ) → l ≡ over (drop 5 l) l 0
+-- ---- words that move down by six places
+pub down-start : (l : List ℕ) → l ≡ over (drop 6 l) l 0
 unfolding over
 down-start l = refl
 
-pub down-next : (l : List ℕ) (i : ℕ) → i + 5 < length l → set (over (drop 5 l) l i) i (getD (over (drop 5 l) l i) (i + 5) 0) ≡ over (drop 5 l) l (i + 1)
+pub down-next : (l : List ℕ) (i : ℕ) → i + 6 < length l → set (over (drop 6 l) l i) i (getD (over (drop 6 l) l i) (i + 6) 0) ≡ over (drop 6 l) l (i + 1)
 down-next l i h =
-    let d = length-drop 5 l in
-    let e : i + 5 ≡ 5 + i = omega arith in
-    let r : getD (over (drop 5 l) l i) (i + 5) 0 ≡ getD (drop 5 l) i 0 = over-read (drop 5 l) l i 5 0 (omega arith) ∙ (ap (λ (n : ℕ). getD l n 0) e ∙ sym (getD-drop 5 l i 0)) in
-    ap (set (over (drop 5 l) l i) i) r ∙ over-step (drop 5 l) l i 0 (omega arith) (omega arith)
+    let d = length-drop 6 l in
+    let e : i + 6 ≡ 6 + i = omega arith in
+    let r : getD (over (drop 6 l) l i) (i + 6) 0 ≡ getD (drop 6 l) i 0 = over-read (drop 6 l) l i 6 0 (omega arith) ∙ (ap (λ (n : ℕ). getD l n 0) e ∙ sym (getD-drop 6 l i 0)) in
+    ap (set (over (drop 6 l) l i) i) r ∙ over-step (drop 6 l) l i 0 (omega arith) (omega arith)
 
 -- they are entries that move up by one
-down-entries : (es : List Message) (ws : List ℕ) (n : ℕ) → n < length es → over (drop 5 (flat es ++ ws)) (flat es ++ ws) (5 * n) ≡ flat (over (drop 1 es) es n) ++ ws
+down-entries : (es : List Message) (ws : List ℕ) (n : ℕ) → n < length es → over (drop 6 (flat es ++ ws)) (flat es ++ ws) (6 * n) ≡ flat (over (drop 1 es) es n) ++ ws
 unfolding over
 down-entries es ws n h =
     let d = length-drop 1 es in
-    let e : 5 * n ≡ n * 5 = omega arith in
+    let e : 6 * n ≡ n * 6 = omega arith in
     rw e
     (ap₂ (λ (a b : List ℕ). a ++ b)
-    (ap (take (n * 5)) (flat-drop 1 es ws (omega arith)) ∙ flat-take n (drop 1 es) ws (omega arith))
+    (ap (take (n * 6)) (flat-drop 1 es ws (omega arith)) ∙ flat-take n (drop 1 es) ws (omega arith))
     (flat-drop n es ws (omega arith))
     ∙ flat-append (take n (drop 1 es)) (drop n es) ws)
 
@@ -73,28 +73,28 @@ none-behind p l = let d = length-drop p l in drop-of-length-le (drop p l) {i = l
 -- ---- the code: vs before it, rest the words lent from entry k on, and then the last entry put
 module _ (k used : ℕ) (vs rest : List ℕ) where
   abbrev part : List ℕ
-  part = take (length vs - k * 5) (drop (k * 5) vs)
+  part = take (length vs - k * 6) (drop (k * 6) vs)
 
   abbrev joined : List ℕ
-  joined = take (k * 5) vs ++ (rest ++ drop (length vs - k * 5) (drop (k * 5) vs))
+  joined = take (k * 6) vs ++ (rest ++ drop (length vs - k * 6) (drop (k * 6) vs))
 
-  moved : k < used → used ≤ length (messages vs) → rest ≡ over (drop 5 part) part (5 * (used - 1 - k)) → joined ≡ laid vs (over (without k (messages vs)) (messages vs) (used - 1))
+  moved : k < used → used ≤ length (messages vs) → rest ≡ over (drop 6 part) part (6 * (used - 1 - k)) → joined ≡ laid vs (over (without k (messages vs)) (messages vs) (used - 1))
   unfolding laid
   moved h w e =
       let es = messages vs in
       let n : ℕ = used - 1 - k in
       let own : vs ≡ flat es ++ behind vs = laid-own vs in
       let d = length-drop k es in
-      let front : take (k * 5) vs ≡ flat (take k es) = ap (take (k * 5)) own ∙ flat-take k es (behind vs) (omega arith) in
-      let back : drop (k * 5) vs ≡ flat (drop k es) ++ behind vs = ap (drop (k * 5)) own ∙ flat-drop k es (behind vs) (omega arith) in
-      let m : rest ≡ flat (over (drop 1 (drop k es)) (drop k es) n) ++ behind vs = e ∙ (ap (λ (l : List ℕ). over (drop 5 l) l (5 * n)) (rest-lent (k * 5) vs ∙ back) ∙ down-entries (drop k es) (behind vs) n (omega arith)) in
+      let front : take (k * 6) vs ≡ flat (take k es) = ap (take (k * 6)) own ∙ flat-take k es (behind vs) (omega arith) in
+      let back : drop (k * 6) vs ≡ flat (drop k es) ++ behind vs = ap (drop (k * 6)) own ∙ flat-drop k es (behind vs) (omega arith) in
+      let m : rest ≡ flat (over (drop 1 (drop k es)) (drop k es) n) ++ behind vs = e ∙ (ap (λ (l : List ℕ). over (drop 6 l) l (6 * n)) (rest-lent (k * 6) vs ∙ back) ∙ down-entries (drop k es) (behind vs) n (omega arith)) in
       let z : k + n ≡ used - 1 = omega arith in
-      ap (λ (l : List ℕ). take (k * 5) vs ++ (rest ++ l)) (none-behind (k * 5) vs)
+      ap (λ (l : List ℕ). take (k * 6) vs ++ (rest ++ l)) (none-behind (k * 6) vs)
       ∙ (ap₂ (λ (a b : List ℕ). a ++ b) front (append-nil rest ∙ m)
       ∙ (flat-append (take k es) (over (drop 1 (drop k es)) (drop k es) n) (behind vs)
       ∙ ap (λ (l : List Message). flat l ++ behind vs) (from-entry k n es (omega arith) ∙ ap (over (without k es) es) z)))
 
-  pub taken : (e : Message) → k < used → used * 5 ≤ length vs → rest ≡ over (drop 5 part) part (5 * (used - 1 - k)) → e ≡ noMessage → (used - 1 + 1) * 5 ≤ length joined
+  pub taken : (e : Message) → k < used → used * 6 ≤ length vs → rest ≡ over (drop 6 part) part (6 * (used - 1 - k)) → e ≡ noMessage → (used - 1 + 1) * 6 ≤ length joined
       → stored joined (used - 1) e ≡ laid vs (shut k used (messages vs))
   taken e h w p q b =
       let es = messages vs in

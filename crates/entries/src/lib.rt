@@ -1,4 +1,4 @@
-// The message table: a lent slice of words, five to an entry. Entries are read, put, found, counted, taken out and swept.
+// The message table: a lent slice of words, six to an entry. Entries are read, put, found, counted, taken out and swept.
 mod sweeping;
 
 use model::Message;
@@ -25,30 +25,32 @@ ghost use Rattle.entries.specs.Swept.{kept};
 // ---- one entry
 // Entry i.
 pub fn get(words: &[u64], i: usize) -> Message
-    requires { ⌜ (i + 1) * 5 ≤ length (now words) ⌝ }
+    requires { ⌜ (i + 1) * 6 ≤ length (now words) ⌝ }
     ensures { λ r. ⌜ r ≡ getD (messages (now (words .entry))) i noMessage ⌝ }
 {
-    let b = i * 5;
+    let b = i * 6;
     Message {
         mailbox: words[b],
         uid: Uid(words[b + 1]),
         flags: words[b + 2],
         size: words[b + 3],
         states: words[b + 4],
+        counter: words[b + 5],
     }
 }
 
-// Puts e at i: five words change, and no other.
+// Puts e at i: six words change, and no other.
 pub fn put(words: &mut [u64], i: usize, e: Message)
-    requires { ⌜ (i + 1) * 5 ≤ length (now words) ⌝ }
+    requires { ⌜ (i + 1) * 6 ≤ length (now words) ⌝ }
     ensures { λ _. ⌜ now (words .exit) ≡ stored (now (words .entry)) i e ⌝ }
 {
-    let b = i * 5;
+    let b = i * 6;
     words[b] = e.mailbox;
     words[b + 1] = e.uid.0;
     words[b + 2] = e.flags;
     words[b + 3] = e.size;
     words[b + 4] = e.states;
+    words[b + 5] = e.counter;
 }
 
 // An entry that is free.
@@ -61,6 +63,7 @@ pub fn nothing() -> Message
         flags: 0,
         size: 0,
         states: 0,
+        counter: 0,
     }
 }
 
@@ -68,7 +71,7 @@ pub fn nothing() -> Message
 pub fn entry(words: &[u64], i: usize) -> Message
     ensures { λ r. ⌜ r ≡ getD (messages (now (words .entry))) i noMessage ⌝ }
 {
-    let n = words.len() / 5;
+    let n = words.len() / 6;
     if n <= i {
         return nothing();
     }
@@ -76,8 +79,8 @@ pub fn entry(words: &[u64], i: usize) -> Message
 }
 
 // A message that has just come.
-pub fn fresh(mailbox: u64, uid: Uid, flags: u64, size: u64) -> Message
-    ensures { λ r. ⌜ r ≡ message mailbox (uid .0) flags size ⌝ }
+pub fn fresh(mailbox: u64, uid: Uid, flags: u64, size: u64, counter: u64) -> Message
+    ensures { λ r. ⌜ r ≡ message mailbox (uid .0) flags size counter ⌝ }
 {
     Message {
         mailbox,
@@ -85,12 +88,13 @@ pub fn fresh(mailbox: u64, uid: Uid, flags: u64, size: u64) -> Message
         flags,
         size,
         states: 0,
+        counter,
     }
 }
 
-// The message with other flags and states.
-pub fn changed(e: Message, flags: u64, states: u64) -> Message
-    ensures { λ r. ⌜ r ≡ withStates (withFlags e flags) states ⌝ }
+// The message with other flags, states and counter.
+pub fn changed(e: Message, flags: u64, states: u64, counter: u64) -> Message
+    ensures { λ r. ⌜ r ≡ withStates (withFlags e flags counter) states ⌝ }
 {
     let uid = e.uid;
     Message {
@@ -99,13 +103,14 @@ pub fn changed(e: Message, flags: u64, states: u64) -> Message
         flags,
         size: e.size,
         states,
+        counter,
     }
 }
 
 // ---- an entry found
 // Whether entry i is message uid of the mailbox, and exists.
 fn is_message(words: &[u64], i: usize, mailbox: u64, uid: Uid) -> bool
-    requires { ⌜ (i + 1) * 5 ≤ length (now words) ⌝ }
+    requires { ⌜ (i + 1) * 6 ≤ length (now words) ⌝ }
     ensures { λ r. ⌜ r ≡ stands mailbox (uid .0) (getD (messages (now (words .entry))) i noMessage) ⌝ }
 {
     let e = get(words, i);
@@ -120,7 +125,7 @@ fn is_message(words: &[u64], i: usize, mailbox: u64, uid: Uid) -> bool
 
 // The place of message uid of the mailbox, if it is there and not expunged; else `used`.
 pub fn find(words: &[u64], used: usize, mailbox: u64, uid: Uid) -> usize
-    requires { ⌜ used * 5 ≤ length (now words) ⌝ }
+    requires { ⌜ used * 6 ≤ length (now words) ⌝ }
     ensures { λ r. ⌜ r ≡ first (stands mailbox (uid .0)) (take used (messages (now (words .entry)))) ⌝ }
 {
     let mut i = 0;
@@ -142,15 +147,15 @@ struct Tally {
 
 // One for an entry of the mailbox.
 fn of_one(words: &[u64], i: usize, mailbox: u64) -> u64
-    requires { ⌜ (i + 1) * 5 ≤ length (now words) ⌝ }
+    requires { ⌜ (i + 1) * 6 ≤ length (now words) ⌝ }
     ensures { λ r. ⌜ (r ≡ cond (inMailbox mailbox (getD (messages (now (words .entry))) i noMessage)) 1 0) × (r ≤ 1) ⌝ }
 {
-    if words[i * 5] == mailbox { 1 } else { 0 }
+    if words[i * 6] == mailbox { 1 } else { 0 }
 }
 
 // In one pass without a test of states.
 fn tally_all(words: &[u64], used: usize, mailbox: u64) -> Tally
-    requires { ⌜ used * 5 ≤ length (now words) ⌝ }
+    requires { ⌜ used * 6 ≤ length (now words) ⌝ }
     ensures { λ r. ⌜ (r .states ≡ 0 → r .count ≡ countb (lives mailbox) (take used (messages (now (words .entry))))) ⌝ }
 {
     let mut count = 0;
@@ -158,7 +163,7 @@ fn tally_all(words: &[u64], used: usize, mailbox: u64) -> Tally
     let mut i = 0;
     while i < used {
         count += of_one(words, i, mailbox);
-        states = states | words[i * 5 + 4];
+        states = states | words[i * 6 + 4];
         i += 1;
     }
     Tally { count, states }
@@ -166,7 +171,7 @@ fn tally_all(words: &[u64], used: usize, mailbox: u64) -> Tally
 
 // One for an entry of the mailbox that exists.
 fn count_one(words: &[u64], i: usize, mailbox: u64) -> u64
-    requires { ⌜ (i + 1) * 5 ≤ length (now words) ⌝ }
+    requires { ⌜ (i + 1) * 6 ≤ length (now words) ⌝ }
     ensures { λ r. ⌜ (r ≡ cond (lives mailbox (getD (messages (now (words .entry))) i noMessage)) 1 0) × (r ≤ 1) ⌝ }
 {
     let e = get(words, i);
@@ -181,7 +186,7 @@ fn count_one(words: &[u64], i: usize, mailbox: u64) -> u64
 
 // How many messages of a mailbox exist, each tested.
 fn count_each(words: &[u64], used: usize, mailbox: u64) -> u64
-    requires { ⌜ used * 5 ≤ length (now words) ⌝ }
+    requires { ⌜ used * 6 ≤ length (now words) ⌝ }
     ensures { λ r. ⌜ r ≡ length (existing mailbox (take used (messages (now (words .entry))))) ⌝ }
 {
     let mut n = 0;
@@ -195,7 +200,7 @@ fn count_each(words: &[u64], used: usize, mailbox: u64) -> u64
 
 // How many messages of a mailbox exist. Where no entry has a state none is expunged, and the quick pass has the number.
 pub fn count(words: &[u64], used: usize, mailbox: u64) -> u64
-    requires { ⌜ used * 5 ≤ length (now words) ⌝ }
+    requires { ⌜ used * 6 ≤ length (now words) ⌝ }
     ensures { λ r. ⌜ r ≡ length (existing mailbox (take used (messages (now (words .entry))))) ⌝ }
 {
     let t = tally_all(words, used, mailbox);
@@ -207,7 +212,7 @@ pub fn count(words: &[u64], used: usize, mailbox: u64) -> u64
 
 // One for an entry of the mailbox that is announced and has a lower UID.
 fn before_one(words: &[u64], i: usize, mailbox: u64, told: Uid, uid: Uid) -> u64
-    requires { ⌜ (i + 1) * 5 ≤ length (now words) ⌝ }
+    requires { ⌜ (i + 1) * 6 ≤ length (now words) ⌝ }
     ensures { λ r. ⌜ (r ≡ cond (before mailbox (told .0) (uid .0) (getD (messages (now (words .entry))) i noMessage)) 1 0) × (r ≤ 1) ⌝ }
 {
     let e = get(words, i);
@@ -225,7 +230,7 @@ fn before_one(words: &[u64], i: usize, mailbox: u64, told: Uid, uid: Uid) -> u64
 
 // The place of message uid in the view, which is all below `told`.
 pub fn place_of(words: &[u64], used: usize, mailbox: u64, told: Uid, uid: Uid) -> MessageNumber
-    requires { ⌜ used * 5 ≤ length (now words) ⌝ }
+    requires { ⌜ used * 6 ≤ length (now words) ⌝ }
     ensures { λ r. ⌜ r .0 ≡ 1 + countb (before mailbox (told .0) (uid .0)) (take used (messages (now (words .entry)))) ⌝ }
 {
     let mut n = 0;
@@ -239,25 +244,25 @@ pub fn place_of(words: &[u64], used: usize, mailbox: u64, told: Uid, uid: Uid) -
 }
 
 // ---- an entry taken out
-// n words move down by five places: the ones from the sixth on, to the front. From the front of a slice the compiler makes one block move of it.
+// n words move down by six places: the ones from the seventh on, to the front. From the front of a slice the compiler makes one block move of it.
 fn move_up(words: &mut [u64], n: usize)
-    requires { ⌜ n + 5 ≤ length (now words) ⌝ }
-    ensures { λ _. ⌜ now (words .exit) ≡ over (drop 5 (now (words .entry))) (now (words .entry)) n ⌝ }
+    requires { ⌜ n + 6 ≤ length (now words) ⌝ }
+    ensures { λ _. ⌜ now (words .exit) ≡ over (drop 6 (now (words .entry))) (now (words .entry)) n ⌝ }
 {
     let mut i = 0;
     while i < n {
-        words[i] = words[i + 5];
+        words[i] = words[i + 6];
         i += 1;
     }
 }
 
 // Entry k leaves: those behind it move up, and the last becomes nothing.
 pub fn remove(words: &mut [u64], used: usize, k: usize)
-    requires { ⌜ (k < used) × (used * 5 ≤ length (now words)) ⌝ }
+    requires { ⌜ (k < used) × (used * 6 ≤ length (now words)) ⌝ }
     ensures { λ _. ⌜ now (words .exit) ≡ laid (now (words .entry)) (shut k used (messages (now (words .entry)))) ⌝ }
 {
     let last = used - 1;
-    move_up(&mut words[k * 5..], 5 * (last - k));
+    move_up(&mut words[k * 6..], 6 * (last - k));
     put(words, last, nothing());
 }
 
@@ -272,7 +277,7 @@ pub enum Sweep {
 
 // One pass: what goes is dropped, what stays moves up and is changed, what was freed is nothing. Answers how many stay.
 pub fn settle(words: &mut [u64], used: usize, sweep: Sweep) -> usize
-    requires { ⌜ used * 5 ≤ length (now words) ⌝ }
+    requires { ⌜ used * 6 ≤ length (now words) ⌝ }
     ensures { λ r. ⌜ (now (words .exit) ≡ laid (now (words .entry)) (refill noMessage (messages (now (words .entry))) used (kept sweep (take used (messages (now (words .entry))))))) × (r ≡ length (kept sweep (take used (messages (now (words .entry)))))) × (r ≤ used) ⌝ }
 {
     if is_idle(sweep) {

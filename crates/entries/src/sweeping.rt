@@ -53,7 +53,7 @@ fn shown_one(e: Message, mailbox: u64, shown: Uid) -> Message
 {
     let low = is_below(e, mailbox, shown);
     if both(e.states / 2 % 2 == 1, low) {
-        return changed(e, e.flags, 0);
+        return changed(e, e.flags, 0, e.counter);
     }
     e
 }
@@ -63,7 +63,7 @@ fn calmed(e: Message, sweep: Sweep) -> Message
     ensures { λ r. ⌜ r ≡ calm sweep e ⌝ }
 {
     match sweep {
-        Sweep::Rested => changed(e, e.flags, 0),
+        Sweep::Rested => changed(e, e.flags, 0, e.counter),
         Sweep::Told(mailbox, _, shown) => shown_one(e, mailbox, shown),
         Sweep::Deleted(_) => e,
     }
@@ -71,7 +71,7 @@ fn calmed(e: Message, sweep: Sweep) -> Message
 
 // Entry i goes, or moves up to o; one that stays as it is where it is is not written.
 fn move_one(words: &mut [u64], i: usize, o: usize, sweep: Sweep) -> usize
-    requires { ⌜ (o ≤ i) × ((i + 1) * 5 ≤ length (now words)) ⌝ }
+    requires { ⌜ (o ≤ i) × ((i + 1) * 6 ≤ length (now words)) ⌝ }
     ensures { λ r. ⌜ Moves sweep (now (words .entry)) i o (now (words .exit)) r ⌝ }
 {
     let e = get(words, i);
@@ -88,7 +88,7 @@ fn move_one(words: &mut [u64], i: usize, o: usize, sweep: Sweep) -> usize
 
 // Those that stay move up.
 pub fn compact(words: &mut [u64], used: usize, sweep: Sweep) -> usize
-    requires { ⌜ used * 5 ≤ length (now words) ⌝ }
+    requires { ⌜ used * 6 ≤ length (now words) ⌝ }
     ensures { λ r. ⌜ (now (words .exit) ≡ laid (now (words .entry)) (kept sweep (take used (messages (now (words .entry)))) ++ drop r (messages (now (words .entry))))) × (r ≡ length (kept sweep (take used (messages (now (words .entry)))))) × (r ≤ used) ⌝ }
 {
     let mut o = 0;
@@ -113,7 +113,7 @@ pub fn is_idle(sweep: Sweep) -> bool
 
 // Entries become nothing.
 pub fn wipe(words: &mut [u64], from: usize, upto: usize)
-    requires { ⌜ (from ≤ upto) × (upto * 5 ≤ length (now words)) ⌝ }
+    requires { ⌜ (from ≤ upto) × (upto * 6 ≤ length (now words)) ⌝ }
     ensures { λ _. ⌜ now (words .exit) ≡ laid (now (words .entry)) (take from (messages (now (words .entry))) ++ (replicate (upto - from) noMessage ++ drop upto (messages (now (words .entry))))) ⌝ }
 {
     let mut j = from;

@@ -1,10 +1,10 @@
--- The FETCH line of a message's flags, as it is written piece by piece. Assumes nothing.
+-- The FETCH line of a message's flags and counter, as it is written piece by piece. Assumes nothing.
 use mathlib.Core.Path.{_≡_, refl, sym, _∙_}
 use mathlib.Core.Bool.{Bool, true, false, cond, _||_}
 use mathlib.Core.List.{List, [], _∷_, _++_, append-assoc, append-nil}
 use Prim.Native.Nat.{ℕ, _+_}
 use Rattle.model.specs.Text.{octets, decimal, bit}
-use Rattle.model.specs.Lines.{render, spaced, space, crlf, flagNames}
+use Rattle.model.specs.Lines.{modseq, itemText, render, spaced, space, crlf, flagNames}
 use Rattle.model.specs.View.{flagsLine}
 use Rattle.model.specs.Events.{message}
 use Rattle.model.specs.Memory.{uidOf}
@@ -69,25 +69,32 @@ pub flags-pieces : (f : ℕ) → firstThree (bit 0 f) (bit 1 f) (bit 2 f) ++ las
 unfolding flagsText
 flags-pieces f = pieces (bit 0 f) (bit 1 f) (bit 2 f) (bit 3 f) (bit 4 f)
 
+-- them as an item
+abbrev pub flagItem : ℕ → List ℕ
+flagItem f = (octets "FLAGS (" ++ flagsText f) ++ octets ")"
+
 -- the line
-unfoldable pub fetchText : ℕ → ℕ → ℕ → List ℕ
-fetchText n u f = ((((((octets "* " ++ decimal n) ++ octets " FETCH (UID ") ++ decimal u) ++ octets " FLAGS (") ++ flagsText f) ++ (41 ∷ 41 ∷ 13 ∷ 10 ∷ []))
+unfoldable pub fetchText : ℕ → ℕ → ℕ → ℕ → List ℕ
+fetchText n u f c =
+    (((((octets "* " ++ decimal n) ++ octets " FETCH (UID ") ++ decimal u) ++ piece true true (flagItem f)) ++ piece true true (itemText (modseq c))) ++ (41 ∷ 13 ∷ 10 ∷ [])
 
-left : (a b c d e g h : List ℕ) → (((((a ++ b) ++ c) ++ d) ++ e) ++ g) ++ h ≡ a ++ (b ++ (c ++ (d ++ (e ++ (g ++ h)))))
-left a b c d e g h = simp append-assoc
+left : (a n c u s g f e m z : List ℕ) → (((((a ++ n) ++ c) ++ u) ++ (s ++ ((g ++ f) ++ e))) ++ m) ++ z ≡ a ++ (n ++ (c ++ (u ++ (s ++ (g ++ (f ++ (e ++ (m ++ z))))))))
+left a n c u s g f e m z = simp append-assoc
 
-right : (a n c v d s g f e k z : List ℕ) → (a ++ (n ++ (c ++ (((v ++ d) ++ ((s ++ (g ++ (f ++ e))) ++ [])) ++ k)))) ++ z ≡ a ++ (n ++ (c ++ (v ++ (d ++ (s ++ (g ++ (f ++ (e ++ (k ++ z)))))))))
-right a n c v d s g f e k z = simp (append-nil, append-assoc)
+right : (a n c v u s g f e m k z : List ℕ)
+    → (a ++ (n ++ (c ++ (((v ++ u) ++ ((s ++ (g ++ (f ++ e))) ++ (m ++ []))) ++ k)))) ++ z ≡ a ++ (n ++ (c ++ (v ++ (u ++ (s ++ (g ++ (f ++ (e ++ (m ++ (k ++ z))))))))))
+right a n c v u s g f e m k z = simp (append-nil, append-assoc)
 
-pub fetch-text : (i n u f : ℕ) → fetchText n u f ≡ render (flagsLine n (message i u f 0))
+pub fetch-text : (i n u f c : ℕ) → fetchText n u f c ≡ render (flagsLine n (message i u f 0 c))
 unfolding fetchText flagsText render
-fetch-text i n u f =
-    left (octets "* ") (decimal n) (octets " FETCH (UID ") (decimal u) (octets " FLAGS (") (spaced (flagNames f)) (41 ∷ 41 ∷ 13 ∷ 10 ∷ [])
-    ∙ sym (right (octets "* ") (decimal n) (octets " FETCH (") (octets "UID ") (decimal u) space (octets "FLAGS (") (spaced (flagNames f)) (octets ")") (octets ")") crlf)
+fetch-text i n u f c =
+    left (octets "* ") (decimal n) (octets " FETCH (UID ") (decimal u) space (octets "FLAGS (") (spaced (flagNames f)) (octets ")") (space ++ itemText (modseq c)) (41 ∷ 13 ∷ 10 ∷ [])
+    ∙ sym (right (octets "* ") (decimal n) (octets " FETCH (") (octets "UID ") (decimal u) space (octets "FLAGS (") (spaced (flagNames f)) (octets ")")
+    (space ++ itemText (modseq c)) (octets ")") crlf)
 
 -- the same of an entry
-pub fetch-line : (n : ℕ) (e : Message) → fetchText n (uidOf e) (e .flags) ≡ render (flagsLine n e)
-fetch-line n e = fetch-text (e .mailbox) n (uidOf e) (e .flags)
+pub fetch-line : (n : ℕ) (e : Message) → fetchText n (uidOf e) (e .flags) (e .counter) ≡ render (flagsLine n e)
+fetch-line n e = fetch-text (e .mailbox) n (uidOf e) (e .flags) (e .counter)
 
 module _ (on began : Bool) (n : List ℕ) where
   pub piece-off : on ≡ false → [] ≡ piece on began n

@@ -9,7 +9,7 @@ use lib.ListN.{length, getD}
 use borrow.Author.Tests.{lt-ltb, le-ltb, eq-eqb, ne-eqb}
 use Rattle.model.specs.Lists.{filterb, keep}
 use Rattle.model.specs.Memory.{noMessage, uidOf, expunged, marked}
-use Rattle.model.specs.Lines.{Item, expunge, fetch, render, renderAll}
+use Rattle.model.specs.Lines.{Item, modseq, expunge, fetch, render, renderAll}
 use Rattle.model.specs.View.{expungeLines, markedLines, newLines, flagsLine, shownItems}
 use Rattle.model.specs.declared.Message.{Message}
 use Rattle.model.specs.declared.Session.{Session}
@@ -27,7 +27,7 @@ use Rattle.fetches.specs.Items.{newText, new-text, shown}
 -- what is written for an entry whose place is n, and the place of the next: the client was told of UIDs below `told`
 abbrev pub textOf : Part → ℕ → ℕ → Message → List ℕ
 textOf Expunged told n e = cond (ltb (uidOf e) told && expunged e) (countText n expungeWord) []
-textOf Marked told n e = cond (stays told true e && marked e) (fetchText n (uidOf e) (e .flags)) []
+textOf Marked told n e = cond (stays told true e && marked e) (fetchText n (uidOf e) (e .flags) (e .counter)) []
 textOf (New w) told n e = cond (ltb (uidOf e) told) [] (newText w n e)
 
 abbrev pub nextOf : Part → ℕ → ℕ → Message → ℕ
@@ -42,14 +42,14 @@ partText part told n (e ∷ l) = textOf part told n e ++ partText part told (nex
 -- a text was put, and the next place is this
 pub record Puts (q : List ℕ) (at lim : ℕ) (t : List ℕ) (n : ℕ) (q′ : List ℕ) (r : Went) : Type 0 where
   pub put : Put q at lim t q′ (r .end)
-  pub short : r .end ≤ at + 201
+  pub short : r .end ≤ at + 231
   pub next : r .next .0 ≡ n
 
 module _ (q : List ℕ) (at lim : ℕ) where
   pub puts-none : (r : Went) (t : List ℕ) (n : ℕ) → lim ≤ length q → r .end ≡ at → t ≡ [] → r .next .0 ≡ n → Puts q at lim t n q r
   puts-none r t n w a e f = record { put = rw (a, e) (put-none q at lim w); short = omega arith; next = f }
 
-  pub puts-some : (q′ : List ℕ) (r : Went) (t u : List ℕ) (n : ℕ) → Put q at lim t q′ (r .end) → r .end ≤ at + 201 → t ≡ u → r .next .0 ≡ n → Puts q at lim u n q′ r
+  pub puts-some : (q′ : List ℕ) (r : Went) (t u : List ℕ) (n : ℕ) → Put q at lim t q′ (r .end) → r .end ≤ at + 231 → t ≡ u → r .next .0 ≡ n → Puts q at lim u n q′ r
   puts-some q′ r t u n p b e f = record { put = put-as p e; short = b; next = f }
 
 -- ---- one entry, as the code tests it
@@ -87,7 +87,7 @@ module _ (told n : ℕ) (e : Message) where
   pub live-marked-next : uidOf e < told → (e .states % 2 ≡ 1 → ⊥) → n + 1 ≡ nextOf Marked told n e
   live-marked-next h k = rw (lt-ltb (uidOf e) told h, ne-eqb (e .states % 2) 1 k)
 
-  pub is-marked : uidOf e < told → (e .states % 2 ≡ 1 → ⊥) → e .states / 2 % 2 ≡ 1 → fetchText n (uidOf e) (e .flags) ≡ textOf Marked told n e
+  pub is-marked : uidOf e < told → (e .states % 2 ≡ 1 → ⊥) → e .states / 2 % 2 ≡ 1 → fetchText n (uidOf e) (e .flags) (e .counter) ≡ textOf Marked told n e
   is-marked h k m = rw (lt-ltb (uidOf e) told h, ne-eqb (e .states % 2) 1 k, eq-eqb (e .states / 2 % 2) 1 m)
 
   pub not-marked : uidOf e < told → (e .states % 2 ≡ 1 → ⊥) → (e .states / 2 % 2 ≡ 1 → ⊥) → textOf Marked told n e ≡ []
@@ -174,17 +174,17 @@ module _ (told : ℕ) where
       there = filterb (λ (d : Message). not (expunged d)) rest
 
       waits : (c : Bool) → partText Marked told (n + 1) l ≡ renderAll (markedLines (n + 1) there)
-          → cond c (fetchText n (uidOf e) (e .flags)) [] ++ partText Marked told (n + 1) l ≡ renderAll (cond c (flagsLine n e ∷ markedLines (n + 1) there) (markedLines (n + 1) there))
+          → cond c (fetchText n (uidOf e) (e .flags) (e .counter)) [] ++ partText Marked told (n + 1) l ≡ renderAll (cond c (flagsLine n e ∷ markedLines (n + 1) there) (markedLines (n + 1) there))
       waits true y = ap₂ _++_ (fetch-line n e) y
       waits false y = y
 
       live : (b : Bool) → partText Marked told n l ≡ renderAll (markedLines n there) → partText Marked told (n + 1) l ≡ renderAll (markedLines (n + 1) there)
-          → cond (not b && marked e) (fetchText n (uidOf e) (e .flags)) [] ++ partText Marked told (cond (not b) (n + 1) n) l ≡ renderAll (markedLines n (keep (not b) e there))
+          → cond (not b && marked e) (fetchText n (uidOf e) (e .flags) (e .counter)) [] ++ partText Marked told (cond (not b) (n + 1) n) l ≡ renderAll (markedLines n (keep (not b) e there))
       live true x y = x
       live false x y = waits (marked e) y
 
       go : (a : Bool) → partText Marked told n l ≡ renderAll (markedLines n there) → partText Marked told (n + 1) l ≡ renderAll (markedLines (n + 1) there)
-          → cond ((a && not (expunged e)) && marked e) (fetchText n (uidOf e) (e .flags)) [] ++ partText Marked told (cond (a && not (expunged e)) (n + 1) n) l
+          → cond ((a && not (expunged e)) && marked e) (fetchText n (uidOf e) (e .flags) (e .counter)) [] ++ partText Marked told (cond (a && not (expunged e)) (n + 1) n) l
           ≡ renderAll (markedLines n (filterb (λ (d : Message). not (expunged d)) (keep a e rest)))
       go true x y = live (expunged e) x y
       go false x y = x
@@ -201,4 +201,4 @@ module _ (told : ℕ) where
       go : (a : Bool) → partText (New w) told n l ≡ renderAll (newLines s n rest) → partText (New w) told (n + 1) l ≡ renderAll (newLines s (n + 1) rest)
           → cond a [] (newText w n e) ++ partText (New w) told (cond a n (n + 1)) l ≡ renderAll (newLines s n (keep (not a) e rest))
       go true x y = x
-      go false x y = ap₂ _++_ (new-text w n e ∙ ap (λ (i : List Item). render (fetch (record { 0 = n }) (e .uid) i)) (is e)) y
+      go false x y = ap₂ _++_ (new-text w n e ∙ ap (λ (i : List Item). render (fetch (record { 0 = n }) (e .uid) (i ++ (modseq (e .counter) ∷ [])))) (is e)) y

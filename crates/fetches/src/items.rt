@@ -4,13 +4,15 @@ use super::flags::either;
 use super::flags::put_flags;
 use model::Message;
 use model::MessageNumber;
+ghost use mathlib.Core.Bool.{true};
 ghost use mathlib.Core.List.{_++_};
 ghost use Prim.Native.Nat.{_+_, _≤_};
 ghost use lib.ListN.{length};
 ghost use Rattle.model.specs.Text.{decimal};
+ghost use Rattle.model.specs.Lines.{modseq, itemText};
 ghost use Rattle.out.specs.Put.{Put};
-ghost use Rattle.fetches.specs.Fetch.{piece};
-ghost use Rattle.fetches.specs.Items.{gap, flagItem, itemsText, newText};
+ghost use Rattle.fetches.specs.Fetch.{piece, flagItem};
+ghost use Rattle.fetches.specs.Items.{gap, itemsText, newText};
 
 // A space, where something stands before.
 fn put_gap(queue: &mut [u8], at: usize, limit: usize, began: bool) -> usize
@@ -45,7 +47,7 @@ fn put_counted(
 }
 
 // The flags, where they are asked.
-fn put_flag_item(
+pub fn put_flag_item(
     queue: &mut [u8],
     at: usize,
     limit: usize,
@@ -65,15 +67,27 @@ fn put_flag_item(
     out::put(queue, c, limit, b")")
 }
 
-// What is asked of a message, in the order UID, FLAGS, RFC822.SIZE.
+// The message's counter, with which all items end.
+pub fn put_modseq(queue: &mut [u8], at: usize, limit: usize, began: bool, counter: u64) -> usize
+    requires { ⌜ (limit ≤ length (now queue)) × (at ≤ 33554432) ⌝ }
+    ensures { λ r. ⌜ (Put (now (queue .entry)) at limit (piece true began (itemText (modseq counter))) (now (queue .exit)) r) × (r ≤ at + 30) ⌝ }
+{
+    let a = put_gap(queue, at, limit, began);
+    let b = out::put(queue, a, limit, b"MODSEQ (");
+    let c = out::put_number(queue, b, limit, counter);
+    out::put(queue, c, limit, b")")
+}
+
+// What is asked of a message, in the order UID, FLAGS, RFC822.SIZE, and its counter.
 fn put_items(queue: &mut [u8], at: usize, limit: usize, w: Shows, e: Message) -> usize
     requires { ⌜ (limit ≤ length (now queue)) × (at ≤ 16777250) ⌝ }
-    ensures { λ r. ⌜ (Put (now (queue .entry)) at limit (itemsText w e) (now (queue .exit)) r) × (r ≤ at + 168) ⌝ }
+    ensures { λ r. ⌜ (Put (now (queue .entry)) at limit (itemsText w e) (now (queue .exit)) r) × (r ≤ at + 198) ⌝ }
 {
     let a = put_counted(queue, at, limit, w.uid, false, b"UID ", e.uid.0);
     let b = put_flag_item(queue, a, limit, w.flags, w.uid, e.flags);
     let began = either(w.uid, w.flags);
-    put_counted(queue, b, limit, w.size, began, b"RFC822.SIZE ", e.size)
+    let c = put_counted(queue, b, limit, w.size, began, b"RFC822.SIZE ", e.size);
+    put_modseq(queue, c, limit, either(began, w.size), e.counter)
 }
 
 // `* n FETCH (..)` of a new message.
@@ -86,7 +100,7 @@ pub fn put_new(
     e: Message,
 ) -> usize
     requires { ⌜ (limit ≤ length (now queue)) × (at ≤ 16777216) ⌝ }
-    ensures { λ r. ⌜ (Put (now (queue .entry)) at limit (newText w (n .0) e) (now (queue .exit)) r) × (r ≤ at + 201) ⌝ }
+    ensures { λ r. ⌜ (Put (now (queue .entry)) at limit (newText w (n .0) e) (now (queue .exit)) r) × (r ≤ at + 231) ⌝ }
 {
     let a = out::put(queue, at, limit, b"* ");
     let b = out::put_number(queue, a, limit, n.0);

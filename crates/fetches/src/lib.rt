@@ -3,7 +3,8 @@ mod flags;
 mod items;
 mod parts;
 
-use flags::put_flags;
+use items::put_flag_item;
+use items::put_modseq;
 use model::MessageNumber;
 use model::Uid;
 use out::Said;
@@ -19,7 +20,7 @@ ghost use Rattle.fetches.specs.Counts.{countText, expungeWord, existsTex
 ghost use Rattle.fetches.specs.Whole.{owedText, newsText};
 
 // ---- one line
-// `* n FETCH (UID u FLAGS (..))`
+// `* n FETCH (UID u FLAGS (..) MODSEQ (c))`
 pub fn put_fetch(
     queue: &mut [u8],
     at: usize,
@@ -27,17 +28,18 @@ pub fn put_fetch(
     n: MessageNumber,
     uid: Uid,
     flags: u64,
+    counter: u64,
 ) -> usize
     requires { ⌜ (limit ≤ length (now queue)) × (at ≤ 16777216) ⌝ }
-    ensures { λ r. ⌜ (Put (now (queue .entry)) at limit (fetchText (n .0) (uid .0) flags) (now (queue .exit)) r) × (r ≤ at + 200) ⌝ }
+    ensures { λ r. ⌜ (Put (now (queue .entry)) at limit (fetchText (n .0) (uid .0) flags counter) (now (queue .exit)) r) × (r ≤ at + 200) ⌝ }
 {
     let a = out::put(queue, at, limit, b"* ");
     let b = out::put_number(queue, a, limit, n.0);
     let c = out::put(queue, b, limit, b" FETCH (UID ");
     let d = out::put_number(queue, c, limit, uid.0);
-    let e = out::put(queue, d, limit, b" FLAGS (");
-    let f = put_flags(queue, e, limit, flags);
-    out::put(queue, f, limit, b"))\r\n")
+    let e = put_flag_item(queue, d, limit, true, true, flags);
+    let f = put_modseq(queue, e, limit, true, counter);
+    out::put(queue, f, limit, b")\r\n")
 }
 
 // `* n` and a word.
@@ -70,14 +72,21 @@ pub fn put_exists(queue: &mut [u8], at: usize, limit: usize, has: u64, new: u64)
 }
 
 // The FETCH line, if it leaves the last 64 octets free, else the overflow line.
-pub fn say_fetch(queue: &mut [u8], at: usize, n: MessageNumber, uid: Uid, flags: u64) -> Said
+pub fn say_fetch(
+    queue: &mut [u8],
+    at: usize,
+    n: MessageNumber,
+    uid: Uid,
+    flags: u64,
+    counter: u64,
+) -> Said
     requires { ⌜ (64 ≤ length (now queue)) × (length (now queue) ≤ 65536) × (at ≤ length (now queue) - 64) ⌝ }
-    ensures { λ r. ⌜ Says (now (queue .entry)) at (fetchText (n .0) (uid .0) flags) (now (queue .exit)) (r .fits) (r .end) ⌝ }
+    ensures { λ r. ⌜ Says (now (queue .entry)) at (fetchText (n .0) (uid .0) flags counter) (now (queue .exit)) (r .fits) (r .end) ⌝ }
 {
     let limit = queue.len() - 64;
-    let end = put_fetch(queue, at, 0, n, uid, flags);
+    let end = put_fetch(queue, at, 0, n, uid, flags, counter);
     if end <= limit {
-        let e = put_fetch(queue, at, limit, n, uid, flags);
+        let e = put_fetch(queue, at, limit, n, uid, flags, counter);
         return Said { fits: true, end: e };
     }
     out::overflow(queue, at)
@@ -132,7 +141,7 @@ pub fn put_owed(
     told: Uid,
 ) -> usize
     requires { ⌜ (count ≤ length (now order)) × (count ≤ 1024) × (limit ≤ length (now queue)) × (at ≤ 65536) ⌝ }
-    ensures { λ r. ⌜ (Put (now (queue .entry)) at limit (owedText (told .0) (chosen (messages (now (words .entry))) (now (order .entry)) count)) (now (queue .exit)) r) × (r ≤ at + 412000) ⌝ }
+    ensures { λ r. ⌜ (Put (now (queue .entry)) at limit (owedText (told .0) (chosen (messages (now (words .entry))) (now (order .entry)) count)) (now (queue .exit)) r) × (r ≤ at + 474000) ⌝ }
 {
     let a = put_part(
         words,
@@ -173,7 +182,7 @@ pub fn put_news(
     w: Shows,
 ) -> usize
     requires { ⌜ (count ≤ length (now order)) × (count ≤ 1024) × (limit ≤ length (now queue)) × (at ≤ 65536) ⌝ }
-    ensures { λ r. ⌜ (Put (now (queue .entry)) at limit (newsText (told .0) w (chosen (messages (now (words .entry))) (now (order .entry)) count)) (now (queue .exit)) r) × (r ≤ at + 206000) ⌝ }
+    ensures { λ r. ⌜ (Put (now (queue .entry)) at limit (newsText (told .0) w (chosen (messages (now (words .entry))) (now (order .entry)) count)) (now (queue .exit)) r) × (r ≤ at + 237000) ⌝ }
 {
     let has = order::staying(words, order, count, told, false);
     let new = order::unseen(words, order, count, told);

@@ -62,7 +62,7 @@ fn put_marked(
     let more = n.0 + 1;
     if e.states / 2 % 2 == 1 {
         let uid = e.uid;
-        let end = put_fetch(queue, at, limit, n, uid, e.flags);
+        let end = put_fetch(queue, at, limit, n, uid, e.flags, e.counter);
         return Went {
             end,
             next: MessageNumber(more),
@@ -131,7 +131,7 @@ pub fn put_part(
     n: MessageNumber,
 ) -> usize
     requires { ⌜ (count ≤ length (now order)) × (count ≤ 1024) × (limit ≤ length (now queue)) × (at ≤ 1048576) × (n .0 ≤ 4096) ⌝ }
-    ensures { λ r. ⌜ (Put (now (queue .entry)) at limit (partText part (told .0) (n .0) (chosen (messages (now (words .entry))) (now (order .entry)) count)) (now (queue .exit)) r) × (r ≤ at + 201 * count) ⌝ }
+    ensures { λ r. ⌜ (Put (now (queue .entry)) at limit (partText part (told .0) (n .0) (chosen (messages (now (words .entry))) (now (order .entry)) count)) (now (queue .exit)) r) × (r ≤ at + 231 * count) ⌝ }
 {
     let mut end = at;
     let mut next = n;

@@ -10,7 +10,7 @@ use borrow.Author.Tests.{eqb-true, le-ltb, ltb-false}
 use Rattle.model.specs.Laws.{and-l, and-r, tf}
 use Rattle.model.specs.Lists.{filterb, allb, sorted}
 use Rattle.model.specs.Memory.{Memory, mails, noMessage, uidOf, inMailbox, isMessage, byUid, withStates, withMails, changeMails}
-use Rattle.model.specs.Lines.{Line, overflow, render, renderAll}
+use Rattle.model.specs.Lines.{Line, modseq, overflow, render, renderAll}
 use Rattle.model.specs.Queue.{room, enqueue, announce, showsFlags, unmark, effects, say}
 use Rattle.model.specs.View.{existsLine, newLines, shownItems}
 use Rattle.model.specs.Events.{Event, silence, tellings, settled}
@@ -73,7 +73,7 @@ module _ (m : Memory) (s : Session) (n : length (mails m) ≡ m .counts .message
   unfolding effects newLines
   new-effects t k [] b = refl
   new-effects t k (e ∷ l) b =
-      ap (λ (j : Memory). effects j (newLines t (k + 1) l)) (go (showsFlags (shownItems t e)) (low (ltb (uidOf e) (s .told)) refl (and-l (not (ltb (uidOf e) (s .told))) _ b)))
+      ap (λ (j : Memory). effects j (newLines t (k + 1) l)) (go (showsFlags (shownItems t e ++ (modseq (e .counter) ∷ []))) (low (ltb (uidOf e) (s .told)) refl (and-l (not (ltb (uidOf e) (s .told))) _ b)))
       ∙ new-effects t (k + 1) l (and-r (not (ltb (uidOf e) (s .told))) _ b)
     where
       low : (c : Bool) → ltb (uidOf e) (s .told) ≡ c → not c ≡ true → s .told ≤ uidOf e

@@ -4,5 +4,4 @@ pub mod Telling
 pub mod Counting
 pub mod Dropping
 pub mod Fitting
-pub mod Reflagging
 pub mod Announcing

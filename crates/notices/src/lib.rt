@@ -4,10 +4,10 @@ ghost use mathlib.Core.List.{_++_};
 ghost use Prim.Native.Nat.{_+_, _*_, _-_, _≤_, _<_};
 ghost use lib.ListN.{length};
 ghost use Rattle.model.specs.Text.{decimal};
-ghost use Rattle.model.specs.Lines.{list, renamed, status, statusAtSet, markText, render};
+ghost use Rattle.model.specs.Lines.{list, renamed, status, mailItems, flagItems, setItems, markText, render};
 ghost use Rattle.out.specs.Put.{Put};
 ghost use Rattle.out.specs.Says.{Says};
-ghost use Rattle.notices.specs.Texts.{markOf, listed};
+ghost use Rattle.notices.specs.Texts.{markOf, listed, opening, ending};
 
 // The attribute of a LIST line.
 pub enum Mark {
@@ -77,7 +77,26 @@ fn put_counted(queue: &mut [u8], at: usize, limit: usize, word: &[u8], n: u64) -
     out::put_number(queue, a, limit, n)
 }
 
-// The STATUS of a mailbox that is not selected.
+// `* STATUS "name" (`, the part that all STATUS lines begin with.
+fn put_opening(queue: &mut [u8], at: usize, limit: usize, name: &[u8]) -> usize
+    requires { ⌜ (limit ≤ length (now queue)) × (at ≤ 524288) × (length (now name) ≤ 64) ⌝ }
+    ensures { λ r. ⌜ (Put (now (queue .entry)) at limit (opening (now (name .entry))) (now (queue .exit)) r) × (r ≤ at + 141) ⌝ }
+{
+    let a = out::put(queue, at, limit, b"* STATUS ");
+    let b = out::put_quoted(queue, a, limit, name);
+    out::put(queue, b, limit, b" (")
+}
+
+// The mailbox's counter, with which all STATUS lines end.
+fn put_highest(queue: &mut [u8], at: usize, limit: usize, highest: u64) -> usize
+    requires { ⌜ (limit ≤ length (now queue)) × (at ≤ 1048576) ⌝ }
+    ensures { λ r. ⌜ (Put (now (queue .entry)) at limit (ending highest) (now (queue .exit)) r) × (r ≤ at + 39) ⌝ }
+{
+    let a = put_counted(queue, at, limit, b" HIGHESTMODSEQ ", highest);
+    out::put(queue, a, limit, b")\r\n")
+}
+
+// The STATUS of a mailbox that is not selected, where messages come or go.
 pub fn put_status(
     queue: &mut [u8],
     at: usize,
@@ -85,15 +104,32 @@ pub fn put_status(
     name: &[u8],
     next: u64,
     messages: u64,
+    highest: u64,
 ) -> usize
     requires { ⌜ (limit ≤ length (now queue)) × (at ≤ 262144) × (length (now name) ≤ 64) ⌝ }
-    ensures { λ r. ⌜ (Put (now (queue .entry)) at limit (render (status (now (name .entry)) next messages)) (now (queue .exit)) r) × (r ≤ at + 250) ⌝ }
+    ensures { λ r. ⌜ (Put (now (queue .entry)) at limit (render (status (now (name .entry)) (mailItems next messages highest))) (now (queue .exit)) r) × (r ≤ at + 252) ⌝ }
 {
-    let a = out::put(queue, at, limit, b"* STATUS ");
-    let b = out::put_quoted(queue, a, limit, name);
-    let c = put_counted(queue, b, limit, b" (UIDNEXT ", next);
-    let d = put_counted(queue, c, limit, b" MESSAGES ", messages);
-    out::put(queue, d, limit, b")\r\n")
+    let a = put_opening(queue, at, limit, name);
+    let b = put_counted(queue, a, limit, b"UIDNEXT ", next);
+    let c = put_counted(queue, b, limit, b" MESSAGES ", messages);
+    put_highest(queue, c, limit, highest)
+}
+
+// The same, where flags change.
+pub fn put_flag_status(
+    queue: &mut [u8],
+    at: usize,
+    limit: usize,
+    name: &[u8],
+    validity: u64,
+    highest: u64,
+) -> usize
+    requires { ⌜ (limit ≤ length (now queue)) × (at ≤ 262144) × (length (now name) ≤ 64) ⌝ }
+    ensures { λ r. ⌜ (Put (now (queue .entry)) at limit (render (status (now (name .entry)) (flagItems validity highest))) (now (queue .exit)) r) × (r ≤ at + 216) ⌝ }
+{
+    let a = put_opening(queue, at, limit, name);
+    let b = put_counted(queue, a, limit, b"UIDVALIDITY ", validity);
+    put_highest(queue, b, limit, highest)
 }
 
 // The STATUS that answers NOTIFY SET STATUS.
@@ -105,16 +141,16 @@ pub fn put_status_at_set(
     messages: u64,
     next: u64,
     validity: u64,
+    highest: u64,
 ) -> usize
     requires { ⌜ (limit ≤ length (now queue)) × (at ≤ 262144) × (length (now name) ≤ 64) ⌝ }
-    ensures { λ r. ⌜ (Put (now (queue .entry)) at limit (render (statusAtSet (now (name .entry)) messages next validity)) (now (queue .exit)) r) × (r ≤ at + 300) ⌝ }
+    ensures { λ r. ⌜ (Put (now (queue .entry)) at limit (render (status (now (name .entry)) (setItems messages next validity highest))) (now (queue .exit)) r) × (r ≤ at + 300) ⌝ }
 {
-    let a = out::put(queue, at, limit, b"* STATUS ");
-    let b = out::put_quoted(queue, a, limit, name);
-    let c = put_counted(queue, b, limit, b" (MESSAGES ", messages);
-    let d = put_counted(queue, c, limit, b" UIDNEXT ", next);
-    let e = put_counted(queue, d, limit, b" UIDVALIDITY ", validity);
-    out::put(queue, e, limit, b")\r\n")
+    let a = put_opening(queue, at, limit, name);
+    let b = put_counted(queue, a, limit, b"MESSAGES ", messages);
+    let c = put_counted(queue, b, limit, b" UIDNEXT ", next);
+    let d = put_counted(queue, c, limit, b" UIDVALIDITY ", validity);
+    put_highest(queue, d, limit, highest)
 }
 
 // A LIST line, if it leaves the last 64 octets free, else the overflow line.

@@ -13,21 +13,22 @@ Not c k = c ≡ k → ⊥
 
 -- a letter that is none of them names a count
 pub letter-other : (c : ℕ)
-    → ((((((((((Unit {0} × Not c 105) × Not c 111) × Not c 97) × Not c 113) × Not c 118) × Not c 115) × Not c 114) × Not c 117) × Not c 102) × Not c 122) × Not c 99
+    → (((((((((((Unit {0} × Not c 105) × Not c 111) × Not c 97) × Not c 113) × Not c 118) × Not c 115) × Not c 114) × Not c 117) × Not c 102) × Not c 122) × Not c 99) × Not c 109
     → count ≡ fieldOf c
 letter-other c n =
     rw (
-      ne-eqb c 105 (n .0 .0 .0 .0 .0 .0 .0 .0 .0 .0 .1),
-      ne-eqb c 111 (n .0 .0 .0 .0 .0 .0 .0 .0 .0 .1),
-      ne-eqb c 97 (n .0 .0 .0 .0 .0 .0 .0 .0 .1),
-      ne-eqb c 113 (n .0 .0 .0 .0 .0 .0 .0 .1),
-      ne-eqb c 118 (n .0 .0 .0 .0 .0 .0 .1),
-      ne-eqb c 115 (n .0 .0 .0 .0 .0 .1),
-      ne-eqb c 114 (n .0 .0 .0 .0 .1),
-      ne-eqb c 117 (n .0 .0 .0 .1),
-      ne-eqb c 102 (n .0 .0 .1),
-      ne-eqb c 122 (n .0 .1),
-      ne-eqb c 99 (n .1),
+      ne-eqb c 105 (n .0 .0 .0 .0 .0 .0 .0 .0 .0 .0 .0 .1),
+      ne-eqb c 111 (n .0 .0 .0 .0 .0 .0 .0 .0 .0 .0 .1),
+      ne-eqb c 97 (n .0 .0 .0 .0 .0 .0 .0 .0 .0 .1),
+      ne-eqb c 113 (n .0 .0 .0 .0 .0 .0 .0 .0 .1),
+      ne-eqb c 118 (n .0 .0 .0 .0 .0 .0 .0 .1),
+      ne-eqb c 115 (n .0 .0 .0 .0 .0 .0 .1),
+      ne-eqb c 114 (n .0 .0 .0 .0 .0 .1),
+      ne-eqb c 117 (n .0 .0 .0 .0 .1),
+      ne-eqb c 102 (n .0 .0 .0 .1),
+      ne-eqb c 122 (n .0 .0 .1),
+      ne-eqb c 99 (n .0 .1),
+      ne-eqb c 109 (n .1),
     )
 
 -- the range of a field that is this one

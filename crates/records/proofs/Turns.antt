@@ -2,21 +2,20 @@
 use mathlib.Core.Path.{_≡_, refl, sym, ap, _∙_}
 use mathlib.Core.Bool.{Bool, true, _&&_, and-true, and-assoc}
 use mathlib.Core.List.{List, [], _∷_, _++_, append-nil, append-assoc}
-use Prim.Native.Nat.{ℕ, _+_, _*_, _≤_, _<_, min}
+use Prim.Native.Nat.{ℕ, _+_, _*_, _≤_, _<_}
 use native.Mathlib.Numerals.{add-one}
 use native.Mathlib.Omega.{arith}
 use lib.ListN.{length, getD, take, drop, set, length-set}
 use lib.Seq.{drop-cons, drop-drop, drop-length, getD-take, length-take-le, take-suc-set}
 use Rattle.model.specs.Text.{little}
 use Rattle.model.specs.Records.{Field, width, widths, values, inRange, allInRange}
-use Rattle.octets.specs.Widths.{Weighs}
 use Rattle.records.specs.Layouts.{fieldOf, fieldsFor}
 use Rattle.records.specs.Reading.{FieldsRead}
 
 -- i fields are passed; what all fields say is what these say, and what the rest says from here on
 pub record Passed (o letters : List ℕ) (all : Bool) (vs : List ℕ) (end i : ℕ) : Type 0 where
   pub some : i ≤ length letters
-  pub low : end ≤ 4 + 4 * i
+  pub low : end ≤ 4 + 8 * i
   pub places : length vs ≡ 5
   pub ranges : allInRange (fieldsFor letters) (drop 4 o) ≡ (all && allInRange (fieldsFor (drop i letters)) (drop end o))
   pub filled : values (fieldsFor letters) (drop 4 o) ≡ take i vs ++ values (fieldsFor (drop i letters)) (drop end o)
@@ -32,7 +31,7 @@ taken-more vs i v h = rw add-one (take-suc-set vs i v h)
 
 -- one field more: f, of w octets, with the value v
 module _ (o letters : List ℕ) {all : Bool} {vs : List ℕ} {end i : ℕ} (p : Passed o letters all vs end i) (more : i < length letters) (few : length letters ≤ 5) where
-  module _ (f : Field) (names : f ≡ fieldOf (getD letters i 0)) {w v : ℕ} (wide : w ≡ width f) (fits : w ≤ 4) (reads : Weighs o end w v) where
+  module _ (f : Field) (names : f ≡ fieldOf (getD letters i 0)) {w v : ℕ} (wide : w ≡ width f) (fits : w ≤ 8) (reads : v ≡ little w (drop end o)) where
     -- the fields to come
     rest : List Field
     rest = fieldsFor (drop (i + 1) letters)
@@ -50,7 +49,7 @@ module _ (o letters : List ℕ) {all : Bool} {vs : List ℕ} {end i : ℕ} (p : 
 
     -- its value
     value : little (width f) (drop end o) ≡ v
-    value = let e : min w 4 ≡ width f = omega arith in ap (λ (n : ℕ). little n (drop end o)) (sym e) ∙ sym (reads .exact)
+    value = ap (λ (n : ℕ). little n (drop end o)) (sym wide) ∙ sym reads
 
     -- the turn
     pub passed-more : {ok : Bool} → ok ≡ (all && inRange f v) → Passed o letters ok (set vs i v) (end + w) (i + 1)
@@ -96,7 +95,7 @@ module _ (o letters : List ℕ) (n : ℕ) (five : length letters ≡ 5) (few : n
   -- a turn of the loop
   pub row-more : {all : Bool} {vs : List ℕ} {end i : ℕ} → Passed o (take n letters) all vs end i → i < n
       → (f : Field) → f ≡ fieldOf (getD letters i 0)
-      → {w v : ℕ} → w ≡ width f → w ≤ 4 → Weighs o end w v
+      → {w v : ℕ} → w ≡ width f → w ≤ 8 → v ≡ little w (drop end o)
       → {r ok : Bool} → r ≡ inRange f v → ok ≡ (all && r) → Passed o (take n letters) ok (set vs i v) (end + w) (i + 1)
   row-more {all} {vs} {end} {i} p more f names wide fits reads e b =
       let z : i < length (take n letters) = omega (arith, row-length) in

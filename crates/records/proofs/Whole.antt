@@ -12,7 +12,7 @@ use borrow.Author.Tests.{leb-true, leb-false, eqb-true, le-leb, lt-leb}
 use Rattle.model.specs.Lists.{allb}
 use Rattle.model.specs.Names.{valid, printable, noPartEmpty}
 use Rattle.model.specs.Text.{little}
-use Rattle.model.specs.Records.{Kind, MB, DL, RN, SB, RT, ME, XP, FL, SE, CE, CM, DR, unknown, Field, id, idOrNone, attributes, quiet, uidvalidity, subscribed, rights, uid, flags, size, class, count, Tail, nothing, name, command, layout, width, widths, values, inRange, allInRange, tailOk, bodyOk, bodyOf, isKnown, framed, kindOf, recordBy, recordOf}
+use Rattle.model.specs.Records.{Kind, MB, DL, RN, SB, RT, ME, XP, FL, SE, CE, CM, DR, unknown, Field, id, idOrNone, attributes, quiet, uidvalidity, subscribed, rights, uid, flags, size, class, count, counter, Tail, nothing, name, command, layout, width, widths, values, inRange, allInRange, tailOk, bodyOk, bodyOf, isKnown, framed, kindOf, recordBy, recordOf}
 use Rattle.records.specs.Kinds.{kindFor}
 use Rattle.records.specs.Layouts.{fieldOf, fieldsFor, tailFor, layoutFor, Fits, layout-fits}
 use Rattle.records.specs.Reading.{FieldsRead, Bounds, Bounded, Following, Reads}
@@ -57,6 +57,8 @@ bounds-of flags v e = leb-true v 31 e
 bounds-of size v e = leb-true v 4294967295 e
 bounds-of class v e = leb-true v 1 e
 bounds-of count v e = leb-true v 4294967295 e
+bounds-of counter v e =
+    (leb-true 1 v (both-left (leb 1 v) (leb v 9223372036854775807) e), leb-true v 9223372036854775807 (both-right (leb 1 v) (leb v 9223372036854775807) e))
 
 -- the values stand from place j on
 bounded-from : (fs : List Field) (b vs xs : List ℕ) (j : ℕ) → drop j vs ≡ xs → take (length fs) xs ≡ values fs b → allInRange fs b ≡ true → Bounded fs j vs
@@ -85,14 +87,14 @@ following-of command l e = leb-true (length l) 1024 e
 -- ---- a record needs no more values than its layout has fields
 -- the first of the values alone
 record-first : (k : Kind) (vs t : List ℕ) → recordBy k (take (length (layout k .fields)) vs) t ≡ recordBy k vs t
-record-first MB vs t = simp (getD-take 4 vs 0 0 (omega arith), getD-take 4 vs 1 0 (omega arith), getD-take 4 vs 2 0 (omega arith), getD-take 4 vs 3 0 (omega arith))
+record-first MB vs t = simp (getD-take 5 vs 0 0 (omega arith), getD-take 5 vs 1 0 (omega arith), getD-take 5 vs 2 0 (omega arith), getD-take 5 vs 3 0 (omega arith), getD-take 5 vs 4 0 (omega arith))
 record-first DL vs t = simp (getD-take 2 vs 0 0 (omega arith), getD-take 2 vs 1 0 (omega arith))
 record-first RN vs t = simp (getD-take 2 vs 0 0 (omega arith), getD-take 2 vs 1 0 (omega arith))
 record-first SB vs t = simp (getD-take 3 vs 0 0 (omega arith), getD-take 3 vs 1 0 (omega arith), getD-take 3 vs 2 0 (omega arith))
 record-first RT vs t = simp (getD-take 2 vs 0 0 (omega arith), getD-take 2 vs 1 0 (omega arith))
-record-first ME vs t = simp (getD-take 4 vs 0 0 (omega arith), getD-take 4 vs 1 0 (omega arith), getD-take 4 vs 2 0 (omega arith), getD-take 4 vs 3 0 (omega arith))
-record-first XP vs t = simp (getD-take 2 vs 0 0 (omega arith), getD-take 2 vs 1 0 (omega arith))
-record-first FL vs t = simp (getD-take 3 vs 0 0 (omega arith), getD-take 3 vs 1 0 (omega arith), getD-take 3 vs 2 0 (omega arith))
+record-first ME vs t = simp (getD-take 5 vs 0 0 (omega arith), getD-take 5 vs 1 0 (omega arith), getD-take 5 vs 2 0 (omega arith), getD-take 5 vs 3 0 (omega arith), getD-take 5 vs 4 0 (omega arith))
+record-first XP vs t = simp (getD-take 3 vs 0 0 (omega arith), getD-take 3 vs 1 0 (omega arith), getD-take 3 vs 2 0 (omega arith))
+record-first FL vs t = simp (getD-take 4 vs 0 0 (omega arith), getD-take 4 vs 1 0 (omega arith), getD-take 4 vs 2 0 (omega arith), getD-take 4 vs 3 0 (omega arith))
 record-first SE vs t = simp (getD-take 1 vs 0 0 (omega arith))
 record-first CE vs t = simp (getD-take 1 vs 0 0 (omega arith))
 record-first CM vs t = refl

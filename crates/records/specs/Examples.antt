@@ -23,7 +23,7 @@ abbrev Refused : List ℕ → Type 0
 Refused o = (r : Received) → Reads o r → r .valid ≡ false
 
 -- ---- each kind once
-created : Taken (mb 1 0x37 1 7 "iNbox") (create 1 55 1 7 (octets "INBOX"))
+created : Taken (mb 1 0x37 1 7 5 "iNbox") (create 1 55 1 7 5 (octets "INBOX"))
 unfolding recordOf same noPartEmpty
 created r h = (h .valid, sym (h .says))
 
@@ -43,15 +43,15 @@ granted : Taken (rt 258 48) (grant 258 48)
 unfolding recordOf same
 granted r h = (h .valid, sym (h .says))
 
-arrived : Taken (me 1 4294967294 31 100) (arrive 1 4294967294 31 100)
+arrived : Taken (me 1 4294967294 31 100 9223372036854775807) (arrive 1 4294967294 31 100 9223372036854775807)
 unfolding recordOf same
 arrived r h = (h .valid, sym (h .says))
 
-expunged : Taken (xp 1 3) (expunge 1 3)
+expunged : Taken (xp 1 3 4294967298) (expunge 1 3 4294967298)
 unfolding recordOf same
 expunged r h = (h .valid, sym (h .says))
 
-reflagged : Taken (fl 1 3 8) (reflag 1 3 8)
+reflagged : Taken (fl 1 3 8 1) (reflag 1 3 8 1)
 unfolding recordOf same
 reflagged r h = (h .valid, sym (h .says))
 
@@ -94,7 +94,7 @@ body-over : Refused (frame "SE" (1 ∷ 0 ∷ 0 ∷ []))
 unfolding same
 body-over r h = h .valid
 
-body-short : Refused (frame "XP" (1 ∷ 0 ∷ 3 ∷ 0 ∷ 0 ∷ []))
+body-short : Refused (frame "XP" (1 ∷ 0 ∷ 3 ∷ 0 ∷ 0 ∷ 0 ∷ 9 ∷ 0 ∷ 0 ∷ 0 ∷ 0 ∷ 0 ∷ 0 ∷ []))
 unfolding same
 body-short r h = h .valid
 
@@ -107,12 +107,30 @@ right-other : Refused (rt 1 8)
 unfolding same
 right-other r h = h .valid
 
-uid-highest : Refused (xp 1 4294967295)
+uid-highest : Refused (xp 1 4294967295 1)
 unfolding same
 uid-highest r h = h .valid
 
+-- a change counter of 0 and of 2^63
+counter-none : Refused (fl 1 3 8 0)
+unfolding same
+counter-none r h = h .valid
+
+counter-over : Refused (me 1 3 0 0 9223372036854775808)
+unfolding same
+counter-over r h = h .valid
+
+-- the layout without a change counter: an expunge is none, but a create whose name has eight octets and more takes them for one
+old-expunge : Refused (frame "XP" (1 ∷ 0 ∷ 3 ∷ 0 ∷ 0 ∷ 0 ∷ []))
+unfolding same
+old-expunge r h = h .valid
+
+old-create : Taken (frame "MB" (1 ∷ 0 ∷ 51 ∷ 1 ∷ 7 ∷ 0 ∷ 0 ∷ 0 ∷ octets "Ops/Mains")) (create 1 51 1 7 7955997200863162447 (octets "s"))
+unfolding recordOf same noPartEmpty
+old-create r h = (h .valid, sym (h .says))
+
 -- names that are none
-name-empty : Refused (mb 1 0 0 7 "")
+name-empty : Refused (mb 1 0 0 7 5 "")
 unfolding same noPartEmpty
 name-empty r h = h .valid
 

@@ -36,7 +36,7 @@ module _ {o : List ℕ} {r : Received} (h : Reads o r) where
 
 -- ---- by kind: what a record says, the range of each value, and the name that follows
 module _ {o vs : List ℕ} {tail : ℕ} where
-  pub create-says : Says Create o vs tail → recordOf o ≡ create (getD vs 0 0) (getD vs 1 0) (getD vs 2 0) (getD vs 3 0) (fold (drop tail o))
+  pub create-says : Says Create o vs tail → recordOf o ≡ create (getD vs 0 0) (getD vs 1 0) (getD vs 2 0) (getD vs 3 0) (getD vs 4 0) (fold (drop tail o))
   create-says s = s .says
 
   pub create-bounds : Says Create o vs tail
@@ -73,17 +73,17 @@ module _ {o vs : List ℕ} {tail : ℕ} where
   pub grant-bounds : Says Grant o vs tail → (1 ≤ getD vs 0 0) × (getD vs 0 0 ≤ 65535) × (getD vs 1 0 % 16 ≡ 0) × (getD vs 1 0 ≤ 48)
   grant-bounds s = let b = s .bounds in (b .0 .0, b .0 .1, b .1 .0 .0, b .1 .0 .1)
 
-  pub arrive-says : Says Arrive o vs tail → recordOf o ≡ arrive (getD vs 0 0) (getD vs 1 0) (getD vs 2 0) (getD vs 3 0)
+  pub arrive-says : Says Arrive o vs tail → recordOf o ≡ arrive (getD vs 0 0) (getD vs 1 0) (getD vs 2 0) (getD vs 3 0) (getD vs 4 0)
   arrive-says s = s .says
 
   pub arrive-bounds : Says Arrive o vs tail
       → (1 ≤ getD vs 0 0) × (getD vs 0 0 ≤ 65535) × (1 ≤ getD vs 1 0) × (getD vs 1 0 ≤ 4294967294) × (getD vs 2 0 ≤ 31) × (getD vs 3 0 ≤ 4294967295)
   arrive-bounds s = let b = s .bounds in (b .0 .0, b .0 .1, b .1 .0 .0, b .1 .0 .1, b .1 .1 .0, b .1 .1 .1 .0)
 
-  pub expunge-says : Says Expunge o vs tail → recordOf o ≡ expunge (getD vs 0 0) (getD vs 1 0)
+  pub expunge-says : Says Expunge o vs tail → recordOf o ≡ expunge (getD vs 0 0) (getD vs 1 0) (getD vs 2 0)
   expunge-says s = s .says
 
-  pub reflag-says : Says Reflag o vs tail → recordOf o ≡ reflag (getD vs 0 0) (getD vs 1 0) (getD vs 2 0)
+  pub reflag-says : Says Reflag o vs tail → recordOf o ≡ reflag (getD vs 0 0) (getD vs 1 0) (getD vs 2 0) (getD vs 3 0)
   reflag-says s = s .says
 
   pub select-says : Says Select o vs tail → recordOf o ≡ select (getD vs 0 0)

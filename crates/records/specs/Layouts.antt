@@ -6,12 +6,12 @@ use Prim.Native.Nat.{ℕ, _≤_}
 use native.Mathlib.Omega.{arith}
 use lib.Dec.{eqb}
 use lib.ListN.{take}
-use Rattle.model.specs.Records.{Field as RecordField, id, idOrNone, attributes, quiet, uidvalidity, subscribed, rights, uid, flags, size, class, count, Tail as RecordTail, nothing, name, command, Layout as RecordLayout, layout}
+use Rattle.model.specs.Records.{Field as RecordField, id, idOrNone, attributes, quiet, uidvalidity, subscribed, rights, uid, flags, size, class, count, counter, Tail as RecordTail, nothing, name, command, Layout as RecordLayout, layout}
 use Rattle.records.specs.Kinds.{kindFor}
 use Rattle.records.specs.declared.Kind.{Kind}
 use Rattle.records.specs.declared.Kind.the-variants.{Create, Delete, Rename, Subscribe, Grant, Arrive, Expunge, Reflag, Select, Ended, Command, Drained, Unknown}
 use Rattle.records.specs.declared.layouts.Field.{Field}
-use Rattle.records.specs.declared.layouts.Field.the-variants.{Id, IdOrNone, Attributes, Quiet, Uidvalidity, Subscribed, Rights, Uid, Flags, Size, Class, Count}
+use Rattle.records.specs.declared.layouts.Field.the-variants.{Id, IdOrNone, Attributes, Quiet, Uidvalidity, Subscribed, Rights, Uid, Flags, Size, Class, Count, Counter}
 use Rattle.records.specs.declared.layouts.Tail.{Tail}
 use Rattle.records.specs.declared.layouts.Tail.the-variants.{Nothing, Name, Command as CommandText}
 use Rattle.records.specs.declared.layouts.Layout.{Layout}
@@ -31,6 +31,7 @@ fieldFor Flags = flags
 fieldFor Size = size
 fieldFor Class = class
 fieldFor Count = count
+fieldFor Counter = counter
 
 -- the field of a letter
 abbrev pub fieldOf : ℕ → RecordField
@@ -45,7 +46,8 @@ fieldOf c =
     (cond (eqb c 117) uid
     (cond (eqb c 102) flags
     (cond (eqb c 122) size
-    (cond (eqb c 99) class count))))))))))
+    (cond (eqb c 99) class
+    (cond (eqb c 109) counter count)))))))))))
 
 -- the fields of a text
 abbrev pub fieldsFor : List ℕ → List RecordField
@@ -65,14 +67,14 @@ row letters n tail = record { 0 = letters; 1 = n; 2 = tail }
 
 -- the row of a kind
 abbrev pub layoutFor : Kind → Layout
-layoutFor Create = row (105 ∷ 97 ∷ 113 ∷ 118 ∷ 0 ∷ []) 4 Name
+layoutFor Create = row (105 ∷ 97 ∷ 113 ∷ 118 ∷ 109 ∷ []) 5 Name
 layoutFor Delete = row (105 ∷ 113 ∷ 0 ∷ 0 ∷ 0 ∷ []) 2 Nothing
 layoutFor Rename = row (105 ∷ 113 ∷ 0 ∷ 0 ∷ 0 ∷ []) 2 Name
 layoutFor Subscribe = row (105 ∷ 115 ∷ 113 ∷ 0 ∷ 0 ∷ []) 3 Nothing
 layoutFor Grant = row (105 ∷ 114 ∷ 0 ∷ 0 ∷ 0 ∷ []) 2 Nothing
-layoutFor Arrive = row (105 ∷ 117 ∷ 102 ∷ 122 ∷ 0 ∷ []) 4 Nothing
-layoutFor Expunge = row (105 ∷ 117 ∷ 0 ∷ 0 ∷ 0 ∷ []) 2 Nothing
-layoutFor Reflag = row (105 ∷ 117 ∷ 102 ∷ 0 ∷ 0 ∷ []) 3 Nothing
+layoutFor Arrive = row (105 ∷ 117 ∷ 102 ∷ 122 ∷ 109 ∷ []) 5 Nothing
+layoutFor Expunge = row (105 ∷ 117 ∷ 109 ∷ 0 ∷ 0 ∷ []) 3 Nothing
+layoutFor Reflag = row (105 ∷ 117 ∷ 102 ∷ 109 ∷ 0 ∷ []) 4 Nothing
 layoutFor Select = row (111 ∷ 0 ∷ 0 ∷ 0 ∷ 0 ∷ []) 1 Nothing
 layoutFor Ended = row (99 ∷ 0 ∷ 0 ∷ 0 ∷ 0 ∷ []) 1 Nothing
 layoutFor Command = row (0 ∷ 0 ∷ 0 ∷ 0 ∷ 0 ∷ []) 0 CommandText

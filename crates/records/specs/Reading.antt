@@ -6,7 +6,7 @@ use mathlib.Core.List.{List, [], _∷_}
 use Prim.Native.Nat.{ℕ, suc, _+_, _%_, _≤_}
 use lib.ListN.{length, take, drop, getD}
 use Rattle.model.specs.Names.{valid}
-use Rattle.model.specs.Records.{Field, id, idOrNone, attributes, quiet, uidvalidity, subscribed, rights, uid, flags, size, class, count, Tail, nothing, name, command, layout, widths, values, allInRange, kindOf, isRecord, recordBy, recordOf}
+use Rattle.model.specs.Records.{Field, id, idOrNone, attributes, quiet, uidvalidity, subscribed, rights, uid, flags, size, class, count, counter, Tail, nothing, name, command, layout, widths, values, allInRange, kindOf, isRecord, recordBy, recordOf}
 use Rattle.records.specs.Kinds.{kindFor}
 use Rattle.records.specs.Layouts.{fieldsFor}
 use Rattle.records.specs.declared.bodies.Fields.{Fields}
@@ -33,6 +33,7 @@ Bounds flags v = v ≤ 31
 Bounds size v = v ≤ 4294967295
 Bounds class v = v ≤ 1
 Bounds count v = v ≤ 4294967295
+Bounds counter v = (1 ≤ v) × (v ≤ 9223372036854775807)
 
 -- the values of some fields, the first at place j
 abbrev pub Bounded : List Field → ℕ → List ℕ → Type 0

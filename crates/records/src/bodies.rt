@@ -5,9 +5,10 @@ use super::layouts::in_range;
 use super::layouts::width_of;
 ghost use mathlib.Core.Path.{_≡_};
 ghost use mathlib.Core.Bool.{_&&_};
-ghost use Prim.Native.Nat.{_≤_};
+ghost use Prim.Native.Nat.{_≤_, _<_};
 ghost use lib.Dec.{leb};
 ghost use lib.ListN.{length, take, drop};
+ghost use Rattle.model.specs.Text.{little};
 ghost use Rattle.model.specs.Records.{framed, tailOk};
 ghost use Rattle.records.specs.Layouts.{tailFor};
 ghost use Rattle.records.specs.Reading.{FieldsRead};
@@ -29,6 +30,18 @@ pub struct Fields {
     pub end: usize,
 }
 
+// A number of at most four octets, or of eight: two halves, the lower one first.
+fn number_at(o: &[u8], at: usize, w: usize) -> u64
+    requires { ⌜ (at ≤ 65536) × (4 < w → w ≡ 8) ⌝ }
+    ensures { λ r. ⌜ r ≡ little w (drop at (now (o .entry))) ⌝ }
+{
+    let low = octets::little(o, at, w);
+    if w <= 4 {
+        return low;
+    }
+    low + 4294967296 * octets::little(o, at + 4, 4)
+}
+
 // The fields of a layout, read from the fourth octet on, whether or not so many octets are there.
 pub fn fields_at(o: &[u8], letters: [u8; 5], count: usize) -> Fields
     requires { ⌜ count ≤ 5 ⌝ }
@@ -41,7 +54,7 @@ pub fn fields_at(o: &[u8], letters: [u8; 5], count: usize) -> Fields
     while i < count {
         let f = field_of(letters[i]);
         let w = width_of(f);
-        let v = octets::little(o, end, w);
+        let v = number_at(o, end, w);
         all = both(all, in_range(f, v));
         values[i] = v;
         end += w;

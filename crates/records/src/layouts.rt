@@ -2,7 +2,7 @@
 use super::Kind;
 ghost use mathlib.Core.Path.{_≡_};
 ghost use mathlib.Core.Bool.{_&&_};
-ghost use Prim.Native.Nat.{_≤_, _%_};
+ghost use Prim.Native.Nat.{_≤_, _<_, _%_};
 ghost use lib.Dec.{eqb, leb};
 ghost use Rattle.model.specs.Records.{width, inRange};
 ghost use Rattle.records.specs.Layouts.{fieldFor, fieldOf, layoutFor};
@@ -18,19 +18,19 @@ pub enum Tail {
 pub struct Layout(pub [u8; 5], pub usize, pub Tail);
 
 // The layouts: i is an id, o an id or none, a attributes, q quiet, v UIDVALIDITY, s subscribed, r rights, u a UID, f flags, z a size,
-// c a class, n a count.
+// c a class, n a count, m a change counter.
 pub fn layout_of(k: Kind) -> Layout
     ensures { λ r. ⌜ r ≡ layoutFor k ⌝ }
 {
     match k {
-        Kind::Create => Layout([b'i', b'a', b'q', b'v', 0], 4, Tail::Name),
+        Kind::Create => Layout([b'i', b'a', b'q', b'v', b'm'], 5, Tail::Name),
         Kind::Delete => Layout([b'i', b'q', 0, 0, 0], 2, Tail::Nothing),
         Kind::Rename => Layout([b'i', b'q', 0, 0, 0], 2, Tail::Name),
         Kind::Subscribe => Layout([b'i', b's', b'q', 0, 0], 3, Tail::Nothing),
         Kind::Grant => Layout([b'i', b'r', 0, 0, 0], 2, Tail::Nothing),
-        Kind::Arrive => Layout([b'i', b'u', b'f', b'z', 0], 4, Tail::Nothing),
-        Kind::Expunge => Layout([b'i', b'u', 0, 0, 0], 2, Tail::Nothing),
-        Kind::Reflag => Layout([b'i', b'u', b'f', 0, 0], 3, Tail::Nothing),
+        Kind::Arrive => Layout([b'i', b'u', b'f', b'z', b'm'], 5, Tail::Nothing),
+        Kind::Expunge => Layout([b'i', b'u', b'm', 0, 0], 3, Tail::Nothing),
+        Kind::Reflag => Layout([b'i', b'u', b'f', b'm', 0], 4, Tail::Nothing),
         Kind::Select => Layout([b'o', 0, 0, 0, 0], 1, Tail::Nothing),
         Kind::Ended => Layout([b'c', 0, 0, 0, 0], 1, Tail::Nothing),
         Kind::Command => Layout([0, 0, 0, 0, 0], 0, Tail::Command),
@@ -53,6 +53,7 @@ pub enum Field {
     Size,
     Class,
     Count,
+    Counter,
 }
 
 // The field of a letter.
@@ -71,13 +72,14 @@ pub fn field_of(letter: u8) -> Field
         b'f' => Field::Flags,
         b'z' => Field::Size,
         b'c' => Field::Class,
+        b'm' => Field::Counter,
         _ => Field::Count,
     }
 }
 
 // How many octets a field has.
 pub fn width_of(f: Field) -> usize
-    ensures { λ r. ⌜ (r ≡ width (fieldFor f)) × (r ≤ 4) ⌝ }
+    ensures { λ r. ⌜ (r ≡ width (fieldFor f)) × (r ≤ 8) × (4 < r → r ≡ 8) ⌝ }
 {
     match f {
         Field::Id => 2,
@@ -92,6 +94,7 @@ pub fn width_of(f: Field) -> usize
         Field::Size => 4,
         Field::Class => 1,
         Field::Count => 4,
+        Field::Counter => 8,
     }
 }
 
@@ -132,5 +135,6 @@ pub fn in_range(f: Field, v: u64) -> bool
         Field::Size => v <= 4294967295,
         Field::Class => v <= 1,
         Field::Count => v <= 4294967295,
+        Field::Counter => between(1, v, 9223372036854775807),
     }
 }

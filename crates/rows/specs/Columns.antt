@@ -8,7 +8,7 @@ use lib.Dec.{eqb, ltb}
 use lib.ListN.{length, take, drop, getD, set, replicate, length-drop, take-append-drop}
 use lib.Seq.{getD-set-same, getD-set-other, length-take-le, take-take, take-at, drop-at, take-append-le, drop-append-le, take-all, paste}
 use borrow.Author.Tests.{eqb-true, eqb-false, ltb-true, ltb-false}
-use Rattle.model.specs.Memory.{noMailbox, nameOf}
+use Rattle.model.specs.Memory.{noMailbox, nameOf, counterOf}
 use Rattle.model.specs.declared.Mailbox.{Mailbox}
 
 -- one field of the rows, side by side
@@ -24,12 +24,13 @@ abbrev pub Names : List Mailbox → List ℕ → Type 0
 Names l names = (k : ℕ) → k < length l → block names k ≡ getD l k noMailbox .name
 
 -- all columns of the rows; a UIDNEXT behind them is 0
-pub record Laid (l : List Mailbox) (ids attributes lens validities nexts names : List ℕ) : Type 0 where
+pub record Laid (l : List Mailbox) (ids attributes lens validities nexts counters names : List ℕ) : Type 0 where
   pub id : Column (λ (x : Mailbox). x .id) l ids
   pub attribute : Column (λ (x : Mailbox). x .attributes) l attributes
   pub len : Column (λ (x : Mailbox). x .namelen) l lens
   pub validity : Column (λ (x : Mailbox). x .uidvalidity) l validities
   pub next : Column (λ (x : Mailbox). x .uidnext) l nexts
+  pub counter : Column counterOf l counters
   pub name : Names l names
   pub rest : (k : ℕ) → length l ≤ k → getD nexts k 0 ≡ 0
 

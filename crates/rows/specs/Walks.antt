@@ -12,6 +12,7 @@ use lib.Seq.{drop-cons, getD-take, length-take-le}
 use borrow.Author.Tests.{eq-eqb, ne-eqb, lt-ltb, le-ltb, le-leb}
 use Rattle.model.specs.Lists.{anyb, allb, apart, every}
 use Rattle.model.specs.Memory.{place, noMailbox, known, theMailbox}
+use Rattle.model.specs.Lawful.{counterOk}
 use Rattle.model.specs.declared.Mailbox.{Mailbox}
 
 -- past the end any element is as good as another
@@ -27,7 +28,7 @@ mapped-length A B f l n h = sym (length-map l f) ∙ h
 
 -- what stands past the end of an array of rows, in code
 abbrev pub vacant : Mailbox
-vacant = record { id = 0; attributes = 0; namelen = 0; uidvalidity = 0; uidnext = 0; name = [] }
+vacant = record { id = 0; attributes = 0; namelen = 0; uidvalidity = 0; uidnext = 0; counterlow = 0; counterhigh = 0; name = [] }
 
 module _ {A : Type 0} where
   pub front : (l : List A) (n i : ℕ) (d : A) → i < n → n ≤ length l → drop i (take n l) ≡ getD l i d ∷ drop (i + 1) (take n l)
@@ -141,5 +142,5 @@ module _ (a b c : Bool) where
   pub third : (r : Bool) → a ≡ true → b ≡ true → r ≡ c → r ≡ (a && (b && c))
   third r e f g = rw (e, f) g
 
-pub ok-last : (u f z s : ℕ) → 1 ≤ u → f ≤ 31 → z ≤ 4294967295 → leb s 2 ≡ every (leb 1 u ∷ leb f 31 ∷ leb z 4294967295 ∷ leb s 2 ∷ [])
-ok-last u f z s a b c = rw (le-leb 1 u a, le-leb f 31 b, le-leb z 4294967295 c) (and-true (leb s 2))
+pub ok-last : (u f z s c : ℕ) → 1 ≤ u → f ≤ 31 → z ≤ 4294967295 → 1 ≤ c → c ≤ 9223372036854775807 → leb s 2 ≡ every (leb 1 u ∷ leb f 31 ∷ leb z 4294967295 ∷ leb s 2 ∷ counterOk c ∷ [])
+ok-last u f z s c a b d e g = rw (le-leb 1 u a, le-leb f 31 b, le-leb z 4294967295 d, le-leb 1 c e, le-leb c 9223372036854775807 g) (and-true (leb s 2))

@@ -4,13 +4,13 @@ use model::Mailbox;
 ghost use mathlib.Core.Path.{_≡_};
 ghost use mathlib.Core.Bool.{not, _&&_};
 ghost use mathlib.Core.List.{List};
-ghost use Prim.Native.Nat.{ℕ, _+_, _-_, _*_, _≤_, _<_};
+ghost use Prim.Native.Nat.{ℕ, _+_, _-_, _*_, _/_, _%_, _≤_, _<_};
 ghost use lib.Dec.{eqb};
 ghost use lib.ListN.{length, take, getD, set};
 ghost use lib.Seq.{paste};
 ghost use Rattle.model.specs.Lists.{anyb, same};
 ghost use Rattle.model.specs.Text.{bit};
-ghost use Rattle.model.specs.Memory.{noMailbox, place};
+ghost use Rattle.model.specs.Memory.{noMailbox, place, counterOf, withCounter};
 ghost use Rattle.model.specs.declared.Mailbox.{Mailbox};
 ghost use Rattle.rows.specs.Columns.{Column, Names, Laid, nameAt, Ends};
 ghost use Rattle.rows.specs.Rows.{holds};
@@ -32,11 +32,32 @@ pub fn wide_id(x: u16) -> u64
     x as u64
 }
 
-// A UIDNEXT or UIDVALIDITY as it is, in a wider type.
+// A UIDNEXT, a UIDVALIDITY or half a counter as it is, in a wider type.
 pub fn wide_number(x: u32) -> u64
     ensures { λ r. ⌜ r ≡ x ⌝ }
 {
     x as u64
+}
+
+// The two halves of a counter as one number.
+pub fn joined(low: u32, high: u32) -> u64
+    ensures { λ r. ⌜ r ≡ low + 4294967296 * high ⌝ }
+{
+    wide_number(low) + 4294967296 * wide_number(high)
+}
+
+// The lower half of a counter.
+pub fn low_half(c: u64) -> u32
+    ensures { λ r. ⌜ r ≡ c % 4294967296 ⌝ }
+{
+    (c % 4294967296) as u32
+}
+
+// The upper half of a counter.
+pub fn high_half(c: u64) -> u32
+    ensures { λ r. ⌜ r ≡ c / 4294967296 ⌝ }
+{
+    (c / 4294967296) as u32
 }
 
 // Bit k of an octet.
@@ -101,10 +122,11 @@ fn fill(
     lens: &mut [u8],
     validities: &mut [u64],
     nexts: &mut [u64],
+    counters: &mut [u64],
     names: &mut [u8],
 )
-    requires { ⌜ (n ≤ 64) × (length (now ids) ≡ 64) × (length (now attributes) ≡ 64) × (length (now lens) ≡ 64) × (length (now validities) ≡ 64) × (length (now nexts) ≡ 64) × (length (now names) ≡ 4096) ⌝ }
-    ensures { λ _. ⌜ Laid (take n rows) (now (ids .exit)) (now (attributes .exit)) (now (lens .exit)) (now (validities .exit)) (now (nexts .exit)) (now (names .exit)) ⌝ }
+    requires { ⌜ (n ≤ 64) × (length (now ids) ≡ 64) × (length (now attributes) ≡ 64) × (length (now lens) ≡ 64) × (length (now validities) ≡ 64) × (length (now nexts) ≡ 64) × (length (now counters) ≡ 64) × (length (now names) ≡ 4096) ⌝ }
+    ensures { λ _. ⌜ Laid (take n rows) (now (ids .exit)) (now (attributes .exit)) (now (lens .exit)) (now (validities .exit)) (now (nexts .exit)) (now (counters .exit)) (now (names .exit)) ⌝ }
 {
     blank(nexts);
     let mut i: usize = 0;
@@ -116,6 +138,7 @@ fn fill(
         lens[i] = x.namelen;
         validities[i] = wide_number(x.uidvalidity);
         nexts[i] = wide_number(x.uidnext);
+        counters[i] = joined(x.counterlow, x.counterhigh);
         keep_name(names, i, name);
         i += 1;
     }
@@ -130,12 +153,23 @@ pub fn lay(
     lens: &mut [u8; 64],
     validities: &mut [u64; 64],
     nexts: &mut [u64; 64],
+    counters: &mut [u64; 64],
     names: &mut [u8; 4096],
 )
-    ensures { λ _. ⌜ Laid (take used rows) (now (ids .exit)) (now (attributes .exit)) (now (lens .exit)) (now (validities .exit)) (now (nexts .exit)) (now (names .exit)) ⌝ }
+    ensures { λ _. ⌜ Laid (take used rows) (now (ids .exit)) (now (attributes .exit)) (now (lens .exit)) (now (validities .exit)) (now (nexts .exit)) (now (counters .exit)) (now (names .exit)) ⌝ }
 {
     let n = few(used);
-    fill(rows, n, ids, attributes, lens, validities, nexts, names);
+    fill(
+        rows,
+        n,
+        ids,
+        attributes,
+        lens,
+        validities,
+        nexts,
+        counters,
+        names,
+    );
 }
 
 // ---- reading a row
@@ -214,7 +248,31 @@ pub fn is_held(
     false
 }
 
+// The change counter of a row.
+pub fn counter_of(x: Mailbox) -> u64
+    ensures { λ r. ⌜ r ≡ counterOf x ⌝ }
+{
+    joined(x.counterlow, x.counterhigh)
+}
+
 // ---- writing a row
+
+// The row with another change counter.
+pub fn with_counter(x: Mailbox, c: u64) -> Mailbox
+    ensures { λ r. ⌜ r ≡ withCounter x c ⌝ }
+{
+    let name = x.name;
+    Mailbox {
+        id: x.id,
+        attributes: x.attributes,
+        namelen: x.namelen,
+        uidvalidity: x.uidvalidity,
+        uidnext: x.uidnext,
+        counterlow: low_half(c),
+        counterhigh: high_half(c),
+        name,
+    }
+}
 
 // Row k becomes x; with k the count of rows, x stands behind the last.
 pub fn put_row(rows: [Mailbox; 64], k: usize, x: Mailbox) -> [Mailbox; 64]
@@ -237,6 +295,8 @@ pub fn vacant() -> Mailbox
         namelen: 0,
         uidvalidity: 0,
         uidnext: 0,
+        counterlow: 0,
+        counterhigh: 0,
         name,
     }
 }

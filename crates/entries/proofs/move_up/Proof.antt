@@ -1,4 +1,4 @@
--- `move_up`: the first i words are those from the sixth on. Assumes nothing.
+-- `move_up`: the first i words are those from the seventh on. Assumes nothing.
 use Rattle.entries.proofs.move_up.Statement.{statement}
 use Rattle.entries.proofs.move_up.Tie as tie
 use mathlib.Core.Path.{_≡_, _∙_, ap}
@@ -10,7 +10,7 @@ use Rattle.entries.specs.Taken.{down-start, down-next}
 use borrow.Author.Needs.{needs}
 
 abbrev Inv-loop : tie.InvT-loop
-Inv-loop words₀ n i₀ words i = (i ≤ n) × (length words ≡ length words₀) × (words ≡ over (drop 5 words₀) words₀ i)
+Inv-loop words₀ n i₀ words i = (i ≤ n) × (length words ≡ length words₀) × (words ≡ over (drop 6 words₀) words₀ i)
 
 abbrev μ-loop : tie.MeasureT-loop
 μ-loop words₀ n i₀ words i = n - i
@@ -51,7 +51,7 @@ returns : tie.Need-returns Inv-loop μ-loop
 returns c =
     let o = c .before .loop in
     let e : o .i ≡ c .before .before .args .n = omega arith in
-    o .inv .2 ∙ ap (over (drop 5 (c .before .before .args .words .now)) (c .before .before .args .words .now)) e
+    o .inv .2 ∙ ap (over (drop 6 (c .before .before .args .words .now)) (c .before .before .args .words .now)) e
 
 pub move-up-spec : {M : Type 1} → statement M
 move-up-spec =

@@ -1,11 +1,7 @@
+-- `fetches::put_fetch` meets its contract: its pieces are those of the line. Assumes nothing.
 use borrow.Author.Needs.{needs}
 use Rattle.fetches.proofs.put_fetch.Statement.{statement}
 use Rattle.fetches.proofs.put_fetch.Tie as tie
-use Rattle.fetches.proofs.put_fetch.Reads as reads
-use Rattle.fetches.proofs.put_fetch.Lts as lts
-use Rattle.fetches.proofs.flags.put_flags.Reads as put-flags-reads
-use Rattle.out.proofs.put.Reads as put-reads
-use Rattle.out.proofs.put_number.Reads as put-number-reads
 use native.Mathlib.Omega.{arith}
 use Rattle.out.specs.Put.{_then_}
 use Rattle.fetches.specs.Fetch.{fetchText}
@@ -28,27 +24,41 @@ put-requires-2 c κs = search needs
 put-number-requires-2 : tie.Need-put-number-requires-2
 put-number-requires-2 c κs = search needs
 
+put-flag-item-requires : tie.Need-put-flag-item-requires
+put-flag-item-requires c κs = search needs
+
+put-modseq-requires : tie.Need-put-modseq-requires
+put-modseq-requires c κs = search needs
+
 slice-aggregate-put-3 : tie.Need-slice-aggregate-put-3
 slice-aggregate-put-3 c = search needs
 
 put-requires-3 : tie.Need-put-requires-3
-put-requires-3 c κs = search needs
-
-put-flags-requires : tie.Need-put-flags-requires
-put-flags-requires c κs = search needs
-
-slice-aggregate-put-4 : tie.Need-slice-aggregate-put-4
-slice-aggregate-put-4 c = search needs
-
-put-requires-4 : tie.Need-put-requires-4
-put-requires-4 c κs = omega (arith, c .before .before .before .before .before .before .before .before .before .before .before .before .before .before .before .before .before .before .before .before .before .before .before .before .before .before .before .before .before .before .pre, c .before .before .before .before .before .before .before .before .before .before .before .before .before .before .before .before .before .before .before .before .before .before .before .before .before .before .put .ensures .next, c .before .before .before .before .before .before .before .before .before .before .before .before .before .before .before .before .before .before .before .before .before .before .put-number .ensures .1, c .before .before .before .before .before .before .before .before .before .before .before .before .before .before .before .before .before .put2 .ensures .next, c .before .before .before .before .before .before .before .before .before .before .before .before .before .put-number2 .ensures .1, c .before .before .before .before .before .before .before .before .put3 .ensures .next, c .before .before .before .before .put-flags .ensures .1, c .before .before .before .before .before .before .before .before .before .before .before .before .before .before .before .before .before .before .before .before .before .before .before .before .before .before .put .ensures .same, c .before .before .before .before .before .before .before .before .before .before .before .before .before .before .before .before .before .before .before .before .before .before .put-number .ensures .0 .same, c .before .before .before .before .before .before .before .before .before .before .before .before .before .before .before .before .before .put2 .ensures .same, c .before .before .before .before .before .before .before .before .before .before .before .before .before .put-number2 .ensures .0 .same, c .before .before .before .before .before .before .before .before .put3 .ensures .same, c .before .before .before .before .put-flags .ensures .0 .same)
+put-requires-3 c κs =
+    let start = c .before .before .before .before .before .before .before .before .before .before .before .before .before .before .before .before .before .before .before .before .before .before .before .before .before .before .before .before .before in
+    let word = c .before .before .before .before .before .before .before .before .before .before .before .before .before .before .before .before .before .before .before .before .before .before .before .before .before .put .ensures in
+    let place = c .before .before .before .before .before .before .before .before .before .before .before .before .before .before .before .before .before .before .before .before .before .put-number .ensures in
+    let fetch = c .before .before .before .before .before .before .before .before .before .before .before .before .before .before .before .before .put2 .ensures in
+    let uid = c .before .before .before .before .before .before .before .before .before .before .before .before .put-number2 .ensures in
+    let flags = c .before .before .before .before .before .before .before .before .put-flag-item .ensures in
+    let counter = c .before .before .before .before .put-modseq .ensures in
+    omega (arith, start .pre, word .next, place .1, fetch .next, uid .1, flags .1, counter .1, word .same, place .0 .same, fetch .same, uid .0 .same, flags .0 .same, counter .0 .same)
 
 same-length : tie.Need-same-length
 same-length c = search needs
 
 returns : tie.Need-returns
 unfolding fetchText
-returns c = (_then_ (_then_ (_then_ (_then_ (_then_ (_then_ (c .before .before .before .before .before .before .before .before .before .before .before .before .before .before .before .before .before .before .before .before .before .before .before .before .before .before .before .before .before .put .ensures) (c .before .before .before .before .before .before .before .before .before .before .before .before .before .before .before .before .before .before .before .before .before .before .before .before .before .put-number .ensures .0)) (c .before .before .before .before .before .before .before .before .before .before .before .before .before .before .before .before .before .before .before .before .put2 .ensures)) (c .before .before .before .before .before .before .before .before .before .before .before .before .before .before .before .before .put-number2 .ensures .0)) (c .before .before .before .before .before .before .before .before .before .before .before .put3 .ensures)) (c .before .before .before .before .before .before .before .put-flags .ensures .0)) (c .before .before .put4 .ensures), omega (arith, c .before .before .before .before .before .before .before .before .before .before .before .before .before .before .before .before .before .before .before .before .before .before .before .before .before .before .before .before .before .before .before .before .before .pre, c .before .before .before .before .before .before .before .before .before .before .before .before .before .before .before .before .before .before .before .before .before .before .before .before .before .before .before .before .before .put .ensures .next, c .before .before .before .before .before .before .before .before .before .before .before .before .before .before .before .before .before .before .before .before .before .before .before .before .before .put-number .ensures .1, c .before .before .before .before .before .before .before .before .before .before .before .before .before .before .before .before .before .before .before .before .put2 .ensures .next, c .before .before .before .before .before .before .before .before .before .before .before .before .before .before .before .before .put-number2 .ensures .1, c .before .before .before .before .before .before .before .before .before .before .before .put3 .ensures .next, c .before .before .before .before .before .before .before .put-flags .ensures .1, c .before .before .put4 .ensures .next))
+returns c =
+    let start = c .before .before .before .before .before .before .before .before .before .before .before .before .before .before .before .before .before .before .before .before .before .before .before .before .before .before .before .before .before .before .before .before in
+    let word = c .before .before .before .before .before .before .before .before .before .before .before .before .before .before .before .before .before .before .before .before .before .before .before .before .before .before .before .before .put .ensures in
+    let place = c .before .before .before .before .before .before .before .before .before .before .before .before .before .before .before .before .before .before .before .before .before .before .before .before .put-number .ensures in
+    let fetch = c .before .before .before .before .before .before .before .before .before .before .before .before .before .before .before .before .before .before .before .put2 .ensures in
+    let uid = c .before .before .before .before .before .before .before .before .before .before .before .before .before .before .before .put-number2 .ensures in
+    let flags = c .before .before .before .before .before .before .before .before .before .before .before .put-flag-item .ensures in
+    let counter = c .before .before .before .before .before .before .before .put-modseq .ensures in
+    let closed = c .before .before .put3 .ensures in
+    (_then_ (_then_ (_then_ (_then_ (_then_ (_then_ word (place .0)) fetch) (uid .0)) (flags .0)) (counter .0)) closed, omega (arith, start .pre, word .next, place .1, fetch .next, uid .1, flags .1, counter .1, closed .next))
 
 pub put-fetch-spec : {M : Type 1} → statement M
 put-fetch-spec =
@@ -60,10 +70,9 @@ put-fetch-spec =
     slice-aggregate-put-2
     put-requires-2
     put-number-requires-2
+    put-flag-item-requires
+    put-modseq-requires
     slice-aggregate-put-3
     put-requires-3
-    put-flags-requires
-    slice-aggregate-put-4
-    put-requires-4
     same-length
     returns)

@@ -1,23 +1,13 @@
+-- `notices::put_status_at_set` meets its contract: its pieces are those of the line. Assumes nothing.
 use borrow.Author.Needs.{needs}
 use Rattle.notices.proofs.put_status_at_set.Statement.{statement}
 use Rattle.notices.proofs.put_status_at_set.Tie as tie
-use Rattle.notices.proofs.put_status_at_set.Reads as reads
-use Rattle.notices.proofs.put_status_at_set.Lts as lts
-use Rattle.notices.proofs.put_counted.Reads as put-counted-reads
-use Rattle.out.proofs.put.Reads as put-reads
-use Rattle.out.proofs.put_quoted.Reads as put-quoted-reads
 use native.Mathlib.Omega.{arith}
 use Rattle.out.specs.Put.{_then_, put-as}
-use Rattle.notices.specs.Texts.{at-set-text}
+use Rattle.notices.specs.Texts.{set-text}
 
-slice-aggregate-put : tie.Need-slice-aggregate-put
-slice-aggregate-put c = search needs
-
-put-requires : tie.Need-put-requires
-put-requires c κs = search needs
-
-put-quoted-requires : tie.Need-put-quoted-requires
-put-quoted-requires c κs = search needs
+put-opening-requires : tie.Need-put-opening-requires
+put-opening-requires c κs = search needs
 
 slice-aggregate-put-counted : tie.Need-slice-aggregate-put-counted
 slice-aggregate-put-counted c = search needs
@@ -37,32 +27,33 @@ slice-aggregate-put-counted-3 c = search needs
 put-counted-requires-3 : tie.Need-put-counted-requires-3
 put-counted-requires-3 c κs = search needs
 
-slice-aggregate-put-2 : tie.Need-slice-aggregate-put-2
-slice-aggregate-put-2 c = search needs
-
-put-requires-2 : tie.Need-put-requires-2
-put-requires-2 c κs = omega (arith, c .before .before .before .before .before .before .before .before .before .before .before .before .before .before .before .before .before .before .before .before .before .before .before .before .before .before .before .before .pre, c .before .before .before .before .before .before .before .before .before .before .before .before .before .before .before .before .before .before .before .before .before .before .before .put .ensures .next, c .before .before .before .before .before .before .before .before .before .before .before .before .before .before .before .before .before .before .before .put-quoted .ensures .1, c .before .before .before .before .before .before .before .before .before .before .before .before .before .before .put-counted .ensures .1, c .before .before .before .before .before .before .before .before .before .put-counted2 .ensures .1, c .before .before .before .before .put-counted3 .ensures .1, c .before .before .before .before .before .before .before .before .before .before .before .before .before .before .before .before .before .before .before .before .before .before .before .put .ensures .same, c .before .before .before .before .before .before .before .before .before .before .before .before .before .before .before .before .before .before .before .put-quoted .ensures .0 .same, c .before .before .before .before .before .before .before .before .before .before .before .before .before .before .put-counted .ensures .0 .same, c .before .before .before .before .before .before .before .before .before .put-counted2 .ensures .0 .same, c .before .before .before .before .put-counted3 .ensures .0 .same)
+put-highest-requires : tie.Need-put-highest-requires
+put-highest-requires c κs = search needs
 
 same-length : tie.Need-same-length
 same-length c = search needs
 
 returns : tie.Need-returns
-returns c = (put-as (_then_ (_then_ (_then_ (_then_ (_then_ (c .before .before .before .before .before .before .before .before .before .before .before .before .before .before .before .before .before .before .before .before .before .before .before .before .before .before .put .ensures) (c .before .before .before .before .before .before .before .before .before .before .before .before .before .before .before .before .before .before .before .before .before .before .put-quoted .ensures .0)) (c .before .before .before .before .before .before .before .before .before .before .before .before .before .before .before .before .before .put-counted .ensures .0)) (c .before .before .before .before .before .before .before .before .before .before .before .before .put-counted2 .ensures .0)) (c .before .before .before .before .before .before .before .put-counted3 .ensures .0)) (c .before .before .put2 .ensures)) (at-set-text (c .before .before .before .before .before .before .before .before .before .before .before .before .before .before .before .before .before .before .before .before .before .before .before .before .before .before .before .before .before .before .before .args .name .now) (c .before .before .before .before .before .before .before .before .before .before .before .before .before .before .before .before .before .before .before .before .before .before .before .before .before .before .before .before .before .before .before .args .messages) (c .before .before .before .before .before .before .before .before .before .before .before .before .before .before .before .before .before .before .before .before .before .before .before .before .before .before .before .before .before .before .before .args .next) (c .before .before .before .before .before .before .before .before .before .before .before .before .before .before .before .before .before .before .before .before .before .before .before .before .before .before .before .before .before .before .before .args .validity)), omega (arith, c .before .before .before .before .before .before .before .before .before .before .before .before .before .before .before .before .before .before .before .before .before .before .before .before .before .before .before .before .before .before .before .pre, c .before .before .before .before .before .before .before .before .before .before .before .before .before .before .before .before .before .before .before .before .before .before .before .before .before .before .put .ensures .next, c .before .before .before .before .before .before .before .before .before .before .before .before .before .before .before .before .before .before .before .before .before .before .put-quoted .ensures .1, c .before .before .before .before .before .before .before .before .before .before .before .before .before .before .before .before .before .put-counted .ensures .1, c .before .before .before .before .before .before .before .before .before .before .before .before .put-counted2 .ensures .1, c .before .before .before .before .before .before .before .put-counted3 .ensures .1, c .before .before .put2 .ensures .next))
+returns c =
+    let args = c .before .before .before .before .before .before .before .before .before .before .before .before .before .before .before .before .before .before .before .before .before .before .before .before .before .args in
+    let opened = c .before .before .before .before .before .before .before .before .before .before .before .before .before .before .before .before .before .before .before .before .before .put-opening .ensures in
+    let messages = c .before .before .before .before .before .before .before .before .before .before .before .before .before .before .before .before .put-counted .ensures in
+    let next = c .before .before .before .before .before .before .before .before .before .before .before .put-counted2 .ensures in
+    let validity = c .before .before .before .before .before .before .put-counted3 .ensures in
+    let ended = c .before .before .put-highest .ensures in
+    (put-as (_then_ (_then_ (_then_ (_then_ (opened .0) (messages .0)) (next .0)) (validity .0)) (ended .0)) (set-text (args .name .now) (args .messages) (args .next) (args .validity) (args .highest)), omega (arith, opened .1, messages .1, next .1, validity .1, ended .1))
 
 pub put-status-at-set-spec : {M : Type 1} → statement M
 put-status-at-set-spec =
     tie.close
     (tie.spec
-    slice-aggregate-put
-    put-requires
-    put-quoted-requires
+    put-opening-requires
     slice-aggregate-put-counted
     put-counted-requires
     slice-aggregate-put-counted-2
     put-counted-requires-2
     slice-aggregate-put-counted-3
     put-counted-requires-3
-    slice-aggregate-put-2
-    put-requires-2
+    put-highest-requires
     same-length
     returns)

@@ -10,16 +10,18 @@ use Rattle.rows.specs.Filling.{Filling, filling-start, filling-next, fil
 use borrow.Author.Needs.{needs}
 
 abbrev Inv-loop : tie.InvT-loop
-Inv-loop n ids₀ attributes₀ lens₀ validities₀ nexts₀ names₀ rows i₀ ids attributes lens validities nexts names i = (i ≤ n) × Filling rows i ids attributes lens validities nexts names
+Inv-loop n ids₀ attributes₀ lens₀ validities₀ nexts₀ counters₀ names₀ rows i₀ ids attributes lens validities nexts counters names i = (i ≤ n) × Filling rows i ids attributes lens validities nexts counters names
 
 abbrev μ-loop : tie.MeasureT-loop
-μ-loop n ids₀ attributes₀ lens₀ validities₀ nexts₀ names₀ rows i₀ ids attributes lens validities nexts names i = n - i
+μ-loop n ids₀ attributes₀ lens₀ validities₀ nexts₀ counters₀ names₀ rows i₀ ids attributes lens validities nexts counters names i = n - i
 
 blank-requires : tie.Need-blank-requires Inv-loop μ-loop
 blank-requires c κs = search needs
 
 loop-holds : tie.Need-loop-holds Inv-loop μ-loop
-loop-holds c = (search needs, filling-start (c .before .before .before .before .before .before .before .before .before .before .args .t1) _ _ _ _ _ _ (c .before .before .before .before .before .before .before .before .before .before .pre .1) (c .before .before .before .before .before .before .before .before .before .before .pre .2) (c .before .before .before .before .before .before .before .before .before .before .pre .3) (c .before .before .before .before .before .before .before .before .before .before .pre .4) (c .before .before .blank .ensures .1 ∙ c .before .before .before .before .before .before .before .before .before .before .pre .5) (c .before .before .before .before .before .before .before .before .before .before .pre .6) (c .before .before .blank .ensures .0))
+loop-holds c =
+    let start = c .before .before .before .before .before .before .before .before .before .before .before in
+    (search needs, filling-start (start .args .t1) _ _ _ _ _ _ _ (start .pre .1) (start .pre .2) (start .pre .3) (start .pre .4) (c .before .before .blank .ensures .1 ∙ start .pre .5) (start .pre .6) (start .pre .7) (c .before .before .blank .ensures .0))
 
 mul-x : tie.Need-mul-x Inv-loop μ-loop
 mul-x c = search needs
@@ -60,6 +62,15 @@ mul-nexts c = search needs
 slice-write-nexts : tie.Need-slice-write-nexts Inv-loop μ-loop
 slice-write-nexts c = search needs
 
+joined-requires : tie.Need-joined-requires Inv-loop μ-loop
+joined-requires c κs = search needs
+
+mul-counters : tie.Need-mul-counters Inv-loop μ-loop
+mul-counters c = search needs
+
+slice-write-counters : tie.Need-slice-write-counters Inv-loop μ-loop
+slice-write-counters c = search needs
+
 keep-name-requires : tie.Need-keep-name-requires Inv-loop μ-loop
 keep-name-requires c κs = search needs
 
@@ -71,36 +82,40 @@ loop-less c = search needs
 
 loop-again : tie.Need-loop-again Inv-loop μ-loop
 loop-again c =
-    let args = c .before .before .before .before .before .before .before .before .before .before .before .before .before .before .before .before .before .before .before .before .before .args in
-    let turn = c .before .before .before .before .before .before .before .before .before .before .loop in
+    let args = c .before .before .before .before .before .before .before .before .before .before .before .before .before .before .before .before .before .before .before .before .before .before .before .args in
+    let turn = c .before .before .before .before .before .before .before .before .before .before .before .loop in
+    let named = c .before .before .keep-name in
     let long : length (args .t1) ≡ 64 = search (needs, mapped-length) in
     let i = turn .i in
     let d = any-default (args .t1) i _ noMailbox (omega arith) in
-    (search needs, filling-next (args .t1) _ _ _ _ _ _ i (turn .inv .1) _ _ _ _ _ (omega arith) d (c .before .before .keep-name .ensures .2) (c .before .before .before .before .before .before .wide-id .ensures) (c .before .before .before .before .before .wide-number .ensures) (c .before .before .before .before .wide-number2 .ensures) (c .before .before .keep-name .ensures .0) (c .before .before .keep-name .ensures .1))
+    (search needs, filling-next (args .t1) _ _ _ _ _ _ _ i (turn .inv .1) _ _ _ _ _ _ (omega arith) d (named .ensures .2) (c .before .before .before .before .before .before .before .wide-id .ensures) (c .before .before .before .before .before .before .wide-number .ensures) (c .before .before .before .before .before .wide-number2 .ensures) (c .before .before .before .before .joined .ensures) (named .ensures .0) (named .ensures .1))
 
 same-length : tie.Need-same-length Inv-loop μ-loop
-same-length c = c .before .loop .inv .1 .many-ids ∙ sym (c .before .before .before .before .before .before .before .before .before .before .before .before .pre .1)
+same-length c = c .before .loop .inv .1 .many-ids ∙ sym (c .before .before .before .before .before .before .before .before .before .before .before .before .before .pre .1)
 
 same-length-2 : tie.Need-same-length-2 Inv-loop μ-loop
-same-length-2 c = c .before .loop .inv .1 .many-attributes ∙ sym (c .before .before .before .before .before .before .before .before .before .before .before .before .pre .2)
+same-length-2 c = c .before .loop .inv .1 .many-attributes ∙ sym (c .before .before .before .before .before .before .before .before .before .before .before .before .before .pre .2)
 
 same-length-3 : tie.Need-same-length-3 Inv-loop μ-loop
-same-length-3 c = c .before .loop .inv .1 .many-lens ∙ sym (c .before .before .before .before .before .before .before .before .before .before .before .before .pre .3)
+same-length-3 c = c .before .loop .inv .1 .many-lens ∙ sym (c .before .before .before .before .before .before .before .before .before .before .before .before .before .pre .3)
 
 same-length-4 : tie.Need-same-length-4 Inv-loop μ-loop
-same-length-4 c = c .before .loop .inv .1 .many-validities ∙ sym (c .before .before .before .before .before .before .before .before .before .before .before .before .pre .4)
+same-length-4 c = c .before .loop .inv .1 .many-validities ∙ sym (c .before .before .before .before .before .before .before .before .before .before .before .before .before .pre .4)
 
 same-length-5 : tie.Need-same-length-5 Inv-loop μ-loop
-same-length-5 c = c .before .loop .inv .1 .many-nexts ∙ sym (c .before .before .before .before .before .before .before .before .before .before .before .before .pre .5)
+same-length-5 c = c .before .loop .inv .1 .many-nexts ∙ sym (c .before .before .before .before .before .before .before .before .before .before .before .before .before .pre .5)
 
 same-length-6 : tie.Need-same-length-6 Inv-loop μ-loop
-same-length-6 c = c .before .loop .inv .1 .many-octets ∙ sym (c .before .before .before .before .before .before .before .before .before .before .before .before .pre .6)
+same-length-6 c = c .before .loop .inv .1 .many-counters ∙ sym (c .before .before .before .before .before .before .before .before .before .before .before .before .before .pre .6)
+
+same-length-7 : tie.Need-same-length-7 Inv-loop μ-loop
+same-length-7 c = c .before .loop .inv .1 .many-octets ∙ sym (c .before .before .before .before .before .before .before .before .before .before .before .before .before .pre .7)
 
 returns : tie.Need-returns Inv-loop μ-loop
 returns c =
-    let args = c .before .before .before .before .before .before .before .before .before .before .before .before .args in
+    let args = c .before .before .before .before .before .before .before .before .before .before .before .before .before .args in
     let turn = c .before .loop in
-    let long : length (args .t1) ≡ 64 = search (needs, mapped-length) in filling-end (args .t1) _ _ _ _ _ _ (turn .i) (turn .inv .1) (args .n) (omega arith) (omega arith)
+    let long : length (args .t1) ≡ 64 = search (needs, mapped-length) in filling-end (args .t1) _ _ _ _ _ _ _ (turn .i) (turn .inv .1) (args .n) (omega arith) (omega arith)
 
 pub fill-spec : {M : Type 1} → statement M
 fill-spec =
@@ -123,6 +138,9 @@ fill-spec =
     wide-number-requires-2
     mul-nexts
     slice-write-nexts
+    joined-requires
+    mul-counters
+    slice-write-counters
     keep-name-requires
     add-i
     loop-less
@@ -133,4 +151,5 @@ fill-spec =
     same-length-4
     same-length-5
     same-length-6
+    same-length-7
     returns)

@@ -13,8 +13,8 @@ fill-requires c κs = search needs
 
 returns : tie.Need-returns
 returns c =
-    let args = c .before .before .before .before .before .before .before .before .args in
-    let long : length (args .rows) ≡ 64 = search (needs, mapped-length) in rw (← c .before .before .before .before .before .before .before .few .ensures .1 (args .rows) long) (c .fill .ensures)
+    let args = c .before .before .before .before .before .before .before .before .before .args in
+    let long : length (args .rows) ≡ 64 = search (needs, mapped-length) in rw (← c .before .before .before .before .before .before .before .before .few .ensures .1 (args .rows) long) (c .fill .ensures)
 
 pub lay-spec : {M : Type 1} → statement M
 lay-spec = tie.close (tie.spec few-requires fill-requires returns)

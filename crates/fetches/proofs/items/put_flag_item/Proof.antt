@@ -10,8 +10,8 @@ use Prim.Native.Nat.{_-_}
 use native.Mathlib.Omega.{arith}
 use borrow.Author.Tests.{not-true, not-false}
 use Rattle.out.specs.Put.{_then_, put-as, put-none}
-use Rattle.fetches.specs.Fetch.{piece-off}
-use Rattle.fetches.specs.Items.{piece-gap, flagItem}
+use Rattle.fetches.specs.Fetch.{piece-off, flagItem}
+use Rattle.fetches.specs.Items.{piece-gap}
 
 returns : tie.Need-returns
 returns c = let a = c .before .before .args in (put-as (put-none _ _ _ (c .before .before .pre .0)) (piece-off (a .on) (a .began) (flagItem (a .flags)) (not-true (a .on) (c .if1 .taken))), omega arith)

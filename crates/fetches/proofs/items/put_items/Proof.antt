@@ -1,15 +1,11 @@
+-- `fetches::put_items` meets its contract: each item with its gap, the counter last. Assumes nothing.
 use borrow.Author.Needs.{needs}
 use Rattle.fetches.proofs.items.put_items.Statement.{statement}
 use Rattle.fetches.proofs.items.put_items.Tie as tie
-use Rattle.fetches.proofs.items.put_items.Reads as reads
-use Rattle.fetches.proofs.items.put_items.Lts as lts
-use Rattle.fetches.proofs.flags.either.Reads as either-reads
-use Rattle.fetches.proofs.items.put_counted.Reads as put-counted-reads
-use Rattle.fetches.proofs.items.put_flag_item.Reads as put-flag-item-reads
-use mathlib.Core.Path.{ap}
-use mathlib.Core.Bool.{Bool}
-use Prim.Native.Nat.{_-_}
+use mathlib.Core.Path.{ap, _∙_}
+use mathlib.Core.Bool.{Bool, true, _||_}
 use native.Mathlib.Omega.{arith}
+use Rattle.model.specs.Lines.{modseq, itemText}
 use Rattle.out.specs.Put.{_then_, put-as}
 use Rattle.fetches.specs.Fetch.{piece}
 use Rattle.fetches.specs.Items.{sizeText}
@@ -32,12 +28,29 @@ slice-aggregate-put-counted-2 c = search needs
 put-counted-requires-2 : tie.Need-put-counted-requires-2
 put-counted-requires-2 c κs = search needs
 
+either-requires-2 : tie.Need-either-requires-2
+either-requires-2 c κs = search needs
+
+put-modseq-requires : tie.Need-put-modseq-requires
+put-modseq-requires c κs = search needs
+
 same-length : tie.Need-same-length
 same-length c = search needs
 
 returns : tie.Need-returns
-returns c = let a = c .before .before .before .before .before .before .before .before .before .before .before .before .before .before .before .before .args in
-    (_then_ (_then_ (c .before .before .before .before .before .before .before .before .before .before .before .before .put-counted .ensures .0) (c .before .before .before .before .before .before .before .before .put-flag-item .ensures .0)) (put-as (c .before .before .put-counted2 .ensures .0) (ap (λ (b : Bool). piece (c .before .before .before .before .before .before .before .before .before .before .before .before .before .before .before .before .args .w .size) b (sizeText (c .before .before .before .before .before .before .before .before .before .before .before .before .before .before .before .before .args .e .size))) (c .before .before .before .before .before .either .ensures))), omega (arith, c .before .before .before .before .before .before .before .before .before .before .before .before .put-counted .ensures .1, c .before .before .before .before .before .before .before .before .put-flag-item .ensures .1, c .before .before .put-counted2 .ensures .1))
+returns c =
+    let args = c .before .before .before .before .before .before .before .before .before .before .before .before .before .before .before .before .before .before .before .before .before .args in
+    let told = c .before .before .before .before .before .before .before .before .before .before .before .before .before .before .before .before .before .put-counted .ensures in
+    let flagged = c .before .before .before .before .before .before .before .before .before .before .before .before .before .put-flag-item .ensures in
+    let either = c .before .before .before .before .before .before .before .before .before .before .either .ensures in
+    let sized = c .before .before .before .before .before .before .before .put-counted2 .ensures in
+    let any = c .before .before .before .either2 .ensures ∙ ap (λ (b : Bool). b || args .w .size) either in
+    let counted = c .before .before .put-modseq .ensures in (
+      _then_
+          (_then_ (_then_ (told .0) (flagged .0)) (put-as (sized .0) (ap (λ (b : Bool). piece (args .w .size) b (sizeText (args .e .size))) either)))
+          (put-as (counted .0) (ap (λ (b : Bool). piece true b (itemText (modseq (args .e .counter)))) any)),
+      omega (arith, told .1, flagged .1, sized .1, counted .1),
+    )
 
 pub put-items-spec : {M : Type 1} → statement M
 put-items-spec =
@@ -49,5 +62,7 @@ put-items-spec =
     either-requires
     slice-aggregate-put-counted-2
     put-counted-requires-2
+    either-requires-2
+    put-modseq-requires
     same-length
     returns)

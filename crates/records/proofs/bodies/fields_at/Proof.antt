@@ -27,8 +27,8 @@ field-of-requires c κs = search needs
 width-of-requires : tie.Need-width-of-requires Inv-loop μ-loop
 width-of-requires c κs = search needs
 
-little-requires : tie.Need-little-requires Inv-loop μ-loop
-little-requires c κs = search needs
+number-at-requires : tie.Need-number-at-requires Inv-loop μ-loop
+number-at-requires c κs = (omega arith, c .width-of .ensures .2)
 
 in-range-requires : tie.Need-in-range-requires Inv-loop μ-loop
 in-range-requires c κs = search needs
@@ -60,7 +60,7 @@ loop-again c =
     let wide = c .before .before .before .width-of .ensures in
     let five : length (args .t2) ≡ 5 = omega arith in (
       row-more (args .o .now) (args .t2) (args .count) five (start .pre) (l .inv .0) (omega arith) (fieldFor (field .result)) (field .ensures)
-          (wide .0) (wide .1) (c .before .before .little .ensures) (c .before .in-range .ensures) (c .both .ensures),
+          (wide .0) (wide .1) (c .before .before .number-at .ensures) (c .before .in-range .ensures) (c .both .ensures),
       omega arith,
     )
 
@@ -81,7 +81,7 @@ fields-at-spec =
     array-read-field-of
     field-of-requires
     width-of-requires
-    little-requires
+    number-at-requires
     in-range-requires
     both-requires
     mul-values

@@ -39,7 +39,10 @@ returns-11 : tie.Need-returns-11
 returns-11 c = ap fieldOf (sym (c .match .keys11))
 
 returns-12 : tie.Need-returns-12
-returns-12 c = letter-other (c .before .args .letter) (c .match .rest)
+returns-12 c = ap fieldOf (sym (c .match .keys12))
+
+returns-13 : tie.Need-returns-13
+returns-13 c = letter-other (c .before .args .letter) (c .match .rest)
 
 pub field-of-spec : {M : Type 1} → statement M
 field-of-spec =
@@ -56,4 +59,5 @@ field-of-spec =
     returns-9
     returns-10
     returns-11
-    returns-12)
+    returns-12
+    returns-13)

@@ -53,6 +53,12 @@ enum-told-11 c = search needs
 enum-told-12 : tie.Need-enum-told-12
 enum-told-12 c = search needs
 
+enum-told-13 : tie.Need-enum-told-13
+enum-told-13 c = search needs
+
+between-requires-4 : tie.Need-between-requires-4
+between-requires-4 c κs = search needs
+
 returns : tie.Need-returns
 returns c = c .between .ensures ∙ range-as (c .before .before .before .args .v) (c .before .enum-told .given .1)
 
@@ -89,6 +95,9 @@ returns-11 c = range-as (c .before .before .args .v) (c .enum-told11 .given .1)
 returns-12 : tie.Need-returns-12
 returns-12 c = range-as (c .before .before .args .v) (c .enum-told12 .given .1)
 
+returns-13 : tie.Need-returns-13
+returns-13 c = c .between4 .ensures ∙ range-as (c .before .before .before .args .v) (c .before .enum-told13 .given .1)
+
 pub in-range-spec : {M : Type 1} → statement M
 in-range-spec =
     tie.close
@@ -109,6 +118,8 @@ in-range-spec =
     enum-told-10
     enum-told-11
     enum-told-12
+    enum-told-13
+    between-requires-4
     returns
     returns-2
     returns-3
@@ -120,4 +131,5 @@ in-range-spec =
     returns-9
     returns-10
     returns-11
-    returns-12)
+    returns-12
+    returns-13)

@@ -2,7 +2,7 @@
 use mathlib.Core.Path.{_≡_, refl, ap, ap₂, sym, _∙_}
 use mathlib.Core.Bool.{Bool, true, false, _||_}
 use mathlib.Core.List.{List, [], _∷_, _++_}
-use Prim.Native.Nat.{ℕ, zero, suc, _*_, _<_, _≤_}
+use Prim.Native.Nat.{ℕ, _*_, _<_, _≤_}
 use native.Mathlib.Omega.{arith}
 use lib.Dec.{eqb}
 use lib.ListN.{length, drop, getD, replicate, length-drop, take-append-drop}
@@ -14,6 +14,7 @@ use Rattle.model.specs.Memory.{noMailbox, nameOf}
 use Rattle.model.specs.Lawful.{zeros, mailboxOk, clash}
 use Rattle.model.specs.declared.Mailbox.{Mailbox}
 use Rattle.quick.specs.Distinct.{Differ, differ-apart, same-equal}
+use Rattle.quick.specs.Passing.{all-get}
 use Rattle.rows.specs.Columns.{Column, Names, nameAt, name-at, block}
 use Rattle.lawful.specs.Fields.{fieldTests}
 
@@ -45,24 +46,19 @@ octets-same : (x y : Mailbox) → length (x .name) ≡ 64 → length (y .name) �
 octets-same x y a b h k e =
     let u = each (fieldTests x) h in
     let v = each (fieldTests y) k in
-    let m = leb-true (x .namelen) 64 (u .1 .1 .1 .1 .0) in
-    let n = leb-true (y .namelen) 64 (v .1 .1 .1 .1 .0) in
+    let m = leb-true (x .namelen) 64 (u .1 .1 .1 .1 .1 .0) in
+    let n = leb-true (y .namelen) 64 (v .1 .1 .1 .1 .1 .0) in
     let p = length-take-le (x .namelen) (x .name) (omega arith) in
     let q = length-take-le (y .namelen) (y .name) (omega arith) in
     let same-long : x .namelen ≡ y .namelen = sym p ∙ (ap length e ∙ q) in
     let c = length-drop (x .namelen) (x .name) in
     let d = length-drop (y .namelen) (y .name) in
     let many : length (drop (x .namelen) (x .name)) ≡ length (drop (y .namelen) (y .name)) = omega arith in
-    let r = zeros-are (drop (x .namelen) (x .name)) (u .1 .1 .1 .1 .1 .1 .1 .0) in
-    let s = zeros-are (drop (y .namelen) (y .name)) (v .1 .1 .1 .1 .1 .1 .1 .0) in
+    let r = zeros-are (drop (x .namelen) (x .name)) (u .1 .1 .1 .1 .1 .1 .1 .1 .0) in
+    let s = zeros-are (drop (y .namelen) (y .name)) (v .1 .1 .1 .1 .1 .1 .1 .1 .0) in
     sym (take-append-drop (x .namelen) (x .name))
     ∙ (ap₂ (λ (f g : List ℕ). f ++ g) e (r ∙ (ap (λ (i : ℕ). replicate i 0) many ∙ sym s))
     ∙ take-append-drop (y .namelen) (y .name))
-
-all-get : (l : List Mailbox) (k : ℕ) → allb mailboxOk l ≡ true → k < length l → mailboxOk (getD l k noMailbox) ≡ true
-all-get [] k e h = absurd (omega arith)
-all-get (x ∷ l) zero e h = and-l (mailboxOk x) _ e
-all-get (x ∷ l) (suc k) e h = all-get l k (and-r (mailboxOk x) _ e) (omega arith)
 
 module _ (l : List Mailbox) (ids lens names d : List ℕ) (w : Called l ids lens names) (long : length names ≡ 4096) (few : length l ≤ 64) (ok : allb mailboxOk l ≡ true) where
   octets-long : (k : ℕ) → k < length l → length (getD l k noMailbox .name) ≡ 64

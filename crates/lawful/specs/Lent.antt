@@ -4,13 +4,13 @@ use mathlib.Core.Bool.{Bool, true, false, cond, _&&_, _||_}
 use mathlib.Core.List.{List, [], _∷_}
 use Prim.Native.Nat.{ℕ, _*_, _-_, _/_, _<_, _≤_}
 use native.Mathlib.Omega.{arith}
-use lib.Dec.{eqb, leb, ltb}
+use lib.Dec.{eqb, leb}
 use lib.ListN.{length, take, getD}
 use lib.Seq.{length-take-le, take-take}
-use borrow.Author.Tests.{eq-eqb, ne-eqb, le-leb, lt-leb, leb-true}
+use borrow.Author.Tests.{eq-eqb, ne-eqb, le-leb, lt-leb, leb-true, lt-ltb, le-ltb}
 use Rattle.model.specs.Laws.{each}
 use Rattle.model.specs.Lists.{allb, apart, every}
-use Rattle.model.specs.Memory.{Memory, known, theMailbox, place, uidOf, noMailbox}
+use Rattle.model.specs.Memory.{Memory, known, theMailbox, place, uidOf, noMailbox, counterOf}
 use Rattle.rows.specs.Walks.{unknown-whole, known-whole}
 use Rattle.model.specs.Lawful.{mailboxOk, messageOk, clash, twin, owned, stateOk, viewOk, sessionOk, sizesOk, contentsOk, lawful}
 use Rattle.model.specs.declared.Mailbox.{Mailbox}
@@ -28,10 +28,10 @@ pub record Lent (t rows : List Mailbox) (lent : ℕ) : Type 0 where
   pub read : lent ≤ 64 → t ≡ take lent rows
 
 -- of all columns, those by which an owner is known, and those of ids and names
-pub owners : {l : List Mailbox} {ids attributes lens validities nexts names : List ℕ} → Laid l ids attributes lens validities nexts names → Owners l ids nexts
+pub owners : {l : List Mailbox} {ids attributes lens validities nexts counters names : List ℕ} → Laid l ids attributes lens validities nexts counters names → Owners l ids nexts
 owners w = record { id = w .id; next = w .next }
 
-pub called : {l : List Mailbox} {ids attributes lens validities nexts names : List ℕ} → Laid l ids attributes lens validities nexts names → Called l ids lens names
+pub called : {l : List Mailbox} {ids attributes lens validities nexts counters names : List ℕ} → Laid l ids attributes lens validities nexts counters names → Called l ids lens names
 called w = record { id = w .id; len = w .len; name = w .name }
 
 abbrev pub memory : List Mailbox → List Message → Counts → Session → List ℕ → Memory
@@ -83,7 +83,7 @@ module _ (q lent entries : ℕ) (k : Counts) (groups : ℕ) (e : every (sizesBy 
   pub entries-used : k .messages ≤ entries
   entries-used = leb-true (k .messages) entries (each (sizesBy q lent entries k groups) e .1 .1 .1 .1 .1 .0)
 
-pub enough-words : (used n : ℕ) → used ≤ n / 5 → used * 5 ≤ n
+pub enough-words : (used n : ℕ) → used ≤ n / 6 → used * 6 ≤ n
 enough-words used n h = omega arith
 
 -- ---- the view
@@ -105,8 +105,11 @@ module _ (l : List Mailbox) (d : Message) (k next : ℕ) (e : k ≡ place (d .ma
   pub owner-unknown : length l ≤ k → false ≡ owned l d
   owner-unknown g = rw (unknown-whole (d .mailbox) l k e g)
 
-  pub owner-known : k < length l → next ≡ getD l k noMailbox .uidnext → ltb (uidOf d) next ≡ owned l d
-  owner-known g q = rw (known-whole (d .mailbox) l k e g, ← e, q)
+  pub owner-passed : k < length l → next ≡ getD l k noMailbox .uidnext → next ≤ uidOf d → false ≡ owned l d
+  owner-passed g q h = rw (known-whole (d .mailbox) l k e g, ← e, ← q, le-ltb (uidOf d) next h)
+
+  pub owner-known : (highest : ℕ) → k < length l → next ≡ getD l k noMailbox .uidnext → uidOf d < next → highest ≡ counterOf (getD l k noMailbox) → leb (d .counter) highest ≡ owned l d
+  owner-known highest g q h r = rw (known-whole (d .mailbox) l k e g, ← e, ← q, lt-ltb (uidOf d) next h, r)
 
 -- ---- the contents: with the session, the view and the mailboxes in order the tables decide
 swap : (a b c : Bool) → (a && (b && c)) ≡ (b && (a && c))
@@ -122,19 +125,19 @@ tables-decide l es s p q r = five (allb mailboxOk l) (allb messageOk es) (sessio
 
 -- ---- all of it
 module _ (rows : List Mailbox) (lent : ℕ) (ws : List ℕ) (k : Counts) (s : Session) (room : ℕ) (t : List Mailbox) (q : List ℕ) (w : Lent t rows lent) (e : length q ≡ room) where
-  sizes : every (sizesOk (memory t (messages ws) k s q)) ≡ every (sizesBy room lent (length ws / 5) k (s .groupcount))
+  sizes : every (sizesOk (memory t (messages ws) k s q)) ≡ every (sizesBy room lent (length ws / 6) k (s .groupcount))
   sizes = rw (e, w .long, messages-count ws)
 
-  pub wrong-sizes : every (sizesBy room lent (length ws / 5) k (s .groupcount)) ≡ false → false ≡ lawful (memory t (messages ws) k s q)
+  pub wrong-sizes : every (sizesBy room lent (length ws / 6) k (s .groupcount)) ≡ false → false ≡ lawful (memory t (messages ws) k s q)
   unfolding lawful
   wrong-sizes h = rw (sizes, h)
 
-  module _ (h : every (sizesBy room lent (length ws / 5) k (s .groupcount)) ≡ true) where
+  module _ (h : every (sizesBy room lent (length ws / 6) k (s .groupcount)) ≡ true) where
     few : lent ≤ 64
-    few = few-rows room lent (length ws / 5) k (s .groupcount) h
+    few = few-rows room lent (length ws / 6) k (s .groupcount) h
 
     fit : k .mailboxes ≤ lent
-    fit = rows-used room lent (length ws / 5) k (s .groupcount) h
+    fit = rows-used room lent (length ws / 6) k (s .groupcount) h
 
     in-use : take (k .mailboxes) t ≡ take (k .mailboxes) rows
     in-use = ap (λ (x : List Mailbox). take (k .mailboxes) x) (w .read few) ∙ take-take (k .mailboxes) lent rows fit

@@ -6,10 +6,11 @@ ghost use mathlib.Core.List.{List};
 ghost use Prim.Native.Nat.{_*_, _≤_, _<_};
 ghost use lib.ListN.{length, take, drop, getD};
 ghost use Rattle.model.specs.Lists.{apart, anyb, allb};
-ghost use Rattle.model.specs.Memory.{noMailbox};
+ghost use Rattle.model.specs.Memory.{noMailbox, counterOf};
 ghost use Rattle.model.specs.Lawful.{clash, twin, owned, messageOk};
 ghost use Rattle.model.specs.declared.Mailbox.{Mailbox};
 ghost use Rattle.entries.specs.Words.{messages};
+ghost use Rattle.rows.specs.Columns.{Column};
 ghost use Rattle.quick.specs.Passing.{Owners, stateAt, entryOk};
 ghost use Rattle.lawful.specs.Clashing.{Called, clashAt};
 
@@ -80,7 +81,7 @@ fn are_twins(d: Message, e: Message) -> bool
 
 // The entry has a twin among those from a place up to n.
 fn any_twin(words: &[u64], n: usize, from: usize, d: Message) -> bool
-    requires { ⌜ (n * 5 ≤ length (now words)) × (from ≤ n) ⌝ }
+    requires { ⌜ (n * 6 ≤ length (now words)) × (from ≤ n) ⌝ }
     ensures { λ r. ⌜ r ≡ anyb (twin d) (drop from (take n (messages (now (words .entry))))) ⌝ }
 {
     let mut i = from;
@@ -95,7 +96,7 @@ fn any_twin(words: &[u64], n: usize, from: usize, d: Message) -> bool
 
 // No two of the first n entries are twins.
 pub fn mail_apart(words: &[u64], n: usize) -> bool
-    requires { ⌜ n * 5 ≤ length (now words) ⌝ }
+    requires { ⌜ n * 6 ≤ length (now words) ⌝ }
     ensures { λ r. ⌜ r ≡ apart twin (take n (messages (now (words .entry)))) ⌝ }
 {
     let mut i: usize = 0;
@@ -108,16 +109,19 @@ pub fn mail_apart(words: &[u64], n: usize) -> bool
     true
 }
 
-// The entry's mailbox is known, and its UID below the mailbox's UIDNEXT.
-fn is_owned(ids: &[u64; 64], nexts: &[u64; 64], n: usize, e: Message) -> bool
+// The entry's mailbox is known, its UID below the mailbox's UIDNEXT, and its counter not above the mailbox's.
+fn is_owned(ids: &[u64; 64], nexts: &[u64; 64], counters: &[u64; 64], n: usize, e: Message) -> bool
     requires { ⌜ n ≤ 64 ⌝ }
-    ensures { λ r. ⌜ ((l : List Mailbox) → length l ≡ n → Owners l (now (ids .entry)) (now (nexts .entry)) → r ≡ owned l e) ⌝ }
+    ensures { λ r. ⌜ ((l : List Mailbox) → length l ≡ n → Owners l (now (ids .entry)) (now (nexts .entry)) → Column counterOf l (now (counters .entry)) → r ≡ owned l e) ⌝ }
 {
     let k = rows::find(ids, n, e.mailbox);
     if n <= k {
         return false;
     }
-    e.uid.0 < nexts[k]
+    if nexts[k] <= e.uid.0 {
+        return false;
+    }
+    e.counter <= counters[k]
 }
 
 // The entry's fields are in their ranges.
@@ -131,6 +135,12 @@ fn message_ok(e: Message) -> bool
         return false;
     }
     if 4294967295 < e.size {
+        return false;
+    }
+    if e.counter < 1 {
+        return false;
+    }
+    if 9223372036854775807 < e.counter {
         return false;
     }
     e.states <= 2
@@ -153,18 +163,19 @@ fn state_ok(e: Message, selected: u64, told: Uid) -> bool
 fn entry_ok(
     ids: &[u64; 64],
     nexts: &[u64; 64],
+    counters: &[u64; 64],
     n: usize,
     e: Message,
     selected: u64,
     told: Uid,
 ) -> bool
     requires { ⌜ n ≤ 64 ⌝ }
-    ensures { λ r. ⌜ ((l : List Mailbox) → length l ≡ n → Owners l (now (ids .entry)) (now (nexts .entry)) → r ≡ entryOk l selected (told .0) e) ⌝ }
+    ensures { λ r. ⌜ ((l : List Mailbox) → length l ≡ n → Owners l (now (ids .entry)) (now (nexts .entry)) → Column counterOf l (now (counters .entry)) → r ≡ entryOk l selected (told .0) e) ⌝ }
 {
     if !message_ok(e) {
         return false;
     }
-    if !is_owned(ids, nexts, n, e) {
+    if !is_owned(ids, nexts, counters, n, e) {
         return false;
     }
     state_ok(e, selected, told)
@@ -174,18 +185,27 @@ fn entry_ok(
 pub fn mail_ok(
     ids: &[u64; 64],
     nexts: &[u64; 64],
+    counters: &[u64; 64],
     n: usize,
     words: &[u64],
     used: usize,
     selected: u64,
     told: Uid,
 ) -> bool
-    requires { ⌜ (n ≤ 64) × (used * 5 ≤ length (now words)) ⌝ }
-    ensures { λ r. ⌜ ((l : List Mailbox) → length l ≡ n → Owners l (now (ids .entry)) (now (nexts .entry)) → r ≡ allb (entryOk l selected (told .0)) (take used (messages (now (words .entry))))) ⌝ }
+    requires { ⌜ (n ≤ 64) × (used * 6 ≤ length (now words)) ⌝ }
+    ensures { λ r. ⌜ ((l : List Mailbox) → length l ≡ n → Owners l (now (ids .entry)) (now (nexts .entry)) → Column counterOf l (now (counters .entry)) → r ≡ allb (entryOk l selected (told .0)) (take used (messages (now (words .entry))))) ⌝ }
 {
     let mut i: usize = 0;
     while i < used {
-        if !entry_ok(ids, nexts, n, entries::get(words, i), selected, told) {
+        if !entry_ok(
+            ids,
+            nexts,
+            counters,
+            n,
+            entries::get(words, i),
+            selected,
+            told,
+        ) {
             return false;
         }
         i += 1;

@@ -1,97 +1,30 @@
 // Refusal 1: whether all that is lent is lawful. The rows come by columns; the quick tests decide where they can, the exact ones behind them.
 mod exact;
+mod fields;
 mod naming;
 
 use exact::mail_apart;
 use exact::mail_ok;
 use exact::rows_apart;
+use fields::rows_ok;
 use model::Counts;
 use model::Session;
 use model::Uid;
-use naming::name_ok;
-use naming::name_seen;
 ghost use mathlib.Core.Path.{_≡_};
 ghost use mathlib.Core.Bool.{true, _&&_};
 ghost use mathlib.Core.List.{List};
-ghost use Prim.Native.Nat.{ℕ, _*_, _≤_, _<_};
+ghost use Prim.Native.Nat.{ℕ, _*_, _≤_};
 ghost use lib.ListN.{length, take, replicate};
 ghost use Rattle.model.specs.Lists.{apart, allb, every};
+ghost use Rattle.model.specs.Memory.{counterOf};
 ghost use Rattle.model.specs.Lawful.{clash, twin, mailboxOk, contentsOk, lawful};
 ghost use Rattle.model.specs.declared.Mailbox.{Mailbox};
 ghost use Rattle.entries.specs.Words.{messages};
-ghost use Rattle.rows.specs.Columns.{Laid};
+ghost use Rattle.rows.specs.Columns.{Column, Laid};
 ghost use Rattle.quick.specs.Passing.{Owners, entryOk, tablesOk};
 ghost use Rattle.quick.specs.Distinct.{Low};
-ghost use Rattle.lawful.specs.Fields.{numbersBy, rowAt};
 ghost use Rattle.lawful.specs.Clashing.{Called};
 ghost use Rattle.lawful.specs.Lent.{Lent, memory, filledBy, sizesBy, viewBy};
-
-// ---- the mailboxes
-
-// The numbers of a row are in their ranges.
-fn numbers_ok(id: u64, attributes: u8, len: u8, validity: u64, next: u64) -> bool
-    ensures { λ r. ⌜ r ≡ numbersBy id attributes len validity next ⌝ }
-{
-    if id < 1 {
-        return false;
-    }
-    if 63 < attributes {
-        return false;
-    }
-    if validity < 1 {
-        return false;
-    }
-    if next < 1 {
-        return false;
-    }
-    len <= 64
-}
-
-// Row k is in order: its name is seen to be, or tested.
-fn row_ok(
-    ids: &[u64; 64],
-    attributes: &[u8; 64],
-    lens: &[u8; 64],
-    validities: &[u64; 64],
-    nexts: &[u64; 64],
-    names: &[u8; 4096],
-    k: usize,
-) -> bool
-    requires { ⌜ k < 64 ⌝ }
-    ensures { λ r. ⌜ r ≡ mailboxOk (rowAt (now (ids .entry)) (now (attributes .entry)) (now (lens .entry)) (now (validities .entry)) (now (nexts .entry)) (now (names .entry)) k) ⌝ }
-{
-    let len = lens[k];
-    if !numbers_ok(ids[k], attributes[k], len, validities[k], nexts[k]) {
-        return false;
-    }
-    if name_seen(names, k, len) {
-        return true;
-    }
-    name_ok(names, k, len)
-}
-
-// Every mailbox of the first n is in order.
-fn rows_ok(
-    ids: &[u64; 64],
-    attributes: &[u8; 64],
-    lens: &[u8; 64],
-    validities: &[u64; 64],
-    nexts: &[u64; 64],
-    names: &[u8; 4096],
-    n: usize,
-) -> bool
-    requires { ⌜ n ≤ 64 ⌝ }
-    ensures { λ r. ⌜ ((l : List Mailbox) → length l ≡ n → Laid l (now (ids .entry)) (now (attributes .entry)) (now (lens .entry)) (now (validities .entry)) (now (nexts .entry)) (now (names .entry)) → r ≡ allb mailboxOk l) ⌝ }
-{
-    let mut i: usize = 0;
-    while i < n {
-        if !row_ok(ids, attributes, lens, validities, nexts, names, i) {
-            return false;
-        }
-        i += 1;
-    }
-    true
-}
 
 // ---- the tables: what a quick test says yes to, or else the exact one
 
@@ -124,6 +57,7 @@ fn rows_differ(
 fn messages_ok(
     ids: &[u64; 64],
     nexts: &[u64; 64],
+    counters: &[u64; 64],
     slots: &[u8; 1024],
     chain: &[u8; 64],
     n: usize,
@@ -132,13 +66,24 @@ fn messages_ok(
     selected: u64,
     told: Uid,
 ) -> bool
-    requires { ⌜ (n ≤ 64) × (used * 5 ≤ length (now words)) × Low (now slots) n × Low (now chain) n ⌝ }
-    ensures { λ r. ⌜ ((l : List Mailbox) → length l ≡ n → Owners l (now (ids .entry)) (now (nexts .entry)) → apart clash l ≡ true → r ≡ (allb (entryOk l selected (told .0)) (take used (messages (now (words .entry)))) && apart twin (take used (messages (now (words .entry)))))) ⌝ }
+    requires { ⌜ (n ≤ 64) × (used * 6 ≤ length (now words)) × Low (now slots) n × Low (now chain) n ⌝ }
+    ensures { λ r. ⌜ ((l : List Mailbox) → length l ≡ n → Owners l (now (ids .entry)) (now (nexts .entry)) → Column counterOf l (now (counters .entry)) → allb mailboxOk l ≡ true → apart clash l ≡ true → r ≡ (allb (entryOk l selected (told .0)) (take used (messages (now (words .entry)))) && apart twin (take used (messages (now (words .entry)))))) ⌝ }
 {
-    if quick::all_fit(words, used, ids, nexts, slots, chain, n, selected, told) {
+    if quick::all_fit(
+        words,
+        used,
+        ids,
+        nexts,
+        counters,
+        slots,
+        chain,
+        n,
+        selected,
+        told,
+    ) {
         return true;
     }
-    if !mail_ok(ids, nexts, n, words, used, selected, told) {
+    if !mail_ok(ids, nexts, counters, n, words, used, selected, told) {
         return false;
     }
     mail_apart(words, used)
@@ -149,6 +94,7 @@ fn tables_ok(
     ids: &[u64; 64],
     lens: &[u8; 64],
     nexts: &[u64; 64],
+    counters: &[u64; 64],
     names: &[u8; 4096],
     n: usize,
     words: &[u64],
@@ -156,15 +102,26 @@ fn tables_ok(
     selected: u64,
     told: Uid,
 ) -> bool
-    requires { ⌜ (n ≤ 64) × (used * 5 ≤ length (now words)) ⌝ }
-    ensures { λ r. ⌜ ((l : List Mailbox) → length l ≡ n → Owners l (now (ids .entry)) (now (nexts .entry)) → Called l (now (ids .entry)) (now (lens .entry)) (now (names .entry)) → allb mailboxOk l ≡ true → r ≡ every (tablesOk l (take used (messages (now (words .entry)))) selected (told .0))) ⌝ }
+    requires { ⌜ (n ≤ 64) × (used * 6 ≤ length (now words)) ⌝ }
+    ensures { λ r. ⌜ ((l : List Mailbox) → length l ≡ n → Owners l (now (ids .entry)) (now (nexts .entry)) → Column counterOf l (now (counters .entry)) → Called l (now (ids .entry)) (now (lens .entry)) (now (names .entry)) → allb mailboxOk l ≡ true → r ≡ every (tablesOk l (take used (messages (now (words .entry)))) selected (told .0))) ⌝ }
 {
     let mut slots = [0u8; 1024];
     let mut chain = [0u8; 64];
     if !rows_differ(ids, lens, names, n, &mut slots, &mut chain) {
         return false;
     }
-    messages_ok(ids, nexts, &slots, &chain, n, words, used, selected, told)
+    messages_ok(
+        ids,
+        nexts,
+        counters,
+        &slots,
+        &chain,
+        n,
+        words,
+        used,
+        selected,
+        told,
+    )
 }
 
 // ---- all of it
@@ -233,14 +190,15 @@ fn contents_ok(
     lens: &[u8; 64],
     validities: &[u64; 64],
     nexts: &[u64; 64],
+    counters: &[u64; 64],
     names: &[u8; 4096],
     n: usize,
     words: &[u64],
     used: usize,
     s: Session,
 ) -> bool
-    requires { ⌜ (n ≤ 64) × (used * 5 ≤ length (now words)) ⌝ }
-    ensures { λ r. ⌜ ((l : List Mailbox) → length l ≡ n → Laid l (now (ids .entry)) (now (attributes .entry)) (now (lens .entry)) (now (validities .entry)) (now (nexts .entry)) (now (names .entry)) → r ≡ every (contentsOk l (take used (messages (now (words .entry)))) s)) ⌝ }
+    requires { ⌜ (n ≤ 64) × (used * 6 ≤ length (now words)) ⌝ }
+    ensures { λ r. ⌜ ((l : List Mailbox) → length l ≡ n → Laid l (now (ids .entry)) (now (attributes .entry)) (now (lens .entry)) (now (validities .entry)) (now (nexts .entry)) (now (counters .entry)) (now (names .entry)) → r ≡ every (contentsOk l (take used (messages (now (words .entry)))) s)) ⌝ }
 {
     if !session::session_ok(s) {
         return false;
@@ -250,10 +208,21 @@ fn contents_ok(
     if !view_ok(ids, nexts, n, selected, told) {
         return false;
     }
-    if !rows_ok(ids, attributes, lens, validities, nexts, names, n) {
+    if !rows_ok(ids, attributes, lens, validities, nexts, counters, names, n) {
         return false;
     }
-    tables_ok(ids, lens, nexts, names, n, words, used, selected, told)
+    tables_ok(
+        ids,
+        lens,
+        nexts,
+        counters,
+        names,
+        n,
+        words,
+        used,
+        selected,
+        told,
+    )
 }
 
 // Whether the memory is lawful. `lent` rows are lent, of which those in use come by columns, unless they are too many to be read;
@@ -264,6 +233,7 @@ pub fn is_lawful(
     lens: &[u8; 64],
     validities: &[u64; 64],
     nexts: &[u64; 64],
+    counters: &[u64; 64],
     names: &[u8; 4096],
     lent: usize,
     words: &[u64],
@@ -271,9 +241,9 @@ pub fn is_lawful(
     s: Session,
     room: usize,
 ) -> bool
-    ensures { λ r. ⌜ ((t rows : List Mailbox) (q : List ℕ) → Lent t rows lent → Laid (take (counts .mailboxes) rows) (now (ids .entry)) (now (attributes .entry)) (now (lens .entry)) (now (validities .entry)) (now (nexts .entry)) (now (names .entry)) → length q ≡ room → r ≡ lawful (memory t (messages (now (words .entry))) counts s q)) ⌝ }
+    ensures { λ r. ⌜ ((t rows : List Mailbox) (q : List ℕ) → Lent t rows lent → Laid (take (counts .mailboxes) rows) (now (ids .entry)) (now (attributes .entry)) (now (lens .entry)) (now (validities .entry)) (now (nexts .entry)) (now (counters .entry)) (now (names .entry)) → length q ≡ room → r ≡ lawful (memory t (messages (now (words .entry))) counts s q)) ⌝ }
 {
-    let entries = words.len() / 5;
+    let entries = words.len() / 6;
     if !sizes_ok(
         room as u64,
         lent as u64,
@@ -291,6 +261,7 @@ pub fn is_lawful(
         lens,
         validities,
         nexts,
+        counters,
         names,
         n,
         words,

@@ -11,9 +11,9 @@ use lib.Seq.{take-suc, getD-set-same, getD-set-other}
 use borrow.Author.Tests.{eq-eqb, ne-eqb, lt-ltb, le-leb, leb-true, ltb-true, eqb-true, eqb-false}
 use Rattle.model.specs.Laws.{and-l, and-r, or-r, or-true, tf, each, all-hold}
 use Rattle.model.specs.Lists.{allb, anyb, apart, every}
-use Rattle.model.specs.Memory.{noMailbox, noMessage, uidOf, place, known, theMailbox}
-use Rattle.model.specs.Lawful.{clash, messageOk, twin, owned}
-use Rattle.demands.specs.Lasting.Rows.{all-snoc, all-imp, any-none, apart-snoc}
+use Rattle.model.specs.Memory.{noMailbox, noMessage, uidOf, place, known, theMailbox, counterOf}
+use Rattle.model.specs.Lawful.{counterOk, clash, mailboxOk, messageOk, twin, owned}
+use Rattle.demands.specs.Lasting.Rows.{all-snoc, all-imp, all-both, any-none, apart-snoc}
 use Rattle.rows.specs.Columns.{Column}
 use Rattle.entries.specs.Words.{row, messages, messages-get, messages-length}
 use Rattle.entries.specs.Joined.{join-l, join-r}
@@ -31,44 +31,66 @@ pub record Owners (l : List Mailbox) (ids nexts : List ℕ) : Type 0 where
 abbrev pub stateAt : ℕ → ℕ → Message → Bool
 stateAt selected told e = eqb (e .states) 0 || (eqb (e .mailbox) selected && ltb (uidOf e) told)
 
--- the message whose five words start at b
+-- the message whose six words start at b
 abbrev pub entryAt : List ℕ → ℕ → Message
-entryAt ws b = row (getD ws b 0) (getD ws (b + 1) 0) (getD ws (b + 2) 0) (getD ws (b + 3) 0) (getD ws (b + 4) 0)
+entryAt ws b = row (getD ws b 0) (getD ws (b + 1) 0) (getD ws (b + 2) 0) (getD ws (b + 3) 0) (getD ws (b + 4) 0) (getD ws (b + 5) 0)
 
-pub entry-at : (ws : List ℕ) (b : ℕ) → b % 5 ≡ 0 → b + 5 ≤ length ws → getD (messages ws) (b / 5) noMessage ≡ entryAt ws b
-entry-at ws b r h = let e : b / 5 * 5 ≡ b = omega arith in rw e at (messages-get (b / 5) ws (omega arith))
+pub entry-at : (ws : List ℕ) (b : ℕ) → b % 6 ≡ 0 → b + 6 ≤ length ws → getD (messages ws) (b / 6) noMessage ≡ entryAt ws b
+entry-at ws b r h = let e : b / 6 * 6 ≡ b = omega arith in rw e at (messages-get (b / 6) ws (omega arith))
 
 -- an entry whose state may stand
 pub record Viewed (e : Message) (selected told : ℕ) : Type 0 where
   pub few : e .states ≤ 2
   pub state : stateAt selected told e ≡ true
 
--- an entry of the mailbox with this id, above low, whose state may stand
-pub record Fits (e : Message) (id low selected told : ℕ) : Type 0 where
+-- an entry of the mailbox with this id and this highest counter, above low, whose state may stand
+pub record Fits (e : Message) (id low highest selected told : ℕ) : Type 0 where
   pub mailbox : e .mailbox ≡ id
   pub above : low < uidOf e
+  pub some : 1 ≤ e .counter
+  pub counted : e .counter ≤ highest
   pub viewed : Viewed e selected told
 
--- a message in order whose flags and size are at most these: with the greatest that may be it is `messageOk`
+-- a message in order whose flags and size are at most these; its counter's upper end is known by its mailbox's
 abbrev pub okUpTo : ℕ → ℕ → Message → Bool
 okUpTo flags size e = every (
     leb 1 (uidOf e)
     ∷ leb (e .flags) flags
     ∷ leb (e .size) size
     ∷ leb (e .states) 2
+    ∷ leb 1 (e .counter)
     ∷ []
     )
 
 module _ (e : Message) (flags size : ℕ) where
-  ok-up-to : 1 ≤ uidOf e → e .flags ≤ flags → e .size ≤ size → e .states ≤ 2 → okUpTo flags size e ≡ true
-  ok-up-to u f z s = all-hold (leb 1 (uidOf e) ∷ leb (e .flags) flags ∷ leb (e .size) size ∷ leb (e .states) 2 ∷ []) (le-leb 1 (uidOf e) u, (le-leb (e .flags) flags f, (le-leb (e .size) size z, (le-leb (e .states) 2 s, tt))))
+  ok-up-to : 1 ≤ uidOf e → e .flags ≤ flags → e .size ≤ size → e .states ≤ 2 → 1 ≤ e .counter → okUpTo flags size e ≡ true
+  ok-up-to u f z s c = all-hold (leb 1 (uidOf e) ∷ leb (e .flags) flags ∷ leb (e .size) size ∷ leb (e .states) 2 ∷ leb 1 (e .counter) ∷ []) (le-leb 1 (uidOf e) u, (le-leb (e .flags) flags f, (le-leb (e .size) size z, (le-leb (e .states) 2 s, (le-leb 1 (e .counter) c, tt)))))
 
   ok-wider : (low small : ℕ) → low ≤ flags → small ≤ size → okUpTo low small e ≡ true → okUpTo flags size e ≡ true
   ok-wider low small h k o =
-      let p = each (leb 1 (uidOf e) ∷ leb (e .flags) low ∷ leb (e .size) small ∷ leb (e .states) 2 ∷ []) o in
+      let p = each (leb 1 (uidOf e) ∷ leb (e .flags) low ∷ leb (e .size) small ∷ leb (e .states) 2 ∷ leb 1 (e .counter) ∷ []) o in
       let f = leb-true (e .flags) low (p .1 .0) in
       let z = leb-true (e .size) small (p .1 .1 .0) in
-      ok-up-to (leb-true 1 (uidOf e) (p .0)) (omega arith) (omega arith) (leb-true (e .states) 2 (p .1 .1 .1 .0))
+      ok-up-to (leb-true 1 (uidOf e) (p .0)) (omega arith) (omega arith) (leb-true (e .states) 2 (p .1 .1 .1 .0)) (leb-true 1 (e .counter) (p .1 .1 .1 .1 .0))
+
+in-range : (e : Message) → okUpTo 31 4294967295 e ≡ true → e .counter ≤ 9223372036854775807 → messageOk e ≡ true
+in-range e o h =
+    let p = each (leb 1 (uidOf e) ∷ leb (e .flags) 31 ∷ leb (e .size) 4294967295 ∷ leb (e .states) 2 ∷ leb 1 (e .counter) ∷ []) o in
+    all-hold (leb 1 (uidOf e) ∷ leb (e .flags) 31 ∷ leb (e .size) 4294967295 ∷ leb (e .states) 2 ∷ counterOk (e .counter) ∷ []) (p .0, (p .1 .0, (p .1 .1 .0, (p .1 .1 .1 .0, (rw (p .1 .1 .1 .1 .0) (le-leb (e .counter) 9223372036854775807 h), tt)))))
+
+-- a row in order, and its counter
+pub all-get : (l : List Mailbox) (k : ℕ) → allb mailboxOk l ≡ true → k < length l → mailboxOk (getD l k noMailbox) ≡ true
+all-get [] k e h = absurd (omega arith)
+all-get (x ∷ l) zero e h = and-l (mailboxOk x) _ e
+all-get (x ∷ l) (suc k) e h = all-get l k (and-r (mailboxOk x) _ e) (omega arith)
+
+counter-high : (x : Mailbox) → mailboxOk x ≡ true → counterOf x ≤ 9223372036854775807
+counter-high x h =
+    let a = and-r (leb 1 (x .id)) _ h in
+    let b = and-r (leb (x .attributes) 63) _ a in
+    let c = and-r (leb 1 (x .uidvalidity)) _ b in
+    let d = and-r (leb 1 (x .uidnext)) _ c in
+    leb-true (counterOf x) 9223372036854775807 (and-r (leb 1 (counterOf x)) _ (and-l (counterOk (counterOf x)) _ d))
 
 -- the last UIDs of n rows are below their UIDNEXTs
 abbrev pub Below : List ℕ → List ℕ → ℕ → Type 0
@@ -84,9 +106,9 @@ pub record Good (l : List Mailbox) (selected told : ℕ) (es : List Message) : T
 pub good-none : (l : List Mailbox) (selected told : ℕ) → Good l selected told []
 good-none l s t = record { mail = refl; owners = refl; states = refl; twins = refl }
 
--- the mailbox is known, and no UID of it is above the last one of its row
+-- the mailbox is known, the counter not above its own, and no UID of it above the last one of its row
 abbrev pub atMost : List Mailbox → List ℕ → Message → Bool
-atMost l last d = known (d .mailbox) l && leb (uidOf d) (getD last (place (d .mailbox) l) 0)
+atMost l last d = known (d .mailbox) l && (leb (d .counter) (counterOf (theMailbox (d .mailbox) l)) && leb (uidOf d) (getD last (place (d .mailbox) l) 0))
 
 pub record Going (l : List Mailbox) (selected told flags size : ℕ) (last : List ℕ) (es : List Message) : Type 0 where
   pub mail : allb (okUpTo flags size) es ≡ true
@@ -99,15 +121,15 @@ going-start l s t f z last = record { mail = refl; states = refl; twins = refl; 
 
 -- the entries before the place where a pass is are in order
 abbrev pub Passed : List ℕ → List Mailbox → ℕ → ℕ → Pass → List ℕ → Type 0
-Passed ws l selected told p last = Going l selected told (p .flags) (p .size) last (take (p .at / 5) (messages ws))
+Passed ws l selected told p last = Going l selected told (p .flags) (p .size) last (take (p .at / 6) (messages ws))
 
 -- a run from one place to another: whatever mailboxes the rows are, it keeps the entries passed in order
-pub record Ran (ws : List ℕ) (end : ℕ) (ids slots : List ℕ) (selected told : ℕ) (from : Pass) (before : List ℕ) (p : Pass) (last : List ℕ) : Type 0 where
+pub record Ran (ws : List ℕ) (end : ℕ) (ids counters slots : List ℕ) (selected told : ℕ) (from : Pass) (before : List ℕ) (p : Pass) (last : List ℕ) : Type 0 where
   pub on : from .at ≤ p .at
   pub inside : p .at ≤ end
-  pub whole : p .at % 5 ≡ 0
+  pub whole : p .at % 6 ≡ 0
   pub long : length last ≡ 64
-  pub kept : (l : List Mailbox) (nexts : List ℕ) → Owners l ids nexts → apart clash l ≡ true → 1 ≤ length l → Low slots (length l) → Passed ws l selected told from before → Passed ws l selected told p last
+  pub kept : (l : List Mailbox) (nexts : List ℕ) → Owners l ids nexts → Column counterOf l counters → apart clash l ≡ true → 1 ≤ length l → Low slots (length l) → Passed ws l selected told from before → Passed ws l selected told p last
 
 -- ids that differ: the place of an id is where it stands
 none-here : (o : ℕ) (x : Mailbox) (l : List Mailbox) (k : ℕ) → x .id ≡ o → k < length l → getD l k noMailbox .id ≡ o → anyb (λ (y : Mailbox). clash x y) l ≡ false → ⊥
@@ -132,11 +154,14 @@ place-own o (x ∷ l) (suc k) a h e = go (eqb (x .id) o) refl (place-own o l k (
     go true q ih = absurd (none-here o x l k (eqb-true (x .id) o q) (omega arith) e (f (anyb (λ (y : Mailbox). clash x y) l) n))
     go false q ih = ap suc ih
 
-module _ (l : List Mailbox) (ids nexts : List ℕ) (w : Owners l ids nexts) (a : apart clash l ≡ true) (selected told : ℕ) (last : List ℕ) where
+module _ (l : List Mailbox) (ids nexts counters : List ℕ) (w : Owners l ids nexts) (v : Column counterOf l counters) (a : apart clash l ≡ true) (selected told : ℕ) (last : List ℕ) where
   at-most : (d : Message) → atMost l last d ≡ true → uidOf d ≤ getD last (place (d .mailbox) l) 0
-  at-most d h = leb-true _ _ (and-r (known (d .mailbox) l) _ h)
+  at-most d h = leb-true _ _ (and-r (leb (d .counter) (counterOf (theMailbox (d .mailbox) l))) _ (and-r (known (d .mailbox) l) _ h))
 
-  module _ (es : List Message) (e : Message) (k : ℕ) (inside : k < length l) (f : Fits e (getD ids k 0) (getD last k 0) selected told) where
+  counted : (d : Message) → atMost l last d ≡ true → leb (d .counter) (counterOf (theMailbox (d .mailbox) l)) ≡ true
+  counted d h = and-l (leb (d .counter) (counterOf (theMailbox (d .mailbox) l))) _ (and-r (known (d .mailbox) l) _ h)
+
+  module _ (es : List Message) (e : Message) (k : ℕ) (inside : k < length l) (f : Fits e (getD ids k 0) (getD last k 0) (getD counters k 0) selected told) where
     here : place (e .mailbox) l ≡ k
     here = place-own (e .mailbox) l k a inside (sym (w .id k inside) ∙ sym (f .mailbox))
 
@@ -151,7 +176,7 @@ module _ (l : List Mailbox) (ids nexts : List ℕ) (w : Owners l ids nexts) (a :
         go false q = refl
 
     lower : k < length last → (d : Message) → atMost l last d ≡ true → atMost l (set last k (uidOf e)) d ≡ true
-    lower h d q = rw (and-l (known (d .mailbox) l) _ q) (go (eqb (place (d .mailbox) l) k) refl)
+    lower h d q = rw (and-l (known (d .mailbox) l) _ q, counted d q) (go (eqb (place (d .mailbox) l) k) refl)
       where
         b : uidOf d ≤ getD last (place (d .mailbox) l) 0
         b = at-most d q
@@ -167,18 +192,21 @@ module _ (l : List Mailbox) (ids nexts : List ℕ) (w : Owners l ids nexts) (a :
         let ok = okUpTo (bitOr flags (e .flags)) (bitOr size (e .size)) in
         all-snoc ok es e
         (all-imp (okUpTo flags size) ok (λ d. ok-wider d (bitOr flags (e .flags)) (bitOr size (e .size)) flags size (join-l flags (e .flags)) (join-l size (e .size))) es h)
-        (ok-up-to e (bitOr flags (e .flags)) (bitOr size (e .size)) (omega arith) (join-r flags (e .flags)) (join-r size (e .size)) (f .viewed .few))
+        (ok-up-to e (bitOr flags (e .flags)) (bitOr size (e .size)) (omega arith) (join-r flags (e .flags)) (join-r size (e .size)) (f .viewed .few) (f .some))
+
+    its-own : e .counter ≤ counterOf (getD l k noMailbox)
+    its-own = rw (v k inside) at (f .counted)
 
     pub going-next : (flags size : ℕ) → k < length last → Going l selected told flags size last es → Going l selected told (bitOr flags (e .flags)) (bitOr size (e .size)) (set last k (uidOf e)) (es ++ (e ∷ []))
     going-next flags size h g = record {
       mail = in-order flags size (g .mail);
       states = all-snoc (stateAt selected told) es e (g .states) (f .viewed .state);
       twins = apart-snoc twin es e (g .twins) (any-none (atMost l last) (λ (d : Message). twin d e) other es (g .low));
-      low = all-snoc (atMost l (set last k (uidOf e))) es e (all-imp (atMost l last) (atMost l (set last k (uidOf e))) (lower h) es (g .low)) (rw (here, lt-ltb k (length l) inside, getD-set-same last k (uidOf e) 0 h) (le-leb (uidOf e) (uidOf e) (omega arith)));
+      low = all-snoc (atMost l (set last k (uidOf e))) es e (all-imp (atMost l last) (atMost l (set last k (uidOf e))) (lower h) es (g .low)) (rw (here, lt-ltb k (length l) inside, le-leb (e .counter) (counterOf (getD l k noMailbox)) its-own, getD-set-same last k (uidOf e) 0 h) (le-leb (uidOf e) (uidOf e) (omega arith)));
     }
 
   -- where the last UIDs are below the UIDNEXTs, all are
-  module _ (p : Below last nexts (length l)) where
+  module _ (p : Below last nexts (length l)) (ok : allb mailboxOk l ≡ true) where
     is-owned : (d : Message) → atMost l last d ≡ true → owned l d ≡ true
     is-owned d h =
         let b = at-most d h in
@@ -186,21 +214,28 @@ module _ (l : List Mailbox) (ids nexts : List ℕ) (w : Owners l ids nexts) (a :
         let i : place (d .mailbox) l < length l = ltb-true _ _ q in
         let n = w .next (place (d .mailbox) l) i in
         let m = p (place (d .mailbox) l) i in
-        rw q (lt-ltb (uidOf d) (theMailbox (d .mailbox) l .uidnext) (omega arith))
+        rw (q, lt-ltb (uidOf d) (theMailbox (d .mailbox) l .uidnext) (omega arith), counted d h)
+
+    is-ok : (flags size : ℕ) → flags ≤ 31 → size ≤ 4294967295 → (d : Message) → okUpTo flags size d ≡ true → atMost l last d ≡ true → messageOk d ≡ true
+    is-ok flags size f z d o h =
+        let i : place (d .mailbox) l < length l = ltb-true _ _ (and-l (known (d .mailbox) l) _ h) in
+        let b = leb-true (d .counter) (counterOf (theMailbox (d .mailbox) l)) (counted d h) in
+        let t = counter-high (theMailbox (d .mailbox) l) (all-get l (place (d .mailbox) l) ok i) in
+        in-range d (ok-wider d 31 4294967295 flags size f z o) (omega arith)
 
     pub gone : (es : List Message) (flags size : ℕ) → flags ≤ 31 → size ≤ 4294967295 → Going l selected told flags size last es → Good l selected told es
-    gone es flags size f z g = record { mail = all-imp (okUpTo flags size) messageOk (λ d. ok-wider d 31 4294967295 flags size f z) es (g .mail); owners = all-imp (atMost l last) (owned l) is-owned es (g .low); states = g .states; twins = g .twins }
+    gone es flags size f z g = record { mail = all-both (okUpTo flags size) (atMost l last) messageOk (is-ok flags size f z) es (g .mail) (g .low); owners = all-imp (atMost l last) (owned l) is-owned es (g .low); states = g .states; twins = g .twins }
 
 -- a pass with one entry more
-pub passed-next : (ws ids nexts : List ℕ) (l : List Mailbox) → Owners l ids nexts → apart clash l ≡ true → (selected told : ℕ) (p : Pass) (last : List ℕ) (k : ℕ) → p .at % 5 ≡ 0 → p .at + 5 ≤ length ws → k < length l → k < length last → Fits (entryAt ws (p .at)) (getD ids k 0) (getD last k 0) selected told → Passed ws l selected told p last → Passed ws l selected told (record { at = p .at + 5; flags = bitOr (p .flags) (getD ws (p .at + 2) 0); size = bitOr (p .size) (getD ws (p .at + 3) 0) }) (set last k (getD ws (p .at + 1) 0))
-passed-next ws ids nexts l w a selected told p last k r whole inside low f g =
+pub passed-next : (ws ids nexts counters : List ℕ) (l : List Mailbox) → Owners l ids nexts → Column counterOf l counters → apart clash l ≡ true → (selected told : ℕ) (p : Pass) (last : List ℕ) (k : ℕ) → p .at % 6 ≡ 0 → p .at + 6 ≤ length ws → k < length l → k < length last → Fits (entryAt ws (p .at)) (getD ids k 0) (getD last k 0) (getD counters k 0) selected told → Passed ws l selected told p last → Passed ws l selected told (record { at = p .at + 6; flags = bitOr (p .flags) (getD ws (p .at + 2) 0); size = bitOr (p .size) (getD ws (p .at + 3) 0) }) (set last k (getD ws (p .at + 1) 0))
+passed-next ws ids nexts counters l w v a selected told p last k r whole inside low f g =
     let es = messages ws in
-    let i = p .at / 5 in
+    let i = p .at / 6 in
     let many = messages-length (i + 1) ws (omega arith) in
     let h : i < length es = omega arith in
-    let on : (p .at + 5) / 5 ≡ suc i = omega arith in
+    let on : (p .at + 6) / 6 ≡ suc i = omega arith in
     rw (on, take-suc es i noMessage h, entry-at ws (p .at) r (omega arith))
-    (going-next l ids nexts w a selected told last (take i es) (entryAt ws (p .at)) k inside f (p .flags) (p .size) low g)
+    (going-next l ids nexts counters w v a selected told last (take i es) (entryAt ws (p .at)) k inside f (p .flags) (p .size) low g)
 
 module _ (e : Message) (selected told : ℕ) where
   pub at-rest : e .states ≡ 0 → Viewed e selected told

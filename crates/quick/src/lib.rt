@@ -10,11 +10,12 @@ ghost use mathlib.Core.Bool.{true};
 ghost use mathlib.Core.List.{List};
 ghost use Prim.Native.Nat.{ℕ, _+_, _*_, _%_, _≤_, _<_};
 ghost use lib.ListN.{length, take, getD, replicate};
-ghost use Rattle.model.specs.Lists.{apart};
-ghost use Rattle.model.specs.Lawful.{clash};
+ghost use Rattle.model.specs.Lists.{apart, allb};
+ghost use Rattle.model.specs.Memory.{counterOf};
+ghost use Rattle.model.specs.Lawful.{clash, mailboxOk};
 ghost use Rattle.model.specs.declared.Mailbox.{Mailbox};
 ghost use Rattle.entries.specs.Words.{messages};
-ghost use Rattle.rows.specs.Columns.{block};
+ghost use Rattle.rows.specs.Columns.{block, Column};
 ghost use Rattle.quick.specs.Passing.{Owners, Good, Ran};
 ghost use Rattle.quick.specs.Distinct.{slotOf, Absent, Differ, Taken, Low};
 ghost use Rattle.quick.specs.Digest.{word, mixed, folded, digest};
@@ -96,14 +97,15 @@ fn run(
     words: &[u64],
     end: usize,
     ids: &[u64; 64],
+    counters: &[u64; 64],
     slots: &[u8; 1024],
     last: &mut [u64; 64],
     selected: u64,
     told: Uid,
     from: Pass,
 ) -> Pass
-    requires { ⌜ (from .at ≤ end) × (from .at % 5 ≡ 0) × (end % 5 ≡ 0) × (end ≤ length (now words)) × (length (now last) ≡ 64) × Low (now slots) 64 ⌝ }
-    ensures { λ r. ⌜ Ran (now (words .entry)) end (now (ids .entry)) (now (slots .entry)) selected (told .0) from (now (last .entry)) r (now (last .exit)) ⌝ }
+    requires { ⌜ (from .at ≤ end) × (from .at % 6 ≡ 0) × (end % 6 ≡ 0) × (end ≤ length (now words)) × (length (now last) ≡ 64) × Low (now slots) 64 ⌝ }
+    ensures { λ r. ⌜ Ran (now (words .entry)) end (now (ids .entry)) (now (counters .entry)) (now (slots .entry)) selected (told .0) from (now (last .entry)) r (now (last .exit)) ⌝ }
 {
     let mut b = from.at;
     let mut flags = from.flags;
@@ -111,13 +113,13 @@ fn run(
     while b < end {
         let k = row(slots[slot(words[b])]);
         let low = Uid(last[k]);
-        if !entry_fits(words, b, ids[k], low, selected, told) {
+        if !entry_fits(words, b, ids[k], low, counters[k], selected, told) {
             return Pass { at: b, flags, size };
         }
         last[k] = words[b + 1];
         flags = flags | words[b + 2];
         size = size | words[b + 3];
-        b += 5;
+        b += 6;
     }
     Pass { at: b, flags, size }
 }
@@ -131,24 +133,26 @@ pub fn all_fit(
     used: usize,
     ids: &[u64; 64],
     nexts: &[u64; 64],
+    counters: &[u64; 64],
     slots: &[u8; 1024],
     chain: &[u8; 64],
     n: usize,
     selected: u64,
     told: Uid,
 ) -> bool
-    requires { ⌜ (used * 5 ≤ length (now words)) × (n ≤ 64) × Low (now slots) n × Low (now chain) n ⌝ }
-    ensures { λ r. ⌜ ((l : List Mailbox) → length l ≡ n → Owners l (now (ids .entry)) (now (nexts .entry)) → apart clash l ≡ true → r ≡ true → Good l selected (told .0) (take used (messages (now (words .entry))))) ⌝ }
+    requires { ⌜ (used * 6 ≤ length (now words)) × (n ≤ 64) × Low (now slots) n × Low (now chain) n ⌝ }
+    ensures { λ r. ⌜ ((l : List Mailbox) → length l ≡ n → Owners l (now (ids .entry)) (now (nexts .entry)) → Column counterOf l (now (counters .entry)) → allb mailboxOk l ≡ true → apart clash l ≡ true → r ≡ true → Good l selected (told .0) (take used (messages (now (words .entry))))) ⌝ }
 {
     if n < 1 {
         return used < 1;
     }
     let mut last = [0u64; 64];
-    let end = 5 * used;
+    let end = 6 * used;
     let mut p = run(
         words,
         end,
         ids,
+        counters,
         slots,
         &mut last,
         selected,
@@ -163,7 +167,7 @@ pub fn all_fit(
         let at = p.at;
         let k = owner(slots, chain, ids, n, words[at]);
         let low = Uid(last[k]);
-        if !entry_fits(words, at, ids[k], low, selected, told) {
+        if !entry_fits(words, at, ids[k], low, counters[k], selected, told) {
             return false;
         }
         last[k] = words[at + 1];
@@ -171,12 +175,13 @@ pub fn all_fit(
             words,
             end,
             ids,
+            counters,
             slots,
             &mut last,
             selected,
             told,
             Pass {
-                at: at + 5,
+                at: at + 6,
                 flags: p.flags | words[at + 2],
                 size: p.size | words[at + 3],
             },

@@ -30,7 +30,7 @@ pub fn owner(slots: &[u8; 1024], chain: &[u8; 64], ids: &[u64; 64], n: usize, id
 
 // An entry that is expunged or marked lies in the view.
 fn in_view(words: &[u64], b: usize, selected: u64, told: Uid) -> bool
-    requires { ⌜ b + 5 ≤ length (now words) ⌝ }
+    requires { ⌜ b + 6 ≤ length (now words) ⌝ }
     ensures { λ r. ⌜ (r ≡ true → Viewed (entryAt (now (words .entry)) b) selected (told .0)) ⌝ }
 {
     if words[b + 4] == 0 {
@@ -45,15 +45,33 @@ fn in_view(words: &[u64], b: usize, selected: u64, told: Uid) -> bool
     words[b + 1] < told.0
 }
 
+// A counter is one of a mailbox with this highest one: at least 1, and not above it. 0 wraps to a number that is above all.
+fn is_counted(counter: u64, highest: u64) -> bool
+    ensures { λ r. ⌜ (r ≡ true → (1 ≤ counter) × (counter ≤ highest)) ⌝ }
+{
+    std::num::wrapping_sub_u64(counter, 1) < highest
+}
+
 // The entry whose words start at b is in order but for its flags and size, and above the last UID of its row. Each word is read where it is tested.
-pub fn entry_fits(words: &[u64], b: usize, id: u64, low: Uid, selected: u64, told: Uid) -> bool
-    requires { ⌜ b + 5 ≤ length (now words) ⌝ }
-    ensures { λ r. ⌜ (r ≡ true → Fits (entryAt (now (words .entry)) b) id (low .0) selected (told .0)) ⌝ }
+pub fn entry_fits(
+    words: &[u64],
+    b: usize,
+    id: u64,
+    low: Uid,
+    highest: u64,
+    selected: u64,
+    told: Uid,
+) -> bool
+    requires { ⌜ b + 6 ≤ length (now words) ⌝ }
+    ensures { λ r. ⌜ (r ≡ true → Fits (entryAt (now (words .entry)) b) id (low .0) highest selected (told .0)) ⌝ }
 {
     if words[b] != id {
         return false;
     }
     if words[b + 1] <= low.0 {
+        return false;
+    }
+    if !is_counted(words[b + 5], highest) {
         return false;
     }
     in_view(words, b, selected, told)

@@ -52,7 +52,7 @@ fn next_length() -> usize {
 
 // The next row.
 fn next_row() -> Mailbox {
-    let mut o = [0u8; 12];
+    let mut o = [0u8; 20];
     let mut name = [0u8; 64];
     io::read_full(0, &mut o);
     io::read_full(0, &mut name);
@@ -62,6 +62,8 @@ fn next_row() -> Mailbox {
         namelen: o[3],
         uidvalidity: little(o[4], o[5], o[6], o[7]) as u32,
         uidnext: little(o[8], o[9], o[10], o[11]) as u32,
+        counterlow: little(o[12], o[13], o[14], o[15]) as u32,
+        counterhigh: little(o[16], o[17], o[18], o[19]) as u32,
         name,
     }
 }
@@ -193,6 +195,7 @@ fn judge(
     let mut lens = [0u8; 64];
     let mut validities = [0u64; 64];
     let mut nexts = [0u64; 64];
+    let mut counters = [0u64; 64];
     let mut names = [0u8; 4096];
     rows::lay(
         table,
@@ -202,6 +205,7 @@ fn judge(
         &mut lens,
         &mut validities,
         &mut nexts,
+        &mut counters,
         &mut names,
     );
     lawful::is_lawful(
@@ -210,6 +214,7 @@ fn judge(
         &lens,
         &validities,
         &nexts,
+        &counters,
         &names,
         lent,
         words,
@@ -249,8 +254,8 @@ fn answer() -> u64
     let lent = next_length();
     let table = next_rows(lent);
     let counts = next_counts();
-    let mut words = [0u64; 5200];
-    let n = at_most(next_length(), 5200);
+    let mut words = [0u64; 6240];
+    let n = at_most(next_length(), 6240);
     let yes = judge_rest(&mut words[..n], table, lent, counts, room);
     print_answer(yes);
     if yes { 1 } else { 0 }

@@ -21,8 +21,8 @@ returns c =
 cast-selected : tie.Need-cast-selected
 cast-selected c = search needs
 
-cast-t15 : tie.Need-cast-t15
-cast-t15 c = search needs
+cast-t16 : tie.Need-cast-t16
+cast-t16 c = search needs
 
 view-ok-requires : tie.Need-view-ok-requires
 view-ok-requires c κs = search needs
@@ -52,7 +52,7 @@ returns-4 c =
     let args = c .before .before .before .before .before .before .before .before .before .before .args in
     λ l h w.
     let ok = sym (c .before .before .rows-ok .ensures l h w) ∙ not-false _ (c .before .if3 .left) in
-    c .tables-ok .ensures l h (owners w) (called w) ok
+    c .tables-ok .ensures l h (owners w) (w .counter) (called w) ok
     ∙ tables-decide l (take (args .used) (messages (args .words .now))) (args .s) ok
     (sym (c .before .before .before .before .before .before .before .before .session-ok .ensures) ∙ not-false _ (c .before .before .before .before .before .before .before .if1 .left))
     (sym (c .before .before .before .before .view-ok .ensures l h (owners w)) ∙ not-false _ (c .before .before .before .if2 .left))
@@ -64,7 +64,7 @@ contents-ok-spec =
     session-ok-requires
     returns
     cast-selected
-    cast-t15
+    cast-t16
     view-ok-requires
     returns-2
     rows-ok-requires

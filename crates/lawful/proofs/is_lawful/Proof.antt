@@ -21,9 +21,9 @@ contents-ok-requires : tie.Need-contents-ok-requires
 contents-ok-requires c κs =
     let args = c .before .before .before .args in
     let h = sym (c .before .sizes-ok .ensures) ∙ not-false _ (c .if1 .left) in
-    let a = few-rows (args .room) (args .lent) (length (args .words .now) / 5) (args .counts) (args .s .groupcount) h in
-    let b = rows-used (args .room) (args .lent) (length (args .words .now) / 5) (args .counts) (args .s .groupcount) h in
-    (omega arith, enough-words (args .counts .messages) (length (args .words .now)) (entries-used (args .room) (args .lent) (length (args .words .now) / 5) (args .counts) (args .s .groupcount) h))
+    let a = few-rows (args .room) (args .lent) (length (args .words .now) / 6) (args .counts) (args .s .groupcount) h in
+    let b = rows-used (args .room) (args .lent) (length (args .words .now) / 6) (args .counts) (args .s .groupcount) h in
+    (omega arith, enough-words (args .counts .messages) (length (args .words .now)) (entries-used (args .room) (args .lent) (length (args .words .now) / 6) (args .counts) (args .s .groupcount) h))
 
 returns-2 : tie.Need-returns-2
 returns-2 c =

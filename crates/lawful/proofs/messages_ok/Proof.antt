@@ -16,7 +16,7 @@ all-fit-requires c κs = search needs
 returns : tie.Need-returns
 returns c =
     let args = c .before .before .before .args in
-    λ l h w a. sym (good-decides l (take (args .used) (messages (args .words .now))) (args .selected) (args .told .0) (c .before .all-fit .ensures l h w a (c .if1 .taken)))
+    λ l h w v ok a. sym (good-decides l (take (args .used) (messages (args .words .now))) (args .selected) (args .told .0) (c .before .all-fit .ensures l h w v ok a (c .if1 .taken)))
 
 mail-ok-requires : tie.Need-mail-ok-requires
 mail-ok-requires c κs = search needs
@@ -24,8 +24,8 @@ mail-ok-requires c κs = search needs
 returns-2 : tie.Need-returns-2
 returns-2 c =
     let args = c .before .before .before .before .before .args in
-    λ l h w a.
-    let no : allb (entryOk l (args .selected) (args .told .0)) (take (args .used) (messages (args .words .now))) ≡ false = sym (c .before .mail-ok .ensures l h w) ∙ not-true _ (c .if2 .taken) in rw no
+    λ l h w v ok a.
+    let no : allb (entryOk l (args .selected) (args .told .0)) (take (args .used) (messages (args .words .now))) ≡ false = sym (c .before .mail-ok .ensures l h w v) ∙ not-true _ (c .if2 .taken) in rw no
 
 mail-apart-requires : tie.Need-mail-apart-requires
 mail-apart-requires c κs = search needs
@@ -33,8 +33,8 @@ mail-apart-requires c κs = search needs
 returns-3 : tie.Need-returns-3
 returns-3 c =
     let args = c .before .before .before .before .before .before .args in
-    λ l h w a.
-    let yes : allb (entryOk l (args .selected) (args .told .0)) (take (args .used) (messages (args .words .now))) ≡ true = sym (c .before .before .mail-ok .ensures l h w) ∙ not-false _ (c .before .if2 .left) in rw yes (c .mail-apart .ensures)
+    λ l h w v ok a.
+    let yes : allb (entryOk l (args .selected) (args .told .0)) (take (args .used) (messages (args .words .now))) ≡ true = sym (c .before .before .mail-ok .ensures l h w v) ∙ not-false _ (c .before .if2 .left) in rw yes (c .mail-apart .ensures)
 
 pub messages-ok-spec : {M : Type 1} → statement M
 messages-ok-spec =

@@ -19,7 +19,7 @@ returns : tie.Need-returns
 returns c =
     let args = c .before .before .before .before .before .args in
     let es = take (args .used) (messages (args .words .now)) in
-    λ l h w v ok.
+    λ l h w x v ok.
     rw (slow-order l es (args .selected) (args .told .0))
     (first-no (apart clash l) (allb (entryOk l (args .selected) (args .told .0)) es) (apart twin es) (sym (c .before .rows-differ .ensures .0 l h v ok) ∙ not-true _ (c .if1 .taken)))
 
@@ -30,9 +30,9 @@ returns-2 : tie.Need-returns-2
 returns-2 c =
     let args = c .before .before .before .before .before .before .before .before .args in
     let es = take (args .used) (messages (args .words .now)) in
-    λ l h w v ok.
+    λ l h w x v ok.
     let yes : apart clash l ≡ true = sym (c .before .before .before .before .rows-differ .ensures .0 l h v ok) ∙ not-false _ (c .before .before .before .if1 .left) in
-    rw (slow-order l es (args .selected) (args .told .0), yes) (c .messages-ok .ensures l h w yes)
+    rw (slow-order l es (args .selected) (args .told .0), yes) (c .messages-ok .ensures l h w x ok yes)
 
 pub tables-ok-spec : {M : Type 1} → statement M
 tables-ok-spec = tie.close (tie.spec rows-differ-requires returns messages-ok-requires returns-2)

@@ -8,9 +8,11 @@ use lib.ListN.{length, take, length-set}
 use borrow.Author.Tests.{not-false, ltb-true}
 use Rattle.model.specs.Laws.{tf}
 use Rattle.model.specs.Lists.{apart}
+use Rattle.model.specs.Memory.{counterOf}
 use Rattle.model.specs.Lawful.{clash}
 use Rattle.model.specs.declared.Mailbox.{Mailbox}
 use Rattle.entries.specs.Words.{messages}
+use Rattle.rows.specs.Columns.{Column}
 use Rattle.quick.specs.Distinct.{low-wider}
 use Rattle.quick.specs.Passing.{Owners, Passed, Below, good-none, going-start, passed-next, gone}
 use borrow.Author.Needs.{needs}
@@ -18,15 +20,15 @@ use Rattle.quick.proofs.all_fit.Statement.{statement}
 use Rattle.quick.proofs.all_fit.Tie as tie
 
 abbrev Inv-loop : tie.InvT-loop
-Inv-loop words used ids nexts slots chain n selected told last₀ end p₀ last p = (end ≡ 5 * used) × (p .at ≤ end) × (p .at % 5 ≡ 0) × (length last ≡ 64) × ((l : List Mailbox) → length l ≡ n → Owners l ids nexts → apart clash l ≡ true → Passed words l selected (told .0) p last)
+Inv-loop words used ids nexts counters slots chain n selected told last₀ end p₀ last p = (end ≡ 6 * used) × (p .at ≤ end) × (p .at % 6 ≡ 0) × (length last ≡ 64) × ((l : List Mailbox) → length l ≡ n → Owners l ids nexts → Column counterOf l counters → apart clash l ≡ true → Passed words l selected (told .0) p last)
 
 abbrev μ-loop : tie.MeasureT-loop
-μ-loop words used ids nexts slots chain n selected told last₀ end p₀ last p = end - p .at
+μ-loop words used ids nexts counters slots chain n selected told last₀ end p₀ last p = end - p .at
 
 returns : tie.Need-returns Inv-loop μ-loop
 returns c =
     let args = c .before .before .args in
-    λ l h w a z. let e : args .used ≡ 0 = omega (arith, ltb-true (args .used) 1 z) in rw e (good-none l (args .selected) (args .told .0))
+    λ l h w v ok a z. let e : args .used ≡ 0 = omega (arith, ltb-true (args .used) 1 z) in rw e (good-none l (args .selected) (args .told .0))
 
 mul-end : tie.Need-mul-end Inv-loop μ-loop
 mul-end c = search needs
@@ -50,7 +52,7 @@ loop-holds c =
       ran .inside,
       ran .whole,
       ran .long,
-      λ l q w a. ran .kept l (start .args .nexts .now) w a (omega arith) (rw q (start .pre .2)) (going-start l _ _ _ _ _),
+      λ l q w v a. ran .kept l (start .args .nexts .now) w v a (omega arith) (rw q (start .pre .2)) (going-start l _ _ _ _ _),
     )
 
 mul-owner : tie.Need-mul-owner Inv-loop μ-loop
@@ -74,11 +76,17 @@ mul-entry-fits-2 c = search needs
 element-copy-out-entry-fits : tie.Need-element-copy-out-entry-fits Inv-loop μ-loop
 element-copy-out-entry-fits c = search needs
 
+mul-entry-fits-3 : tie.Need-mul-entry-fits-3 Inv-loop μ-loop
+mul-entry-fits-3 c = search needs
+
+element-copy-out-entry-fits-2 : tie.Need-element-copy-out-entry-fits-2 Inv-loop μ-loop
+element-copy-out-entry-fits-2 c = search needs
+
 entry-fits-requires : tie.Need-entry-fits-requires Inv-loop μ-loop
 entry-fits-requires c κs = search needs
 
 returns-2 : tie.Need-returns-2 Inv-loop μ-loop
-returns-2 c = λ l h w a z. tf false z refl
+returns-2 c = λ l h w v ok a z. tf false z refl
 
 add-last : tie.Need-add-last Inv-loop μ-loop
 add-last c = search needs
@@ -95,31 +103,31 @@ mul-last-2 c = search needs
 array-write-last : tie.Need-array-write-last Inv-loop μ-loop
 array-write-last c = search needs
 
-add-t20 : tie.Need-add-t20 Inv-loop μ-loop
-add-t20 c = search needs
+add-t21 : tie.Need-add-t21 Inv-loop μ-loop
+add-t21 c = search needs
 
-add-t30 : tie.Need-add-t30 Inv-loop μ-loop
-add-t30 c = search needs
+add-t34 : tie.Need-add-t34 Inv-loop μ-loop
+add-t34 c = search needs
 
 mul-t28 : tie.Need-mul-t28 Inv-loop μ-loop
 mul-t28 c = search needs
 
-shared-slice-read-t22 : tie.Need-shared-slice-read-t22 Inv-loop μ-loop
-shared-slice-read-t22 c = search needs
+shared-slice-read-t31 : tie.Need-shared-slice-read-t31 Inv-loop μ-loop
+shared-slice-read-t31 c = search needs
 
-add-t36 : tie.Need-add-t36 Inv-loop μ-loop
-add-t36 c = search needs
+add-t39 : tie.Need-add-t39 Inv-loop μ-loop
+add-t39 c = search needs
 
-mul-t37 : tie.Need-mul-t37 Inv-loop μ-loop
-mul-t37 c = search needs
+mul-t40 : tie.Need-mul-t40 Inv-loop μ-loop
+mul-t40 c = search needs
 
-shared-slice-read-t39 : tie.Need-shared-slice-read-t39 Inv-loop μ-loop
-shared-slice-read-t39 c = search needs
+shared-slice-read-t42 : tie.Need-shared-slice-read-t42 Inv-loop μ-loop
+shared-slice-read-t42 c = search needs
 
 run-requires-2 : tie.Need-run-requires-2 Inv-loop μ-loop
 run-requires-2 c κs =
-    let start = c .before .before .before .before .before .before .before .before .before .before .before .before .before .before .before .before .before .before in
-    let long = c .before .before .before .before .before .before .before .before .before .before .before .before .before .loop .inv .3 in (
+    let start = c .before .before .before .before .before .before .before .before .before .before .before .before .before .before .before .before .before .before .before in
+    let long = c .before .before .before .before .before .before .before .before .before .before .before .before .before .before .loop .inv .3 in (
       search needs,
       search needs,
       search needs,
@@ -133,28 +141,28 @@ loop-less c = search needs
 
 loop-again : tie.Need-loop-again Inv-loop μ-loop
 loop-again c =
-    let start = c .before .before .before .before .before .before .before .before .before .before .before .before .before .before .before .before .before .before .before in
+    let start = c .before .before .before .before .before .before .before .before .before .before .before .before .before .before .before .before .before .before .before .before in
     let args = start .args in
-    let turn = c .before .before .before .before .before .before .before .before .before .before .before .before .before .before .loop in
+    let turn = c .before .before .before .before .before .before .before .before .before .before .before .before .before .before .before .loop in
     let fits = c .before .before .before .before .before .before .before .before .entry-fits .ensures (not-false _ (c .before .before .before .before .before .before .before .if3 .left)) in
-    let k = c .before .before .before .before .before .before .before .before .before .before .owner .result in
-    let row = c .before .before .before .before .before .before .before .before .before .before .owner .ensures in
-    let some = c .before .before .before .before .before .before .before .before .before .before .before .before .before .before .before .before .before .if1 .left in
+    let k = c .before .before .before .before .before .before .before .before .before .before .before .owner .result in
+    let row = c .before .before .before .before .before .before .before .before .before .before .before .owner .ensures in
+    let some = c .before .before .before .before .before .before .before .before .before .before .before .before .before .before .before .before .before .before .if1 .left in
     let ran = c .run2 .ensures in (
       search needs,
       ran .inside,
       ran .whole,
       ran .long,
-      λ l q w a.
-          ran .kept l (args .nexts .now) w a (omega arith) (rw q (start .pre .2))
-          (passed-next (args .words .now) (args .ids .now) (args .nexts .now) l w a (args .selected) (args .told .0) (turn .p) (turn .last) k (turn .inv .2) (omega arith) (omega arith) (omega arith) fits (turn .inv .4 l q w a)),
+      λ l q w v a.
+          ran .kept l (args .nexts .now) w v a (omega arith) (rw q (start .pre .2))
+          (passed-next (args .words .now) (args .ids .now) (args .nexts .now) (args .counters .now) l w v a (args .selected) (args .told .0) (turn .p) (turn .last) k (turn .inv .2) (omega arith) (omega arith) (omega arith) fits (turn .inv .4 l q w v a)),
     )
 
 returns-3 : tie.Need-returns-3 Inv-loop μ-loop
-returns-3 c = λ l h w a z. tf false z refl
+returns-3 c = λ l h w v ok a z. tf false z refl
 
 returns-4 : tie.Need-returns-4 Inv-loop μ-loop
-returns-4 c = λ l h w a z. tf false z refl
+returns-4 c = λ l h w v ok a z. tf false z refl
 
 below-requires : tie.Need-below-requires Inv-loop μ-loop
 below-requires c κs = search needs
@@ -163,10 +171,10 @@ returns-5 : tie.Need-returns-5 Inv-loop μ-loop
 returns-5 c =
     let args = c .before .before .before .before .before .before .before .before .before .before .before .before .before .args in
     let turn = c .before .before .before .before .before .before .before .before .loop in
-    λ l h w a z.
+    λ l h w v ok a z.
     let below : Below (turn .last) (args .nexts .now) (length l) = rw h (c .below .ensures z) in
-    let e : turn .p .at / 5 ≡ args .used = omega arith in
-    gone l (args .ids .now) (args .nexts .now) w a (args .selected) (args .told .0) (turn .last) below (take (args .used) (messages (args .words .now))) (turn .p .flags) (turn .p .size) (c .before .before .before .before .if4 .left) (c .before .before .if5 .left) (rw e at (turn .inv .4 l h w a))
+    let e : turn .p .at / 6 ≡ args .used = omega arith in
+    gone l (args .ids .now) (args .nexts .now) (args .counters .now) w v a (args .selected) (args .told .0) (turn .last) below ok (take (args .used) (messages (args .words .now))) (turn .p .flags) (turn .p .size) (c .before .before .before .before .if4 .left) (c .before .before .if5 .left) (rw e at (turn .inv .4 l h w v a))
 
 pub all-fit-spec : {M : Type 1} → statement M
 all-fit-spec =
@@ -185,6 +193,8 @@ all-fit-spec =
     array-read-entry-fits
     mul-entry-fits-2
     element-copy-out-entry-fits
+    mul-entry-fits-3
+    element-copy-out-entry-fits-2
     entry-fits-requires
     returns-2
     add-last
@@ -192,13 +202,13 @@ all-fit-spec =
     shared-slice-read-last
     mul-last-2
     array-write-last
-    add-t20
-    add-t30
+    add-t21
+    add-t34
     mul-t28
-    shared-slice-read-t22
-    add-t36
-    mul-t37
-    shared-slice-read-t39
+    shared-slice-read-t31
+    add-t39
+    mul-t40
+    shared-slice-read-t42
     run-requires-2
     loop-less
     loop-again

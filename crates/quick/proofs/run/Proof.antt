@@ -9,13 +9,13 @@ use Rattle.quick.proofs.run.Statement.{statement}
 use Rattle.quick.proofs.run.Tie as tie
 
 abbrev Inv-loop : tie.InvT-loop
-Inv-loop words end ids slots last₀ selected told b₀ flags₀ size₀ last b flags size = Ran words end ids slots selected (told .0) (record { at = b₀; flags = flags₀; size = size₀ }) last₀ (record { at = b; flags = flags; size = size }) last
+Inv-loop words end ids counters slots last₀ selected told b₀ flags₀ size₀ last b flags size = Ran words end ids counters slots selected (told .0) (record { at = b₀; flags = flags₀; size = size₀ }) last₀ (record { at = b; flags = flags; size = size }) last
 
 abbrev μ-loop : tie.MeasureT-loop
-μ-loop words end ids slots last₀ selected told b₀ flags₀ size₀ last b flags size = end - b
+μ-loop words end ids counters slots last₀ selected told b₀ flags₀ size₀ last b flags size = end - b
 
 loop-holds : tie.Need-loop-holds Inv-loop μ-loop
-loop-holds c = record { on = search needs; inside = search needs; whole = c .before .pre .1; long = c .before .pre .4; kept = λ l nexts w a o s g. g }
+loop-holds c = record { on = search needs; inside = search needs; whole = c .before .pre .1; long = c .before .pre .4; kept = λ l nexts w v a o s g. g }
 
 mul-slot : tie.Need-mul-slot Inv-loop μ-loop
 mul-slot c = search needs
@@ -44,11 +44,17 @@ mul-entry-fits-2 c = let z = c .before .before .before .before .before .before .
 element-copy-out-entry-fits-2 : tie.Need-element-copy-out-entry-fits-2 Inv-loop μ-loop
 element-copy-out-entry-fits-2 c = let z = c .before .before .before .before .before .before .before .before .pre .5 (omega arith) (c .before .before .before .slot .result) in search needs
 
+mul-entry-fits-3 : tie.Need-mul-entry-fits-3 Inv-loop μ-loop
+mul-entry-fits-3 c = let z = c .before .before .before .before .before .before .before .before .before .pre .5 (omega arith) (c .before .before .before .before .slot .result) in search needs
+
+element-copy-out-entry-fits-3 : tie.Need-element-copy-out-entry-fits-3 Inv-loop μ-loop
+element-copy-out-entry-fits-3 c = let z = c .before .before .before .before .before .before .before .before .before .pre .5 (omega arith) (c .before .before .before .before .slot .result) in search needs
+
 entry-fits-requires : tie.Need-entry-fits-requires Inv-loop μ-loop
 entry-fits-requires c κs = search needs
 
 returns : tie.Need-returns Inv-loop μ-loop
-returns c = c .before .before .before .before .before .before .before .before .before .loop .inv
+returns c = c .before .before .before .before .before .before .before .before .before .before .loop .inv
 
 add-last : tie.Need-add-last Inv-loop μ-loop
 add-last c = search needs
@@ -60,10 +66,10 @@ shared-slice-read-last : tie.Need-shared-slice-read-last Inv-loop μ-loop
 shared-slice-read-last c = search needs
 
 mul-last-2 : tie.Need-mul-last-2 Inv-loop μ-loop
-mul-last-2 c = let z = c .before .before .before .before .before .before .before .before .before .before .before .before .pre .5 (omega arith) (c .before .before .before .before .before .before .before .slot .result) in search needs
+mul-last-2 c = let z = c .before .before .before .before .before .before .before .before .before .before .before .before .before .pre .5 (omega arith) (c .before .before .before .before .before .before .before .before .slot .result) in search needs
 
 element-write-last : tie.Need-element-write-last Inv-loop μ-loop
-element-write-last c = let z = c .before .before .before .before .before .before .before .before .before .before .before .before .pre .5 (omega arith) (c .before .before .before .before .before .before .before .slot .result) in search needs
+element-write-last c = let z = c .before .before .before .before .before .before .before .before .before .before .before .before .before .pre .5 (omega arith) (c .before .before .before .before .before .before .before .before .slot .result) in search needs
 
 add-flags : tie.Need-add-flags Inv-loop μ-loop
 add-flags c = search needs
@@ -91,11 +97,11 @@ loop-less c = search needs
 
 loop-again : tie.Need-loop-again Inv-loop μ-loop
 loop-again c =
-    let start = c .before .before .before .before .before .before .before .before .before .before .before .before .before .before in
+    let start = c .before .before .before .before .before .before .before .before .before .before .before .before .before .before .before in
     let args = start .args in
-    let turn = c .before .before .before .before .before .before .before .before .before .before .before .before .loop in
-    let at = c .before .before .before .before .before .before .before .before .before .slot .result in
-    let k = c .before .before .before .before .before .before .before .row .result in
+    let turn = c .before .before .before .before .before .before .before .before .before .before .before .before .before .loop in
+    let at = c .before .before .before .before .before .before .before .before .before .before .slot .result in
+    let k = c .before .before .before .before .before .before .before .before .row .result in
     let fits = c .before .before .before .before .entry-fits .ensures (not-false _ (c .before .before .before .if1 .left)) in
     let z = start .pre .5 (omega arith) at in
     record {
@@ -103,9 +109,9 @@ loop-again c =
       inside = search needs;
       whole = search needs;
       long = simp length-set (turn .inv .long);
-      kept = λ l nexts w a o s g.
+      kept = λ l nexts w v a o s g.
           let y = s o at in
-          passed-next (args .words .now) (args .ids .now) nexts l w a (args .selected) (args .told .0) (record { at = turn .b; flags = turn .flags; size = turn .size }) (turn .last) k (turn .inv .whole) (omega arith) (omega arith) (omega arith) fits (turn .inv .kept l nexts w a o s g);
+          passed-next (args .words .now) (args .ids .now) nexts (args .counters .now) l w v a (args .selected) (args .told .0) (record { at = turn .b; flags = turn .flags; size = turn .size }) (turn .last) k (turn .inv .whole) (omega arith) (omega arith) (omega arith) fits (turn .inv .kept l nexts w v a o s g);
     }
 
 returns-2 : tie.Need-returns-2 Inv-loop μ-loop
@@ -127,6 +133,8 @@ run-spec =
     element-copy-out-entry-fits
     mul-entry-fits-2
     element-copy-out-entry-fits-2
+    mul-entry-fits-3
+    element-copy-out-entry-fits-3
     entry-fits-requires
     returns
     add-last

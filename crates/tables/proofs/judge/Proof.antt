@@ -13,7 +13,7 @@ is-lawful-requires : tie.Need-is-lawful-requires
 is-lawful-requires c κs = search needs
 
 returns : tie.Need-returns
-returns c = λ t q w e. c .is-lawful .ensures t (c .before .before .before .before .before .before .before .before .before .before .before .before .before .before .before .args .table) q w (c .before .before .before .before .before .before .before .lay .ensures) e
+returns c = λ t q w e. c .is-lawful .ensures t (c .before .before .before .before .before .before .before .before .before .before .before .before .before .before .before .before .before .args .table) q w (c .before .before .before .before .before .before .before .before .lay .ensures) e
 
 pub judge-spec : {M : Type 1} → statement M
 judge-spec = tie.close (tie.spec lay-requires is-lawful-requires returns)

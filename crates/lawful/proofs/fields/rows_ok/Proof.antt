@@ -1,6 +1,6 @@
-use Rattle.lawful.proofs.rows_ok.Statement.{statement}
-use Rattle.lawful.proofs.rows_ok.Tie as tie
-use mathlib.Core.Path.{_≡_, refl, sym, _∙_, ap}
+use Rattle.lawful.proofs.fields.rows_ok.Statement.{statement}
+use Rattle.lawful.proofs.fields.rows_ok.Tie as tie
+use mathlib.Core.Path.{_≡_, refl, sym, _∙_}
 use mathlib.Core.List.{List}
 use Prim.Native.Nat.{_≤_, _-_}
 use native.Mathlib.Omega.{arith}
@@ -16,10 +16,10 @@ use Rattle.lawful.specs.Fields.{row-at}
 use borrow.Author.Needs.{needs}
 
 abbrev Inv-loop : tie.InvT-loop
-Inv-loop ids attributes lens validities nexts names n i₀ i = (i ≤ n) × ((l : List Mailbox) → length l ≡ n → Laid l ids attributes lens validities nexts names → allb mailboxOk l ≡ allb mailboxOk (drop i l))
+Inv-loop ids attributes lens validities nexts counters names n i₀ i = (i ≤ n) × ((l : List Mailbox) → length l ≡ n → Laid l ids attributes lens validities nexts counters names → allb mailboxOk l ≡ allb mailboxOk (drop i l))
 
 abbrev μ-loop : tie.MeasureT-loop
-μ-loop ids attributes lens validities nexts names n i₀ i = n - i
+μ-loop ids attributes lens validities nexts counters names n i₀ i = n - i
 
 loop-holds : tie.Need-loop-holds Inv-loop μ-loop
 loop-holds c = (search needs, λ l h w. refl)
@@ -32,8 +32,8 @@ returns c =
     let args = c .before .before .before .before .args in
     let turn = c .before .before .before .loop in
     λ l h w.
-    let at = row-at l (args .ids .now) (args .attributes .now) (args .lens .now) (args .validities .now) (args .nexts .now) (args .names .now) w (turn .i) (omega arith) in
-    sym (turn .inv .1 l h w ∙ all-broken mailboxOk l (turn .i) noMailbox (omega arith) (sym (c .before .row-ok .ensures ∙ ap mailboxOk at) ∙ not-true _ (c .if1 .taken)))
+    let at = row-at (args .ids .now) (args .attributes .now) (args .lens .now) (args .validities .now) (args .nexts .now) (args .counters .now) (args .names .now) (turn .i) l w (omega arith) in
+    sym (turn .inv .1 l h w ∙ all-broken mailboxOk l (turn .i) noMailbox (omega arith) (sym (c .before .row-ok .ensures ∙ at) ∙ not-true _ (c .if1 .taken)))
 
 add-i : tie.Need-add-i Inv-loop μ-loop
 add-i c = search needs
@@ -47,8 +47,8 @@ loop-again c =
     let turn = c .before .before .before .loop in (
       search needs,
       λ l h w.
-          let at = row-at l (args .ids .now) (args .attributes .now) (args .lens .now) (args .validities .now) (args .nexts .now) (args .names .now) w (turn .i) (omega arith) in
-          turn .inv .1 l h w ∙ all-on mailboxOk l (turn .i) noMailbox (omega arith) (sym (c .before .row-ok .ensures ∙ ap mailboxOk at) ∙ not-false _ (c .if1 .left)),
+          let at = row-at (args .ids .now) (args .attributes .now) (args .lens .now) (args .validities .now) (args .nexts .now) (args .counters .now) (args .names .now) (turn .i) l w (omega arith) in
+          turn .inv .1 l h w ∙ all-on mailboxOk l (turn .i) noMailbox (omega arith) (sym (c .before .row-ok .ensures ∙ at) ∙ not-false _ (c .if1 .left)),
     )
 
 returns-2 : tie.Need-returns-2 Inv-loop μ-loop

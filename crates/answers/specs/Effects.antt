@@ -5,9 +5,9 @@ use mathlib.Core.List.{List, [], _∷_, _++_}
 use Prim.Native.Nat.{ℕ}
 use Rattle.model.specs.Lists.{concatMap, when, sorted, filterb}
 use lib.ListN.{length}
-use Rattle.model.specs.Memory.{Memory, boxes, mails, nameOf, mayRead, mayList, isSelected, existing, changeMails}
+use Rattle.model.specs.Memory.{Memory, boxes, mails, nameOf, mayRead, mayList, isSelected, existing, counterOf, changeMails}
 use Rattle.model.specs.Groups.{askedOf, asksMessages}
-use Rattle.model.specs.Lines.{Line, status, statusAtSet, list, renamed, exists, expunge, fetch, found, overflow, answer, noAccess}
+use Rattle.model.specs.Lines.{Line, status, setItems, list, renamed, exists, expunge, fetch, found, overflow, answer, noAccess}
 use Rattle.model.specs.Queue.{enqueue, effect, effects, showsFlags, unmark}
 use Rattle.model.specs.Requests.{Search}
 use Rattle.model.specs.Listing.{listing, listingLine, concerns, byName}
@@ -18,8 +18,7 @@ use Rattle.model.specs.declared.Uid.{Uid}
 
 -- lines that are written and what they end do not meddle
 effect-enqueue : (m : Memory) (t : List ℕ) (l : Line) → effect (enqueue m t) l ≡ enqueue (effect m l) t
-effect-enqueue m t (status n u k) = refl
-effect-enqueue m t (statusAtSet n k u v) = refl
+effect-enqueue m t (status n is) = refl
 effect-enqueue m t (list k n) = refl
 effect-enqueue m t (renamed k new old) = refl
 effect-enqueue m t (exists n) = refl
@@ -74,7 +73,7 @@ still-listing m s wanted = still-each (listingLine m s wanted) one (sorted byNam
     one : (x : Mailbox) → Still (listingLine m s wanted x)
     one x =
         go (mayRead x) (wanted && (not (isSelected m (x .id)) && askedOf s x asksMessages))
-        (statusAtSet (nameOf x) (length (existing (x .id) (mails m))) (x .uidnext) (x .uidvalidity)) (list noAccess (nameOf x)) (λ j. refl) (λ j. refl)
+        (status (nameOf x) (setItems (length (existing (x .id) (mails m))) (x .uidnext) (x .uidvalidity) (counterOf x))) (list noAccess (nameOf x)) (λ j. refl) (λ j. refl)
 
 pub still-found : (m : Memory) (tag : List ℕ) (q : Search) → Still (foundLines m tag q)
 still-found m tag q = still-each (λ (x : Mailbox). foundLine tag q x (matches (q .keys) (candidates m x))) (λ x. one x (matches (q .keys) (candidates m x)))

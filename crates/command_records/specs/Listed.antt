@@ -27,14 +27,14 @@ use Rattle.listing.specs.Telling.{Shown, Tells, tells-listing}
 use Rattle.outcomes.specs.Coming.{Lends}
 
 -- the columns, the order of the rows and the notes beside them are those that the listing of session s shows
-pub record Noted (m : Memory) (s : Session) (wanted : Bool) (attributes lens validities nexts names listed : List ℕ) (n : ℕ) (tally asks : List ℕ) : Type 0 where
+pub record Noted (m : Memory) (s : Session) (wanted : Bool) (attributes lens validities nexts counters names listed : List ℕ) (n : ℕ) (tally asks : List ℕ) : Type 0 where
   pub long : length (boxes m) ≤ 64
-  pub shown : Shown (boxes m) attributes lens validities nexts names
+  pub shown : Shown (boxes m) attributes lens validities nexts counters names
   pub ordered : Ordered (λ (x : Mailbox). mayList x && concerns m s x) (boxes m) listed n
   pub tells : Tells (listingLine m s wanted) (boxes m) tally asks
 
 module _ (m : Memory) (ws : List ℕ) (k : Counts) (s : Session) (q : List ℕ) (lent : Lends m ws k s q) (law : Law m)
-    (ids attributes lens validities nexts names : List ℕ) (laid : Laid (boxes m) ids attributes lens validities nexts names) where
+    (ids attributes lens validities nexts counters names : List ℕ) (laid : Laid (boxes m) ids attributes lens validities nexts counters names) where
   rows-long : length (boxes m) ≡ k .mailboxes
   rows-long = boxes-long m (leb-true _ _ (law .used)) ∙ ap (λ (c : Counts). c .mailboxes) (lent .counts)
 
@@ -47,14 +47,14 @@ module _ (m : Memory) (ws : List ℕ) (k : Counts) (s : Session) (q : List ℕ) 
       → ((p : Mailbox → Bool) (l : List Mailbox) → length l ≡ k .mailboxes → Column (λ (x : Mailbox). x .namelen) l lens → Names l names → Picks p l (k .mailboxes) picked → Ordered p l listed n)
       → (wanted ≡ true → (l : List Mailbox) → length l ≡ k .mailboxes → Column (λ (x : Mailbox). x .id) l ids → apart clash l ≡ true → (i : ℕ) → i < k .mailboxes
       → getD tally i 0 ≡ length (existing (getD l i noMailbox .id) (take (k .messages) (messages ws))))
-      → Noted m t wanted attributes lens validities nexts names listed n tally asks
+      → Noted m t wanted attributes lens validities nexts counters names listed n tally asks
   noted-rows t same wanted picked listed tally asks n most notes order counts =
       let long = rows-long in
       let all = notes (boxes m) long (laid .id) (laid .attribute) (laid .len) (laid .name) in
       let same′ : t .selected ≡ m .session .selected = same ∙ ap (λ (o : Session). o .selected) (sym (lent .session)) in
       record {
         long = omega arith;
-        shown = record { attribute = laid .attribute; len = laid .len; validity = laid .validity; next = laid .next; name = laid .name };
+        shown = record { attribute = laid .attribute; len = laid .len; validity = laid .validity; next = laid .next; counter = laid .counter; name = laid .name };
         ordered = order (λ (x : Mailbox). mayList x && concerns m t x) (boxes m) long (laid .len) (laid .name)
             (λ i h. all .told i (omega arith) ∙ picked-is m t (getD (boxes m) i noMailbox) same′);
         tells = tells-listing m t wanted (boxes m) tally asks

@@ -7,7 +7,7 @@ use native.Mathlib.Omega.{arith}
 use lib.ListN.{length, take}
 use borrow.Author.Tests.{le-leb}
 use Rattle.model.specs.Memory.{Memory, mails, filled, selectedBox, bothRights, messagesOf, changeMails}
-use Rattle.model.specs.Lines.{Line, status, statusAtSet, list, renamed, exists, expunge, fetch, found, overflow, answer, renderAll}
+use Rattle.model.specs.Lines.{Line, status, list, renamed, exists, expunge, fetch, found, overflow, answer, renderAll}
 use Rattle.model.specs.Queue.{written, room, enqueue, effect, effects, showsFlags, unmark}
 use Rattle.model.specs.View.{owed, owedLines, selectedMessages}
 use Rattle.model.specs.declared.Message.{Message}
@@ -48,8 +48,7 @@ module _ (m : Memory) (ws : List ℕ) (k : Counts) (s : Session) (q : List ℕ) 
 
 -- ---- lines end nothing of the rows, nor of the queue
 effect-keeps : (m : Memory) (l : Line) → effect m l ≡ leftAs m (effect m l .entries) (effect m l .counts .messages) (effect m l .session) (m .queue) (filled m)
-effect-keeps m (status n u k) = refl
-effect-keeps m (statusAtSet n k u v) = refl
+effect-keeps m (status n is) = refl
 effect-keeps m (list k n) = refl
 effect-keeps m (renamed k new old) = refl
 effect-keeps m (exists n) = refl

@@ -122,8 +122,8 @@ asked-view s s′ v gs e = ap (λ (o : Session). withView o (v .selected) (v .to
 
 -- the notes are made for the session that is asked for
 pub noted-set : (m : Memory) (ws : List ℕ) (k : Counts) (s : Session) (q : List ℕ) (lent : Lends m ws k s q) (wanted : Bool) (gs : List Asked) (s′ : Session) → s′ ≡ watching s gs
-    → {attributes lens validities nexts names listed : List ℕ} {n : ℕ} {tally asks : List ℕ} → (s′ .selected ≡ s .selected → Noted m s′ wanted attributes lens validities nexts names listed n tally asks)
-    → Noted m (watching (m .session) gs) wanted attributes lens validities nexts names listed n tally asks
-noted-set m ws k s q lent wanted gs s′ d {attributes} {lens} {validities} {nexts} {names} {listed} {n} {tally} {asks} f =
-    subst (λ (o : Session). Noted m o wanted attributes lens validities nexts names listed n tally asks)
+    → {attributes lens validities nexts counters names listed : List ℕ} {n : ℕ} {tally asks : List ℕ} → (s′ .selected ≡ s .selected → Noted m s′ wanted attributes lens validities nexts counters names listed n tally asks)
+    → Noted m (watching (m .session) gs) wanted attributes lens validities nexts counters names listed n tally asks
+noted-set m ws k s q lent wanted gs s′ d {attributes} {lens} {validities} {nexts} {counters} {names} {listed} {n} {tally} {asks} f =
+    subst (λ (o : Session). Noted m o wanted attributes lens validities nexts counters names listed n tally asks)
     (d ∙ ap (λ (o : Session). watching o gs) (sym (lent .session))) (f (ap (λ (o : Session). o .selected) d))

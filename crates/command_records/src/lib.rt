@@ -89,7 +89,7 @@ fn search(
     at: usize,
 ) -> Outcome
     requires { ⌜ (Ready (now words) counts s (now queue)) × (length (now text) ≤ 1024) ⌝ }
-    ensures { λ r. ⌜ ((m : Memory) (nexts : List ℕ) → Lends m (now (words .entry)) counts s (now (queue .entry)) → Law m → Laid (boxes m) (now (ids .entry)) (now (attributes .entry)) (now (lens .entry)) (now (validities .entry)) nexts (now (names .entry)) → wholeBy esearch (now (text .entry)) at ≡ commandOf (now (text .entry)) → Comes m (ladder m (command (now (text .entry)))) r (now (words .entry)) (now (words .entry)) (now (queue .exit))) ⌝ }
+    ensures { λ r. ⌜ ((m : Memory) (nexts counters : List ℕ) → Lends m (now (words .entry)) counts s (now (queue .entry)) → Law m → Laid (boxes m) (now (ids .entry)) (now (attributes .entry)) (now (lens .entry)) (now (validities .entry)) nexts counters (now (names .entry)) → wholeBy esearch (now (text .entry)) at ≡ commandOf (now (text .entry)) → Comes m (ladder m (command (now (text .entry)))) r (now (words .entry)) (now (words .entry)) (now (queue .exit))) ⌝ }
 {
     let mut cells = [0u64; 1];
     let first = read_commands::judge_search(
@@ -129,6 +129,7 @@ fn answer_by(
     lens: &[u8; 64],
     validities: &[u64; 64],
     nexts: &[u64; 64],
+    counters: &[u64; 64],
     names: &[u8; 4096],
     x: Mailbox,
     text: &[u8],
@@ -136,7 +137,7 @@ fn answer_by(
     at: usize,
 ) -> Outcome
     requires { ⌜ (Ready (now words) counts s (now queue)) × (length (now text) ≤ 1024) ⌝ }
-    ensures { λ r. ⌜ ((m : Memory) → Lends m (now (words .entry)) counts s (now (queue .entry)) → Law m → Laid (boxes m) (now (ids .entry)) (now (attributes .entry)) (now (lens .entry)) (now (validities .entry)) (now (nexts .entry)) (now (names .entry)) → x ≡ selectedBox m → judgedBy verb (now (text .entry)) at ≡ commandOf (now (text .entry)) → Comes m (ladder m (command (now (text .entry)))) r (now (words .entry)) (now (words .exit)) (now (queue .exit))) ⌝ }
+    ensures { λ r. ⌜ ((m : Memory) → Lends m (now (words .entry)) counts s (now (queue .entry)) → Law m → Laid (boxes m) (now (ids .entry)) (now (attributes .entry)) (now (lens .entry)) (now (validities .entry)) (now (nexts .entry)) (now (counters .entry)) (now (names .entry)) → x ≡ selectedBox m → judgedBy verb (now (text .entry)) at ≡ commandOf (now (text .entry)) → Comes m (ladder m (command (now (text .entry)))) r (now (words .entry)) (now (words .exit)) (now (queue .exit))) ⌝ }
 {
     match verb {
         Verb::Notify => notifying::notify(
@@ -149,6 +150,7 @@ fn answer_by(
             lens,
             validities,
             nexts,
+            counters,
             names,
             x,
             text,
@@ -182,12 +184,13 @@ pub fn answer(
     lens: &[u8; 64],
     validities: &[u64; 64],
     nexts: &[u64; 64],
+    counters: &[u64; 64],
     names: &[u8; 4096],
     x: Mailbox,
     text: &[u8],
 ) -> Outcome
     requires { ⌜ (Ready (now words) counts s (now queue)) × (length (now text) ≤ 1024) ⌝ }
-    ensures { λ r. ⌜ ((m : Memory) → Lends m (now (words .entry)) counts s (now (queue .entry)) → Law m → Laid (boxes m) (now (ids .entry)) (now (attributes .entry)) (now (lens .entry)) (now (validities .entry)) (now (nexts .entry)) (now (names .entry)) → x ≡ selectedBox m → Comes m (ladder m (command (now (text .entry)))) r (now (words .entry)) (now (words .exit)) (now (queue .exit))) ⌝ }
+    ensures { λ r. ⌜ ((m : Memory) → Lends m (now (words .entry)) counts s (now (queue .entry)) → Law m → Laid (boxes m) (now (ids .entry)) (now (attributes .entry)) (now (lens .entry)) (now (validities .entry)) (now (nexts .entry)) (now (counters .entry)) (now (names .entry)) → x ≡ selectedBox m → Comes m (ladder m (command (now (text .entry)))) r (now (words .entry)) (now (words .exit)) (now (queue .exit))) ⌝ }
 {
     match read_commands::head(text) {
         VerbRead::Is(verb, at) => answer_by(
@@ -200,6 +203,7 @@ pub fn answer(
             lens,
             validities,
             nexts,
+            counters,
             names,
             x,
             text,

@@ -55,13 +55,14 @@ pub fn notify(
     lens: &[u8; 64],
     validities: &[u64; 64],
     nexts: &[u64; 64],
+    counters: &[u64; 64],
     names: &[u8; 4096],
     x: Mailbox,
     text: &[u8],
     at: usize,
 ) -> Outcome
     requires { ⌜ Ready (now words) counts s (now queue) ⌝ }
-    ensures { λ r. ⌜ ((m : Memory) → Lends m (now (words .entry)) counts s (now (queue .entry)) → Law m → Laid (boxes m) (now (ids .entry)) (now (attributes .entry)) (now (lens .entry)) (now (validities .entry)) (now (nexts .entry)) (now (names .entry)) → x ≡ selectedBox m → wholeBy notifyWord (now (text .entry)) at ≡ commandOf (now (text .entry)) → Comes m (ladder m (command (now (text .entry)))) r (now (words .entry)) (now (words .exit)) (now (queue .exit))) ⌝ }
+    ensures { λ r. ⌜ ((m : Memory) → Lends m (now (words .entry)) counts s (now (queue .entry)) → Law m → Laid (boxes m) (now (ids .entry)) (now (attributes .entry)) (now (lens .entry)) (now (validities .entry)) (now (nexts .entry)) (now (counters .entry)) (now (names .entry)) → x ≡ selectedBox m → wholeBy notifyWord (now (text .entry)) at ≡ commandOf (now (text .entry)) → Comes m (ladder m (command (now (text .entry)))) r (now (words .entry)) (now (words .exit)) (now (queue .exit))) ⌝ }
 {
     let kept = read_commands::keep_notify(text, at);
     let read = kept.read;
@@ -86,6 +87,7 @@ pub fn notify(
                 lens,
                 validities,
                 nexts,
+                counters,
                 names,
                 x,
                 status,

@@ -37,8 +37,8 @@ ghost use Rattle.command_records.specs.Setting.{workText};
 
 // How many octets a command of class 1 would owe at its end. Nothing is written.
 fn owed_size(words: &[u64], queue: &mut [u8], counts: Counts, s: Session, rights: bool) -> usize
-    requires { ⌜ (counts .messages ≤ 1024) × (counts .messages * 5 ≤ length (now words)) ⌝ }
-    ensures { λ r. ⌜ ((m : Memory) → Lends m (now (words .entry)) counts s (now (queue .entry)) → Law m → rights ≡ bothRights (selectedBox m) → r ≡ length (renderAll (owed m 1))) × (r ≤ 412000) × (now (queue .exit) ≡ now (queue .entry)) ⌝ }
+    requires { ⌜ (counts .messages ≤ 1024) × (counts .messages * 6 ≤ length (now words)) ⌝ }
+    ensures { λ r. ⌜ ((m : Memory) → Lends m (now (words .entry)) counts s (now (queue .entry)) → Law m → rights ≡ bothRights (selectedBox m) → r ≡ length (renderAll (owed m 1))) × (r ≤ 474000) × (now (queue .exit) ≡ now (queue .entry)) ⌝ }
 {
     if !rights {
         return 0;
@@ -60,6 +60,7 @@ fn put_work(
     lens: &[u8; 64],
     validities: &[u64; 64],
     nexts: &[u64; 64],
+    counters: &[u64; 64],
     names: &[u8; 4096],
     listed: &[usize; 64],
     n: usize,
@@ -68,7 +69,7 @@ fn put_work(
     text: &[u8],
 ) -> usize
     requires { ⌜ (limit ≤ length (now queue)) × (at ≤ 65536) × (n ≤ 64) ⌝ }
-    ensures { λ r. ⌜ ((m : Memory) (s : Session) (wanted : Bool) → Noted m s wanted (now (attributes .entry)) (now (lens .entry)) (now (validities .entry)) (now (nexts .entry)) (now (names .entry)) (now (listed .entry)) n (now (tally .entry)) (now (asks .entry)) → Put (now (queue .entry)) at limit (workText m s wanted (now (text .entry))) (now (queue .exit)) r) × (r ≤ at + 19330) ⌝ }
+    ensures { λ r. ⌜ ((m : Memory) (s : Session) (wanted : Bool) → Noted m s wanted (now (attributes .entry)) (now (lens .entry)) (now (validities .entry)) (now (nexts .entry)) (now (counters .entry)) (now (names .entry)) (now (listed .entry)) n (now (tally .entry)) (now (asks .entry)) → Put (now (queue .entry)) at limit (workText m s wanted (now (text .entry))) (now (queue .exit)) r) × (r ≤ at + 19330) ⌝ }
 {
     let a = listing::put_listing(
         queue,
@@ -78,6 +79,7 @@ fn put_work(
         lens,
         validities,
         nexts,
+        counters,
         names,
         listed,
         n,
@@ -97,6 +99,7 @@ fn write_set(
     lens: &[u8; 64],
     validities: &[u64; 64],
     nexts: &[u64; 64],
+    counters: &[u64; 64],
     names: &[u8; 4096],
     listed: &[usize; 64],
     n: usize,
@@ -108,8 +111,8 @@ fn write_set(
     text: &[u8],
     at: usize,
 ) -> Outcome
-    requires { ⌜ (64 ≤ length (now queue)) × (length (now queue) ≤ 65536) × (counts .filled ≤ 65536) × (counts .messages ≤ 1024) × (counts .messages * 5 ≤ length (now words)) × (at ≤ 65536) × (n ≤ 64) ⌝ }
-    ensures { λ r. ⌜ ((m : Memory) (p : ℕ) (wanted : Bool) (gs : List Asked) → Lends m (now (words .entry)) counts s (now (queue .entry)) → Law m → commandOf (now (text .entry)) ≡ ok p (notifySet wanted gs) → firstReply m (now (text .entry)) ≡ Accepted → asked ≡ watching s gs → Noted m (watching (m .session) gs) wanted (now (attributes .entry)) (now (lens .entry)) (now (validities .entry)) (now (nexts .entry)) (now (names .entry)) (now (listed .entry)) n (now (tally .entry)) (now (asks .entry)) → rights ≡ bothRights (selectedBox m) → next ≡ selectedBox m .uidnext → at ≡ counts .filled + length (renderAll (owed m 1)) → counts .filled + length (wholeText m (now (text .entry))) ≤ length (now (queue .entry)) - 64 → Comes m (ladder m (command (now (text .entry)))) r (now (words .entry)) (now (words .exit)) (now (queue .exit))) ⌝ }
+    requires { ⌜ (64 ≤ length (now queue)) × (length (now queue) ≤ 65536) × (counts .filled ≤ 65536) × (counts .messages ≤ 1024) × (counts .messages * 6 ≤ length (now words)) × (at ≤ 65536) × (n ≤ 64) ⌝ }
+    ensures { λ r. ⌜ ((m : Memory) (p : ℕ) (wanted : Bool) (gs : List Asked) → Lends m (now (words .entry)) counts s (now (queue .entry)) → Law m → commandOf (now (text .entry)) ≡ ok p (notifySet wanted gs) → firstReply m (now (text .entry)) ≡ Accepted → asked ≡ watching s gs → Noted m (watching (m .session) gs) wanted (now (attributes .entry)) (now (lens .entry)) (now (validities .entry)) (now (nexts .entry)) (now (counters .entry)) (now (names .entry)) (now (listed .entry)) n (now (tally .entry)) (now (asks .entry)) → rights ≡ bothRights (selectedBox m) → next ≡ selectedBox m .uidnext → at ≡ counts .filled + length (renderAll (owed m 1)) → counts .filled + length (wholeText m (now (text .entry))) ≤ length (now (queue .entry)) - 64 → Comes m (ladder m (command (now (text .entry)))) r (now (words .entry)) (now (words .exit)) (now (queue .exit))) ⌝ }
 {
     let used = counts.messages as usize;
     let filled = counts.filled as usize;
@@ -134,6 +137,7 @@ fn write_set(
         lens,
         validities,
         nexts,
+        counters,
         names,
         listed,
         n,
@@ -159,6 +163,7 @@ fn set_noted(
     lens: &[u8; 64],
     validities: &[u64; 64],
     nexts: &[u64; 64],
+    counters: &[u64; 64],
     names: &[u8; 4096],
     listed: &[usize; 64],
     n: usize,
@@ -169,8 +174,8 @@ fn set_noted(
     asked: Session,
     text: &[u8],
 ) -> Outcome
-    requires { ⌜ (64 ≤ length (now queue)) × (length (now queue) ≤ 65536) × (counts .filled ≤ 65536) × (counts .messages ≤ 1024) × (counts .messages * 5 ≤ length (now words)) × (n ≤ 64) ⌝ }
-    ensures { λ r. ⌜ ((m : Memory) (p : ℕ) (wanted : Bool) (gs : List Asked) → Lends m (now (words .entry)) counts s (now (queue .entry)) → Law m → commandOf (now (text .entry)) ≡ ok p (notifySet wanted gs) → firstReply m (now (text .entry)) ≡ Accepted → asked ≡ watching s gs → Noted m (watching (m .session) gs) wanted (now (attributes .entry)) (now (lens .entry)) (now (validities .entry)) (now (nexts .entry)) (now (names .entry)) (now (listed .entry)) n (now (tally .entry)) (now (asks .entry)) → rights ≡ bothRights (selectedBox m) → next ≡ selectedBox m .uidnext → Comes m (ladder m (command (now (text .entry)))) r (now (words .entry)) (now (words .exit)) (now (queue .exit))) ⌝ }
+    requires { ⌜ (64 ≤ length (now queue)) × (length (now queue) ≤ 65536) × (counts .filled ≤ 65536) × (counts .messages ≤ 1024) × (counts .messages * 6 ≤ length (now words)) × (n ≤ 64) ⌝ }
+    ensures { λ r. ⌜ ((m : Memory) (p : ℕ) (wanted : Bool) (gs : List Asked) → Lends m (now (words .entry)) counts s (now (queue .entry)) → Law m → commandOf (now (text .entry)) ≡ ok p (notifySet wanted gs) → firstReply m (now (text .entry)) ≡ Accepted → asked ≡ watching s gs → Noted m (watching (m .session) gs) wanted (now (attributes .entry)) (now (lens .entry)) (now (validities .entry)) (now (nexts .entry)) (now (counters .entry)) (now (names .entry)) (now (listed .entry)) n (now (tally .entry)) (now (asks .entry)) → rights ≡ bothRights (selectedBox m) → next ≡ selectedBox m .uidnext → Comes m (ladder m (command (now (text .entry)))) r (now (words .entry)) (now (words .exit)) (now (queue .exit))) ⌝ }
 {
     let filled = counts.filled as usize;
     let limit = queue.len() - 64;
@@ -183,6 +188,7 @@ fn set_noted(
         lens,
         validities,
         nexts,
+        counters,
         names,
         listed,
         n,
@@ -205,6 +211,7 @@ fn set_noted(
         lens,
         validities,
         nexts,
+        counters,
         names,
         listed,
         n,
@@ -220,7 +227,7 @@ fn set_noted(
 
 // How many messages of each row exist: counted only where a STATUS is to say so.
 fn existing(words: &[u64], used: usize, ids: &[u64; 64], n: usize, status: bool) -> [u64; 64]
-    requires { ⌜ (used * 5 ≤ length (now words)) × (used ≤ 1048576) × (n ≤ 64) ⌝ }
+    requires { ⌜ (used * 6 ≤ length (now words)) × (used ≤ 1048576) × (n ≤ 64) ⌝ }
     ensures { λ r. ⌜ (status ≡ true → (l : List Mailbox) → length l ≡ n → Column (λ (x : Mailbox). x .id) l (now (ids .entry)) → apart clash l ≡ true → (k : ℕ) → k < n → getD r k 0 ≡ length (existingOf (getD l k noMailbox .id) (take used (messages (now (words .entry)))))) ⌝ }
 {
     if status {
@@ -240,6 +247,7 @@ pub fn set(
     lens: &[u8; 64],
     validities: &[u64; 64],
     nexts: &[u64; 64],
+    counters: &[u64; 64],
     names: &[u8; 4096],
     x: Mailbox,
     status: bool,
@@ -247,7 +255,7 @@ pub fn set(
     text: &[u8],
 ) -> Outcome
     requires { ⌜ Ready (now words) counts s (now queue) ⌝ }
-    ensures { λ r. ⌜ ((m : Memory) (p : ℕ) (gs : List Asked) → Lends m (now (words .entry)) counts s (now (queue .entry)) → Law m → Laid (boxes m) (now (ids .entry)) (now (attributes .entry)) (now (lens .entry)) (now (validities .entry)) (now (nexts .entry)) (now (names .entry)) → x ≡ selectedBox m → commandOf (now (text .entry)) ≡ ok p (notifySet status gs) → firstReply m (now (text .entry)) ≡ Accepted → asked ≡ watching s gs → Comes m (ladder m (command (now (text .entry)))) r (now (words .entry)) (now (words .exit)) (now (queue .exit))) ⌝ }
+    ensures { λ r. ⌜ ((m : Memory) (p : ℕ) (gs : List Asked) → Lends m (now (words .entry)) counts s (now (queue .entry)) → Law m → Laid (boxes m) (now (ids .entry)) (now (attributes .entry)) (now (lens .entry)) (now (validities .entry)) (now (nexts .entry)) (now (counters .entry)) (now (names .entry)) → x ≡ selectedBox m → commandOf (now (text .entry)) ≡ ok p (notifySet status gs) → firstReply m (now (text .entry)) ≡ Accepted → asked ≡ watching s gs → Comes m (ladder m (command (now (text .entry)))) r (now (words .entry)) (now (words .exit)) (now (queue .exit))) ⌝ }
 {
     let n = counts.mailboxes as usize;
     let used = counts.messages as usize;
@@ -277,6 +285,7 @@ pub fn set(
         lens,
         validities,
         nexts,
+        counters,
         names,
         &listed,
         r,

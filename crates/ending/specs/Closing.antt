@@ -16,7 +16,7 @@ use Rattle.model.specs.Queue.{room, fitting, written, enqueue, effects, say}
 use Rattle.model.specs.View.{expungeLines, markedLines, existsLine, owed}
 use Rattle.model.specs.Rules.{accepted}
 use Rattle.model.specs.Records.{ended}
-use Rattle.model.specs.Lawful.{stateOk, messageOk}
+use Rattle.model.specs.Lawful.{stateOk, messageOk, counterOk}
 use Rattle.demands.specs.Lasting.Law.{Law}
 use Rattle.demands.specs.Lasting.Owing.{fitting-take}
 use Rattle.model.specs.declared.Message.{Message}
@@ -101,7 +101,7 @@ not-both x h = go (marked x) refl (expunged x) refl
   where
     go : (a : Bool) → marked x ≡ a → (b : Bool) → expunged x ≡ b → (not a || not b) ≡ true
     go true e true f =
-        let u = leb-true (x .states) 2 (each (leb 1 (uidOf x) ∷ leb (x .flags) 31 ∷ leb (x .size) 4294967295 ∷ leb (x .states) 2 ∷ []) h .1 .1 .1 .0) in
+        let u = leb-true (x .states) 2 (each (leb 1 (uidOf x) ∷ leb (x .flags) 31 ∷ leb (x .size) 4294967295 ∷ leb (x .states) 2 ∷ counterOk (x .counter) ∷ []) h .1 .1 .1 .0) in
         let v = eqb-true (x .states / 2 % 2) 1 e in
         let w = eqb-true (x .states % 2) 1 f in
         absurd (let z : ⊥ = omega arith in z)

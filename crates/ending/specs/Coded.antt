@@ -34,7 +34,7 @@ module _ (told lim : ℕ) (e x : Message) (p : e ≡ x) (s : State) where
     pub m-skip : uidOf e < told → (skip && expunged e) ≡ true → s ≡ stepM told skip lim x s
     m-skip h k = rw (← p, lt-ltb (uidOf e) told h, k)
 
-    pub m-mark : uidOf e < told → (skip && expunged e) ≡ false → e .states / 2 % 2 ≡ 1 → more (say lim (fetchText (s .next) (uidOf e) (e .flags)) (uidOf e) s) ≡ stepM told skip lim x s
+    pub m-mark : uidOf e < told → (skip && expunged e) ≡ false → e .states / 2 % 2 ≡ 1 → more (say lim (fetchText (s .next) (uidOf e) (e .flags) (e .counter)) (uidOf e) s) ≡ stepM told skip lim x s
     m-mark h k m = rw (← p, lt-ltb (uidOf e) told h, k, eq-eqb (e .states / 2 % 2) 1 m)
 
     pub m-plain : uidOf e < told → (skip && expunged e) ≡ false → (e .states / 2 % 2 ≡ 1 → ⊥) → more s ≡ stepM told skip lim x s

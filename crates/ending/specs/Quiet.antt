@@ -130,7 +130,7 @@ silence told c lim l q at h =
     }
 
 -- ---- the end of a command, where no entry of the mailbox is owed a line
-module _ (ws : List ℕ) (used : ℕ) (q : List ℕ) (s : Session) (at : ℕ) (c : Bool) (next : ℕ) (h : used * 5 ≤ length ws) (none : (i : ℕ) → i < used → owes (s .selected) (s .told) (getD (messages ws) i noMessage) ≡ false) where
+module _ (ws : List ℕ) (used : ℕ) (q : List ℕ) (s : Session) (at : ℕ) (c : Bool) (next : ℕ) (h : used * 6 ≤ length ws) (none : (i : ℕ) → i < used → owes (s .selected) (s .told) (getD (messages ws) i noMessage) ≡ false) where
   view : anyb (waits (s .told)) (messagesOf (s .selected) (take used (messages ws))) ≡ false
   view =
       let n = length-take-le used (messages ws) (messages-length used ws h) in

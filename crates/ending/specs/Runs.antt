@@ -12,7 +12,7 @@ use Rattle.model.specs.Memory.{uidOf, expunged, marked}
 use Rattle.model.specs.Lines.{Line, exists, expunge, render}
 use Rattle.model.specs.View.{expungeLines, markedLines, flagsLine, existsLine}
 use Rattle.model.specs.declared.Message.{Message}
-use Rattle.fetches.specs.Fetch.{fetchText, fetch-text}
+use Rattle.fetches.specs.Fetch.{fetchText, fetch-line}
 use Rattle.fetches.specs.Counts.{countText, expungeWord, existsWord, expunge-text, exists-text}
 use Rattle.ending.specs.Saying.{State, say, more, runE, runM, sayExists}
 use Rattle.ending.specs.Sunk.{Sunk, sunk-more, sunk-say}
@@ -106,9 +106,6 @@ module _ (q : List ℕ) (at lim : ℕ) (wide : lim ≤ length q) (told skip : �
   usM-is false e l n true b h = refl
   usM-is false e l n false b h = refl
 
-  fetch-is : (n : ℕ) (e : Message) → fetchText n (uidOf e) (e .flags) ≡ render (flagsLine n e)
-  fetch-is n e = fetch-text 0 n (uidOf e) (e .flags)
-
   pub runM-sunk : (skips : Bool) (l : List Message) (ls : List Line) (us : List ℕ) (s : State) (n : ℕ) → s .next ≡ n → Sunk q at lim skip ls us s
       → Sunk q at lim skip (ls ++ markedLines n (stayers skips (viewOf told l))) (us ++ uids (filterb marked (stayers skips (viewOf told l)))) (runM told skips lim l s)
   unfolding runM markedLines
@@ -116,13 +113,13 @@ module _ (q : List ℕ) (at lim : ℕ) (wide : lim ≤ length q) (told skip : �
   runM-sunk false [] ls us s n k x = rw (append-nil ls, append-nil us) x
   runM-sunk skips (e ∷ l) ls us s n k x = rw (linesM-is skips e l n (ltb (uidOf e) told) (expunged e) refl, usM-is skips e l n (ltb (uidOf e) told) (expunged e) refl) (here (λ ls us s n k x. runM-sunk skips l ls us s n k x) (ltb (uidOf e) told) (skips && expunged e) (marked e))
     where
-      here : ((ls : List Line) (us : List ℕ) (s : State) (n : ℕ) → s .next ≡ n → Sunk q at lim skip ls us s → Sunk q at lim skip (ls ++ markedLines n (stayers skips (viewOf told l))) (us ++ uids (filterb marked (stayers skips (viewOf told l)))) (runM told skips lim l s)) → (a b c : Bool) → Sunk q at lim skip (ls ++ linesM skips e l n a b c) (us ++ usM skips e l n a b c) (runM told skips lim l (cond a (cond b s (more (cond c (say lim (fetchText (s .next) (uidOf e) (e .flags)) (uidOf e) s) s))) s))
+      here : ((ls : List Line) (us : List ℕ) (s : State) (n : ℕ) → s .next ≡ n → Sunk q at lim skip ls us s → Sunk q at lim skip (ls ++ markedLines n (stayers skips (viewOf told l))) (us ++ uids (filterb marked (stayers skips (viewOf told l)))) (runM told skips lim l s)) → (a b c : Bool) → Sunk q at lim skip (ls ++ linesM skips e l n a b c) (us ++ usM skips e l n a b c) (runM told skips lim l (cond a (cond b s (more (cond c (say lim (fetchText (s .next) (uidOf e) (e .flags) (e .counter)) (uidOf e) s) s))) s))
       here again true true c = again ls us s n k x
       here again true false true =
           let y = sunk-say q at lim wide skip ls us s x (flagsLine n e) (uidOf e) in
-          let z = as-text q at lim skip (ls ++ (flagsLine n e ∷ [])) (us ++ (uidOf e ∷ [])) (fetchText (s .next) (uidOf e) (e .flags)) (render (flagsLine n e)) (uidOf e) s (ap (λ (i : ℕ). fetchText i (uidOf e) (e .flags)) k ∙ fetch-is n e) y in
-          let v = sunk-more q at lim skip (ls ++ (flagsLine n e ∷ [])) (us ++ (uidOf e ∷ [])) (say lim (fetchText (s .next) (uidOf e) (e .flags)) (uidOf e) s) z in
-          let w = again (ls ++ (flagsLine n e ∷ [])) (us ++ (uidOf e ∷ [])) (more (say lim (fetchText (s .next) (uidOf e) (e .flags)) (uidOf e) s)) (n + 1) (more-next (say lim (fetchText (s .next) (uidOf e) (e .flags)) (uidOf e) s) ∙ ap (λ (i : ℕ). i + 1) (say-next lim (fetchText (s .next) (uidOf e) (e .flags)) (uidOf e) s ∙ k)) v in
+          let z = as-text q at lim skip (ls ++ (flagsLine n e ∷ [])) (us ++ (uidOf e ∷ [])) (fetchText (s .next) (uidOf e) (e .flags) (e .counter)) (render (flagsLine n e)) (uidOf e) s (ap (λ (i : ℕ). fetchText i (uidOf e) (e .flags) (e .counter)) k ∙ fetch-line n e) y in
+          let v = sunk-more q at lim skip (ls ++ (flagsLine n e ∷ [])) (us ++ (uidOf e ∷ [])) (say lim (fetchText (s .next) (uidOf e) (e .flags) (e .counter)) (uidOf e) s) z in
+          let w = again (ls ++ (flagsLine n e ∷ [])) (us ++ (uidOf e ∷ [])) (more (say lim (fetchText (s .next) (uidOf e) (e .flags) (e .counter)) (uidOf e) s)) (n + 1) (more-next (say lim (fetchText (s .next) (uidOf e) (e .flags) (e .counter)) (uidOf e) s) ∙ ap (λ (i : ℕ). i + 1) (say-next lim (fetchText (s .next) (uidOf e) (e .flags) (e .counter)) (uidOf e) s ∙ k)) v in
           rw (append-assoc ls (flagsLine n e ∷ []) (markedLines (n + 1) (stayers skips (viewOf told l))), append-assoc us (uidOf e ∷ []) (uids (filterb marked (stayers skips (viewOf told l))))) at w
       here again true false false = again ls us (more s) (n + 1) (more-next s ∙ ap (λ (i : ℕ). i + 1) k) (sunk-more q at lim skip ls us s x)
       here again false b c = again ls us s n k x

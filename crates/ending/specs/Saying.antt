@@ -56,7 +56,7 @@ runE told lim [] s = s
 runE told lim (e ∷ l) s = runE told lim l (stepE told lim e s)
 
 abbrev pub stepM : ℕ → Bool → ℕ → Message → State → State
-stepM told skip lim e s = cond (ltb (uidOf e) told) (cond (skip && expunged e) s (more (cond (marked e) (say lim (fetchText (s .next) (uidOf e) (e .flags)) (uidOf e) s) s))) s
+stepM told skip lim e s = cond (ltb (uidOf e) told) (cond (skip && expunged e) s (more (cond (marked e) (say lim (fetchText (s .next) (uidOf e) (e .flags) (e .counter)) (uidOf e) s) s))) s
 
 unfoldable pub runM : ℕ → Bool → ℕ → List Message → State → State
 runM told skip lim [] s = s

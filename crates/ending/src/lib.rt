@@ -57,7 +57,7 @@ pub struct Chose {
 }
 
 pub fn select(words: &mut [u64], used: usize, s: Session, id: u16, next: u32) -> Chose
-    requires { ⌜ used * 5 ≤ length (now words) ⌝ }
+    requires { ⌜ used * 6 ≤ length (now words) ⌝ }
     ensures { λ r. ⌜ (now (words .exit) ≡ laid (now (words .entry)) (selectEntries (messages (now (words .entry))) used)) × (r .used ≡ length (rests (take used (messages (now (words .entry)))))) × (r .session ≡ withView s id next) ⌝ }
 {
     let used = entries::settle(words, used, Sweep::Rested);
@@ -89,7 +89,7 @@ pub struct Spoken {
 
 // Whether entry i is of the mailbox, and new to the client, expunged or marked.
 fn owes_one(words: &[u64], i: usize, id: u64, told: Uid) -> bool
-    requires { ⌜ (i + 1) * 5 ≤ length (now words) ⌝ }
+    requires { ⌜ (i + 1) * 6 ≤ length (now words) ⌝ }
     ensures { λ r. ⌜ r ≡ owes id (told .0) (getD (messages (now (words .entry))) i noMessage) ⌝ }
 {
     let e = entries::get(words, i);
@@ -104,7 +104,7 @@ fn owes_one(words: &[u64], i: usize, id: u64, told: Uid) -> bool
 
 // Whether a line may be owed of the mailbox: no means that there is none.
 pub fn is_owed(words: &[u64], used: usize, id: u64, told: Uid) -> bool
-    requires { ⌜ used * 5 ≤ length (now words) ⌝ }
+    requires { ⌜ used * 6 ≤ length (now words) ⌝ }
     ensures { λ r. ⌜ (r ≡ false → (i : ℕ) → i < used → owes id (told .0) (getD (messages (now (words .entry))) i noMessage) ≡ false) ⌝ }
 {
     let mut i = 0;
@@ -147,7 +147,7 @@ pub fn end_command(
     rights: bool,
     next: u32,
 ) -> Closed
-    requires { ⌜ (used * 5 ≤ length (now words)) × (used ≤ 1024) × (used ≤ length (now order)) × (64 ≤ length (now queue)) × (length (now queue) ≤ 65536) × (filled ≤ 65536) ⌝ }
+    requires { ⌜ (used * 6 ≤ length (now words)) × (used ≤ 1024) × (used ≤ length (now order)) × (64 ≤ length (now queue)) × (length (now queue) ≤ 65536) × (filled ≤ 65536) ⌝ }
     ensures { λ r. ⌜ Leaves (endAfter (messages (now (words .entry))) used (now (queue .entry)) s filled class rights next) (endRest (messages (now (words .entry))) used (now (queue .entry)) s filled class rights) (now (words .entry)) (now (words .exit)) (now (queue .exit)) r ⌝ }
 {
     if !rights {

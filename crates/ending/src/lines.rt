@@ -92,19 +92,20 @@ pub fn say_fetch(
     n: MessageNumber,
     uid: Uid,
     flags: u64,
+    counter: u64,
 ) -> Going
     requires { ⌜ (limit ≤ length (now queue)) × (limit ≤ 65536) × (g .end ≤ 65536) × (g .rest ≤ 1048576) × (uid .0 ≤ 1099511627776) ⌝ }
-    ensures { λ r. ⌜ (stateOf (now (queue .exit)) r ≡ say limit (fetchText (n .0) (uid .0) flags) (uid .0) (stateOf (now (queue .entry)) g)) × (r .end ≤ 65536) × (r .rest ≤ g .rest + 1) × (r .next .0 ≡ g .next .0) ⌝ }
+    ensures { λ r. ⌜ (stateOf (now (queue .exit)) r ≡ say limit (fetchText (n .0) (uid .0) flags counter) (uid .0) (stateOf (now (queue .entry)) g)) × (r .end ≤ 65536) × (r .rest ≤ g .rest + 1) × (r .next .0 ≡ g .next .0) ⌝ }
 {
     if !g.whole {
         return refused(g);
     }
     let at = g.end;
-    let end = fetches::put_fetch(queue, at, 0, n, uid, flags);
+    let end = fetches::put_fetch(queue, at, 0, n, uid, flags, counter);
     if limit < end {
         return refused(g);
     }
-    let e = fetches::put_fetch(queue, at, limit, n, uid, flags);
+    let e = fetches::put_fetch(queue, at, limit, n, uid, flags, counter);
     let next = g.next;
     let bound = uid.0 + 1;
     Going {

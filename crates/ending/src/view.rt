@@ -97,7 +97,7 @@ fn mark_one(
     if e.states / 2 % 2 == 1 {
         let uid = e.uid;
         let next = g.next;
-        let h = say_fetch(queue, limit, g, next, uid, e.flags);
+        let h = say_fetch(queue, limit, g, next, uid, e.flags, e.counter);
         return advanced(h);
     }
     advanced(g)

@@ -116,7 +116,7 @@ pub fn search_box(
     order: &mut [usize],
     uids: &mut [u64],
 ) -> usize
-    requires { ⌜ ((used * 5 ≤ length (now words)) × (used ≤ length (now order))) × ((used ≤ length (now uids)) × (filled ≤ length (now cells))) × ((used ≤ length (now next)) × Linked (messages (now words)) used (now heads) (now next)) ⌝ }
+    requires { ⌜ ((used * 6 ≤ length (now words)) × (used ≤ length (now order))) × ((used ≤ length (now uids)) × (filled ≤ length (now cells))) × ((used ≤ length (now next)) × Linked (messages (now words)) used (now heads) (now next)) ⌝ }
     ensures { λ r. ⌜ Searched used (messagesOf id (take used (messages (now (words .entry))))) (now (cells .entry)) filled (now (uids .exit)) r ⌝ }
 {
     let n = by_uid(words, used, id, heads, next, order);
@@ -137,7 +137,7 @@ pub fn search_view(
     view: &mut [usize],
     uids: &mut [u64],
 ) -> usize
-    requires { ⌜ ((used * 5 ≤ length (now words)) × ((used ≤ length (now order)) × (used ≤ length (now view)))) × ((used ≤ length (now uids)) × (filled ≤ length (now cells))) × ((used ≤ length (now next)) × Linked (messages (now words)) used (now heads) (now next)) ⌝ }
+    requires { ⌜ ((used * 6 ≤ length (now words)) × ((used ≤ length (now order)) × (used ≤ length (now view)))) × ((used ≤ length (now uids)) × (filled ≤ length (now cells))) × ((used ≤ length (now next)) × Linked (messages (now words)) used (now heads) (now next)) ⌝ }
     ensures { λ r. ⌜ Searched used (told (below .0) (messagesOf id (take used (messages (now (words .entry)))))) (now (cells .entry)) filled (now (uids .exit)) r ⌝ }
 {
     let n = by_uid(words, used, id, heads, next, order);
@@ -160,7 +160,7 @@ fn search_row(
     view: &mut [usize],
     uids: &mut [u64],
 ) -> usize
-    requires { ⌜ ((used * 5 ≤ length (now words)) × ((used ≤ length (now order)) × (used ≤ length (now view)))) × ((used ≤ length (now uids)) × (filled ≤ length (now cells))) × ((used ≤ length (now next)) × Linked (messages (now words)) used (now heads) (now next)) ⌝ }
+    requires { ⌜ ((used * 6 ≤ length (now words)) × ((used ≤ length (now order)) × (used ≤ length (now view)))) × ((used ≤ length (now uids)) × (filled ≤ length (now cells))) × ((used ≤ length (now next)) × Linked (messages (now words)) used (now heads) (now next)) ⌝ }
     ensures { λ r. ⌜ (RowSearched (take used (messages (now (words .entry)))) id selected (below .0) (now (cells .entry)) filled (now (uids .exit)) r) × (r ≤ used) ⌝ }
 {
     if sources::is_selected(id, selected) {
@@ -209,7 +209,7 @@ pub fn find_runs(
     starts: &mut [usize],
     counts: &mut [usize],
 )
-    requires { ⌜ ((used * 5 ≤ length (now words)) × ((used ≤ 1024) × (filled ≤ length (now cells)))) × ((used ≤ length (now order)) × (used ≤ length (now view)) × (2048 ≤ length (now uids))) × ((n ≤ length (now rows)) × (n ≤ length (now starts)) × (n ≤ length (now counts))) × (n ≤ 64) ⌝ }
+    requires { ⌜ ((used * 6 ≤ length (now words)) × ((used ≤ 1024) × (filled ≤ length (now cells)))) × ((used ≤ length (now order)) × (used ≤ length (now view)) × (2048 ≤ length (now uids))) × ((n ≤ length (now rows)) × (n ≤ length (now starts)) × (n ≤ length (now counts))) × (n ≤ 64) ⌝ }
     ensures { λ _. ⌜ Found (take used (messages (now (words .entry)))) (now (ids .entry)) (now (rows .entry)) n selected (below .0) (now (cells .entry)) filled (now (uids .exit)) (now (starts .exit)) (now (counts .exit)) ⌝ }
 {
     let mut heads = [0usize; 256];

@@ -14,7 +14,7 @@ ghost use Rattle.out.specs.Put.{Put};
 ghost use Rattle.byname.specs.Named.{chosen, Ordered, Below};
 ghost use Rattle.listing.specs.Telling.{lineBy, lineAt, Shown, Tells};
 
-// The line of a row by its attributes, name, UIDNEXT and UIDVALIDITY: no access; or the STATUS, where it is told; or none.
+// The line of a row by its attributes, name, UIDNEXT, UIDVALIDITY and counter: no access; or the STATUS, where it is told; or none.
 fn put_line(
     queue: &mut [u8],
     at: usize,
@@ -23,11 +23,12 @@ fn put_line(
     name: &[u8],
     next: u64,
     validity: u64,
+    highest: u64,
     messages: u64,
     status: bool,
 ) -> usize
     requires { ⌜ (limit ≤ length (now queue)) × (at ≤ 262144) × (length (now name) ≤ 64) ⌝ }
-    ensures { λ r. ⌜ (Put (now (queue .entry)) at limit (lineBy attributes (now (name .entry)) next validity messages status) (now (queue .exit)) r) × (r ≤ at + 300) ⌝ }
+    ensures { λ r. ⌜ (Put (now (queue .entry)) at limit (lineBy attributes (now (name .entry)) next validity highest messages status) (now (queue .exit)) r) × (r ≤ at + 300) ⌝ }
 {
     if !rows::has(attributes, 5) {
         return notices::put_list(queue, at, limit, Mark::NoAccess, name);
@@ -35,7 +36,7 @@ fn put_line(
     if !status {
         return at;
     }
-    notices::put_status_at_set(queue, at, limit, name, messages, next, validity)
+    notices::put_status_at_set(queue, at, limit, name, messages, next, validity, highest)
 }
 
 // The line of row k.
@@ -47,13 +48,14 @@ pub fn put_row(
     lens: &[u8; 64],
     validities: &[u64; 64],
     nexts: &[u64; 64],
+    counters: &[u64; 64],
     names: &[u8; 4096],
     k: usize,
     messages: u64,
     status: bool,
 ) -> usize
     requires { ⌜ (limit ≤ length (now queue)) × (at ≤ 262144) × (k < 64) ⌝ }
-    ensures { λ r. ⌜ (Put (now (queue .entry)) at limit (lineAt (now (attributes .entry)) (now (lens .entry)) (now (validities .entry)) (now (nexts .entry)) (now (names .entry)) k messages status) (now (queue .exit)) r) × (r ≤ at + 300) ⌝ }
+    ensures { λ r. ⌜ (Put (now (queue .entry)) at limit (lineAt (now (attributes .entry)) (now (lens .entry)) (now (validities .entry)) (now (nexts .entry)) (now (counters .entry)) (now (names .entry)) k messages status) (now (queue .exit)) r) × (r ≤ at + 300) ⌝ }
 {
     let all = &names[..];
     let from = 64 * k;
@@ -61,6 +63,7 @@ pub fn put_row(
     let a = attributes[k];
     let next = nexts[k];
     let validity = validities[k];
+    let highest = counters[k];
     put_line(
         queue,
         at,
@@ -69,6 +72,7 @@ pub fn put_row(
         &all[from..end],
         next,
         validity,
+        highest,
         messages,
         status,
     )
@@ -83,6 +87,7 @@ pub fn put_lines(
     lens: &[u8; 64],
     validities: &[u64; 64],
     nexts: &[u64; 64],
+    counters: &[u64; 64],
     names: &[u8; 4096],
     order: &[usize],
     n: usize,
@@ -90,7 +95,7 @@ pub fn put_lines(
     asks: &[u8; 64],
 ) -> usize
     requires { ⌜ (limit ≤ length (now queue)) × (at ≤ 65536) × (n ≤ 64) × (n ≤ length (now order)) ⌝ }
-    ensures { λ r. ⌜ ((f : Mailbox → List Line) (l : List Mailbox) → length l ≤ 64 → Shown l (now (attributes .entry)) (now (lens .entry)) (now (validities .entry)) (now (nexts .entry)) (now (names .entry)) → Below (now (order .entry)) n (length l) → Tells f l (now (counts .entry)) (now (asks .entry)) → Put (now (queue .entry)) at limit (renderAll (concatMap f (chosen l (now (order .entry)) n))) (now (queue .exit)) r) × (r ≤ at + 300 * n) ⌝ }
+    ensures { λ r. ⌜ ((f : Mailbox → List Line) (l : List Mailbox) → length l ≤ 64 → Shown l (now (attributes .entry)) (now (lens .entry)) (now (validities .entry)) (now (nexts .entry)) (now (counters .entry)) (now (names .entry)) → Below (now (order .entry)) n (length l) → Tells f l (now (counts .entry)) (now (asks .entry)) → Put (now (queue .entry)) at limit (renderAll (concatMap f (chosen l (now (order .entry)) n))) (now (queue .exit)) r) × (r ≤ at + 300 * n) ⌝ }
 {
     let mut i = n;
     let mut end = at;
@@ -106,6 +111,7 @@ pub fn put_lines(
             lens,
             validities,
             nexts,
+            counters,
             names,
             k,
             counts[k],
@@ -124,6 +130,7 @@ pub fn put_listing(
     lens: &[u8; 64],
     validities: &[u64; 64],
     nexts: &[u64; 64],
+    counters: &[u64; 64],
     names: &[u8; 4096],
     order: &[usize],
     n: usize,
@@ -131,7 +138,7 @@ pub fn put_listing(
     asks: &[u8; 64],
 ) -> usize
     requires { ⌜ (limit ≤ length (now queue)) × (at ≤ 65536) × (n ≤ 64) × (n ≤ length (now order)) ⌝ }
-    ensures { λ r. ⌜ ((m : Memory) (s : Session) (wanted : Bool) → length (boxes m) ≤ 64 → Shown (boxes m) (now (attributes .entry)) (now (lens .entry)) (now (validities .entry)) (now (nexts .entry)) (now (names .entry)) → Ordered (λ (x : Mailbox). mayList x && concerns m s x) (boxes m) (now (order .entry)) n → Tells (listingLine m s wanted) (boxes m) (now (counts .entry)) (now (asks .entry)) → Put (now (queue .entry)) at limit (renderAll (listing m s wanted)) (now (queue .exit)) r) × (r ≤ at + 19200) ⌝ }
+    ensures { λ r. ⌜ ((m : Memory) (s : Session) (wanted : Bool) → length (boxes m) ≤ 64 → Shown (boxes m) (now (attributes .entry)) (now (lens .entry)) (now (validities .entry)) (now (nexts .entry)) (now (counters .entry)) (now (names .entry)) → Ordered (λ (x : Mailbox). mayList x && concerns m s x) (boxes m) (now (order .entry)) n → Tells (listingLine m s wanted) (boxes m) (now (counts .entry)) (now (asks .entry)) → Put (now (queue .entry)) at limit (renderAll (listing m s wanted)) (now (queue .exit)) r) × (r ≤ at + 19200) ⌝ }
 {
     put_lines(
         queue,
@@ -141,6 +148,7 @@ pub fn put_listing(
         lens,
         validities,
         nexts,
+        counters,
         names,
         order,
         n,

@@ -5,23 +5,24 @@ use mathlib.Core.List.{List, []}
 use Prim.Native.Nat.{ℕ, _+_, _-_, _<_, _≤_}
 use native.Mathlib.Omega.{arith}
 use lib.Dec.{eqb, leb}
-use lib.ListN.{length, take, getD}
+use lib.ListN.{length, getD}
 use borrow.Author.Tests.{leb-true, leb-false, le-leb, lt-leb, eqb-true}
 use Rattle.model.specs.Laws.{and-l, and-r, and-false}
 use Rattle.model.specs.Lists.{when}
-use Rattle.model.specs.Memory.{Memory, boxes, mails, filled, nameOf, noMessage, theMailbox, selectedBox, bothRights, isSelected, isMessage, existing, withStates, dropMails, changeMails}
+use Rattle.model.specs.Memory.{Memory, boxes, filled, nameOf, noMessage, theMailbox, selectedBox, bothRights, isSelected, isMessage, withStates, dropMails, changeMails}
 use Rattle.model.specs.Groups.{askedOf, asksExpunge}
-use Rattle.model.specs.Lines.{Line, status, expunge, overflow, render}
+use Rattle.model.specs.Lines.{Line, StatusItem, status, expunge, overflow, render}
 use Rattle.model.specs.Queue.{room, enqueue, effect}
 use Rattle.model.specs.View.{view, placeOf, expungeAtOnce}
-use Rattle.model.specs.Events.{Event, inView, expire, removed, statusLines, silence}
-use Rattle.model.specs.Rules.{Outcome, accepted, told}
-use Rattle.model.specs.Records.{expunge as expungeRecord}
+use Rattle.model.specs.Events.{Event, inView, expire, removed, statusLines, countsOf, silence}
+use Rattle.model.specs.Rules.{Outcome, told}
 use Rattle.demands.specs.Lasting.Law.{Law}
+use Rattle.model.specs.declared.Group.{Group}
 use Rattle.model.specs.declared.Mailbox.{Mailbox}
 use Rattle.model.specs.declared.Message.{Message}
 use Rattle.laws.specs.Changing.{setEntry, change-at}
 use Rattle.laws.specs.Telling.{told-none, told-one, told-over}
+use Rattle.rows.specs.Rows.{rowsAre}
 use Rattle.out.specs.Says.{hasRoom}
 use Rattle.entries.specs.Taken.{shut}
 use Rattle.fetches.specs.Counts.{expunge-text}
@@ -64,15 +65,20 @@ module _ (m : Memory) (event : Memory → Event) (rs : List Mailbox) (es : List 
       go true q = ap (λ (o : Outcome). o .after) (told-one m event l e q) ∙ (ends (enqueue (event m .stored) (render l)) ∙ (ap (λ (j : Memory). enqueue j (render l)) stored ∙ rw (fit true q)))
       go false q = ap (λ (o : Outcome). o .after) (told-over m event l e q) ∙ (ap (λ (j : Memory). enqueue j (render overflow)) silent ∙ rw (fit false q))
 
--- ---- `XP`: who is told of a message gone elsewhere
-abbrev pub goneTold : Memory → ℕ → Mailbox → Bool
-goneTold m i x = not (isSelected m i) && (bothRights x && askedOf (m .session) x asksExpunge)
+-- who is told of a message that comes, goes or changes elsewhere
+abbrev pub awayTold : Memory → ℕ → Mailbox → (Group → Bool) → Bool
+awayTold m i x asks = not (isSelected m i) && (bothRights x && askedOf (m .session) x asks)
 
-status-when : (m : Memory) (x : Mailbox) (sel wanted : Bool) → cond sel [] (statusLines m x wanted) ≡ when (not sel && (bothRights x && wanted)) (status (nameOf x) (x .uidnext) (length (existing (x .id) (mails m))))
-status-when m x true wanted = refl
-status-when m x false wanted = refl
+-- a STATUS that is owed outside the selected mailbox
+pub status-when : (x : Mailbox) (is : List StatusItem) (sel wanted : Bool) → cond sel [] (statusLines x wanted is) ≡ when (not sel && (bothRights x && wanted)) (status (nameOf x) is)
+status-when x is true wanted = refl
+status-when x is false wanted = refl
 
-module _ (m : Memory) (law : Law m) (i u k : ℕ) (h : k < m .counts .messages) (is : isMessage i u (getD (m .entries) k noMessage) ≡ true) where
+-- ---- `XP`: m is lawful memory with other rows, since the record's counter is in its mailbox's row already
+module _ (b : Memory) (law : Law b) (rs : List Mailbox) (many i u k : ℕ) (h : k < b .counts .messages) (is : isMessage i u (getD (b .entries) k noMessage) ≡ true) where
+  abbrev m : Memory
+  m = rowsAre b rs many
+
   abbrev x : Mailbox
   x = theMailbox i (boxes m)
 
@@ -86,24 +92,24 @@ module _ (m : Memory) (law : Law m) (i u k : ℕ) (h : k < m .counts .messages) 
   line = expunge (placeOf u (view m)) (record { 0 = u })
 
   gone : dropMails m (isMessage i u) ≡ tablesAre m (m .rows) out (m .counts .messages - 1)
-  gone = drop-at m law i u k h is
+  gone = ap (λ (j : Memory). rowsAre j rs many) (drop-at b law i u k h is)
 
   only : (e : Message) → isMessage i u e ≡ false → expire i u e ≡ e
   only e q = rw q
 
   waits : changeMails m (expire i u) ≡ setEntry m k (withStates (getD (m .entries) k noMessage) 1)
-  waits = change-at m law i u (expire i u) only k h is ∙ ap (setEntry m k) (rw is)
+  waits = ap (λ (j : Memory). rowsAre j rs many) (change-at b law i u (expire i u) only k h is) ∙ ap (setEntry m k) (rw is)
 
   -- not in the view
-  away : inView m i u ≡ false → (goneTold m i x ≡ true → filled m ≤ length (m .queue) - 64)
-      → told m (λ (j : Memory). removed j i u) .after ≡ left m (m .rows) (dropAfter (m .entries) (m .counts .messages) (m .queue) (m .session) (filled m) k x (goneTold m i x))
+  away : inView m i u ≡ false → (awayTold m i x asksExpunge ≡ true → filled m ≤ length (m .queue) - 64)
+      → told m (λ (j : Memory). removed j i u) .after ≡ left m (m .rows) (dropAfter (m .entries) (m .counts .messages) (m .queue) (m .session) (filled m) k x (awayTold m i x asksExpunge))
   away v free =
-      told-tables m (λ (j : Memory). removed j i u) (m .rows) out (m .counts .messages - 1) (status (nameOf x) (x .uidnext) (length (existing (x .id) (take (m .counts .messages - 1) out))))
+      told-tables m (λ (j : Memory). removed j i u) (m .rows) out (m .counts .messages - 1) (status (nameOf x) (countsOf (tablesAre m (m .rows) out (m .counts .messages - 1)) x))
       (rw v gone)
       (rw v (ap silence gone))
       (λ j. refl)
-      (goneTold m i x)
-      (rw v (status-when (dropMails m (isMessage i u)) x (isSelected m i) (askedOf (m .session) x asksExpunge) ∙ ap (λ (j : Memory). when (goneTold m i x) (status (nameOf x) (x .uidnext) (length (existing (x .id) (mails j))))) gone))
+      (awayTold m i x asksExpunge)
+      (rw v (status-when x (countsOf (dropMails m (isMessage i u)) x) (isSelected m i) (askedOf (m .session) x asksExpunge) ∙ ap (λ (j : Memory). when (awayTold m i x asksExpunge) (status (nameOf x) (countsOf j x))) gone))
       free
 
   -- in the view, and told at once
@@ -136,13 +142,13 @@ module _ (m : Memory) (law : Law m) (i u k : ℕ) (h : k < m .counts .messages) 
           ∙ (ap (λ (j : Memory). enqueue j (render overflow)) (expires v)
           ∙ rw (expunge-text n (record { 0 = u }), fit false q))
 
-  pub remove-accepted : ((inView m i u && expungeAtOnce m) ≡ true → filled m ≤ length (m .queue) - 64) → (goneTold m i x ≡ true → filled m ≤ length (m .queue) - 64)
-      → accepted m (expungeRecord i u) .after ≡ left m (m .rows) (removeAfter (m .entries) (m .counts .messages) (m .queue) (m .session) (filled m) k x n (inView m i u) (expungeAtOnce m) (goneTold m i x))
-  unfolding accepted removeAfter
-  remove-accepted soon free = go (inView m i u) refl (expungeAtOnce m) refl soon
+  pub remove-told : ((inView m i u && expungeAtOnce m) ≡ true → filled m ≤ length (m .queue) - 64) → (awayTold m i x asksExpunge ≡ true → filled m ≤ length (m .queue) - 64)
+      → told m (λ (j : Memory). removed j i u) .after ≡ left m (m .rows) (removeAfter (m .entries) (m .counts .messages) (m .queue) (m .session) (filled m) k x n (inView m i u) (expungeAtOnce m) (awayTold m i x asksExpunge))
+  unfolding removeAfter
+  remove-told soon free = go (inView m i u) refl (expungeAtOnce m) refl soon
     where
       go : (v : Bool) → inView m i u ≡ v → (a : Bool) → expungeAtOnce m ≡ a → ((v && a) ≡ true → filled m ≤ length (m .queue) - 64)
-          → told m (λ (j : Memory). removed j i u) .after ≡ left m (m .rows) (cond v (cond a (onceAfter (m .entries) (m .counts .messages) (m .queue) (m .session) (filled m) k n) (waitAfter (m .entries) (m .counts .messages) (m .queue) (m .session) (filled m) k)) (dropAfter (m .entries) (m .counts .messages) (m .queue) (m .session) (filled m) k x (goneTold m i x)))
+          → told m (λ (j : Memory). removed j i u) .after ≡ left m (m .rows) (cond v (cond a (onceAfter (m .entries) (m .counts .messages) (m .queue) (m .session) (filled m) k n) (waitAfter (m .entries) (m .counts .messages) (m .queue) (m .session) (filled m) k)) (dropAfter (m .entries) (m .counts .messages) (m .queue) (m .session) (filled m) k x (awayTold m i x asksExpunge)))
       go true v true a z = now-told (leb (length (render line)) (room m)) refl v a (z refl)
       go true v false a z = ap (λ (o : Outcome). o .after) (told-none m (λ (j : Memory). removed j i u) (rw (v, a))) ∙ rw (v, a) waits
       go false v a b z = away v free

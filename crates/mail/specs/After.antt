@@ -1,12 +1,12 @@
--- What `XP` and `ME` leave: entries, how many of them, queue, session and F. Assumes nothing.
+-- What `XP` and `ME` leave: entries, how many of them, queue, session and F; and the texts of a STATUS. Assumes nothing.
 use mathlib.Core.Path.{_≡_, refl, ap, _∙_}
 use mathlib.Core.Bool.{Bool, true, false, cond}
 use mathlib.Core.List.{List}
 use Prim.Native.Nat.{ℕ, _+_, _*_, _-_, _≤_}
 use lib.ListN.{length, take, getD, set}
 use Rattle.model.specs.Queue.{written}
-use Rattle.model.specs.Memory.{noMessage, nameOf, existing, messagesOf, withFlags, withStates, withView, silenced}
-use Rattle.model.specs.Lines.{status, render}
+use Rattle.model.specs.Memory.{noMessage, nameOf, counterOf, existing, messagesOf, withFlags, withStates, withView, silenced}
+use Rattle.model.specs.Lines.{status, mailItems, flagItems, render}
 use Rattle.model.specs.declared.Mailbox.{Mailbox}
 use Rattle.model.specs.declared.Message.{Message}
 use Rattle.model.specs.declared.Session.{Session}
@@ -37,20 +37,24 @@ hears-said q s at t q′ fits end f s′ x e g = record { queue = x .is; session
 
 -- the STATUS of a mailbox, counted in these entries
 abbrev pub statusText : Mailbox → List Message → List ℕ
-statusText x l = render (status (nameOf x) (x .uidnext) (length (existing (x .id) l)))
+statusText x l = render (status (nameOf x) (mailItems (x .uidnext) (length (existing (x .id) l)) (counterOf x)))
+
+-- that of a change of flags
+abbrev pub changeText : Mailbox → List ℕ
+changeText x = render (status (nameOf x) (flagItems (x .uidvalidity) (counterOf x)))
 
 -- entry k gone where its line was written, and else it waits
 abbrev pub takenOut : List Message → ℕ → ℕ → Bool → List Message
 takenOut es used k gone = cond gone (shut k used es) (set es k (withStates (getD es k noMessage) 1))
 
 -- an entry that was put
-pub put-one : (ws ws′ : List ℕ) (k : ℕ) (y : Message) → ws′ ≡ stored ws k y → (k + 1) * 5 ≤ length ws → ws′ ≡ laid ws (set (messages ws) k y)
+pub put-one : (ws ws′ : List ℕ) (k : ℕ) (y : Message) → ws′ ≡ stored ws k y → (k + 1) * 6 ≤ length ws → ws′ ≡ laid ws (set (messages ws) k y)
 put-one ws ws′ k y e h = e ∙ laid-put ws ws (messages ws) k y (laid-own ws) h
 
 pub taken-gone : (ws ws′ : List ℕ) (used k : ℕ) (gone : Bool) → gone ≡ true → ws′ ≡ laid ws (shut k used (messages ws)) → (ws′ ≡ laid ws (takenOut (messages ws) used k gone)) × (used - 1 ≡ cond gone (used - 1) used)
 taken-gone ws ws′ used k gone g e = rw g (e, refl)
 
-pub taken-waits : (ws ws′ : List ℕ) (used k : ℕ) (gone : Bool) (e y : Message) → gone ≡ false → ws′ ≡ stored ws k y → (k + 1) * 5 ≤ length ws → e ≡ getD (messages ws) k noMessage → y ≡ withStates (withFlags e (e .flags)) 1
+pub taken-waits : (ws ws′ : List ℕ) (used k : ℕ) (gone : Bool) (e y : Message) → gone ≡ false → ws′ ≡ stored ws k y → (k + 1) * 6 ≤ length ws → e ≡ getD (messages ws) k noMessage → y ≡ withStates (withFlags e (e .flags) (e .counter)) 1
     → (ws′ ≡ laid ws (takenOut (messages ws) used k gone)) × (used ≡ cond gone (used - 1) used)
 taken-waits ws ws′ used k gone e y g c h p q = rw g (put-one ws ws′ k y c h ∙ ap (λ (x : Message). laid ws (set (messages ws) k x)) (q ∙ ap (λ (x : Message). withStates x 1) p), refl)
 

@@ -7,19 +7,17 @@ use native.Mathlib.Omega.{arith}
 use lib.Dec.{eqb, leb, ltb}
 use lib.ListN.{length, take, drop, getD, set, length-append}
 use lib.Seq.{length-take-le, set-split, getD-set-same}
-use borrow.Author.Tests.{leb-true, eqb-true, eq-eqb, le-ltb}
+use borrow.Author.Tests.{eqb-true, eq-eqb, le-ltb}
 use Rattle.model.specs.Laws.{tf, and-l, and-r, all-passed}
 use Rattle.model.specs.Lists.{when, allb}
-use Rattle.model.specs.Memory.{Memory, boxes, mails, filled, nameOf, noMailbox, noMessage, place, theMailbox, bothRights, isSelected, existing, messagesOf, inMailbox, uidOf, selectedBox, withNext, withSession, withView, refill, putBox, addMail}
+use Rattle.model.specs.Memory.{Memory, boxes, mails, filled, nameOf, noMailbox, noMessage, place, theMailbox, bothRights, isSelected, messagesOf, inMailbox, uidOf, selectedBox, withNext, withSession, withView, refill, putBox, addMail}
 use Rattle.model.specs.Groups.{askedOf, asksNew}
-use Rattle.model.specs.Lines.{Line, status, overflow, render, renderAll}
+use Rattle.model.specs.Lines.{Line, StatusItem, status, overflow, render, renderAll}
 use Rattle.model.specs.Queue.{room, enqueue, announce, effects}
 use Rattle.model.specs.View.{newAtOnce, announcing, view, unannounced, selectedMessages, showsAny, shownItems, newLines}
-use Rattle.model.specs.Events.{message, withArrived, arrived, statusLines, silence}
-use Rattle.model.specs.Rules.{accepted, told}
-use Rattle.model.specs.Records.{arrive}
+use Rattle.model.specs.Events.{message, withArrived, arrived, statusLines, countsOf, silence}
+use Rattle.model.specs.Rules.{told}
 use Rattle.model.specs.Lawful.{stateOk}
-use Rattle.demands.specs.Lasting.Law.{Law}
 use Rattle.demands.specs.Lasting.Rows.{all-snoc}
 use Rattle.demands.specs.Isolation.Alike.{boxes-with, mails-with}
 use Rattle.model.specs.declared.Mailbox.{Mailbox}
@@ -32,7 +30,7 @@ use Rattle.fetches.specs.Items.{shown}
 use Rattle.fetches.specs.Whole.{newsText, news-text}
 use Rattle.mail.specs.Taken.{tablesAre}
 use Rattle.mail.specs.After.{newsOf, newsAfter, statusAfter, arriveAfter}
-use Rattle.mail.specs.Accepted.{left, told-tables, room-same}
+use Rattle.mail.specs.Accepted.{left, awayTold, told-tables, room-same}
 
 -- an entry is put behind the last
 pub add-mail-at : (m : Memory) (e : Message) → m .counts .messages < length (m .entries) → addMail m e ≡ tablesAre m (m .rows) (set (m .entries) (m .counts .messages) e) (m .counts .messages + 1)
@@ -58,17 +56,13 @@ place-set i (suc k) (x ∷ l) y e = ap (λ (n : ℕ). cond (eqb (x .id) i) 0 (su
 found : (i : ℕ) (l : List Mailbox) (y : Mailbox) → y .id ≡ theMailbox i l .id → place i l < length l → theMailbox i (set l (place i l) y) ≡ y
 found i l y e h = ap (λ (n : ℕ). getD (set l (place i l) y) n noMailbox) (place-set i (place i l) l y e) ∙ getD-set-same l (place i l) y noMailbox h
 
--- who is told of a message elsewhere; y is the row with the new UIDNEXT
-abbrev pub newTold : Memory → ℕ → Mailbox → Bool
-newTold m i y = not (isSelected m i) && (bothRights y && askedOf (m .session) y asksNew)
+arrive-when : (sel soon : Bool) (ls : List Line) (wanted : Bool) (is : List StatusItem) (y : Mailbox) → (sel && soon) ≡ false
+    → cond sel (cond soon ls []) (statusLines y wanted is) ≡ when (not sel && (bothRights y && wanted)) (status (nameOf y) is)
+arrive-when true true ls wanted is y q = tf _ refl q
+arrive-when true false ls wanted is y q = refl
+arrive-when false soon ls wanted is y q = refl
 
-arrive-when : (sel soon : Bool) (ls : List Line) (wanted : Bool) (m : Memory) (y : Mailbox) → (sel && soon) ≡ false
-    → cond sel (cond soon ls []) (statusLines m y wanted) ≡ when (not sel && (bothRights y && wanted)) (status (nameOf y) (y .uidnext) (length (existing (y .id) (mails m))))
-arrive-when true true ls wanted m y c = tf _ refl c
-arrive-when true false ls wanted m y c = refl
-arrive-when false soon ls wanted m y c = refl
-
-module _ (m : Memory) (law : Law m) (i u f z k : ℕ) (at : k ≡ place i (boxes m)) (h : k < m .counts .mailboxes) (space : m .counts .messages < length (m .entries)) where
+module _ (m : Memory) (fit : m .counts .mailboxes ≤ length (m .rows)) (still : allb (stateOk (m .session)) (mails m) ≡ true) (i u f z c k : ℕ) (at : k ≡ place i (boxes m)) (h : k < m .counts .mailboxes) (space : m .counts .messages < length (m .entries)) where
   abbrev y : Mailbox
   y = withNext (theMailbox i (boxes m)) (u + 1)
 
@@ -76,33 +70,30 @@ module _ (m : Memory) (law : Law m) (i u f z k : ℕ) (at : k ≡ place i (boxes
   rs = set (m .rows) k y
 
   abbrev es : List Message
-  es = set (m .entries) (m .counts .messages) (message i u f z)
+  es = set (m .entries) (m .counts .messages) (message i u f z c)
 
-  fit : m .counts .mailboxes ≤ length (m .rows)
-  fit = leb-true (m .counts .mailboxes) (length (m .rows)) (law .used)
+  came : withArrived m i u f z c ≡ tablesAre m rs es (m .counts .messages + 1)
+  came = ap (λ (j : Memory). addMail j (message i u f z c)) (put-at m fit i k y at h) ∙ add-mail-at (rowsAre m rs (m .counts .mailboxes)) (message i u f z c) space
 
-  came : withArrived m i u f z ≡ tablesAre m rs es (m .counts .messages + 1)
-  came = ap (λ (j : Memory). addMail j (message i u f z)) (put-at m fit i k y at h) ∙ add-mail-at (rowsAre m rs (m .counts .mailboxes)) (message i u f z) space
-
-  the-row : theMailbox i (boxes (withArrived m i u f z)) ≡ y
+  the-row : theMailbox i (boxes (withArrived m i u f z c)) ≡ y
   the-row =
       let n = boxes-long m fit in
       ap (theMailbox i) (boxes-with m (set (boxes m) (place i (boxes m)) y)) ∙ found i (boxes m) y refl (omega arith)
 
-  said : (isSelected m i && newAtOnce m) ≡ false → arrived m i u f z .lines ≡ when (newTold m i y) (status (nameOf y) (y .uidnext) (length (existing (y .id) (take (m .counts .messages + 1) es))))
+  said : (isSelected m i && newAtOnce m) ≡ false → arrived m i u f z c .lines ≡ when (awayTold m i y asksNew) (status (nameOf y) (countsOf (tablesAre m rs es (m .counts .messages + 1)) y))
   said calm =
-      arrive-when (isSelected m i) (newAtOnce m) (announcing (withArrived m i u f z)) (askedOf (m .session) (theMailbox i (boxes (withArrived m i u f z))) asksNew) (withArrived m i u f z) (theMailbox i (boxes (withArrived m i u f z))) calm
-      ∙ ap₂ (λ (w : Mailbox) (j : Memory). when (not (isSelected m i) && (bothRights w && askedOf (m .session) w asksNew)) (status (nameOf w) (w .uidnext) (length (existing (w .id) (mails j))))) the-row came
+      arrive-when (isSelected m i) (newAtOnce m) (announcing (withArrived m i u f z c)) (askedOf (m .session) (theMailbox i (boxes (withArrived m i u f z c))) asksNew) (countsOf (withArrived m i u f z c) (theMailbox i (boxes (withArrived m i u f z c)))) (theMailbox i (boxes (withArrived m i u f z c))) calm
+      ∙ ap₂ (λ (w : Mailbox) (j : Memory). when (not (isSelected m i) && (bothRights w && askedOf (m .session) w asksNew)) (status (nameOf w) (countsOf j w))) the-row came
 
   -- elsewhere, or waiting
-  elsewhere : (isSelected m i && newAtOnce m) ≡ false → (newTold m i y ≡ true → filled m ≤ length (m .queue) - 64)
-      → told m (λ (j : Memory). arrived j i u f z) .after ≡ left m rs (statusAfter (m .entries) (m .counts .messages) (m .queue) (m .session) (filled m) y (message i u f z) (newTold m i y))
+  elsewhere : (isSelected m i && newAtOnce m) ≡ false → (awayTold m i y asksNew ≡ true → filled m ≤ length (m .queue) - 64)
+      → told m (λ (j : Memory). arrived j i u f z c) .after ≡ left m rs (statusAfter (m .entries) (m .counts .messages) (m .queue) (m .session) (filled m) y (message i u f z c) (awayTold m i y asksNew))
   elsewhere calm free =
-      told-tables m (λ (j : Memory). arrived j i u f z) rs es (m .counts .messages + 1) (status (nameOf y) (y .uidnext) (length (existing (y .id) (take (m .counts .messages + 1) es))))
+      told-tables m (λ (j : Memory). arrived j i u f z c) rs es (m .counts .messages + 1) (status (nameOf y) (countsOf (tablesAre m rs es (m .counts .messages + 1)) y))
       came
       (ap silence came)
       (λ j. refl)
-      (newTold m i y)
+      (awayTold m i y asksNew)
       (said calm)
       free
 
@@ -110,10 +101,10 @@ module _ (m : Memory) (law : Law m) (i u f z k : ℕ) (at : k ≡ place i (boxes
   module _ (sel : isSelected m i ≡ true) (soon : newAtOnce m ≡ true) (low : m .session .told ≤ u) (free : filled m ≤ length (m .queue) - 64)
       (w : Shows) (any : w .any ≡ showsAny (m .session)) (items : (e : Message) → shown w e ≡ shownItems (m .session) e) where
     abbrev new : Message
-    new = message i u f z
+    new = message i u f z c
 
     abbrev after : Memory
-    after = withArrived m i u f z
+    after = withArrived m i u f z c
 
     abbrev lines : List Line
     lines = announcing after
@@ -125,7 +116,7 @@ module _ (m : Memory) (law : Law m) (i u f z k : ℕ) (at : k ≡ place i (boxes
     held = mails-with (putBox m i y) (mails m ++ (new ∷ []))
 
     calm : allb (stateOk (m .session)) (mails after) ≡ true
-    calm = ap (allb (stateOk (m .session))) held ∙ all-snoc (stateOk (m .session)) (mails m) new (law .states) refl
+    calm = ap (allb (stateOk (m .session))) held ∙ all-snoc (stateOk (m .session)) (mails m) new still refl
 
     some : 0 < length (unannounced after)
     some = rw held (among (λ (e : Message). not (ltb (uidOf e) (m .session .told))) (inMailbox (m .session .selected)) (mails m) new (eq-eqb i (m .session .selected) its) (rw (le-ltb u (m .session .told) low)))
@@ -145,33 +136,33 @@ module _ (m : Memory) (law : Law m) (i u f z k : ℕ) (at : k ≡ place i (boxes
     next : selectedBox after .uidnext ≡ u + 1
     next = ap (λ (n : ℕ). theMailbox n (boxes after) .uidnext) (sym its) ∙ ap (λ (x : Mailbox). x .uidnext) the-row
 
-    owes : arrived m i u f z .lines ≡ lines
+    owes : arrived m i u f z c .lines ≡ lines
     owes = rw (sel, soon)
 
-    pub at-once : told m (λ (j : Memory). arrived j i u f z) .after ≡ left m rs (newsAfter (m .entries) (m .counts .messages) (m .queue) (m .session) (filled m) y new w)
+    pub at-once : told m (λ (j : Memory). arrived j i u f z c) .after ≡ left m rs (newsAfter (m .entries) (m .counts .messages) (m .queue) (m .session) (filled m) y new w)
     at-once = go (leb (length (renderAll lines)) (room m)) refl
       where
-        fit : (r : Bool) → leb (length (renderAll lines)) (room m) ≡ r → hasRoom (m .queue) (filled m) (newsOf (m .entries) (m .counts .messages) (m .queue) (m .session) (filled m) y new w) ≡ r
-        fit r q = ap (hasRoom (m .queue) (filled m)) (sym text) ∙ (room-same (filled m) (length (renderAll lines)) (length (m .queue) - 64) free ∙ q)
+        fits : (r : Bool) → leb (length (renderAll lines)) (room m) ≡ r → hasRoom (m .queue) (filled m) (newsOf (m .entries) (m .counts .messages) (m .queue) (m .session) (filled m) y new w) ≡ r
+        fits r q = ap (hasRoom (m .queue) (filled m)) (sym text) ∙ (room-same (filled m) (length (renderAll lines)) (length (m .queue) - 64) free ∙ q)
 
-        go : (r : Bool) → leb (length (renderAll lines)) (room m) ≡ r → told m (λ (j : Memory). arrived j i u f z) .after ≡ left m rs (newsAfter (m .entries) (m .counts .messages) (m .queue) (m .session) (filled m) y new w)
+        go : (r : Bool) → leb (length (renderAll lines)) (room m) ≡ r → told m (λ (j : Memory). arrived j i u f z c) .after ≡ left m rs (newsAfter (m .entries) (m .counts .messages) (m .queue) (m .session) (filled m) y new w)
         go true q =
-            told-many m (λ (j : Memory). arrived j i u f z) lines owes q
+            told-many m (λ (j : Memory). arrived j i u f z c) lines owes q
             ∙ (ends (renderAll lines)
             ∙ (ap₂ (λ (j : Memory) (n : ℕ). enqueue (withSession j (withView (m .session) (m .session .selected) n)) (renderAll lines)) came next
-            ∙ rw (fit true q) (ap (λ (t : List ℕ). enqueue (withSession (tablesAre m rs es (m .counts .messages + 1)) (withView (m .session) (m .session .selected) (u + 1))) t) text)))
+            ∙ rw (fits true q) (ap (λ (t : List ℕ). enqueue (withSession (tablesAre m rs es (m .counts .messages + 1)) (withView (m .session) (m .session .selected) (u + 1))) t) text)))
         go false q =
-            told-past m (λ (j : Memory). arrived j i u f z) lines owes q
-            ∙ (ap (λ (j : Memory). enqueue (silence j) (render overflow)) came ∙ rw (fit false q))
+            told-past m (λ (j : Memory). arrived j i u f z c) lines owes q
+            ∙ (ap (λ (j : Memory). enqueue (silence j) (render overflow)) came ∙ rw (fits false q))
 
   -- what the caller shows where it is at once: the room, and what a FETCH shows
-  pub arrive-accepted : (w : Shows) → w .any ≡ showsAny (m .session) → ((e : Message) → shown w e ≡ shownItems (m .session) e) → (isSelected m i ≡ true → m .session .told ≤ u)
-      → ((isSelected m i && newAtOnce m) ≡ true → filled m ≤ length (m .queue) - 64) → (newTold m i y ≡ true → filled m ≤ length (m .queue) - 64)
-      → accepted m (arrive i u f z) .after ≡ left m rs (arriveAfter (m .entries) (m .counts .messages) (m .queue) (m .session) (filled m) y (message i u f z) (isSelected m i && newAtOnce m) (newTold m i y) w)
-  unfolding accepted arriveAfter
-  arrive-accepted w any items low soon free = go (isSelected m i && newAtOnce m) refl
+  pub arrive-told : (w : Shows) → w .any ≡ showsAny (m .session) → ((e : Message) → shown w e ≡ shownItems (m .session) e) → (isSelected m i ≡ true → m .session .told ≤ u)
+      → ((isSelected m i && newAtOnce m) ≡ true → filled m ≤ length (m .queue) - 64) → (awayTold m i y asksNew ≡ true → filled m ≤ length (m .queue) - 64)
+      → told m (λ (j : Memory). arrived j i u f z c) .after ≡ left m rs (arriveAfter (m .entries) (m .counts .messages) (m .queue) (m .session) (filled m) y (message i u f z c) (isSelected m i && newAtOnce m) (awayTold m i y asksNew) w)
+  unfolding arriveAfter
+  arrive-told w any items low soon free = go (isSelected m i && newAtOnce m) refl
     where
-      go : (b : Bool) → (isSelected m i && newAtOnce m) ≡ b → told m (λ (j : Memory). arrived j i u f z) .after
-          ≡ left m rs (cond b (newsAfter (m .entries) (m .counts .messages) (m .queue) (m .session) (filled m) y (message i u f z) w) (statusAfter (m .entries) (m .counts .messages) (m .queue) (m .session) (filled m) y (message i u f z) (newTold m i y)))
+      go : (b : Bool) → (isSelected m i && newAtOnce m) ≡ b → told m (λ (j : Memory). arrived j i u f z c) .after
+          ≡ left m rs (cond b (newsAfter (m .entries) (m .counts .messages) (m .queue) (m .session) (filled m) y (message i u f z c) w) (statusAfter (m .entries) (m .counts .messages) (m .queue) (m .session) (filled m) y (message i u f z c) (awayTold m i y asksNew)))
       go true q = at-once (and-l (isSelected m i) (newAtOnce m) q) (and-r (isSelected m i) (newAtOnce m) q) (low (and-l (isSelected m i) (newAtOnce m) q)) (soon q) w any items
       go false q = elsewhere q free

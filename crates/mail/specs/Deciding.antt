@@ -9,11 +9,10 @@ use borrow.Author.Tests.{eqb-true}
 use Rattle.model.specs.Laws.{and-l, and-r, tf}
 use Rattle.model.specs.Lists.{anyb}
 use Rattle.model.specs.Memory.{Memory, boxes, mails, filled, noMessage, uidOf, known, theMailbox, selectedBox, bothRights, isSelected, isMessage}
-use Rattle.model.specs.Groups.{groupOf, groupsOf, askedOf, selectedAsks, immediateAsks}
+use Rattle.model.specs.Groups.{groupOf, groupsOf, askedOf, asksExpunge, asksFlags, selectedAsks, immediateAsks}
 use Rattle.model.specs.View.{view, placeOf, expungeAtOnce, flagsAtOnce, flagsWait}
-use Rattle.model.specs.Events.{inView}
-use Rattle.model.specs.Rules.{accepted}
-use Rattle.model.specs.Records.{expunge, reflag}
+use Rattle.model.specs.Events.{inView, removed, reflagged}
+use Rattle.model.specs.Rules.{told}
 use Rattle.demands.specs.Lasting.Law.{Law}
 use Rattle.demands.specs.Isolation.Erase.{box-id}
 use Rattle.model.specs.declared.Group.{Group}
@@ -21,13 +20,14 @@ use Rattle.model.specs.declared.Mailbox.{Mailbox}
 use Rattle.model.specs.declared.Message.{Message}
 use Rattle.model.specs.declared.Session.{Session}
 use Rattle.laws.specs.Counting.{countb}
+use Rattle.rows.specs.Rows.{rowsAre}
 use Rattle.entries.specs.Counted.{before}
 use Rattle.told.specs.Asking.{asksBit}
 use Rattle.mail.specs.After.{After, Leaves, waitAfter, onceAfter, dropAfter, removeAfter, is-once, is-wait, is-drop}
-use Rattle.mail.specs.Flagged.{flagAfter, flag-once}
-use Rattle.mail.specs.Accepted.{left, goneTold, remove-accepted}
-use Rattle.mail.specs.Flagging.{reflag-accepted}
-use Rattle.mail.specs.Free.{soon-free, gone-free, flags-free, place-is}
+use Rattle.mail.specs.Flagged.{toldAfter, keptAfter, flagAfter, is-told, is-kept}
+use Rattle.mail.specs.Accepted.{left, awayTold, remove-told}
+use Rattle.mail.specs.Flagging.{change-told}
+use Rattle.mail.specs.Free.{soon-free, away-free, flags-free, place-is}
 
 -- the row is the selected mailbox's
 abbrev pub isChosen : Session → Mailbox → Bool
@@ -50,8 +50,12 @@ module _ (es : List Message) (used : ℕ) (q : List ℕ) (s : Session) (at k : �
   expungeAfter = removeAfter es used q s at k x (placeIn s uid (take used es)) (hasSeen s x uid) (bothRights x && immediateAsks s (asksBit 1)) (not (isChosen s x) && (bothRights x && askedOf s x (asksBit 1)))
 
   -- `FL` of entry k
-  unfoldable pub reflagAfter : ℕ → After
-  reflagAfter f = flagAfter es used q s at k f (placeIn s uid (take used es)) (hasSeen s x uid && (bothRights x && selectedAsks s (asksBit 2))) (hasSeen s x uid && (bothRights x && eqb (s .notified) 0))
+  unfoldable pub reflagAfter : (f c : ℕ) → After
+  reflagAfter f c =
+      flagAfter es used q s at x k f c (placeIn s uid (take used es))
+      (hasSeen s x uid && (bothRights x && selectedAsks s (asksBit 2)))
+      (hasSeen s x uid && (bothRights x && eqb (s .notified) 0))
+      (not (isChosen s x) && (bothRights x && askedOf s x (asksBit 2)))
 
 -- ---- whoever is told has a group
 pub asks-some : (s : Session) (p : Group → Bool) → anyb p (groupsOf s) ≡ true → s .groupcount ≡ 0 → ⊥
@@ -64,9 +68,6 @@ told-some s on c b p e h = asks-some s p (and-r b (anyb p (groupsOf s)) (and-r c
 each : (f : ℕ → Bool → Bool → Bool → After) {n n′ : ℕ} {a a′ b b′ c c′ : Bool} → n ≡ n′ → a ≡ a′ → b ≡ b′ → c ≡ c′ → f n a b c ≡ f n′ a′ b′ c′
 each f {n} {n′} {a} {a′} {b} {b′} {c} {c′} p q r t = ap₂ (λ (i : ℕ) (j : Bool). f i j b c) p q ∙ ap₂ (λ (i j : Bool). f n′ a′ i j) r t
 
-three : (f : ℕ → Bool → Bool → After) {n n′ : ℕ} {a a′ b b′ : Bool} → n ≡ n′ → a ≡ a′ → b ≡ b′ → f n a b ≡ f n′ a′ b′
-three f {n} {n′} {a} {a′} {b} {b′} p q r = ap (λ (i : ℕ). f i a b) p ∙ ap₂ (λ (i j : Bool). f n′ i j) q r
-
 -- ---- in the rules' words
 pub and-same : (v a b : Bool) → (v ≡ true → a ≡ b) → (v && a) ≡ (v && b)
 and-same true a b e = e refl
@@ -77,7 +78,10 @@ unfolding removeAfter
 same-once es used q s at k x n on true a b e = ap (λ (c : Bool). cond c (onceAfter es used q s at k n) (waitAfter es used q s at k)) (e refl)
 same-once es used q s at k x n on false a b e = refl
 
-module _ (m : Memory) (law : Law m) (i u k : ℕ) (h : k < m .counts .messages) (is : isMessage i u (getD (m .entries) k noMessage) ≡ true) (there : known i (boxes m) ≡ true) where
+module _ (b : Memory) (law : Law b) (rs : List Mailbox) (many i u k : ℕ) (h : k < b .counts .messages) (is : isMessage i u (getD (b .entries) k noMessage) ≡ true) (there : known i (boxes (rowsAre b rs many)) ≡ true) where
+  abbrev m : Memory
+  m = rowsAre b rs many
+
   abbrev x : Mailbox
   x = theMailbox i (boxes m)
 
@@ -100,25 +104,26 @@ module _ (m : Memory) (law : Law m) (i u k : ℕ) (h : k < m .counts .messages) 
   rights : inView m i u ≡ true → bothRights (selectedBox m) ≡ bothRights x
   rights v = ap (λ (n : ℕ). bothRights (theMailbox n (boxes m))) (sym (eqb-true i (m .session .selected) (and-r (not (eqb i 0)) _ (and-l (isSelected m i) _ v))))
 
-  pub expunge-accepted : accepted m (expunge i u) .after ≡ left m (m .rows) (expungeAfter (m .entries) (m .counts .messages) (m .queue) (m .session) (filled m) k x)
+  pub expunge-told : told m (λ (j : Memory). removed j i u) .after ≡ left m (m .rows) (expungeAfter (m .entries) (m .counts .messages) (m .queue) (m .session) (filled m) k x)
   unfolding expungeAfter
-  expunge-accepted =
-      remove-accepted m law i u k h is (soon-free m law i u) (gone-free m law i x)
+  expunge-told =
+      remove-told b law rs many i u k h is (soon-free m (law .fill) i u) (away-free m (law .fill) i x asksExpunge)
       ∙ ap (left m (m .rows))
-      (same-once (m .entries) (m .counts .messages) (m .queue) (m .session) (filled m) k x (placeOf u (view m) .0) (goneTold m i x) (inView m i u) (expungeAtOnce m) (bothRights x && immediateAsks (m .session) (asksBit 1)) (λ v. ap (λ (b : Bool). b && immediateAsks (m .session) (asksBit 1)) (rights v))
+      (same-once (m .entries) (m .counts .messages) (m .queue) (m .session) (filled m) k x (placeOf u (view m) .0) (awayTold m i x asksExpunge) (inView m i u) (expungeAtOnce m) (bothRights x && immediateAsks (m .session) (asksBit 1)) (λ v. ap (λ (b : Bool). b && immediateAsks (m .session) (asksBit 1)) (rights v))
       ∙ sym (each (removeAfter (m .entries) (m .counts .messages) (m .queue) (m .session) (filled m) k x) placed seen refl (ap (λ (c : Bool). not c && (bothRights x && askedOf (m .session) x (asksBit 1))) chosen)))
 
-  pub flags-accepted : (f : ℕ) → accepted m (reflag i u f) .after ≡ left m (m .rows) (reflagAfter (m .entries) (m .counts .messages) (m .queue) (m .session) (filled m) k x f)
+  pub reflag-told : (f c : ℕ) → told m (λ (j : Memory). reflagged j i u f c) .after ≡ left m (m .rows) (reflagAfter (m .entries) (m .counts .messages) (m .queue) (m .session) (filled m) k x f c)
   unfolding reflagAfter
-  flags-accepted f =
-      reflag-accepted m law i u f k (placeOf u (view m) .0) h is refl (flags-free m law i u)
+  reflag-told f c =
+      change-told b law rs many i u f c k h is (flags-free m (law .fill) i u) (away-free m (law .fill) i x asksFlags)
       ∙ ap (left m (m .rows))
-      (ap₂ (λ (a b : Bool). flagAfter (m .entries) (m .counts .messages) (m .queue) (m .session) (filled m) k f (placeOf u (view m) .0) a b)
+      (ap₂ (λ (a b : Bool). flagAfter (m .entries) (m .counts .messages) (m .queue) (m .session) (filled m) x k f c (placeOf u (view m) .0) a b (awayTold m i x asksFlags))
       (and-same (inView m i u) (flagsAtOnce m) (bothRights x && selectedAsks (m .session) (asksBit 2)) (λ v. ap (λ (b : Bool). b && selectedAsks (m .session) (asksBit 2)) (rights v)))
       (and-same (inView m i u) (flagsWait m) (bothRights x && eqb (m .session .notified) 0) (λ v. ap (λ (b : Bool). b && eqb (m .session .notified) 0) (rights v)))
-      ∙ sym (three (flagAfter (m .entries) (m .counts .messages) (m .queue) (m .session) (filled m) k f) placed
+      ∙ sym (each (flagAfter (m .entries) (m .counts .messages) (m .queue) (m .session) (filled m) x k f c) placed
       (ap (λ (v : Bool). v && (bothRights x && selectedAsks (m .session) (asksBit 2))) seen)
-      (ap (λ (v : Bool). v && (bothRights x && eqb (m .session .notified) 0)) seen)))
+      (ap (λ (v : Bool). v && (bothRights x && eqb (m .session .notified) 0)) seen)
+      (ap (λ (b : Bool). not b && (bothRights x && askedOf (m .session) x (asksBit 2))) chosen)))
 
 -- ---- as the code puts it together
 module _ (es : List Message) (used : ℕ) (q : List ℕ) (s : Session) (at k : ℕ) (x : Mailbox) (e : Message) (p : e ≡ getD es k noMessage)
@@ -155,16 +160,21 @@ module _ (es : List Message) (used : ℕ) (q : List ℕ) (s : Session) (at k : �
       pub expunge-waits : a ≡ false → Leaves (waitAfter es used q s at k) ws ws′ n′ q′ s′ f′ → Leaves (expungeAfter es used q s at k x) ws ws′ n′ q′ s′ f′
       expunge-waits t y = expunged-as here a elsewhere refl l refl (is-wait es used q s at k x here v a elsewhere ws ws′ n′ q′ s′ f′ z t y)
 
-    module _ (f : ℕ) (g : Bool) (y : g ≡ (v && (bothRights x && selectedAsks s (asksBit 2)))) where
-      reflagged-as : (n : ℕ) (w : Bool) → n ≡ here → w ≡ (v && (bothRights x && eqb (s .notified) 0))
-          → Leaves (flagAfter es used q s at k f n g w) ws ws′ n′ q′ s′ f′ → Leaves (reflagAfter es used q s at k x f) ws ws′ n′ q′ s′ f′
+    module _ (f d : ℕ) (g : Bool) (y : g ≡ (v && (bothRights x && selectedAsks s (asksBit 2)))) where
+      reflagged-as : (n : ℕ) (w o : Bool) → n ≡ here → w ≡ (v && (bothRights x && eqb (s .notified) 0)) → o ≡ (not c && (bothRights x && askedOf s x (asksBit 2)))
+          → Leaves (flagAfter es used q s at x k f d n g w o) ws ws′ n′ q′ s′ f′ → Leaves (reflagAfter es used q s at k x f d) ws ws′ n′ q′ s′ f′
       unfolding reflagAfter
-      reflagged-as n w h z l = rw (three (flagAfter es used q s at k f) (here-is n h) (y ∙ ap (λ (b : Bool). b && (bothRights x && selectedAsks s (asksBit 2))) known-now) (z ∙ ap (λ (b : Bool). b && (bothRights x && eqb (s .notified) 0)) known-now)) at l
+      reflagged-as n w o h z t l =
+          rw (each (flagAfter es used q s at x k f d) (here-is n h)
+          (y ∙ ap (λ (b : Bool). b && (bothRights x && selectedAsks s (asksBit 2))) known-now)
+          (z ∙ ap (λ (b : Bool). b && (bothRights x && eqb (s .notified) 0)) known-now)
+          (t ∙ ap (λ (b : Bool). not b && (bothRights x && askedOf s x (asksBit 2))) i)) at l
 
       -- the change is told at once
-      pub reflag-tells : (n : ℕ) → n ≡ here → g ≡ true → Leaves (flagAfter es used q s at k f n true false) ws ws′ n′ q′ s′ f′ → Leaves (reflagAfter es used q s at k x f) ws ws′ n′ q′ s′ f′
-      reflag-tells n h t l = reflagged-as n (v && (bothRights x && eqb (s .notified) 0)) h refl (flag-once es used q s at k f n g (v && (bothRights x && eqb (s .notified) 0)) ws ws′ n′ q′ s′ f′ t l)
+      pub reflag-tells : (n : ℕ) → n ≡ here → g ≡ true → Leaves (toldAfter es used q s at k f d n) ws ws′ n′ q′ s′ f′ → Leaves (reflagAfter es used q s at k x f d) ws ws′ n′ q′ s′ f′
+      reflag-tells n h t l = reflagged-as n _ _ h refl refl (is-told es used q s at x k f d n g _ _ ws ws′ n′ q′ s′ f′ t l)
 
-      -- it is kept as a mark, or not
-      pub reflag-waits : (w : Bool) → w ≡ (v && (bothRights x && eqb (s .notified) 0)) → Leaves (flagAfter es used q s at k f here g w) ws ws′ n′ q′ s′ f′ → Leaves (reflagAfter es used q s at k x f) ws ws′ n′ q′ s′ f′
-      reflag-waits w z l = reflagged-as here w refl z l
+      -- it is kept as a mark or not, and told by a STATUS or not
+      pub reflag-keeps : (w o : Bool) (st : ℕ) → w ≡ (v && (bothRights x && eqb (s .notified) 0)) → o ≡ (not c && (bothRights x && askedOf s x (asksBit 2))) → g ≡ false → st ≡ cond w 2 (e .states)
+          → Leaves (keptAfter es used q s at x k f d st o) ws ws′ n′ q′ s′ f′ → Leaves (reflagAfter es used q s at k x f d) ws ws′ n′ q′ s′ f′
+      reflag-keeps w o st z t b m l = reflagged-as here w o refl z t (is-kept es used q s at x k f d here g w o ws ws′ n′ q′ s′ f′ st b (m ∙ ap (λ (d : Message). cond w 2 (d .states)) p) l)

@@ -1,4 +1,4 @@
--- In lawful memory whoever is told finds the last 64 octets free: the premises of the two laws. Assumes nothing.
+-- Whoever is told finds the last 64 octets free: the premises of the three laws. Assumes nothing.
 use mathlib.Core.Path.{_≡_, refl, ap}
 use mathlib.Core.Bool.{Bool, true, false, not, _&&_, _||_}
 use mathlib.Core.List.{map}
@@ -9,24 +9,22 @@ use borrow.Author.Tests.{eqb-true, leb-true}
 use Rattle.model.specs.Laws.{and-r, tf}
 use Rattle.model.specs.Lists.{anyb}
 use Rattle.model.specs.Memory.{Memory, filled, selectedBox, bothRights, isSelected}
-use Rattle.model.specs.Groups.{groupOf, groupsOf, askedOf, asksNew, asksExpunge}
+use Rattle.model.specs.Groups.{groupOf, groupsOf, askedOf}
 use Rattle.model.specs.View.{newAtOnce, expungeAtOnce, flagsAtOnce}
 use Rattle.model.specs.Events.{inView}
-use Rattle.demands.specs.Lasting.Law.{Law}
+use Rattle.model.specs.Lawful.{filledOk}
 use Rattle.model.specs.declared.Group.{Group}
 use Rattle.model.specs.declared.Mailbox.{Mailbox}
 use Rattle.model.specs.View.{view, placeOf}
 use Rattle.model.specs.Memory.{mails}
-use Rattle.told.specs.Asking.{asksBit}
 use Rattle.laws.specs.Counting.{countb, place-count}
 use Rattle.entries.specs.Counted.{before}
-use Rattle.mail.specs.Accepted.{goneTold}
-use Rattle.mail.specs.Arriving.{newTold}
+use Rattle.mail.specs.Accepted.{awayTold}
 
-module _ (m : Memory) (law : Law m) where
+module _ (m : Memory) (fill : filledOk (length (m .queue)) (filled m) (m .session) ≡ true) where
   -- a group asks
   group-free : (p : Group → Bool) → anyb p (groupsOf (m .session)) ≡ true → filled m ≤ length (m .queue) - 64
-  group-free p h = go (eqb (m .session .groupcount) 0) refl (and-r (leb (filled m) (length (m .queue))) (eqb (m .session .groupcount) 0 || leb (filled m) (length (m .queue) - 64)) (law .fill))
+  group-free p h = go (eqb (m .session .groupcount) 0) refl (and-r (leb (filled m) (length (m .queue))) (eqb (m .session .groupcount) 0 || leb (filled m) (length (m .queue) - 64)) fill)
     where
       go : (b : Bool) → eqb (m .session .groupcount) 0 ≡ b → (b || leb (filled m) (length (m .queue) - 64)) ≡ true → filled m ≤ length (m .queue) - 64
       go true e x =
@@ -44,14 +42,8 @@ module _ (m : Memory) (law : Law m) where
   pub news-free : (i : ℕ) → (isSelected m i && newAtOnce m) ≡ true → filled m ≤ length (m .queue) - 64
   news-free i h = group-free _ (and-r (bothRights (selectedBox m)) _ (and-r (isSelected m i) (newAtOnce m) h))
 
-  pub gone-free : (i : ℕ) (x : Mailbox) → goneTold m i x ≡ true → filled m ≤ length (m .queue) - 64
-  gone-free i x h = group-free _ (and-r (bothRights x) _ (and-r (not (isSelected m i)) (bothRights x && askedOf (m .session) x asksExpunge) h))
-
-  pub new-free : (i : ℕ) (y : Mailbox) → newTold m i y ≡ true → filled m ≤ length (m .queue) - 64
-  new-free i y h = group-free _ (and-r (bothRights y) _ (and-r (not (isSelected m i)) (bothRights y && askedOf (m .session) y asksNew) h))
-
-pub told-new : (m : Memory) (i : ℕ) (y : Mailbox) → (not (isSelected m i) && (bothRights y && askedOf (m .session) y (asksBit 0))) ≡ newTold m i y
-told-new m i y = refl
+  pub away-free : (i : ℕ) (x : Mailbox) (asks : Group → Bool) → awayTold m i x asks ≡ true → filled m ≤ length (m .queue) - 64
+  away-free i x asks h = group-free _ (and-r (bothRights x) _ (and-r (not (isSelected m i)) (bothRights x && askedOf (m .session) x asks) h))
 
 pub place-is : (m : Memory) (u : ℕ) → placeOf u (view m) .0 ≡ 1 + countb (before (m .session .selected) (m .session .told) u) (mails m)
 place-is m u = place-count m u

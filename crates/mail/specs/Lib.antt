@@ -3,6 +3,7 @@ pub mod After
 pub mod Accepted
 pub mod Arriving
 pub mod Flagged
+pub mod Reflagging
 pub mod Flagging
 pub mod Free
 pub mod Deciding

@@ -26,6 +26,8 @@ fn with_next(x: Mailbox, next: u32) -> Mailbox
         namelen: x.namelen,
         uidvalidity: x.uidvalidity,
         uidnext: next,
+        counterlow: x.counterlow,
+        counterhigh: x.counterhigh,
         name,
     }
 }
@@ -58,7 +60,7 @@ fn announce(
     filled: usize,
     next: u32,
 ) -> Kept
-    requires { ⌜ (used * 5 ≤ length (now words)) × (used ≤ 1024) × (64 ≤ length (now queue)) × (length (now queue) ≤ 65536) × (filled ≤ length (now queue) - 64) ⌝ }
+    requires { ⌜ (used * 6 ≤ length (now words)) × (used ≤ 1024) × (64 ≤ length (now queue)) × (length (now queue) ≤ 65536) × (filled ≤ length (now queue) - 64) ⌝ }
     ensures { λ r. ⌜ Announces (now (queue .entry)) s filled next (newsText (s .told) (showsOf s) (messagesOf (s .selected) (take used (messages (now (words .entry)))))) (now (queue .exit)) (r .session) (r .filled) ⌝ }
 {
     let mut order = [0usize; 1024];
@@ -71,7 +73,7 @@ fn announce(
     }
 }
 
-// `ME` of a message of mailbox x, with a UID above all that were used there.
+// `ME` of a message of mailbox x, with a UID above all that were used there. The row has the message's counter already.
 pub fn receive(
     words: &mut [u64],
     used: usize,
@@ -82,11 +84,12 @@ pub fn receive(
     uid: Uid,
     flags: u64,
     size: u64,
+    counter: u64,
 ) -> Arrived
-    requires { ⌜ ((used + 1) * 5 ≤ length (now words)) × (used + 1 ≤ 1024) × (64 ≤ length (now queue)) × (length (now queue) ≤ 65536) × (filled ≤ 65536) × ((s .groupcount ≡ 0 → ⊥) → filled ≤ length (now queue) - 64) × (uid .0 ≤ 4294967294) ⌝ }
-    ensures { λ r. ⌜ (r .row ≡ withNext x (uid .0 + 1)) × Leaves (receiveAfter (messages (now (words .entry))) used (now (queue .entry)) s filled x (uid .0) flags size) (now (words .entry)) (now (words .exit)) (r .used) (now (queue .exit)) (r .session) (r .filled) ⌝ }
+    requires { ⌜ ((used + 1) * 6 ≤ length (now words)) × (used + 1 ≤ 1024) × (64 ≤ length (now queue)) × (length (now queue) ≤ 65536) × (filled ≤ 65536) × ((s .groupcount ≡ 0 → ⊥) → filled ≤ length (now queue) - 64) × (uid .0 ≤ 4294967294) ⌝ }
+    ensures { λ r. ⌜ (r .row ≡ withNext x (uid .0 + 1)) × Leaves (receiveAfter (messages (now (words .entry))) used (now (queue .entry)) s filled x (uid .0) flags size counter) (now (words .entry)) (now (words .exit)) (r .used) (now (queue .exit)) (r .session) (r .filled) ⌝ }
 {
-    let e = entries::fresh(x.id as u64, uid, flags, size);
+    let e = entries::fresh(x.id as u64, uid, flags, size, counter);
     let next = uid.0 as u32 + 1;
     entries::put(words, used, e);
     let more = used + 1;

@@ -15,7 +15,7 @@ ghost use Rattle.mail.specs.Deciding.{expungeAfter};
 
 // Entry k is gone where its line was written, and else it waits.
 fn take_out(words: &mut [u64], used: usize, k: usize, gone: bool) -> usize
-    requires { ⌜ (k < used) × (used * 5 ≤ length (now words)) ⌝ }
+    requires { ⌜ (k < used) × (used * 6 ≤ length (now words)) ⌝ }
     ensures { λ r. ⌜ (now (words .exit) ≡ laid (now (words .entry)) (takenOut (messages (now (words .entry))) used k gone)) × (r ≡ cond gone (used - 1) used) ⌝ }
 {
     if gone {
@@ -23,7 +23,7 @@ fn take_out(words: &mut [u64], used: usize, k: usize, gone: bool) -> usize
         return used - 1;
     }
     let e = entries::get(words, k);
-    entries::put(words, k, entries::changed(e, e.flags, 1));
+    entries::put(words, k, entries::changed(e, e.flags, 1, e.counter));
     used
 }
 
@@ -38,7 +38,7 @@ fn drop_one(
     x: Mailbox,
     on: bool,
 ) -> Left
-    requires { ⌜ (k < used) × (used * 5 ≤ length (now words)) × (64 ≤ length (now queue)) × (length (now queue) ≤ 65536) × (filled ≤ 65536) × (on ≡ true → filled ≤ length (now queue) - 64) ⌝ }
+    requires { ⌜ (k < used) × (used * 6 ≤ length (now words)) × (64 ≤ length (now queue)) × (length (now queue) ≤ 65536) × (filled ≤ 65536) × (on ≡ true → filled ≤ length (now queue) - 64) ⌝ }
     ensures { λ r. ⌜ Leaves (dropAfter (messages (now (words .entry))) used (now (queue .entry)) s filled k x on) (now (words .entry)) (now (words .exit)) (r .used) (now (queue .exit)) (r .session) (r .filled) ⌝ }
 {
     entries::remove(words, used, k);
@@ -70,7 +70,7 @@ fn drop_now(
     k: usize,
     n: MessageNumber,
 ) -> Left
-    requires { ⌜ (k < used) × (used * 5 ≤ length (now words)) × (64 ≤ length (now queue)) × (length (now queue) ≤ 65536) × (filled ≤ length (now queue) - 64) ⌝ }
+    requires { ⌜ (k < used) × (used * 6 ≤ length (now words)) × (64 ≤ length (now queue)) × (length (now queue) ≤ 65536) × (filled ≤ length (now queue) - 64) ⌝ }
     ensures { λ r. ⌜ Leaves (onceAfter (messages (now (words .entry))) used (now (queue .entry)) s filled k (n .0)) (now (words .entry)) (now (words .exit)) (r .used) (now (queue .exit)) (r .session) (r .filled) ⌝ }
 {
     let said = fetches::say_expunge(queue, filled, n);
@@ -84,7 +84,7 @@ fn drop_now(
     }
 }
 
-// `XP` of entry k, which is a message of mailbox x.
+// `XP` of entry k, which is a message of mailbox x. The row has the record's counter already, and the entry keeps its own.
 pub fn expunge(
     words: &mut [u64],
     used: usize,
@@ -94,7 +94,7 @@ pub fn expunge(
     x: Mailbox,
     k: usize,
 ) -> Left
-    requires { ⌜ (k < used) × (used * 5 ≤ length (now words)) × (64 ≤ length (now queue)) × (length (now queue) ≤ 65536) × (filled ≤ 65536) × ((s .groupcount ≡ 0 → ⊥) → filled ≤ length (now queue) - 64) ⌝ }
+    requires { ⌜ (k < used) × (used * 6 ≤ length (now words)) × (64 ≤ length (now queue)) × (length (now queue) ≤ 65536) × (filled ≤ 65536) × ((s .groupcount ≡ 0 → ⊥) → filled ≤ length (now queue) - 64) ⌝ }
     ensures { λ r. ⌜ Leaves (expungeAfter (messages (now (words .entry))) used (now (queue .entry)) s filled k x) (now (words .entry)) (now (words .exit)) (r .used) (now (queue .exit)) (r .session) (r .filled) ⌝ }
 {
     let e = entries::get(words, k);

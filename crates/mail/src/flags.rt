@@ -1,16 +1,16 @@
-// `FL`: the flags of a message change. That is told at once, or kept as a mark, or neither.
+// `FL`: the flags of a message change. That is told at once, or kept as a mark, or neither; elsewhere a STATUS tells of it.
 use crate::Left;
 use model::Mailbox;
 use model::MessageNumber;
 use model::Session;
 use model::Uid;
 ghost use mathlib.Core.Path.{_≡_};
-ghost use mathlib.Core.Bool.{true, false, cond};
+ghost use mathlib.Core.Bool.{true, cond};
 ghost use Prim.Native.Nat.{_+_, _*_, _-_, _≤_, _<_};
 ghost use lib.ListN.{length};
 ghost use Rattle.entries.specs.Words.{messages};
 ghost use Rattle.mail.specs.After.{Leaves};
-ghost use Rattle.mail.specs.Flagged.{flagAfter};
+ghost use Rattle.mail.specs.Flagged.{toldAfter, keptAfter};
 ghost use Rattle.mail.specs.Deciding.{reflagAfter};
 
 // x where it is so, else y.
@@ -32,16 +32,17 @@ fn flag_now(
     filled: usize,
     k: usize,
     flags: u64,
+    counter: u64,
     n: MessageNumber,
 ) -> Left
-    requires { ⌜ ((k + 1) * 5 ≤ length (now words)) × (64 ≤ length (now queue)) × (length (now queue) ≤ 65536) × (filled ≤ length (now queue) - 64) ⌝ }
-    ensures { λ r. ⌜ Leaves (flagAfter (messages (now (words .entry))) used (now (queue .entry)) s filled k flags (n .0) true false) (now (words .entry)) (now (words .exit)) (r .used) (now (queue .exit)) (r .session) (r .filled) ⌝ }
+    requires { ⌜ ((k + 1) * 6 ≤ length (now words)) × (64 ≤ length (now queue)) × (length (now queue) ≤ 65536) × (filled ≤ length (now queue) - 64) ⌝ }
+    ensures { λ r. ⌜ Leaves (toldAfter (messages (now (words .entry))) used (now (queue .entry)) s filled k flags counter (n .0)) (now (words .entry)) (now (words .exit)) (r .used) (now (queue .exit)) (r .session) (r .filled) ⌝ }
 {
     let e = entries::get(words, k);
     let uid = e.uid;
-    let said = fetches::say_fetch(queue, filled, n, uid, flags);
+    let said = fetches::say_fetch(queue, filled, n, uid, flags, counter);
     let states = pick(said.fits, 0, e.states);
-    entries::put(words, k, entries::changed(e, flags, states));
+    entries::put(words, k, entries::changed(e, flags, states, counter));
     let kept = out::hear(s, said);
     let session = kept.session;
     Left {
@@ -51,7 +52,43 @@ fn flag_now(
     }
 }
 
-// `FL` of entry k, which is a message of mailbox x.
+// The change is kept, and its mailbox's STATUS is told or not.
+fn flag_kept(
+    words: &mut [u64],
+    used: usize,
+    queue: &mut [u8],
+    s: Session,
+    filled: usize,
+    x: Mailbox,
+    k: usize,
+    flags: u64,
+    counter: u64,
+    states: u64,
+    on: bool,
+) -> Left
+    requires { ⌜ ((k + 1) * 6 ≤ length (now words)) × (64 ≤ length (now queue)) × (length (now queue) ≤ 65536) × (filled ≤ 65536) × (on ≡ true → filled ≤ length (now queue) - 64) ⌝ }
+    ensures { λ r. ⌜ Leaves (keptAfter (messages (now (words .entry))) used (now (queue .entry)) s filled x k flags counter states on) (now (words .entry)) (now (words .exit)) (r .used) (now (queue .exit)) (r .session) (r .filled) ⌝ }
+{
+    let e = entries::get(words, k);
+    entries::put(words, k, entries::changed(e, flags, states, counter));
+    if !on {
+        return Left {
+            used,
+            session: s,
+            filled: filled as u64,
+        };
+    }
+    let said = crate::say_change(queue, filled, x);
+    let kept = out::hear(s, said);
+    let session = kept.session;
+    Left {
+        used,
+        session,
+        filled: kept.filled,
+    }
+}
+
+// `FL` of entry k, which is a message of mailbox x. The row has the record's counter already.
 pub fn flag(
     words: &mut [u64],
     used: usize,
@@ -61,9 +98,10 @@ pub fn flag(
     x: Mailbox,
     k: usize,
     flags: u64,
+    counter: u64,
 ) -> Left
-    requires { ⌜ (k < used) × (used * 5 ≤ length (now words)) × (64 ≤ length (now queue)) × (length (now queue) ≤ 65536) × (filled ≤ 65536) × ((s .groupcount ≡ 0 → ⊥) → filled ≤ length (now queue) - 64) ⌝ }
-    ensures { λ r. ⌜ Leaves (reflagAfter (messages (now (words .entry))) used (now (queue .entry)) s filled k x flags) (now (words .entry)) (now (words .exit)) (r .used) (now (queue .exit)) (r .session) (r .filled) ⌝ }
+    requires { ⌜ (k < used) × (used * 6 ≤ length (now words)) × (64 ≤ length (now queue)) × (length (now queue) ≤ 65536) × (filled ≤ 65536) × ((s .groupcount ≡ 0 → ⊥) → filled ≤ length (now queue) - 64) ⌝ }
+    ensures { λ r. ⌜ Leaves (reflagAfter (messages (now (words .entry))) used (now (queue .entry)) s filled k x flags counter) (now (words .entry)) (now (words .exit)) (r .used) (now (queue .exit)) (r .session) (r .filled) ⌝ }
 {
     let e = entries::get(words, k);
     let uid = e.uid;
@@ -72,15 +110,23 @@ pub fn flag(
     let seen = crate::both(chosen, uid.0 < below.0);
     if crate::is_soon(s, x, seen, 2) {
         let n = entries::place_of(words, used, s.selected as u64, below, uid);
-        return flag_now(words, used, queue, s, filled, k, flags, n);
+        return flag_now(words, used, queue, s, filled, k, flags, counter, n);
     }
     let rights = mailboxes::both(x.attributes);
     let waits = crate::both(seen, crate::both(rights, s.notified == 0));
     let states = pick(waits, 2, e.states);
-    entries::put(words, k, entries::changed(e, flags, states));
-    Left {
+    let on = crate::is_told(s, x, chosen, 2);
+    flag_kept(
+        words,
         used,
-        session: s,
-        filled: filled as u64,
-    }
+        queue,
+        s,
+        filled,
+        x,
+        k,
+        flags,
+        counter,
+        states,
+        on,
+    )
 }

@@ -1,5 +1,5 @@
 // `ME`, `XP` and `FL`: what a record about a message leaves of the message table, the queue and the session. Each kind has its module;
-// here stand the STATUS of a mailbox that is not selected, and what all of them ask.
+// here stand the STATUS lines of a mailbox that is not selected, and what all of them ask.
 pub mod arrivals;
 pub mod expunges;
 pub mod flags;
@@ -14,11 +14,11 @@ ghost use Prim.Native.Nat.{_*_, _-_, _≤_};
 ghost use lib.ListN.{length, take};
 ghost use Rattle.model.specs.Memory.{bothRights};
 ghost use Rattle.model.specs.Groups.{askedOf, selectedAsks};
-ghost use Rattle.model.specs.Lines.{status, render};
+ghost use Rattle.model.specs.Lines.{status, mailItems, flagItems, render};
 ghost use Rattle.out.specs.Says.{Says};
 ghost use Rattle.told.specs.Asking.{asksBit};
 ghost use Rattle.entries.specs.Words.{messages};
-ghost use Rattle.mail.specs.After.{statusText};
+ghost use Rattle.mail.specs.After.{statusText, changeText};
 ghost use Rattle.mail.specs.Deciding.{isChosen};
 
 // What a record leaves besides the words and the queue's octets.
@@ -57,14 +57,21 @@ pub fn is_chosen(s: Session, x: Mailbox) -> bool
 }
 
 // The STATUS line, if it leaves the last 64 octets free, else the overflow line.
-fn say_status(queue: &mut [u8], at: usize, name: &[u8], next: u64, messages: u64) -> Said
+fn say_status(
+    queue: &mut [u8],
+    at: usize,
+    name: &[u8],
+    next: u64,
+    messages: u64,
+    highest: u64,
+) -> Said
     requires { ⌜ (64 ≤ length (now queue)) × (length (now queue) ≤ 65536) × (at ≤ length (now queue) - 64) × (length (now name) ≤ 64) ⌝ }
-    ensures { λ r. ⌜ Says (now (queue .entry)) at (render (status (now (name .entry)) next messages)) (now (queue .exit)) (r .fits) (r .end) ⌝ }
+    ensures { λ r. ⌜ Says (now (queue .entry)) at (render (status (now (name .entry)) (mailItems next messages highest))) (now (queue .exit)) (r .fits) (r .end) ⌝ }
 {
     let limit = queue.len() - 64;
-    let end = notices::put_status(queue, at, 0, name, next, messages);
+    let end = notices::put_status(queue, at, 0, name, next, messages, highest);
     if end <= limit {
-        let e = notices::put_status(queue, at, limit, name, next, messages);
+        let e = notices::put_status(queue, at, limit, name, next, messages, highest);
         return Said { fits: true, end: e };
     }
     out::overflow(queue, at)
@@ -72,14 +79,41 @@ fn say_status(queue: &mut [u8], at: usize, name: &[u8], next: u64, messages: u64
 
 // The STATUS line of row x with its messages among the first used, or else the overflow line.
 fn say_row(words: &[u64], used: usize, queue: &mut [u8], at: usize, x: Mailbox) -> Said
-    requires { ⌜ (used * 5 ≤ length (now words)) × (64 ≤ length (now queue)) × (length (now queue) ≤ 65536) × (at ≤ length (now queue) - 64) ⌝ }
+    requires { ⌜ (used * 6 ≤ length (now words)) × (64 ≤ length (now queue)) × (length (now queue) ≤ 65536) × (at ≤ length (now queue) - 64) ⌝ }
     ensures { λ r. ⌜ Says (now (queue .entry)) at (statusText x (take used (messages (now (words .entry))))) (now (queue .exit)) (r .fits) (r .end) ⌝ }
 {
     let n = entries::count(words, used, x.id as u64);
     let o = x.name;
     let next = x.uidnext as u64;
+    let highest = rows::counter_of(x);
     let end = mailboxes::name_end(x);
-    say_status(queue, at, &o[..end], next, n)
+    say_status(queue, at, &o[..end], next, n, highest)
+}
+
+// The STATUS line of a change of flags, if it leaves the last 64 octets free, else the overflow line.
+fn say_flag_status(queue: &mut [u8], at: usize, name: &[u8], validity: u64, highest: u64) -> Said
+    requires { ⌜ (64 ≤ length (now queue)) × (length (now queue) ≤ 65536) × (at ≤ length (now queue) - 64) × (length (now name) ≤ 64) ⌝ }
+    ensures { λ r. ⌜ Says (now (queue .entry)) at (render (status (now (name .entry)) (flagItems validity highest))) (now (queue .exit)) (r .fits) (r .end) ⌝ }
+{
+    let limit = queue.len() - 64;
+    let end = notices::put_flag_status(queue, at, 0, name, validity, highest);
+    if end <= limit {
+        let e = notices::put_flag_status(queue, at, limit, name, validity, highest);
+        return Said { fits: true, end: e };
+    }
+    out::overflow(queue, at)
+}
+
+// The same of row x.
+fn say_change(queue: &mut [u8], at: usize, x: Mailbox) -> Said
+    requires { ⌜ (64 ≤ length (now queue)) × (length (now queue) ≤ 65536) × (at ≤ length (now queue) - 64) ⌝ }
+    ensures { λ r. ⌜ Says (now (queue .entry)) at (changeText x) (now (queue .exit)) (r .fits) (r .end) ⌝ }
+{
+    let o = x.name;
+    let validity = x.uidvalidity as u64;
+    let highest = rows::counter_of(x);
+    let end = mailboxes::name_end(x);
+    say_flag_status(queue, at, &o[..end], validity, highest)
 }
 
 // Who is told of event k of a message in mailbox x: nobody where x is selected, or without both rights.

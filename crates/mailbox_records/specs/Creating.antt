@@ -28,41 +28,41 @@ use Rattle.outcomes.specs.declared.Outcome.{Outcome as Came}
 use Rattle.mailbox_records.specs.Putting.{counted, here, nowhere, comes-put}
 
 -- the new row is put behind the last, and what is heard of it
-pub record Added (q : List ℕ) (k : Counts) (s : Session) (i a g v : ℕ) (n : Name) (q′ : List ℕ) (r : Came) : Type 0 where
-  pub leaves : Leaves (createAfter q s (k .filled) (newBox i a v (argument n)) g) (r .row) q′ (r .session) (r .counts .filled)
+pub record Added (q : List ℕ) (k : Counts) (s : Session) (i a g v c : ℕ) (n : Name) (q′ : List ℕ) (r : Came) : Type 0 where
+  pub leaves : Leaves (createAfter q s (k .filled) (newBox i a v c (argument n)) g) (r .row) q′ (r .session) (r .counts .filled)
   pub is : r ≡ putting (k .mailboxes) (r .row) (record { mailboxes = k .mailboxes + 1; messages = k .messages; filled = r .counts .filled }) (r .session)
 
-pub added : (q : List ℕ) (k : Counts) (s : Session) (i a g v : ℕ) (n : Name) {q′ : List ℕ} {row : Mailbox} {s′ : Session} {f : ℕ} (r : Came)
-    → Leaves (createAfter q s (k .filled) (newBox i a v (argument n)) g) row q′ s′ f
-    → r ≡ putting (k .mailboxes) row (record { mailboxes = k .mailboxes + 1; messages = k .messages; filled = f }) s′ → Added q k s i a g v n q′ r
-added q k s i a g v n r x e = rw e (record { leaves = x; is = refl })
+pub added : (q : List ℕ) (k : Counts) (s : Session) (i a g v c : ℕ) (n : Name) {q′ : List ℕ} {row : Mailbox} {s′ : Session} {f : ℕ} (r : Came)
+    → Leaves (createAfter q s (k .filled) (newBox i a v c (argument n)) g) row q′ s′ f
+    → r ≡ putting (k .mailboxes) row (record { mailboxes = k .mailboxes + 1; messages = k .messages; filled = f }) s′ → Added q k s i a g v c n q′ r
+added q k s i a g v c n r x e = rw e (record { leaves = x; is = refl })
 
-answered : (m : Memory) (i a g v : ℕ) (n : Name) → accepted m (create i a g v n) .answer ≡ Done
+answered : (m : Memory) (i a g v c : ℕ) (n : Name) → accepted m (create i a g v c n) .answer ≡ Done
 unfolding accepted
-answered m i a g v n = refl
+answered m i a g v c n = refl
 
-module _ (m : Memory) (ws : List ℕ) (k : Counts) (s : Session) (q : List ℕ) (lent : Lends m ws k s q) (law : Law m) (i at : ℕ) (x : Mailbox) (w : Placed m i at x) (a g v : ℕ) (n : Name) (r : Came) where
+module _ (m : Memory) (ws : List ℕ) (k : Counts) (s : Session) (q : List ℕ) (lent : Lends m ws k s q) (law : Law m) (i at : ℕ) (x : Mailbox) (w : Placed m i at x) (a g v c : ℕ) (n : Name) (r : Came) where
   abbrev comes : List ℕ → Type 0
-  comes q′ = Comes m (ladder m (create i a g v (fold n))) r ws ws q′
+  comes q′ = Comes m (ladder m (create i a g v c (fold n))) r ws ws q′
 
   pub create-known : at < k .mailboxes → r ≡ refusal WrongId k s → comes q
-  create-known h e = comes-refused m ws k s q lent WrongId (ladder m (create i a g v (fold n))) r (rw (here m ws k s q lent law i at x w h)) e
+  create-known h e = comes-refused m ws k s q lent WrongId (ladder m (create i a g v c (fold n))) r (rw (here m ws k s q lent law i at x w h)) e
 
   pub create-held : k .mailboxes ≤ at → heldByAnother m i (fold n) ≡ true → r ≡ refusal NameHeld k s → comes q
-  create-held h d e = comes-refused m ws k s q lent NameHeld (ladder m (create i a g v (fold n))) r (rw (nowhere m ws k s q lent law i at x w h, d)) e
+  create-held h d e = comes-refused m ws k s q lent NameHeld (ladder m (create i a g v c (fold n))) r (rw (nowhere m ws k s q lent law i at x w h, d)) e
 
   module _ (rows : ℕ) (l : length (m .rows) ≡ rows) where
     pub create-full : k .mailboxes ≤ at → heldByAnother m i (fold n) ≡ false → rows ≤ k .mailboxes → r ≡ refusal TableFull k s → comes q
     create-full h d y e =
         let u = counted m ws k s q lent law in
-        comes-refused m ws k s q lent TableFull (ladder m (create i a g v (fold n))) r
+        comes-refused m ws k s q lent TableFull (ladder m (create i a g v c (fold n))) r
         (rw (nowhere m ws k s q lent law i at x w h, d, le-leb (length (m .rows)) (length (boxes m)) (omega arith))) e
 
-    pub create-comes : {q′ : List ℕ} → k .mailboxes ≤ at → heldByAnother m i (fold n) ≡ false → k .mailboxes < rows → valid n ≡ true → Added q k s i a g v n q′ r → comes q′
+    pub create-comes : {q′ : List ℕ} → k .mailboxes ≤ at → heldByAnother m i (fold n) ≡ false → k .mailboxes < rows → valid n ≡ true → Added q k s i a g v c n q′ r → comes q′
     create-comes h d y ok z =
         let u = counted m ws k s q lent law in
         let f : leb (length (m .rows)) (length (boxes m)) ≡ false = lt-leb (length (m .rows)) (length (boxes m)) (omega arith) in
-        let c : m .counts .mailboxes ≡ k .mailboxes = ap (λ (j : Counts). j .mailboxes) (lent .counts) in
-        comes-put m ws k s q lent (accepted m (create i a g v (fold n))) (ladder m (create i a g v (fold n))) (k .mailboxes) (k .mailboxes + 1)
-        (λ (p : List ℕ) (t : Session) (f : ℕ). createAfter p t f (newBox i a v (argument n)) g) r
-        (rw (nowhere m ws k s q lent law i at x w h, d, f)) (answered m i a g v (fold n)) (rw (← c) (create-accepted m law i a g v n ok f)) (z .leaves) (z .is)
+        let many : m .counts .mailboxes ≡ k .mailboxes = ap (λ (j : Counts). j .mailboxes) (lent .counts) in
+        comes-put m ws k s q lent (accepted m (create i a g v c (fold n))) (ladder m (create i a g v c (fold n))) (k .mailboxes) (k .mailboxes + 1)
+        (λ (p : List ℕ) (t : Session) (f : ℕ). createAfter p t f (newBox i a v c (argument n)) g) r
+        (rw (nowhere m ws k s q lent law i at x w h, d, f)) (answered m i a g v c (fold n)) (rw (← many) (create-accepted m law i a g v c n ok f)) (z .leaves) (z .is)

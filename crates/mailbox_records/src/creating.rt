@@ -27,10 +27,11 @@ fn add(
     a: u64,
     quiet: u64,
     validity: u64,
+    counter: u64,
     name: &[u8],
 ) -> Outcome
     requires { ⌜ Room (length (now queue)) (counts .filled) s × (counts .mailboxes ≤ 64) × (id ≤ 65535) × (a ≤ 63) × (quiet ≤ 1) × (validity ≤ 4294967295) ⌝ }
-    ensures { λ r. ⌜ Added (now (queue .entry)) counts s id a quiet validity (now (name .entry)) (now (queue .exit)) r ⌝ }
+    ensures { λ r. ⌜ Added (now (queue .entry)) counts s id a quiet validity counter (now (name .entry)) (now (queue .exit)) r ⌝ }
 {
     let filled = counts.filled as usize;
     let done = mailboxes::creating::create(
@@ -41,6 +42,7 @@ fn add(
         a as u8,
         quiet as u8,
         validity as u32,
+        counter,
         name,
     );
     let n = counts.mailboxes;
@@ -61,10 +63,11 @@ pub fn create(
     a: u64,
     quiet: u64,
     validity: u64,
+    counter: u64,
     name: &[u8],
 ) -> Outcome
     requires { ⌜ Room (length (now queue)) (counts .filled) s × (counts .mailboxes ≤ 64) × (id ≤ 65535) × (a ≤ 63) × (quiet ≤ 1) × (validity ≤ 4294967295) ⌝ }
-    ensures { λ r. ⌜ ((m : Memory) (ws : List ℕ) (x : Mailbox) → Lends m ws counts s (now (queue .entry)) → length (m .rows) ≡ lent → Law m → Placed m id k x → Column (λ (y : Mailbox). y .id) (boxes m) (now (ids .entry)) → Column (λ (y : Mailbox). y .namelen) (boxes m) (now (lens .entry)) → Names (boxes m) (now (names .entry)) → valid (now (name .entry)) ≡ true → Comes m (ladder m (create id a quiet validity (fold (now (name .entry))))) r ws ws (now (queue .exit))) ⌝ }
+    ensures { λ r. ⌜ ((m : Memory) (ws : List ℕ) (x : Mailbox) → Lends m ws counts s (now (queue .entry)) → length (m .rows) ≡ lent → Law m → Placed m id k x → Column (λ (y : Mailbox). y .id) (boxes m) (now (ids .entry)) → Column (λ (y : Mailbox). y .namelen) (boxes m) (now (lens .entry)) → Names (boxes m) (now (names .entry)) → valid (now (name .entry)) ≡ true → Comes m (ladder m (create id a quiet validity counter (fold (now (name .entry))))) r ws ws (now (queue .exit))) ⌝ }
 {
     if (k as u64) < counts.mailboxes {
         return outcomes::refused(Refusal::WrongId, counts, s);
@@ -75,5 +78,5 @@ pub fn create(
     if lent as u64 <= counts.mailboxes {
         return outcomes::refused(Refusal::TableFull, counts, s);
     }
-    add(queue, counts, s, id, a, quiet, validity, name)
+    add(queue, counts, s, id, a, quiet, validity, counter, name)
 }

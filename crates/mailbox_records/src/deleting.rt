@@ -40,7 +40,7 @@ fn take_out(
     id: u64,
     quiet: u64,
 ) -> Outcome
-    requires { ⌜ Room (length (now queue)) (counts .filled) s × (1 ≤ counts .mailboxes) × (counts .messages * 5 ≤ length (now words)) × (quiet ≤ 1) ⌝ }
+    requires { ⌜ Room (length (now queue)) (counts .filled) s × (1 ≤ counts .mailboxes) × (counts .messages * 6 ≤ length (now words)) × (quiet ≤ 1) ⌝ }
     ensures { λ r. ⌜ TakenOut (now (words .entry)) (now (queue .entry)) counts s k x id quiet (now (words .exit)) (now (queue .exit)) r ⌝ }
 {
     let filled = counts.filled as usize;

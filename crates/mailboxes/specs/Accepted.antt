@@ -139,15 +139,15 @@ module _ (m : Memory) (law : Law m) (i : ℕ) where
         (rw the-row (loud-when q _ (list nonExistent (nameOf x))))
         (create-free _ _ _ (law-room m law) x q)
 
-  pub create-accepted : (a q v : ℕ) (n : Name) → valid n ≡ true → tableFull m (create i a q v (fold n)) ≡ false
-      → accepted m (create i a q v (fold n)) .after ≡ left m (m .counts .mailboxes) (m .counts .mailboxes + 1) (createAfter (m .queue) (m .session) (filled m) (newBox i a v (argument n)) q)
+  pub create-accepted : (a q v c : ℕ) (n : Name) → valid n ≡ true → tableFull m (create i a q v c (fold n)) ≡ false
+      → accepted m (create i a q v c (fold n)) .after ≡ left m (m .counts .mailboxes) (m .counts .mailboxes + 1) (createAfter (m .queue) (m .session) (filled m) (newBox i a v c (argument n)) q)
   unfolding accepted
-  create-accepted a q v n ok free =
+  create-accepted a q v c n ok free =
       let l = boxes-long m fit in
       let z = leb-false (length (m .rows)) (length (boxes m)) free in
-      let x : Mailbox = newBox i a v (fold n) in
+      let x : Mailbox = newBox i a v c (fold n) in
       rw (valid-argument n ok)
-      (told-made m (λ (j : Memory). created j i a q v (fold n)) (λ (h : Heard). left m (m .counts .mailboxes) (m .counts .mailboxes + 1) (record { row = x; heard = h }))
+      (told-made m (λ (j : Memory). created j i a q v c (fold n)) (λ (h : Heard). left m (m .counts .mailboxes) (m .counts .mailboxes + 1) (record { row = x; heard = h }))
       (list (listMark x) (nameOf x))
       (add-at m fit x (omega arith))
       (add-at (silence m) fit x (omega arith))

@@ -21,8 +21,8 @@ pub fn create_told(s: Session, x: Mailbox, quiet: u8) -> bool
 }
 
 // The row of a new mailbox; INBOX in any case is INBOX.
-fn new_box(id: u16, a: u8, validity: u32, name: &[u8]) -> Mailbox
-    ensures { λ r. ⌜ r ≡ newBox id a validity (argument (now (name .entry))) ⌝ }
+fn new_box(id: u16, a: u8, validity: u32, counter: u64, name: &[u8]) -> Mailbox
+    ensures { λ r. ⌜ r ≡ newBox id a validity counter (argument (now (name .entry))) ⌝ }
 {
     let kept = names::stored(name);
     let octets = kept.octets;
@@ -32,6 +32,8 @@ fn new_box(id: u16, a: u8, validity: u32, name: &[u8]) -> Mailbox
         namelen: kept.len,
         uidvalidity: validity,
         uidnext: 1,
+        counterlow: rows::low_half(counter),
+        counterhigh: rows::high_half(counter),
         name: octets,
     }
 }
@@ -61,11 +63,12 @@ pub fn create(
     a: u8,
     quiet: u8,
     validity: u32,
+    counter: u64,
     name: &[u8],
 ) -> Changed
     requires { ⌜ Room (length (now queue)) filled s ⌝ }
-    ensures { λ r. ⌜ Leaves (createAfter (now (queue .entry)) s filled (newBox id a validity (argument (now (name .entry)))) quiet) (r .row) (now (queue .exit)) (r .session) (r .filled) ⌝ }
+    ensures { λ r. ⌜ Leaves (createAfter (now (queue .entry)) s filled (newBox id a validity counter (argument (now (name .entry)))) quiet) (r .row) (now (queue .exit)) (r .session) (r .filled) ⌝ }
 {
-    let x = new_box(id, a, validity, name);
+    let x = new_box(id, a, validity, counter, name);
     tell_new(queue, s, filled, x, quiet)
 }

@@ -124,6 +124,8 @@ fn with_attributes(x: Mailbox, a: u8) -> Mailbox
         namelen: x.namelen,
         uidvalidity: x.uidvalidity,
         uidnext: x.uidnext,
+        counterlow: x.counterlow,
+        counterhigh: x.counterhigh,
         name,
     }
 }

@@ -75,6 +75,8 @@ fn with_name(x: Mailbox, name: &[u8]) -> Mailbox
         namelen: kept.len,
         uidvalidity: x.uidvalidity,
         uidnext: x.uidnext,
+        counterlow: x.counterlow,
+        counterhigh: x.counterhigh,
         name: octets,
     }
 }

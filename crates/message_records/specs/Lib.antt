@@ -1,3 +1,4 @@
 pub mod Met
+pub mod Raised
 pub mod Kinds
 pub mod Arrivals

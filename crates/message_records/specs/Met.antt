@@ -10,8 +10,8 @@ use lib.Seq.{getD-take}
 use borrow.Author.Tests.{lt-ltb, le-ltb, leb-true, eqb-true}
 use Rattle.model.specs.Laws.{and-l, and-r}
 use Rattle.model.specs.Lists.{anyb}
-use Rattle.model.specs.Memory.{Memory, boxes, mails, noMessage, known, isMessage, expunged}
-use Rattle.model.specs.Refusals.{absent}
+use Rattle.model.specs.Memory.{Memory, boxes, mails, noMessage, known, counterOf, isMessage, expunged}
+use Rattle.model.specs.Refusals.{absent, stale}
 use Rattle.model.specs.Rules.{Outcome}
 use Rattle.demands.specs.Lasting.Law.{Law}
 use Rattle.model.specs.declared.Mailbox.{Mailbox}
@@ -25,7 +25,7 @@ use Rattle.entries.specs.Found.{stands, first, first-any, first-passes}
 use Rattle.mailboxes.specs.Free.{Room}
 use Rattle.mail.specs.After.{After, Leaves}
 use Rattle.mail.specs.Accepted.{left}
-use Rattle.outcomes.specs.Coming.{Lends, Placed, Comes, quiet, putting}
+use Rattle.outcomes.specs.Coming.{Lends, Placed, Comes, putting}
 use Rattle.outcomes.specs.Laws.{placed-known}
 use Rattle.outcomes.specs.declared.Outcome.{Outcome as Came}
 
@@ -42,29 +42,14 @@ some-free q f s room some = go (eqb (s .groupcount) 0) refl (and-r (leb f q) (eq
     go false e z = leb-true f (q - 64) z
 
 module _ (m : Memory) (ws : List ℕ) (k : Counts) (s : Session) (q : List ℕ) (lent : Lends m ws k s q) where
-  -- ---- done: what was left is what the rule says
+  -- ---- done: what was left is what the rule says, and the row at a place is another
   module _ (o : Outcome) (a : After) (ws′ : List ℕ) (n : ℕ) (q′ : List ℕ) (s′ : Session) (f : ℕ) (d : o .answer ≡ Done) (l : Leaves a ws ws′ n q′ s′ f) where
-    counts-left : (rs : List Mailbox) → o .after ≡ left m rs a → countsOf k n f ≡ o .after .counts
-    counts-left rs e = ap₂ (countsOf k) (l .used) (l .heard .filled) ∙ (ap (λ (c : Counts). countsOf c (a .used) (a .heard .filled)) (sym (lent .counts)) ∙ sym (ap (λ (j : Memory). j .counts) e))
-
-    -- and no row changes
-    pub comes-quiet : (r : Came) → o .after ≡ left m (m .rows) a → r ≡ quiet Done (countsOf k n f) s′ → Comes m o r ws ws′ q′
-    comes-quiet r e z = rw z (record {
-      answer = sym d;
-      rows = sym (ap (λ (j : Memory). j .rows) e);
-      words = l .words ∙ ap (laid ws) (sym (ap (λ (j : Memory). j .entries) e));
-      counts = counts-left (m .rows) e;
-      session = l .heard .session ∙ sym (ap (λ (j : Memory). j .session) e);
-      queue = l .heard .queue ∙ sym (ap (λ (j : Memory). j .queue) e);
-    })
-
-    -- and the row at a place is another
     pub comes-put : (r : Came) (p : ℕ) (y : Mailbox) → o .after ≡ left m (set (m .rows) p y) a → r ≡ putting p y (countsOf k n f) s′ → Comes m o r ws ws′ q′
     comes-put r p y e z = rw z (record {
       answer = sym d;
       rows = sym (ap (λ (j : Memory). j .rows) e);
       words = l .words ∙ ap (laid ws) (sym (ap (λ (j : Memory). j .entries) e));
-      counts = counts-left (set (m .rows) p y) e;
+      counts = ap₂ (countsOf k) (l .used) (l .heard .filled) ∙ (ap (λ (c : Counts). countsOf c (a .used) (a .heard .filled)) (sym (lent .counts)) ∙ sym (ap (λ (j : Memory). j .counts) e));
       session = l .heard .session ∙ sym (ap (λ (j : Memory). j .session) e);
       queue = l .heard .queue ∙ sym (ap (λ (j : Memory). j .queue) e);
     })
@@ -79,6 +64,10 @@ module _ (m : Memory) (ws : List ℕ) (k : Counts) (s : Session) (q : List ℕ) 
 
     pub is-unknown : k .mailboxes ≤ p → known i (boxes m) ≡ false
     is-unknown h = sym (placed-known m law i p x w (known i (boxes m)) refl) ∙ le-ltb p (m .counts .mailboxes) (rw many h)
+
+    -- its counter beside the record's
+    pub is-stale : (c : ℕ) (b : Bool) → leb c (counterOf x) ≡ b → stale m i c ≡ b
+    is-stale c b e = ap (λ (y : Mailbox). leb c (counterOf y)) (sym (w .is)) ∙ e
 
     -- ---- its entry
     module _ (u at : ℕ) (found : at ≡ first (stands i u) (take (k .messages) (messages ws))) where

@@ -57,7 +57,7 @@ pub record Ready (ws : List ℕ) (k : Counts) (s : Session) (q : List ℕ) : Typ
   pub room : Room (length q) (k .filled) s
   pub rows : k .mailboxes ≤ 64
   pub messages : k .messages ≤ 1024
-  pub words : k .messages * 5 ≤ length ws
+  pub words : k .messages * 6 ≤ length ws
 
 -- mailbox i has place k among the used rows and is row x; where none has it, k is their number and x is no mailbox
 pub record Placed (m : Memory) (i k : ℕ) (x : Mailbox) : Type 0 where

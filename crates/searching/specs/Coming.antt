@@ -146,9 +146,9 @@ module _ (m : Memory) (t : List ℕ) (p : ℕ) (q : Search) (c : commandOf t ≡
 
 -- ---- the memory that is lent is the one that is searched
 pub lent-searches : (m : Memory) (ws : List ℕ) (k : Counts) (s : Session) (q : List ℕ) → Lends m ws k s q → Law m
-    → (ids attributes lens validities nexts names : List ℕ) → Laid (boxes m) ids attributes lens validities nexts names
-    → Searches m ws (k .messages) (s .selected) (s .told) ids attributes lens validities nexts names (k .mailboxes)
-lent-searches m ws k s q lent law ids attributes lens validities nexts names columns =
+    → (ids attributes lens validities nexts counters names : List ℕ) → Laid (boxes m) ids attributes lens validities nexts counters names
+    → Searches m ws (k .messages) (s .selected) (s .told) ids attributes lens validities nexts counters names (k .mailboxes)
+lent-searches m ws k s q lent law ids attributes lens validities nexts counters names columns =
     let fit : m .counts .messages ≤ length (m .entries) = leb-true _ _ (law .taken) in
     let all : length (m .entries) ≤ 1024 = leb-true _ _ (law .entries) in
     let taken : length (mails m) ≡ m .counts .messages = length-take-le (m .counts .messages) (m .entries) fit in
@@ -164,7 +164,7 @@ lent-searches m ws k s q lent law ids attributes lens validities nexts names col
 
 -- ---- a search that was found and said, for the memory that was searched
 pub record Tells (text words : List ℕ) (used s told : ℕ) (ids attributes lens validities names : List ℕ) (n : ℕ) (q : List ℕ) (at : ℕ) (q₁ : List ℕ) (fits : Bool) (end : ℕ) : Type 0 where
-  pub exact : (m : Memory) (nexts : List ℕ) → Searches m words used s told ids attributes lens validities nexts names n
+  pub exact : (m : Memory) (nexts counters : List ℕ) → Searches m words used s told ids attributes lens validities nexts counters names n
       → (p : ℕ) (a : Search) → commandOf text ≡ ok p (search a) → tooLarge limits (search a) ≡ false
       → Whole q at (answerBy text (wholeText m text) (length q - 64)) q₁ fits end
 
@@ -173,18 +173,18 @@ pub tells : (text words : List ℕ) (used s told : ℕ) (ids attributes lens val
     → (q : List ℕ) (at : ℕ) (q₁ : List ℕ) (fits : Bool) (end : ℕ) → Whole q at (answerBy text (wholeBy text lens names validities rows uids starts counts h) (length q - 64)) q₁ fits end
     → Tells text words used s told ids attributes lens validities names n q at q₁ fits end
 tells text words used s told ids attributes lens validities names n rows uids starts counts h g q at q₁ fits end w = record {
-  exact = λ m nexts is p a c small.
+  exact = λ m nexts counters is p a c small.
       subst (λ (x : List ℕ). Whole q at (answerBy text x (length q - 64)) q₁ fits end)
-      (whole-is text words used s told ids attributes lens names n rows uids starts counts h g m validities nexts is p a c small) w;
+      (whole-is text words used s told ids attributes lens names n rows uids starts counts h g m validities nexts counters is p a c small) w;
 }
 
 -- what the code answers, from what it was lent
 pub answer-comes : (text : List ℕ) (ids attributes lens validities names ws : List ℕ) (k : Counts) (s : Session) (q q₁ : List ℕ) (fits : Bool) (end : ℕ) (r : Came)
     → Tells text ws (k .messages) (s .selected) (s .told) ids attributes lens validities names (k .mailboxes) q (k .filled) q₁ fits end → r ≡ cameBy fits end k s
-    → (m : Memory) (nexts : List ℕ) (p : ℕ) (a : Search) → Lends m ws k s q → Law m → Laid (boxes m) ids attributes lens validities nexts names
+    → (m : Memory) (nexts counters : List ℕ) (p : ℕ) (a : Search) → Lends m ws k s q → Law m → Laid (boxes m) ids attributes lens validities nexts counters names
     → commandOf text ≡ ok p (search a) → firstReply m text ≡ Accepted → Comes m (ladder m (command text)) r ws ws q₁
-answer-comes text ids attributes lens validities names ws k s q q₁ fits end r told e m nexts p a lent law columns c first =
-    let w = told .exact m nexts (lent-searches m ws k s q lent law ids attributes lens validities nexts names columns) p a c (accepted-small m text p a c first) in
+answer-comes text ids attributes lens validities names ws k s q q₁ fits end r told e m nexts counters p a lent law columns c first =
+    let w = told .exact m nexts counters (lent-searches m ws k s q lent law ids attributes lens validities nexts counters names columns) p a c (accepted-small m text p a c first) in
     let x : Whole (m .queue) (filled m) (answerBy text (wholeText m text) (length (m .queue) - 64)) q₁ fits end =
     subst (λ (j : List ℕ). Whole j (filled m) (answerBy text (wholeText m text) (length j - 64)) q₁ fits end) (sym (lent .queue))
     (subst (λ (j : Counts). Whole q (j .filled) (answerBy text (wholeText m text) (length q - 64)) q₁ fits end) (sym (lent .counts)) w) in

@@ -79,14 +79,14 @@ Sought m fs x = mayRead x && anyb (admits m x) fs
 
 pub record Chooses (t : Listed) (s : ℕ) (ids attributes lens names : List ℕ) (n : ℕ) (rows : List ℕ) (r : ℕ) : Type 0 where
   pub few : r ≤ n
-  pub exact : (m : Memory) (validities nexts : List ℕ) (fs : List Filter) → length (boxes m) ≡ n → Laid (boxes m) ids attributes lens validities nexts names → m .session .selected ≡ s → Few fs → t ≡ addAll nothingListed fs
+  pub exact : (m : Memory) (validities nexts counters : List ℕ) (fs : List Filter) → length (boxes m) ≡ n → Laid (boxes m) ids attributes lens validities nexts counters names → m .session .selected ≡ s → Few fs → t ≡ addAll nothingListed fs
       → Ordered (Sought m fs) (boxes m) rows r
 
 module _ (t : Listed) (s : ℕ) (ids attributes lens names : List ℕ) (n : ℕ) (picked : List ℕ) (noted : Noted t s ids attributes lens names n picked) (rows : List ℕ) (r : ℕ) (few : r ≤ n) where
   pub chooses : ((p : Mailbox → Bool) (l : List Mailbox) → length l ≡ n → Column (λ (x : Mailbox). x .namelen) l lens → Names l names → Picks p l n picked → Ordered p l rows r) → Chooses t s ids attributes lens names n rows r
   chooses o = record {
     few = few;
-    exact = λ m validities nexts fs long laid same small is.
+    exact = λ m validities nexts counters fs long laid same small is.
         let notes : Noted t (m .session .selected) ids attributes lens names (length (boxes m)) picked = rw (same, long) noted in
         let picks = picks-searched fs small t is m (boxes m) ids attributes lens names picked (laid .id) (laid .attribute) (laid .len) (laid .name) notes in
         o (Sought m fs) (boxes m) long (laid .len) (laid .name) (λ k h. picks k (omega arith));
@@ -94,12 +94,12 @@ module _ (t : Listed) (s : ℕ) (ids attributes lens names : List ℕ) (n : ℕ)
 
 -- ---- what it finds
 -- memory m is the one that is searched: its messages, its session and its mailboxes, and what lawful memory says of them
-pub record Searches (m : Memory) (words : List ℕ) (used s told : ℕ) (ids attributes lens validities nexts names : List ℕ) (n : ℕ) : Type 0 where
+pub record Searches (m : Memory) (words : List ℕ) (used s told : ℕ) (ids attributes lens validities nexts counters names : List ℕ) (n : ℕ) : Type 0 where
   pub messages : mails m ≡ take used (messages words)
   pub selected : m .session .selected ≡ s
   pub view : m .session .told ≡ told
   pub long : length (boxes m) ≡ n
-  pub columns : Laid (boxes m) ids attributes lens validities nexts names
+  pub columns : Laid (boxes m) ids attributes lens validities nexts counters names
   pub few : length (mails m) ≤ 1024
   pub distinct : apart clash (boxes m) ≡ true
 
@@ -107,7 +107,7 @@ pub record Searches (m : Memory) (words : List ℕ) (used s told : ℕ) (ids att
 pub record Gathers (text words : List ℕ) (used s told : ℕ) (ids attributes lens names : List ℕ) (n : ℕ) (rows uids starts counts : List ℕ) (r : Hits) : Type 0 where
   pub few : r .rows ≤ n
   pub bounded : Bounded starts counts 0 (r .rows)
-  pub exact : (m : Memory) (validities nexts : List ℕ) → Searches m words used s told ids attributes lens validities nexts names n
+  pub exact : (m : Memory) (validities nexts counters : List ℕ) → Searches m words used s told ids attributes lens validities nexts counters names n
       → (p : ℕ) (q : Search) → commandOf text ≡ ok p (search q) → tooLarge limits (search q) ≡ false
       → (tag : List ℕ) → texts tag lens names validities rows (r .wanted) uids starts counts (r .rows) ≡ renderAll (foundLines m tag q)
 
@@ -118,9 +118,9 @@ module _ (text words : List ℕ) (used s told : ℕ) (ids attributes lens names 
   gathers = record {
     few = chose .few;
     bounded = found .bounded;
-    exact = λ m validities nexts is p q c small tag.
+    exact = λ m validities nexts counters is p q c small tag.
         let meant = asks .exact p q c in
-        let o = chose .exact m validities nexts (orSelected (q .sources)) (is .long) (is .columns) (is .selected) (few-read q small) (meant .sources) in
+        let o = chose .exact m validities nexts counters (orSelected (q .sources)) (is .long) (is .columns) (is .selected) (few-read q small) (meant .sources) in
         let l = is .long in
         let f : Found (mails m) ids rows k (m .session .selected) (m .session .told) cells (a .filled) uids starts counts = rw (is .messages, is .selected, is .view) found in
         ap (λ (v : Wanted). texts tag lens names validities rows v uids starts counts k) (meant .returns)

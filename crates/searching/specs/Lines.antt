@@ -59,10 +59,10 @@ measured-both {q} {q₁} {q₂} {t} {at} {a} {b} l x y =
 -- ---- they are those of the rule
 module _ (text words : List ℕ) (used s told : ℕ) (ids attributes lens names : List ℕ) (n : ℕ) (rows uids starts counts : List ℕ) (h : Hits)
     (g : Gathers text words used s told ids attributes lens names n rows uids starts counts h)
-    (m : Memory) (validities nexts : List ℕ) (is : Searches m words used s told ids attributes lens validities nexts names n)
+    (m : Memory) (validities nexts counters : List ℕ) (is : Searches m words used s told ids attributes lens validities nexts counters names n)
     (p : ℕ) (q : Search) (c : commandOf text ≡ ok p (search q)) (small : tooLarge limits (search q) ≡ false) where
   pub lines-found : linesBy text lens names validities rows uids starts counts h ≡ renderAll (foundLines m (tagOf text) q)
-  lines-found = g .exact m validities nexts is p q c small (tagBy text) ∙ ap (λ (t : List ℕ). renderAll (foundLines m t q)) (tag-is text p (search q) c)
+  lines-found = g .exact m validities nexts counters is p q c small (tagBy text) ∙ ap (λ (t : List ℕ). renderAll (foundLines m t q)) (tag-is text p (search q) c)
 
   pub whole-is : wholeBy text lens names validities rows uids starts counts h ≡ wholeText m text
   unfolding renderAll

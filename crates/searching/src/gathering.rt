@@ -47,7 +47,7 @@ pub fn find(
     starts: &mut [usize],
     counts: &mut [usize],
 ) -> Hits
-    requires { ⌜ ((length (now text) ≤ 1024) × (used * 5 ≤ length (now words)) × (used ≤ 1024) × (n ≤ 64)) × ((4096 ≤ length (now cells)) × (64 ≤ length (now picked)) × (64 ≤ length (now rows)) × (1024 ≤ length (now order))) × ((1024 ≤ length (now view)) × (2048 ≤ length (now uids)) × (64 ≤ length (now starts)) × (64 ≤ length (now counts))) ⌝ }
+    requires { ⌜ ((length (now text) ≤ 1024) × (used * 6 ≤ length (now words)) × (used ≤ 1024) × (n ≤ 64)) × ((4096 ≤ length (now cells)) × (64 ≤ length (now picked)) × (64 ≤ length (now rows)) × (1024 ≤ length (now order))) × ((1024 ≤ length (now view)) × (2048 ≤ length (now uids)) × (64 ≤ length (now starts)) × (64 ≤ length (now counts))) ⌝ }
     ensures { λ r. ⌜ Gathers (now (text .entry)) (now (words .entry)) used selected (told .0) (now (ids .entry)) (now (attributes .entry)) (now (lens .entry)) (now (names .entry)) n (now (rows .exit)) (now (uids .exit)) (now (starts .exit)) (now (counts .exit)) r ⌝ }
 {
     let asked = read(text, cells);

@@ -76,7 +76,7 @@ fn tell(
     names: &[u8; 4096],
     n: usize,
 ) -> Said
-    requires { ⌜ ((64 ≤ length (now queue)) × (length (now queue) ≤ 65536) × (filled ≤ 65536)) × ((length (now text) ≤ 1024) × (used * 5 ≤ length (now words)) × (used ≤ 1024) × (n ≤ 64)) ⌝ }
+    requires { ⌜ ((64 ≤ length (now queue)) × (length (now queue) ≤ 65536) × (filled ≤ 65536)) × ((length (now text) ≤ 1024) × (used * 6 ≤ length (now words)) × (used ≤ 1024) × (n ≤ 64)) ⌝ }
     ensures { λ r. ⌜ Tells (now (text .entry)) (now (words .entry)) used selected (told .0) (now (ids .entry)) (now (attributes .entry)) (now (lens .entry)) (now (validities .entry)) (now (names .entry)) n (now (queue .entry)) filled (now (queue .exit)) (r .fits) (r .end) ⌝ }
 {
     let mut cells = [0u64; 4096];
@@ -136,7 +136,7 @@ pub fn answer(
     text: &[u8],
 ) -> Outcome
     requires { ⌜ Ready (now words) counts s (now queue) × (length (now text) ≤ 1024) ⌝ }
-    ensures { λ r. ⌜ ((m : Memory) (nexts : List ℕ) (p : ℕ) (a : Search) → Lends m (now (words .entry)) counts s (now (queue .entry)) → Law m → Laid (boxes m) (now (ids .entry)) (now (attributes .entry)) (now (lens .entry)) (now (validities .entry)) nexts (now (names .entry)) → commandOf (now (text .entry)) ≡ ok p (search a) → firstReply m (now (text .entry)) ≡ Accepted → Comes m (ladder m (command (now (text .entry)))) r (now (words .entry)) (now (words .entry)) (now (queue .exit))) ⌝ }
+    ensures { λ r. ⌜ ((m : Memory) (nexts counters : List ℕ) (p : ℕ) (a : Search) → Lends m (now (words .entry)) counts s (now (queue .entry)) → Law m → Laid (boxes m) (now (ids .entry)) (now (attributes .entry)) (now (lens .entry)) (now (validities .entry)) nexts counters (now (names .entry)) → commandOf (now (text .entry)) ≡ ok p (search a) → firstReply m (now (text .entry)) ≡ Accepted → Comes m (ladder m (command (now (text .entry)))) r (now (words .entry)) (now (words .entry)) (now (queue .exit))) ⌝ }
 {
     let filled = counts.filled as usize;
     let used = counts.messages as usize;

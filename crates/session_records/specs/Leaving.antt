@@ -93,7 +93,7 @@ module _ (m : Memory) (ws : List ℕ) (k : Counts) (s : Session) (q : List ℕ) 
         (y .words) (y .used) (y .queue) (y .session) (y .filled) e
 
     -- no line is owed: nothing changes
-    pub end-unowed : k .messages * 5 ≤ length ws → ((i : ℕ) → i < k .messages → owes (s .selected) (s .told) (getD (messages ws) i noMessage) ≡ false) → r ≡ quiet (Counted 0) k s → Comes m (ladder m (ended c)) r ws ws q
+    pub end-unowed : k .messages * 6 ≤ length ws → ((i : ℕ) → i < k .messages → owes (s .selected) (s .told) (getD (messages ws) i noMessage) ≡ false) → r ≡ quiet (Counted 0) k s → Comes m (ladder m (ended c)) r ws ws q
     end-unowed h none e =
         end-comes (bothRights x) refl (record { session = s; used = k .messages; filled = k .filled; rest = 0 })
         (leaves-all ws (k .messages) q s (k .filled) (eqb c 1) (x .uidnext) h none (bothRights x)) e

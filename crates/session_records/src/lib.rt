@@ -58,7 +58,7 @@ pub fn select(
     x: Mailbox,
     id: u64,
 ) -> Outcome
-    requires { ⌜ (counts .messages * 5 ≤ length (now words)) × (id ≤ 65535) ⌝ }
+    requires { ⌜ (counts .messages * 6 ≤ length (now words)) × (id ≤ 65535) ⌝ }
     ensures { λ r. ⌜ ((m : Memory) (q : List ℕ) → Lends m (now (words .entry)) counts s q → Law m → Placed m id k x → Comes m (ladder m (select id)) r (now (words .entry)) (now (words .exit)) q) ⌝ }
 {
     if is_unknown(counts.mailboxes, k, id) {

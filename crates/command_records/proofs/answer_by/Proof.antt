@@ -52,7 +52,7 @@ same-length-4 c = search needs
 returns-2 : tie.Need-returns-2
 returns-2 c =
     let a = c .before .before .before .before .before .before .before .before .before .before .args in
-    λ m lent law laid sel head. c .before .before .search .ensures m (a .nexts .now) lent law laid (rw (c .before .before .before .before .before .enum-told2 .given .1) at head)
+    λ m lent law laid sel head. c .before .before .search .ensures m (a .nexts .now) (a .counters .now) lent law laid (rw (c .before .before .before .before .before .enum-told2 .given .1) at head)
 
 same-length-5 : tie.Need-same-length-5
 same-length-5 c = search needs

@@ -39,7 +39,7 @@ returns c =
     let e : wholeBy esearch (a .text .now) (a .at) ≡ commandOf (a .text .now) → c .before .before .before .before .before .before .before .judge-search .result ≡ judgedOf limits (not (eqb (a .s .selected) 0)) (commandOf (a .text .now)) = λ h.
     c .before .before .before .before .before .before .before .judge-search .ensures .exact ∙ (ap (λ (l : Limits). judgedOf l (not (eqb (a .s .selected) 0)) (wholeBy esearch (a .text .now) (a .at))) (c .before .before .before .before .before .before .before .before .before .limits .ensures) ∙ ap (judgedOf limits (not (eqb (a .s .selected) 0))) h) in
     let no = sym (c .before .before .before .before .before .is-accepted .ensures) ∙ not-true _ (c .before .before .before .before .if1 .taken) in
-    λ m nexts lent law laid head. c .before .before .refuse .ensures m (a .words .now) lent (verb-judged m (a .words .now) (a .counts) (a .s) (a .queue .now) (a .text .now) lent (c .before .before .before .before .before .before .before .judge-search .result) (e head)) (reply-judged m (a .words .now) (a .counts) (a .s) (a .queue .now) (a .text .now) lent (c .before .before .before .before .before .before .before .judge-search .result) (e head) no) no
+    λ m nexts counters lent law laid head. c .before .before .refuse .ensures m (a .words .now) lent (verb-judged m (a .words .now) (a .counts) (a .s) (a .queue .now) (a .text .now) lent (c .before .before .before .before .before .before .before .judge-search .result) (e head)) (reply-judged m (a .words .now) (a .counts) (a .s) (a .queue .now) (a .text .now) lent (c .before .before .before .before .before .before .before .judge-search .result) (e head) no) no
 
 answer-requires : tie.Need-answer-requires
 answer-requires c κs = search needs
@@ -53,8 +53,8 @@ returns-2 c =
     let e : wholeBy esearch (a .text .now) (a .at) ≡ commandOf (a .text .now) → c .before .before .before .before .before .before .before .judge-search .result ≡ judgedOf limits (not (eqb (a .s .selected) 0)) (commandOf (a .text .now)) = λ h.
     c .before .before .before .before .before .before .before .judge-search .ensures .exact ∙ (ap (λ (l : Limits). judgedOf l (not (eqb (a .s .selected) 0)) (wholeBy esearch (a .text .now) (a .at))) (c .before .before .before .before .before .before .before .before .before .limits .ensures) ∙ ap (judgedOf limits (not (eqb (a .s .selected) 0))) h) in
     let yes = sym (c .before .before .before .before .before .is-accepted .ensures) ∙ not-false _ (c .before .before .before .before .if1 .left) in
-    λ m nexts lent law laid head. let first = accepted-judged m (a .words .now) (a .counts) (a .s) (a .queue .now) (a .text .now) lent (c .before .before .before .before .before .before .before .judge-search .result) (e head) yes in
-    search-are m (a .text .now) (a .at) head first _ (λ p q is. c .before .before .answer .ensures m nexts p q lent law laid is first)
+    λ m nexts counters lent law laid head. let first = accepted-judged m (a .words .now) (a .counts) (a .s) (a .queue .now) (a .text .now) lent (c .before .before .before .before .before .before .before .judge-search .result) (e head) yes in
+    search-are m (a .text .now) (a .at) head first _ (λ p q is. c .before .before .answer .ensures m nexts counters p q lent law laid is first)
 
 pub search-spec : {M : Type 1} → statement M
 search-spec =

@@ -24,7 +24,7 @@ returns : tie.Need-returns
 returns c =
     let args = c .before .before .before .before .before .before .before .before .args in (
       put-as (c .before .before .put-list .ensures .0)
-          (line-barred (args .attributes) (args .name .now) (args .next) (args .validity) (args .messages) (c .before .before .before .before .before .has .result) (args .status) (c .before .before .before .before .before .has .ensures) (not-true _ (c .before .before .before .before .if1 .taken))),
+          (line-barred (args .attributes) (args .name .now) (args .next) (args .validity) (args .highest) (args .messages) (c .before .before .before .before .before .has .result) (args .status) (c .before .before .before .before .before .has .ensures) (not-true _ (c .before .before .before .before .if1 .taken))),
       omega (arith, c .before .before .put-list .ensures .1),
     )
 
@@ -32,7 +32,7 @@ returns-2 : tie.Need-returns-2
 returns-2 c =
     let args = c .before .before .before .before .before .args in (
       put-as (put-none (args .queue .now) (args .at) (args .limit) (omega arith))
-          (line-none (args .attributes) (args .name .now) (args .next) (args .validity) (args .messages) (c .before .before .has .result) (args .status) (c .before .before .has .ensures) (not-false _ (c .before .if1 .left)) (not-true _ (c .if2 .taken))),
+          (line-none (args .attributes) (args .name .now) (args .next) (args .validity) (args .highest) (args .messages) (c .before .before .has .result) (args .status) (c .before .before .has .ensures) (not-false _ (c .before .if1 .left)) (not-true _ (c .if2 .taken))),
       omega arith,
     )
 
@@ -46,7 +46,7 @@ returns-3 : tie.Need-returns-3
 returns-3 c =
     let args = c .before .before .before .before .before .before .before .before .before .args in (
       put-as (c .before .before .put-status-at-set .ensures .0)
-          (line-status (args .attributes) (args .name .now) (args .next) (args .validity) (args .messages) (c .before .before .before .before .before .before .has .result) (args .status) (c .before .before .before .before .before .before .has .ensures) (not-false _ (c .before .before .before .before .before .if1 .left)) (not-false _ (c .before .before .before .before .if2 .left))),
+          (line-status (args .attributes) (args .name .now) (args .next) (args .validity) (args .highest) (args .messages) (c .before .before .before .before .before .before .has .result) (args .status) (c .before .before .before .before .before .before .has .ensures) (not-false _ (c .before .before .before .before .before .if1 .left)) (not-false _ (c .before .before .before .before .if2 .left))),
       omega (arith, c .before .before .put-status-at-set .ensures .1),
     )
 

@@ -12,14 +12,14 @@ use Rattle.listing.specs.Telling.{texts, texts-are, Goes, goes-next, goe
 use borrow.Author.Needs.{needs}
 
 abbrev Inv-loop : tie.InvT-loop
-Inv-loop queue₀ at limit attributes lens validities nexts names order n counts asks i₀ end₀ queue i end =
+Inv-loop queue₀ at limit attributes lens validities nexts counters names order n counts asks i₀ end₀ queue i end =
     (i ≤ n)
     × (length queue ≡ length queue₀)
     × (end + 300 * i ≤ at + 300 * n)
-    × Goes queue₀ at limit (texts attributes lens validities nexts names order counts asks n) queue end (texts attributes lens validities nexts names order counts asks i)
+    × Goes queue₀ at limit (texts attributes lens validities nexts counters names order counts asks n) queue end (texts attributes lens validities nexts counters names order counts asks i)
 
 abbrev μ-loop : tie.MeasureT-loop
-μ-loop queue₀ at limit attributes lens validities nexts names order n counts asks i₀ end₀ queue i end = i
+μ-loop queue₀ at limit attributes lens validities nexts counters names order n counts asks i₀ end₀ queue i end = i
 
 loop-holds : tie.Need-loop-holds Inv-loop μ-loop
 loop-holds c = (search needs, refl, omega arith, λ q r p. p)
@@ -55,7 +55,7 @@ loop-again c =
       search needs,
       c .before .before .put-row .ensures .0 .same ∙ turn .inv .1,
       omega (arith, c .before .before .put-row .ensures .1),
-      goes-next (args .attributes .now) (args .lens .now) (args .validities .now) (args .nexts .now) (args .names .now) (args .order .now) (args .counts .now) (args .asks .now) (args .queue .now) (args .at) (args .limit) _ (turn .queue) (turn .end) (turn .i) _ _ (omega arith) (turn .inv .3) (c .before .before .put-row .ensures .0),
+      goes-next (args .attributes .now) (args .lens .now) (args .validities .now) (args .nexts .now) (args .counters .now) (args .names .now) (args .order .now) (args .counts .now) (args .asks .now) (args .queue .now) (args .at) (args .limit) _ (turn .queue) (turn .end) (turn .i) _ _ (omega arith) (turn .inv .3) (c .before .before .put-row .ensures .0),
     )
 
 same-length : tie.Need-same-length Inv-loop μ-loop
@@ -68,8 +68,8 @@ returns c =
     let e : turn .i ≡ 0 = omega arith in (
       λ f l w v b t.
           put-as
-          (goes-end (args .attributes .now) (args .lens .now) (args .validities .now) (args .nexts .now) (args .names .now) (args .order .now) (args .counts .now) (args .asks .now) (args .queue .now) (args .at) (args .limit) _ (turn .queue) (turn .end) (omega arith) (rw e at (turn .inv .3)))
-          (texts-are f l (args .attributes .now) (args .lens .now) (args .validities .now) (args .nexts .now) (args .names .now) (args .order .now) (args .counts .now) (args .asks .now) w v t (args .n) b),
+          (goes-end (args .attributes .now) (args .lens .now) (args .validities .now) (args .nexts .now) (args .counters .now) (args .names .now) (args .order .now) (args .counts .now) (args .asks .now) (args .queue .now) (args .at) (args .limit) _ (turn .queue) (turn .end) (omega arith) (rw e at (turn .inv .3)))
+          (texts-are f l (args .attributes .now) (args .lens .now) (args .validities .now) (args .nexts .now) (args .counters .now) (args .names .now) (args .order .now) (args .counts .now) (args .asks .now) w v t (args .n) b),
       omega arith,
     )
 

@@ -34,6 +34,12 @@ mul-validity c = search needs
 element-copy-out-validity : tie.Need-element-copy-out-validity
 element-copy-out-validity c = search needs
 
+mul-highest : tie.Need-mul-highest
+mul-highest c = search needs
+
+element-copy-out-highest : tie.Need-element-copy-out-highest
+element-copy-out-highest c = search needs
+
 sub-put-line : tie.Need-sub-put-line
 sub-put-line c = search needs
 
@@ -51,11 +57,11 @@ same-length c = search needs
 
 returns : tie.Need-returns
 returns c =
-    let args = c .before .before .before .before .before .before .before .before .before .before .before .args in
+    let args = c .before .before .before .before .before .before .before .before .before .before .before .before .args in
     let long : length (args .names .now) ≡ 4096 = search needs in
-    let name = c .before .before .before .before .before .before .before .before .name-end .ensures .name (args .names .now) long in (
+    let name = c .before .before .before .before .before .before .before .before .before .name-end .ensures .name (args .names .now) long in (
       put-as (c .before .before .put-line .ensures .0)
-          (ap (λ (o : List ℕ). lineBy (getD (args .attributes .now) (args .k) 0) o (getD (args .nexts .now) (args .k) 0) (getD (args .validities .now) (args .k) 0) (args .messages) (args .status)) name),
+          (ap (λ (o : List ℕ). lineBy (getD (args .attributes .now) (args .k) 0) o (getD (args .nexts .now) (args .k) 0) (getD (args .validities .now) (args .k) 0) (getD (args .counters .now) (args .k) 0) (args .messages) (args .status)) name),
       omega (arith, c .before .before .put-line .ensures .1),
     )
 
@@ -70,6 +76,8 @@ put-row-spec =
     element-copy-out-next
     mul-validity
     element-copy-out-validity
+    mul-highest
+    element-copy-out-highest
     sub-put-line
     part-put-line-start
     part-put-line-end

@@ -16,6 +16,9 @@ count-requires c κs = search needs
 cast-next : tie.Need-cast-next
 cast-next c = search needs
 
+counter-of-requires : tie.Need-counter-of-requires
+counter-of-requires c κs = search needs
+
 name-end-requires : tie.Need-name-end-requires
 name-end-requires c κs = search needs
 
@@ -27,14 +30,14 @@ slice-aggregate-say-status c = let l = c .before .before .name-end .ensures .1 i
 
 say-status-requires : tie.Need-say-status-requires
 say-status-requires c κs = let l = c .before .before .name-end .ensures .1 in
-    let t : length (take (c .before .before .name-end .result) (c .before .before .before .before .before .before .before .before .before .args .x .name)) ≡ c .before .before .name-end .result = length-take-le (c .before .before .name-end .result) (c .before .before .before .before .before .before .before .before .before .args .x .name) (omega arith) in
-    (c .before .before .before .before .before .before .before .before .before .pre .1, c .before .before .before .before .before .before .before .before .before .pre .2, c .before .before .before .before .before .before .before .before .before .pre .3, omega arith)
+    let t : length (take (c .before .before .name-end .result) (c .before .before .before .before .before .before .before .before .before .before .args .x .name)) ≡ c .before .before .name-end .result = length-take-le (c .before .before .name-end .result) (c .before .before .before .before .before .before .before .before .before .before .args .x .name) (omega arith) in
+    (c .before .before .before .before .before .before .before .before .before .before .pre .1, c .before .before .before .before .before .before .before .before .before .before .pre .2, c .before .before .before .before .before .before .before .before .before .before .pre .3, omega arith)
 
 same-length : tie.Need-same-length
 same-length c = search needs
 
 returns : tie.Need-returns
-returns c = rw (← c .before .before .before .before .before .name-end .ensures .2, ← c .before .before .before .before .before .before .before .before .count .ensures) (c .before .before .say-status .ensures)
+returns c = rw (← c .before .before .before .before .before .name-end .ensures .2, ← c .before .before .before .before .before .before .before .before .before .count .ensures, ← c .before .before .before .before .before .before .counter-of .ensures) (c .before .before .say-status .ensures)
 
 pub say-row-spec : {M : Type 1} → statement M
 say-row-spec =
@@ -43,6 +46,7 @@ say-row-spec =
     cast-count
     count-requires
     cast-next
+    counter-of-requires
     name-end-requires
     array-share-prefix-o
     slice-aggregate-say-status

@@ -55,7 +55,7 @@ returns c =
     λ m p gs lent law laid sel is first asks.
     c .before .before .before .before .set-noted .ensures m p (a .status) gs lent law is first asks
     (noted-set m (a .words .now) (a .counts) (a .s) (a .queue .now) lent (a .status) gs (a .asked) asks
-    (λ same. noted-rows m (a .words .now) (a .counts) (a .s) (a .queue .now) lent law (a .ids .now) (a .attributes .now) (a .lens .now) (a .validities .now) (a .nexts .now) (a .names .now) laid (a .asked) same (a .status) _ _ _ _ (c .before .before .before .before .before .before .before .before .before .before .before .before .before .before .by-name .result) (c .before .before .before .before .before .before .before .before .before .before .before .before .before .before .before .before .before .before .before .before .before .before .before .before .before .pre .rows)
+    (λ same. noted-rows m (a .words .now) (a .counts) (a .s) (a .queue .now) lent law (a .ids .now) (a .attributes .now) (a .lens .now) (a .validities .now) (a .nexts .now) (a .counters .now) (a .names .now) laid (a .asked) same (a .status) _ _ _ _ (c .before .before .before .before .before .before .before .before .before .before .before .before .before .before .by-name .result) (c .before .before .before .before .before .before .before .before .before .before .before .before .before .before .before .before .before .before .before .before .before .before .before .before .before .pre .rows)
     (c .before .before .before .before .before .before .before .before .before .before .before .before .before .before .before .before .before .before .before .note-rows .ensures) (c .before .before .before .before .before .before .before .before .before .before .before .before .before .before .by-name .ensures .0) (c .before .before .before .before .before .before .before .before .before .before .before .existing .ensures)))
     (c .before .before .before .before .before .before .before .before .before .before .both .ensures ∙ ap bothRights sel) (ap (λ (x : Mailbox). x .uidnext) sel)
 

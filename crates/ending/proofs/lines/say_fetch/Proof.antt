@@ -17,7 +17,7 @@ refused-requires : tie.Need-refused-requires
 refused-requires c κs = search needs
 
 returns : tie.Need-returns
-returns c = (ap (stateOf (c .before .before .before .before .args .queue .now)) (c .refused .ensures) ∙ say-shut (c .before .before .before .before .args .limit) (c .before .before .before .before .args .uid .0) (fetchText (c .before .before .before .before .args .n .0) (c .before .before .before .before .args .uid .0) (c .before .before .before .before .args .flags)) (stateOf (c .before .before .before .before .args .queue .now) (c .before .before .before .before .args .g)) (not-true _ (c .before .if1 .taken)), omega (arith, ap (λ (x : Going). x .end) (c .refused .ensures)), omega (arith, ap (λ (x : Going). x .rest) (c .refused .ensures)), ap (λ (x : Going). x .next .0) (c .refused .ensures))
+returns c = (ap (stateOf (c .before .before .before .before .args .queue .now)) (c .refused .ensures) ∙ say-shut (c .before .before .before .before .args .limit) (c .before .before .before .before .args .uid .0) (fetchText (c .before .before .before .before .args .n .0) (c .before .before .before .before .args .uid .0) (c .before .before .before .before .args .flags) (c .before .before .before .before .args .counter)) (stateOf (c .before .before .before .before .args .queue .now) (c .before .before .before .before .args .g)) (not-true _ (c .before .if1 .taken)), omega (arith, ap (λ (x : Going). x .end) (c .refused .ensures)), omega (arith, ap (λ (x : Going). x .rest) (c .refused .ensures)), ap (λ (x : Going). x .next .0) (c .refused .ensures))
 
 put-fetch-requires : tie.Need-put-fetch-requires
 put-fetch-requires c κs = search needs
@@ -29,7 +29,7 @@ same-length : tie.Need-same-length
 same-length c = search needs
 
 returns-2 : tie.Need-returns-2
-returns-2 c = (ap (stateOf _) (c .refused2 .ensures) ∙ say-over (c .before .before .before .before .before .before .before .before .before .args .queue .now) _ (c .before .before .before .before .before .before .before .before .before .args .limit) (c .before .before .before .before .before .before .before .before .before .args .uid .0) (fetchText (c .before .before .before .before .before .before .before .before .before .args .n .0) (c .before .before .before .before .before .before .before .before .before .args .uid .0) (c .before .before .before .before .before .before .before .before .before .args .flags)) (stateOf (c .before .before .before .before .before .before .before .before .before .args .queue .now) (c .before .before .before .before .before .before .before .before .before .args .g)) (c .before .before .before .before .put-fetch .result) refl (c .before .before .before .before .put-fetch .ensures .0) (c .before .if2 .taken), omega (arith, ap (λ (x : Going). x .end) (c .refused2 .ensures)), omega (arith, ap (λ (x : Going). x .rest) (c .refused2 .ensures)), ap (λ (x : Going). x .next .0) (c .refused2 .ensures))
+returns-2 c = (ap (stateOf _) (c .refused2 .ensures) ∙ say-over (c .before .before .before .before .before .before .before .before .before .args .queue .now) _ (c .before .before .before .before .before .before .before .before .before .args .limit) (c .before .before .before .before .before .before .before .before .before .args .uid .0) (fetchText (c .before .before .before .before .before .before .before .before .before .args .n .0) (c .before .before .before .before .before .before .before .before .before .args .uid .0) (c .before .before .before .before .before .before .before .before .before .args .flags) (c .before .before .before .before .before .before .before .before .before .args .counter)) (stateOf (c .before .before .before .before .before .before .before .before .before .args .queue .now) (c .before .before .before .before .before .before .before .before .before .args .g)) (c .before .before .before .before .put-fetch .result) refl (c .before .before .before .before .put-fetch .ensures .0) (c .before .if2 .taken), omega (arith, ap (λ (x : Going). x .end) (c .refused2 .ensures)), omega (arith, ap (λ (x : Going). x .rest) (c .refused2 .ensures)), ap (λ (x : Going). x .next .0) (c .refused2 .ensures))
 
 put-fetch-requires-2 : tie.Need-put-fetch-requires-2
 put-fetch-requires-2 c κs = search needs
@@ -41,7 +41,7 @@ same-length-2 : tie.Need-same-length-2
 same-length-2 c = search needs
 
 returns-3 : tie.Need-returns-3
-returns-3 c = (say-fits (c .before .before .before .before .before .before .before .before .before .before .before .before .before .before .args .queue .now) _ (c .before .before .before .before .before .before .before .before .before .before .before .before .before .before .args .limit) (c .before .before .before .before .before .before .before .before .before .before .before .before .before .before .args .uid .0) (fetchText (c .before .before .before .before .before .before .before .before .before .before .before .before .before .before .args .n .0) (c .before .before .before .before .before .before .before .before .before .before .before .before .before .before .args .uid .0) (c .before .before .before .before .before .before .before .before .before .before .before .before .before .before .args .flags)) (stateOf (c .before .before .before .before .before .before .before .before .before .before .before .before .before .before .args .queue .now) (c .before .before .before .before .before .before .before .before .before .before .before .before .before .before .args .g)) (c .before .before .before .before .before .before .before .before .before .put-fetch .result) refl (c .before .before .before .before .before .before .before .before .before .put-fetch .ensures .0) _ (c .before .before .before .before .put-fetch2 .result) (not-false _ (c .before .before .before .before .before .before .before .before .before .before .before .if1 .left)) (c .before .before .before .before .put-fetch2 .ensures .0) (c .before .before .before .before .before .before .if2 .left), omega (arith, c .before .before .before .before .before .before .before .before .before .put-fetch .ensures .0 .next, c .before .before .before .before .put-fetch2 .ensures .0 .next), omega arith, refl)
+returns-3 c = (say-fits (c .before .before .before .before .before .before .before .before .before .before .before .before .before .before .args .queue .now) _ (c .before .before .before .before .before .before .before .before .before .before .before .before .before .before .args .limit) (c .before .before .before .before .before .before .before .before .before .before .before .before .before .before .args .uid .0) (fetchText (c .before .before .before .before .before .before .before .before .before .before .before .before .before .before .args .n .0) (c .before .before .before .before .before .before .before .before .before .before .before .before .before .before .args .uid .0) (c .before .before .before .before .before .before .before .before .before .before .before .before .before .before .args .flags) (c .before .before .before .before .before .before .before .before .before .before .before .before .before .before .args .counter)) (stateOf (c .before .before .before .before .before .before .before .before .before .before .before .before .before .before .args .queue .now) (c .before .before .before .before .before .before .before .before .before .before .before .before .before .before .args .g)) (c .before .before .before .before .before .before .before .before .before .put-fetch .result) refl (c .before .before .before .before .before .before .before .before .before .put-fetch .ensures .0) _ (c .before .before .before .before .put-fetch2 .result) (not-false _ (c .before .before .before .before .before .before .before .before .before .before .before .if1 .left)) (c .before .before .before .before .put-fetch2 .ensures .0) (c .before .before .before .before .before .before .if2 .left), omega (arith, c .before .before .before .before .before .before .before .before .before .put-fetch .ensures .0 .next, c .before .before .before .before .put-fetch2 .ensures .0 .next), omega arith, refl)
 
 pub say-fetch-spec : {M : Type 1} → statement M
 say-fetch-spec =

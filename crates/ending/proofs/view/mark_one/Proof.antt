@@ -32,7 +32,7 @@ say-fetch-requires : tie.Need-say-fetch-requires
 say-fetch-requires c κs = search needs
 
 advanced-requires : tie.Need-advanced-requires
-advanced-requires c κs = omega (arith, c .before .before .say-fetch .ensures .3)
+advanced-requires c κs = omega (arith, c .before .before .say-fetch .ensures .3, c .before .before .before .before .before .before .before .before .before .before .before .before .before .before .before .before .before .pre .4)
 
 same-length : tie.Need-same-length
 same-length c = search needs

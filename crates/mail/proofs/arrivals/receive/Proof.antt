@@ -57,7 +57,7 @@ same-length-2 c = search needs
 returns : tie.Need-returns
 returns c = let a = c .before .before .before .before .before .before .before .before .before .before .before .before .before .before .before .before .before .before .before .args in (
   c .before .before .before .before .before .before .before .before .before .with-next .ensures,
-  rw (sym (receive-as (messages (a .words .now)) (a .used) (a .queue .now) (a .s) (a .filled) (a .x) (a .uid .0) (a .flags) (a .size) (a .uid .0 + 1) (c .before .before .before .before .before .before .before .before .before .before .before .before .before .before .before .fresh .result) (c .before .before .before .before .before .before .before .before .is-chosen .result) (c .before .before .before .before .before .before .before .is-soon .result) (not (c .before .before .before .before .before .before .before .before .is-chosen .result) && (bothRights (a .x) && askedOf (a .s) (a .x) (asksBit 0))) (showsOf (a .s))
+  rw (sym (receive-as (messages (a .words .now)) (a .used) (a .queue .now) (a .s) (a .filled) (a .x) (a .uid .0) (a .flags) (a .size) (a .counter) (a .uid .0 + 1) (c .before .before .before .before .before .before .before .before .before .before .before .before .before .before .before .fresh .result) (c .before .before .before .before .before .before .before .before .is-chosen .result) (c .before .before .before .before .before .before .before .is-soon .result) (not (c .before .before .before .before .before .before .before .before .is-chosen .result) && (bothRights (a .x) && askedOf (a .s) (a .x) (asksBit 0))) (showsOf (a .s))
       refl (c .before .before .before .before .before .before .before .before .before .before .before .before .before .before .before .fresh .ensures) (c .before .before .before .before .before .before .before .before .is-chosen .ensures) (c .before .before .before .before .before .before .before .is-soon .ensures) refl refl))
       (news-leaves (messages (a .words .now)) (a .used) (a .queue .now) (a .s) (a .filled) (withNext (a .x) (a .uid .0 + 1)) (c .before .before .before .before .before .before .before .before .before .before .before .before .before .before .before .fresh .result) (c .before .before .before .before .before .before .before .is-soon .result) (not (c .before .before .before .before .before .before .before .before .is-chosen .result) && (bothRights (a .x) && askedOf (a .s) (a .x) (asksBit 0))) (showsOf (a .s)) (a .words .now) _ _ _ _ (c .before .before .before .before .before .before .if1 .taken)
       (put-one (a .words .now) _ (a .used) (c .before .before .before .before .before .before .before .before .before .before .before .before .before .before .before .fresh .result) (c .before .before .before .before .before .before .before .before .before .before .before .before .put .ensures) (c .before .before .before .before .before .before .before .before .before .before .before .before .before .before .before .before .before .before .before .pre .0)) (c .before .before .before .announce .ensures)),
@@ -72,7 +72,7 @@ same-length-3 c = search needs
 returns-2 : tie.Need-returns-2
 returns-2 c = let a = c .before .before .before .before .before .before .before .before .before .before .before .before .before .before .before .args in (
   c .before .before .before .before .before .with-next .ensures,
-  rw (sym (receive-as (messages (a .words .now)) (a .used) (a .queue .now) (a .s) (a .filled) (a .x) (a .uid .0) (a .flags) (a .size) (a .uid .0 + 1) (c .before .before .before .before .before .before .before .before .before .before .before .fresh .result) (c .before .before .before .before .is-chosen .result) (c .before .before .before .is-soon .result) (c .before .is-told .result) (showsOf (a .s))
+  rw (sym (receive-as (messages (a .words .now)) (a .used) (a .queue .now) (a .s) (a .filled) (a .x) (a .uid .0) (a .flags) (a .size) (a .counter) (a .uid .0 + 1) (c .before .before .before .before .before .before .before .before .before .before .before .fresh .result) (c .before .before .before .before .is-chosen .result) (c .before .before .before .is-soon .result) (c .before .is-told .result) (showsOf (a .s))
       refl (c .before .before .before .before .before .before .before .before .before .before .before .fresh .ensures) (c .before .before .before .before .is-chosen .ensures) (c .before .before .before .is-soon .ensures) (c .before .is-told .ensures) refl))
       (status-leaves (messages (a .words .now)) (a .used) (a .queue .now) (a .s) (a .filled) (withNext (a .x) (a .uid .0 + 1)) (c .before .before .before .before .before .before .before .before .before .before .before .fresh .result) (c .before .before .before .before .before .with-next .result) (c .before .before .before .is-soon .result) (c .before .is-told .result) (showsOf (a .s)) (a .words .now) _ _ _ _ (c .before .before .if1 .left) (c .before .before .before .before .before .with-next .ensures)
       (put-one (a .words .now) _ (a .used) (c .before .before .before .before .before .before .before .before .before .before .before .fresh .result) (c .before .before .before .before .before .before .before .before .put .ensures) (c .before .before .before .before .before .before .before .before .before .before .before .before .before .before .before .pre .0))
@@ -96,7 +96,7 @@ same-length-5 c = search needs
 returns-3 : tie.Need-returns-3
 returns-3 c = let a = c .before .before .before .before .before .before .before .before .before .before .before .before .before .before .before .before .before .before .before .before .before .before .args in (
   c .before .before .before .before .before .before .before .before .before .before .before .before .with-next .ensures,
-  rw (sym (receive-as (messages (a .words .now)) (a .used) (a .queue .now) (a .s) (a .filled) (a .x) (a .uid .0) (a .flags) (a .size) (a .uid .0 + 1) (c .before .before .before .before .before .before .before .before .before .before .before .before .before .before .before .before .before .before .fresh .result) (c .before .before .before .before .before .before .before .before .before .before .before .is-chosen .result) (c .before .before .before .before .before .before .before .before .before .before .is-soon .result) (c .before .before .before .before .before .before .before .before .is-told .result) (showsOf (a .s))
+  rw (sym (receive-as (messages (a .words .now)) (a .used) (a .queue .now) (a .s) (a .filled) (a .x) (a .uid .0) (a .flags) (a .size) (a .counter) (a .uid .0 + 1) (c .before .before .before .before .before .before .before .before .before .before .before .before .before .before .before .before .before .before .fresh .result) (c .before .before .before .before .before .before .before .before .before .before .before .is-chosen .result) (c .before .before .before .before .before .before .before .before .before .before .is-soon .result) (c .before .before .before .before .before .before .before .before .is-told .result) (showsOf (a .s))
       refl (c .before .before .before .before .before .before .before .before .before .before .before .before .before .before .before .before .before .before .fresh .ensures) (c .before .before .before .before .before .before .before .before .before .before .before .is-chosen .ensures) (c .before .before .before .before .before .before .before .before .before .before .is-soon .ensures) (c .before .before .before .before .before .before .before .before .is-told .ensures) refl))
       (status-leaves (messages (a .words .now)) (a .used) (a .queue .now) (a .s) (a .filled) (withNext (a .x) (a .uid .0 + 1)) (c .before .before .before .before .before .before .before .before .before .before .before .before .before .before .before .before .before .before .fresh .result) (c .before .before .before .before .before .before .before .before .before .before .before .before .with-next .result) (c .before .before .before .before .before .before .before .before .before .before .is-soon .result) (c .before .before .before .before .before .before .before .before .is-told .result) (showsOf (a .s)) (a .words .now) _ _ _ _ (c .before .before .before .before .before .before .before .before .before .if1 .left) (c .before .before .before .before .before .before .before .before .before .before .before .before .with-next .ensures)
       (put-one (a .words .now) _ (a .used) (c .before .before .before .before .before .before .before .before .before .before .before .before .before .before .before .before .before .before .fresh .result) (c .before .before .before .before .before .before .before .before .before .before .before .before .before .before .before .put .ensures) (c .before .before .before .before .before .before .before .before .before .before .before .before .before .before .before .before .before .before .before .before .before .before .pre .0))

@@ -3,9 +3,7 @@ use Rattle.mail.proofs.flags.flag_now.Statement.{statement}
 use Rattle.mail.proofs.flags.flag_now.Tie as tie
 use Rattle.mail.proofs.flags.flag_now.Reads as reads
 use Rattle.mail.proofs.flags.flag_now.Lts as lts
-use mathlib.Core.Path.{refl}
-use mathlib.Core.Bool.{true, false}
-use Rattle.mail.specs.Flagged.{flag-told}
+use Rattle.mail.specs.Flagged.{told-leaves}
 
 get-requires : tie.Need-get-requires
 get-requires c κs = search needs
@@ -33,7 +31,7 @@ same-length-2 c = search needs
 
 returns : tie.Need-returns
 returns c = let a = c .before .before .before .before .before .before .before .before .before .before .before .before .before .before .before .before .before .args in
-    flag-told (a .words .now) _ (a .used) (a .queue .now) (a .s) (a .filled) (a .k) (a .flags) (a .n .0) (c .before .before .before .before .before .before .before .before .before .before .before .before .before .get .result) (c .before .before .before .before .before .changed .result) (c .before .before .before .before .before .before .before .pick .result) (c .before .before .before .before .before .before .before .before .before .before .before .before .before .get .ensures) (c .before .before .before .before .before .changed .ensures) (c .before .before .before .before .put .ensures) (c .before .before .before .before .before .before .before .before .before .before .before .before .before .before .before .before .before .pre .0) true false _ (c .before .before .before .before .before .before .before .before .before .before .say-fetch .result .fits) (c .before .before .before .before .before .before .before .before .before .before .say-fetch .result .end) _ _ refl (c .before .before .before .before .before .before .before .pick .ensures) (c .before .before .before .before .before .before .before .before .before .before .say-fetch .ensures) (c .before .hear .ensures .0) (c .before .hear .ensures .1)
+    told-leaves (a .words .now) _ (a .used) (a .queue .now) (a .s) (a .filled) (a .k) (a .flags) (a .counter) (c .before .before .before .before .before .before .before .before .before .before .before .before .before .get .result) (c .before .before .before .before .before .changed .result) (c .before .before .before .before .before .before .before .pick .result) (c .before .before .before .before .before .before .before .before .before .before .before .before .before .get .ensures) (c .before .before .before .before .before .changed .ensures) (c .before .before .before .before .put .ensures) (c .before .before .before .before .before .before .before .before .before .before .before .before .before .before .before .before .before .pre .0) (a .n .0) _ (c .before .before .before .before .before .before .before .before .before .before .say-fetch .result .fits) (c .before .before .before .before .before .before .before .before .before .before .say-fetch .result .end) _ _ (c .before .before .before .before .before .before .before .pick .ensures) (c .before .before .before .before .before .before .before .before .before .before .say-fetch .ensures) (c .before .hear .ensures .0) (c .before .hear .ensures .1)
 
 pub flag-now-spec : {M : Type 1} → statement M
 flag-now-spec =

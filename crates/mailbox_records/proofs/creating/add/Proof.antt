@@ -30,7 +30,7 @@ same-length c = search needs
 
 returns : tie.Need-returns
 returns c = let a = c .before .before .before .before .before .before .before .args in
-    added (a .queue .now) (a .counts) (a .s) (a .id) (a .a) (a .quiet) (a .validity) (a .name .now) _ (c .before .before .before .create .ensures) (c .put .ensures)
+    added (a .queue .now) (a .counts) (a .s) (a .id) (a .a) (a .quiet) (a .validity) (a .counter) (a .name .now) _ (c .before .before .before .create .ensures) (c .put .ensures)
 
 pub add-spec : {M : Type 1} → statement M
 add-spec =

@@ -12,7 +12,7 @@ refused-requires c κs = search needs
 
 returns : tie.Need-returns
 returns c = λ m ws x lent l law w p d e v. let a = c .before .before .before .before .before .args in
-    create-known m ws (a .counts) (a .s) (a .queue .now) lent law (a .id) (a .k) x w (a .a) (a .quiet) (a .validity) (a .name .now) _ (c .before .if1 .taken) (c .refused .ensures)
+    create-known m ws (a .counts) (a .s) (a .queue .now) lent law (a .id) (a .k) x w (a .a) (a .quiet) (a .validity) (a .counter) (a .name .now) _ (c .before .if1 .taken) (c .refused .ensures)
 
 is-taken-requires : tie.Need-is-taken-requires
 is-taken-requires c κs = search needs
@@ -23,7 +23,7 @@ refused-requires-2 c κs = search needs
 returns-2 : tie.Need-returns-2
 returns-2 c = λ m ws x lent l law w p d e v. let a = c .before .before .before .before .before .before .before .args in
     let held = c .before .before .is-taken .ensures (boxes m) (counted m ws (a .counts) (a .s) (a .queue .now) lent law) p d e v in
-    create-held m ws (a .counts) (a .s) (a .queue .now) lent law (a .id) (a .k) x w (a .a) (a .quiet) (a .validity) (a .name .now) _ (c .before .before .before .if1 .left)
+    create-held m ws (a .counts) (a .s) (a .queue .now) lent law (a .id) (a .k) x w (a .a) (a .quiet) (a .validity) (a .counter) (a .name .now) _ (c .before .before .before .if1 .left)
     (sym held ∙ c .before .if2 .taken) (c .refused2 .ensures)
 
 refused-requires-3 : tie.Need-refused-requires-3
@@ -32,7 +32,7 @@ refused-requires-3 c κs = search needs
 returns-3 : tie.Need-returns-3
 returns-3 c = λ m ws x lent l law w p d e v. let a = c .before .before .before .before .before .before .before .before .before .args in
     let held = c .before .before .before .before .is-taken .ensures (boxes m) (counted m ws (a .counts) (a .s) (a .queue .now) lent law) p d e v in
-    create-full m ws (a .counts) (a .s) (a .queue .now) lent law (a .id) (a .k) x w (a .a) (a .quiet) (a .validity) (a .name .now) _ (a .lent) l (c .before .before .before .before .before .if1 .left)
+    create-full m ws (a .counts) (a .s) (a .queue .now) lent law (a .id) (a .k) x w (a .a) (a .quiet) (a .validity) (a .counter) (a .name .now) _ (a .lent) l (c .before .before .before .before .before .if1 .left)
     (sym held ∙ c .before .before .before .if2 .left) (c .before .if3 .taken) (c .refused3 .ensures)
 
 add-requires : tie.Need-add-requires
@@ -44,7 +44,7 @@ same-length c = search needs
 returns-4 : tie.Need-returns-4
 returns-4 c = λ m ws x lent l law w p d e v. let a = c .before .before .before .before .before .before .before .before .before .before .before .before .args in
     let held = c .before .before .before .before .before .before .before .is-taken .ensures (boxes m) (counted m ws (a .counts) (a .s) (a .queue .now) lent law) p d e v in
-    create-comes m ws (a .counts) (a .s) (a .queue .now) lent law (a .id) (a .k) x w (a .a) (a .quiet) (a .validity) (a .name .now) _ (a .lent) l (c .before .before .before .before .before .before .before .before .if1 .left)
+    create-comes m ws (a .counts) (a .s) (a .queue .now) lent law (a .id) (a .k) x w (a .a) (a .quiet) (a .validity) (a .counter) (a .name .now) _ (a .lent) l (c .before .before .before .before .before .before .before .before .if1 .left)
     (sym held ∙ c .before .before .before .before .before .before .if2 .left) (c .before .before .before .before .if3 .left) v (c .before .before .add .ensures)
 
 pub create-spec : {M : Type 1} → statement M

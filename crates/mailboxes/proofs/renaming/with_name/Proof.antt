@@ -8,7 +8,7 @@ use Rattle.model.specs.declared.Mailbox.{Mailbox}
 
 -- the row with a name as it is kept
 abbrev named : Mailbox → LentName → Mailbox
-named x n = record { id = x .id; attributes = x .attributes; namelen = n .len; uidvalidity = x .uidvalidity; uidnext = x .uidnext; name = n .octets }
+named x n = record { id = x .id; attributes = x .attributes; namelen = n .len; uidvalidity = x .uidvalidity; uidnext = x .uidnext; counterlow = x .counterlow; counterhigh = x .counterhigh; name = n .octets }
 
 stored-requires : tie.Need-stored-requires
 stored-requires c κs = search needs

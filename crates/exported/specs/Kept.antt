@@ -12,13 +12,13 @@ use Rattle.model.specs.Laws.{filter-length}
 use Rattle.model.specs.Records.{Record, create, delete, rename, subscribe, grant, arrive, expunge, reflag, select, ended, command, drained, noRecord, isRecord, recordOf}
 use Rattle.model.specs.Memory.{Memory, boxes, place, putBox, addBox, dropBox}
 use Rattle.model.specs.Lawful.{lawful}
-use Rattle.model.specs.Lines.{Line, status, statusAtSet, list, renamed, exists, expunge, fetch, found, overflow, answer, renderAll}
+use Rattle.model.specs.Lines.{Line, status, list, renamed, exists, expunge, fetch, found, overflow, answer, renderAll}
 use Rattle.model.specs.Queue.{effect, effects, enqueue, say, fits, showsFlags}
 use Rattle.model.specs.Events.{Event, created, deleted, renamedTo, subscribedTo, granted, arrived, removed, reflagged, inView, silence, settled, tellings}
 use Rattle.model.specs.View.{expungeAtOnce, flagsAtOnce, flagsWait}
 use Rattle.model.specs.Answering.{answered, reply, isAccepted, answerLines}
 use Rattle.model.specs.Refusals.{wrongId, nameHeld, wrongUid, wrongState, tableFull}
-use Rattle.model.specs.Rules.{Outcome, accepted, told, endLines}
+use Rattle.model.specs.Rules.{Outcome, accepted, raised, told, endLines}
 use Rattle.model.specs.Call.{call, roomless, refuse}
 use Rattle.model.specs.declared.Mailbox.{Mailbox}
 use Rattle.model.specs.declared.Refusal.{Refusal}
@@ -42,8 +42,7 @@ effect-rows : (m : Memory) (l : Line) → AsMany m (effect m l)
 effect-rows m (exists n) = refl
 effect-rows m (expunge n u) = refl
 effect-rows m (fetch n u is) = either m (showsFlags is) _ _ refl refl
-effect-rows m (status n u k) = refl
-effect-rows m (statusAtSet n k u v) = refl
+effect-rows m (status n is) = refl
 effect-rows m (list k n) = refl
 effect-rows m (renamed k new old) = refl
 effect-rows m (found t n v rs) = refl
@@ -75,11 +74,15 @@ told-rows : (m : Memory) (event : Memory → Event) → AsMany m (event m .store
 unfolding settled
 told-rows m event p q = say-rows (settled m event) (tellings m event) ∙ either m (fits m (event m .lines)) _ _ p q
 
+-- an event of a mailbox that has the record's counter by then
+raised-rows : (m : Memory) (i c : ℕ) (event : Memory → Event) → AsMany (raised m i c) (event (raised m i c) .stored) → AsMany (raised m i c) (event (silence (raised m i c)) .stored) → AsMany m (told (raised m i c) event .after)
+raised-rows m i c event p q = told-rows (raised m i c) event p q ∙ put-rows m i _
+
 removed-rows : (m : Memory) (i u : ℕ) → AsMany m (removed m i u .stored)
 removed-rows m i u = either-event m (inView m i u) _ _ (either-event m (expungeAtOnce m) _ _ refl refl) refl
 
-reflagged-rows : (m : Memory) (i u f : ℕ) → AsMany m (reflagged m i u f .stored)
-reflagged-rows m i u f = either-event m (inView m i u) _ _ (either-event m (flagsAtOnce m) _ _ refl (either-event m (flagsWait m) _ _ refl refl)) refl
+reflagged-rows : (m : Memory) (i u f c : ℕ) → AsMany m (reflagged m i u f c .stored)
+reflagged-rows m i u f c = either-event m (inView m i u) _ _ (either-event m (flagsAtOnce m) _ _ refl (either-event m (flagsWait m) _ _ refl refl)) refl
 
 answered-rows : (m : Memory) (t : List ℕ) → AsMany m (answered m t)
 unfolding answered
@@ -87,15 +90,15 @@ answered-rows m t = either m (isAccepted (reply m t)) _ _ (say-rows m (answerLin
 
 accepted-rows : (m : Memory) (r : Record) → tableFull m r ≡ false → AsMany m (accepted m r .after)
 unfolding accepted
-accepted-rows m (create i a q v n) h =
-    let free = leb-false (length (m .rows)) (length (boxes m)) h in told-rows m (λ (k : Memory). created k i a q v n) (add-rows m _ free) (add-rows (silence m) _ free)
+accepted-rows m (create i a q v c n) h =
+    let free = leb-false (length (m .rows)) (length (boxes m)) h in told-rows m (λ (k : Memory). created k i a q v c n) (add-rows m _ free) (add-rows (silence m) _ free)
 accepted-rows m (delete i q) h = told-rows m (λ (k : Memory). deleted k i q) (drop-rows m i) (drop-rows (silence m) i)
 accepted-rows m (rename i q n) h = told-rows m (λ (k : Memory). renamedTo k i q n) (put-rows m i _) (put-rows (silence m) i _)
 accepted-rows m (subscribe i s q) h = told-rows m (λ (k : Memory). subscribedTo k i s q) (put-rows m i _) (put-rows (silence m) i _)
 accepted-rows m (grant i r) h = told-rows m (λ (k : Memory). granted k i r) (put-rows m i _) (put-rows (silence m) i _)
-accepted-rows m (arrive i u f z) h = told-rows m (λ (k : Memory). arrived k i u f z) (put-rows m i _) (put-rows (silence m) i _)
-accepted-rows m (expunge i u) h = told-rows m (λ (k : Memory). removed k i u) (removed-rows m i u) (removed-rows (silence m) i u)
-accepted-rows m (reflag i u f) h = told-rows m (λ (k : Memory). reflagged k i u f) (reflagged-rows m i u f) (reflagged-rows (silence m) i u f)
+accepted-rows m (arrive i u f z c) h = raised-rows m i c (λ (k : Memory). arrived k i u f z c) (put-rows (raised m i c) i _) (put-rows (silence (raised m i c)) i _)
+accepted-rows m (expunge i u c) h = raised-rows m i c (λ (k : Memory). removed k i u) (removed-rows (raised m i c) i u) (removed-rows (silence (raised m i c)) i u)
+accepted-rows m (reflag i u f c) h = raised-rows m i c (λ (k : Memory). reflagged k i u f c) (reflagged-rows (raised m i c) i u f c) (reflagged-rows (silence (raised m i c)) i u f c)
 accepted-rows m (select i) h = refl
 accepted-rows m (ended c) h = say-rows m (endLines m c)
 accepted-rows m (command t) h = answered-rows m t

@@ -32,6 +32,7 @@ fn served(
     let mut lens = [0u8; 64];
     let mut validities = [0u64; 64];
     let mut nexts = [0u64; 64];
+    let mut counters = [0u64; 64];
     let mut names = [0u8; 4096];
     lent::lay(
         rows,
@@ -41,6 +42,7 @@ fn served(
         &mut lens,
         &mut validities,
         &mut nexts,
+        &mut counters,
         &mut names,
     );
     push::decide(
@@ -50,6 +52,7 @@ fn served(
         &lens,
         &validities,
         &nexts,
+        &counters,
         &names,
         words,
         counts,

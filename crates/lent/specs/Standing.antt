@@ -2,14 +2,14 @@
 use mathlib.Core.Path.{_≡_, refl, ap, sym, _∙_}
 use mathlib.Core.Bool.{Bool, true, false}
 use mathlib.Core.List.{List, [], _∷_, _++_}
-use Prim.Native.Nat.{ℕ, zero, suc, _+_, _-_, _*_, _<_, _≤_, min}
+use Prim.Native.Nat.{ℕ, zero, suc, _+_, _-_, _*_, _/_, _%_, _<_, _≤_, min}
 use native.Mathlib.Omega.{arith}
 use native.Mathlib.Nat.{sub-zero}
 use lib.Dec.{eqb, ltb, leb, lit<}
 use lib.ListN.{length, take, drop, getD, set, replicate, length-set, length-take, length-replicate, getD-replicate}
 use lib.Seq.{getD-set-same, getD-set-other, getD-take, paste, drop-drop, drop-append-add, length-paste-head, take-at, drop-at, take-take, length-take-le}
 use borrow.Author.Tests.{eqb-true, eqb-false, ltb-true, ltb-false, leb-true, leb-false}
-use Rattle.model.specs.Memory.{noMailbox}
+use Rattle.model.specs.Memory.{noMailbox, counterOf}
 use Rattle.model.specs.declared.Mailbox.{Mailbox}
 use Rattle.laws.specs.Shift.{over, over-length, over-step, over-read}
 use Rattle.rows.specs.Columns.{Laid, Column, Names, FirstNames, block, names-next, zero-at}
@@ -20,29 +20,32 @@ pub record Narrow (x : Mailbox) : Type 0 where
   pub id : x .id < 65536
   pub validity : x .uidvalidity < 4294967296
   pub next : x .uidnext < 4294967296
+  pub low : x .counterlow < 4294967296
+  pub high : x .counterhigh < 4294967296
 
 -- the columns have these rows
-pub record Stands (l : List Mailbox) (ids attributes lens validities nexts names : List ℕ) : Type 0 where
-  pub laid : Laid l ids attributes lens validities nexts names
+pub record Stands (l : List Mailbox) (ids attributes lens validities nexts counters names : List ℕ) : Type 0 where
+  pub laid : Laid l ids attributes lens validities nexts counters names
   pub narrow : (k : ℕ) → k < length l → Narrow (getD l k noMailbox)
 
 -- the columns of numbers are as long as their types say
-pub record Long (ids attributes lens validities nexts : List ℕ) : Type 0 where
+pub record Long (ids attributes lens validities nexts counters : List ℕ) : Type 0 where
   pub many-ids : length ids ≡ 64
   pub many-attributes : length attributes ≡ 64
   pub many-lens : length lens ≡ 64
   pub many-validities : length validities ≡ 64
   pub many-nexts : length nexts ≡ 64
+  pub many-counters : length counters ≡ 64
 
 -- row i becomes x: where columns have the rows of a table, they have that table with x for row i
-abbrev pub Keeps : ℕ → Mailbox → List ℕ → List ℕ → List ℕ → List ℕ → List ℕ → List ℕ → List ℕ → List ℕ → List ℕ → List ℕ → List ℕ → List ℕ → Type 0
-Keeps i x ids attributes lens validities nexts names ids′ attributes′ lens′ validities′ nexts′ names′ =
-    Long ids attributes lens validities nexts → Long ids′ attributes′ lens′ validities′ nexts′ × ((l : List Mailbox) → length l ≡ 64 → Stands l ids attributes lens validities nexts names → Stands (set l i x) ids′ attributes′ lens′ validities′ nexts′ names′)
+abbrev pub Keeps : ℕ → Mailbox → List ℕ → List ℕ → List ℕ → List ℕ → List ℕ → List ℕ → List ℕ → List ℕ → List ℕ → List ℕ → List ℕ → List ℕ → List ℕ → List ℕ → Type 0
+Keeps i x ids attributes lens validities nexts counters names ids′ attributes′ lens′ validities′ nexts′ counters′ names′ =
+    Long ids attributes lens validities nexts counters → Long ids′ attributes′ lens′ validities′ nexts′ counters′ × ((l : List Mailbox) → length l ≡ 64 → Stands l ids attributes lens validities nexts counters names → Stands (set l i x) ids′ attributes′ lens′ validities′ nexts′ counters′ names′)
 
 -- the first m of some rows become theirs
-abbrev pub Lays : List Mailbox → ℕ → List ℕ → List ℕ → List ℕ → List ℕ → List ℕ → List ℕ → List ℕ → List ℕ → List ℕ → List ℕ → List ℕ → List ℕ → Type 0
-Lays rows m ids attributes lens validities nexts names ids′ attributes′ lens′ validities′ nexts′ names′ =
-    Long ids attributes lens validities nexts → Long ids′ attributes′ lens′ validities′ nexts′ × ((l : List Mailbox) → length l ≡ 64 → Stands l ids attributes lens validities nexts names → Stands (over rows l m) ids′ attributes′ lens′ validities′ nexts′ names′)
+abbrev pub Lays : List Mailbox → ℕ → List ℕ → List ℕ → List ℕ → List ℕ → List ℕ → List ℕ → List ℕ → List ℕ → List ℕ → List ℕ → List ℕ → List ℕ → List ℕ → List ℕ → Type 0
+Lays rows m ids attributes lens validities nexts counters names ids′ attributes′ lens′ validities′ nexts′ counters′ names′ =
+    Long ids attributes lens validities nexts counters → Long ids′ attributes′ lens′ validities′ nexts′ counters′ × ((l : List Mailbox) → length l ≡ 64 → Stands l ids attributes lens validities nexts counters names → Stands (over rows l m) ids′ attributes′ lens′ validities′ nexts′ counters′ names′)
 
 -- ---- row i becomes x
 module _ (P : ℕ → Type 0) (i k : ℕ) where
@@ -92,16 +95,17 @@ module _ (names name : List ℕ) (i : ℕ) (w : length names ≡ 4096) (l : leng
           let b = s in
           kept-behind k (omega arith) ∙ (p k (omega arith) ∙ ap (λ (y : Mailbox). y .name) (sym (getD-set-other t i k x noMailbox (λ z. (let y : ⊥ = omega arith in y)))))
 
-module _ (ids attributes lens validities nexts names : List ℕ) (many : length names ≡ 4096) where
-  pub keeps : (i : ℕ) (x : Mailbox) (u v w : ℕ) (names′ : List ℕ) → i < 64 → Narrow x → length (x .name) ≡ 64 → u ≡ x .id → v ≡ x .uidvalidity → w ≡ x .uidnext → names′ ≡ paste names (64 * i) (x .name) 64
-      → Keeps i x ids attributes lens validities nexts names (set ids i u) (set attributes i (x .attributes)) (set lens i (x .namelen)) (set validities i v) (set nexts i w) names′
-  keeps i x u v w names′ h fits o p q r f = λ long. (
+module _ (ids attributes lens validities nexts counters names : List ℕ) (many : length names ≡ 4096) where
+  pub keeps : (i : ℕ) (x : Mailbox) (u v w c : ℕ) (names′ : List ℕ) → i < 64 → Narrow x → length (x .name) ≡ 64 → u ≡ x .id → v ≡ x .uidvalidity → w ≡ x .uidnext → c ≡ counterOf x → names′ ≡ paste names (64 * i) (x .name) 64
+      → Keeps i x ids attributes lens validities nexts counters names (set ids i u) (set attributes i (x .attributes)) (set lens i (x .namelen)) (set validities i v) (set nexts i w) (set counters i c) names′
+  keeps i x u v w c names′ h fits o p q r y f = λ long. (
     record {
       many-ids = length-set ids i u ∙ long .many-ids;
       many-attributes = length-set attributes i (x .attributes) ∙ long .many-attributes;
       many-lens = length-set lens i (x .namelen) ∙ long .many-lens;
       many-validities = length-set validities i v ∙ long .many-validities;
       many-nexts = length-set nexts i w ∙ long .many-nexts;
+      many-counters = length-set counters i c ∙ long .many-counters;
     },
     λ l n g. record {
       laid = record {
@@ -110,6 +114,7 @@ module _ (ids attributes lens validities nexts names : List ℕ) (many : length 
         len = column-set (λ (x : Mailbox). x .namelen) l lens i (x .namelen) x (omega arith) (rw (long .many-lens) h) refl (g .laid .len);
         validity = column-set (λ (x : Mailbox). x .uidvalidity) l validities i v x (omega arith) (rw (long .many-validities) h) q (g .laid .validity);
         next = column-set (λ (x : Mailbox). x .uidnext) l nexts i w x (omega arith) (rw (long .many-nexts) h) r (g .laid .next);
+        counter = column-set counterOf l counters i c x (omega arith) (rw (long .many-counters) h) y (g .laid .counter);
         name = rw f (names-set names (x .name) i many o h l x n refl (g .laid .name));
         rest = λ k t. (let s = length-set l i x in getD-set-other nexts i k w 0 (λ z. (let y : ⊥ = omega arith in y)) ∙ g .laid .rest k (omega arith));
       };
@@ -124,12 +129,12 @@ pub narrow-take : (l : List Mailbox) (n : ℕ) → ((k : ℕ) → k < length l �
 narrow-take l n p k h = let t = length-take n l in rw (getD-take n l k noMailbox (omega arith)) (p k (omega arith))
 
 -- ---- row after row
-pub lays-none : (rows : List Mailbox) (ids attributes lens validities nexts names : List ℕ) → Lays rows 0 ids attributes lens validities nexts names ids attributes lens validities nexts names
+pub lays-none : (rows : List Mailbox) (ids attributes lens validities nexts counters names : List ℕ) → Lays rows 0 ids attributes lens validities nexts counters names ids attributes lens validities nexts counters names
 unfolding over
-lays-none rows ids attributes lens validities nexts names long = (long, λ l n w. w)
+lays-none rows ids attributes lens validities nexts counters names long = (long, λ l n w. w)
 
-pub lays-next : (rows : List Mailbox) (i : ℕ) {a b c d e f a′ b′ c′ d′ e′ f′ a″ b″ c″ d″ e″ f″ : List ℕ} → i < length rows → i < 64 → Lays rows i a b c d e f a′ b′ c′ d′ e′ f′ → Keeps i (getD rows i noMailbox) a′ b′ c′ d′ e′ f′ a″ b″ c″ d″ e″ f″
-    → Lays rows (i + 1) a b c d e f a″ b″ c″ d″ e″ f″
+pub lays-next : (rows : List Mailbox) (i : ℕ) {a b c d e j f a′ b′ c′ d′ e′ j′ f′ a″ b″ c″ d″ e″ j″ f″ : List ℕ} → i < length rows → i < 64 → Lays rows i a b c d e j f a′ b′ c′ d′ e′ j′ f′ → Keeps i (getD rows i noMailbox) a′ b′ c′ d′ e′ j′ f′ a″ b″ c″ d″ e″ j″ f″
+    → Lays rows (i + 1) a b c d e j f a″ b″ c″ d″ e″ j″ f″
 lays-next rows i h w lays keeps = λ long.
     let before = lays long in
     let after = keeps (before .0) in
@@ -141,21 +146,25 @@ row-none [] k h = refl
 row-none (x ∷ l) zero h = absurd (let z : ⊥ = omega arith in z)
 row-none (x ∷ l) (suc k) h = row-none l k (omega arith)
 
-module _ {l : List Mailbox} {ids attributes lens validities nexts names : List ℕ} (g : Stands l ids attributes lens validities nexts names) where
-  pub row-stands : (k u v w : ℕ) (name : List ℕ) → k < length l → (getD ids k 0 < 65536 → u ≡ getD ids k 0) → (getD validities k 0 < 4294967296 → v ≡ getD validities k 0) → (getD nexts k 0 < 4294967296 → w ≡ getD nexts k 0) → name ≡ block names k
-      → record { id = u; attributes = getD attributes k 0; namelen = getD lens k 0; uidvalidity = v; uidnext = w; name = name } ≡ getD l k noMailbox
-  row-stands k u v w name h p q r e =
+module _ {l : List Mailbox} {ids attributes lens validities nexts counters names : List ℕ} (g : Stands l ids attributes lens validities nexts counters names) where
+  pub row-stands : (k u v w low high : ℕ) (name : List ℕ) → k < length l → (getD ids k 0 < 65536 → u ≡ getD ids k 0) → (getD validities k 0 < 4294967296 → v ≡ getD validities k 0) → (getD nexts k 0 < 4294967296 → w ≡ getD nexts k 0) → low ≡ getD counters k 0 % 4294967296 → high ≡ getD counters k 0 / 4294967296 → name ≡ block names k
+      → record { id = u; attributes = getD attributes k 0; namelen = getD lens k 0; uidvalidity = v; uidnext = w; counterlow = low; counterhigh = high; name = name } ≡ getD l k noMailbox
+  row-stands k u v w low high name h p q r s t e =
       let fits = g .narrow k h in
+      let whole = g .laid .counter k h in
+      let fits-low = fits .low in
       let a : u ≡ getD l k noMailbox .id = p (rw (g .laid .id k h) (fits .id)) ∙ g .laid .id k h in
       let b = g .laid .attribute k h in
       let c = g .laid .len k h in
       let d : v ≡ getD l k noMailbox .uidvalidity = q (rw (g .laid .validity k h) (fits .validity)) ∙ g .laid .validity k h in
       let f : w ≡ getD l k noMailbox .uidnext = r (rw (g .laid .next k h) (fits .next)) ∙ g .laid .next k h in
+      let y : low ≡ getD l k noMailbox .counterlow = omega arith in
+      let z : high ≡ getD l k noMailbox .counterhigh = omega arith in
       let o = e ∙ g .laid .name k h in
-      rw (a, b, c, d, f, o)
+      rw (a, b, c, d, f, y, z, o)
 
   -- the first of them stand, where no UIDNEXT is behind them
-  pub stands-take : (n : ℕ) → ((k : ℕ) → n ≤ k → k < length l → getD l k noMailbox .uidnext ≡ 0) → Stands (take n l) ids attributes lens validities nexts names
+  pub stands-take : (n : ℕ) → ((k : ℕ) → n ≤ k → k < length l → getD l k noMailbox .uidnext ≡ 0) → Stands (take n l) ids attributes lens validities nexts counters names
   stands-take n z = record {
     laid = record {
       id = part (λ (x : Mailbox). x .id) ids (g .laid .id);
@@ -163,6 +172,7 @@ module _ {l : List Mailbox} {ids attributes lens validities nexts names : List �
       len = part (λ (x : Mailbox). x .namelen) lens (g .laid .len);
       validity = part (λ (x : Mailbox). x .uidvalidity) validities (g .laid .validity);
       next = part (λ (x : Mailbox). x .uidnext) nexts (g .laid .next);
+      counter = part counterOf counters (g .laid .counter);
       name = λ k h. (let t = long in g .laid .name k (omega arith) ∙ sym (ap (λ (x : Mailbox). x .name) (getD-take n l k noMailbox (omega arith))));
       rest = λ k h. go k h (ltb k (length l)) refl;
     };
@@ -204,7 +214,7 @@ none-at k h = let n = length-replicate 64 noMailbox in getD-replicate 64 k noMai
 zero-column : (f : Mailbox → ℕ) → 0 ≡ f noMailbox → Column f none-held (replicate 64 0)
 zero-column f e k h = zero-at 64 k ∙ (e ∙ ap f (sym (none-at k h)))
 
-stands-none : Stands none-held (replicate 64 0) (replicate 64 0) (replicate 64 0) (replicate 64 0) (replicate 64 0) (replicate 4096 0)
+stands-none : Stands none-held (replicate 64 0) (replicate 64 0) (replicate 64 0) (replicate 64 0) (replicate 64 0) (replicate 64 0) (replicate 4096 0)
 stands-none = record {
   laid = record {
     id = zero-column (λ (x : Mailbox). x .id) refl;
@@ -212,14 +222,15 @@ stands-none = record {
     len = zero-column (λ (x : Mailbox). x .namelen) refl;
     validity = zero-column (λ (x : Mailbox). x .uidvalidity) refl;
     next = zero-column (λ (x : Mailbox). x .uidnext) refl;
+    counter = zero-column counterOf refl;
     name = λ k h. (let n = length-replicate 64 noMailbox in zero-block k (omega arith) ∙ ap (λ (x : Mailbox). x .name) (sym (none-at k h)));
     rest = λ k h. zero-at 64 k;
   };
-  narrow = λ k h. rw (none-at k h) (record { id = lit< tt; validity = lit< tt; next = lit< tt });
+  narrow = λ k h. rw (none-at k h) (record { id = lit< tt; validity = lit< tt; next = lit< tt; low = lit< tt; high = lit< tt });
 }
 
-zeros-long : Long (replicate 64 0) (replicate 64 0) (replicate 64 0) (replicate 64 0) (replicate 64 0)
-zeros-long = let n = length-replicate {A = ℕ} 64 0 in record { many-ids = n; many-attributes = n; many-lens = n; many-validities = n; many-nexts = n }
+zeros-long : Long (replicate 64 0) (replicate 64 0) (replicate 64 0) (replicate 64 0) (replicate 64 0) (replicate 64 0)
+zeros-long = let n = length-replicate {A = ℕ} 64 0 in record { many-ids = n; many-attributes = n; many-lens = n; many-validities = n; many-nexts = n; many-counters = n }
 
 module _ (ys : List Mailbox) (used : ℕ) where
   abbrev many : ℕ
@@ -256,5 +267,5 @@ module _ (ys : List Mailbox) (used : ℕ) where
       ∙ (ap (λ (j : ℕ). getD none-held j noMailbox .uidnext) (sym e)
       ∙ ap (λ (x : Mailbox). x .uidnext) (none-at k (omega arith))))
 
-  pub stands-loaded : {a b c d e f : List ℕ} → Lays ys many (replicate 64 0) (replicate 64 0) (replicate 64 0) (replicate 64 0) (replicate 64 0) (replicate 4096 0) a b c d e f → Stands (take used (loaded ys)) a b c d e f
+  pub stands-loaded : {a b c d e j f : List ℕ} → Lays ys many (replicate 64 0) (replicate 64 0) (replicate 64 0) (replicate 64 0) (replicate 64 0) (replicate 64 0) (replicate 4096 0) a b c d e j f → Stands (take used (loaded ys)) a b c d e j f
   stands-loaded lays = rw (← laid-used) (stands-take (lays zeros-long .1 none-held (length-replicate 64 noMailbox) stands-none) used behind)

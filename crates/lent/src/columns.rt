@@ -20,10 +20,11 @@ pub fn keep(
     lens: &mut [u8; 64],
     validities: &mut [u64; 64],
     nexts: &mut [u64; 64],
+    counters: &mut [u64; 64],
     names: &mut [u8; 4096],
 )
     requires { ⌜ k < 64 ⌝ }
-    ensures { λ _. ⌜ Keeps k x (now (ids .entry)) (now (attributes .entry)) (now (lens .entry)) (now (validities .entry)) (now (nexts .entry)) (now (names .entry)) (now (ids .exit)) (now (attributes .exit)) (now (lens .exit)) (now (validities .exit)) (now (nexts .exit)) (now (names .exit)) ⌝ }
+    ensures { λ _. ⌜ Keeps k x (now (ids .entry)) (now (attributes .entry)) (now (lens .entry)) (now (validities .entry)) (now (nexts .entry)) (now (counters .entry)) (now (names .entry)) (now (ids .exit)) (now (attributes .exit)) (now (lens .exit)) (now (validities .exit)) (now (nexts .exit)) (now (counters .exit)) (now (names .exit)) ⌝ }
 {
     let name = x.name;
     ids[k] = rows::wide_id(x.id);
@@ -31,6 +32,7 @@ pub fn keep(
     lens[k] = x.namelen;
     validities[k] = rows::wide_number(x.uidvalidity);
     nexts[k] = rows::wide_number(x.uidnext);
+    counters[k] = rows::joined(x.counterlow, x.counterhigh);
     rows::keep_name(names, k, name);
 }
 
@@ -73,12 +75,13 @@ pub fn row_at(
     lens: &[u8; 64],
     validities: &[u64; 64],
     nexts: &[u64; 64],
+    counters: &[u64; 64],
     names: &[u8; 4096],
     n: usize,
     k: usize,
 ) -> Mailbox
     requires { ⌜ n ≤ 64 ⌝ }
-    ensures { λ r. ⌜ ((l : List Mailbox) → length l ≡ n → Stands l (now (ids .entry)) (now (attributes .entry)) (now (lens .entry)) (now (validities .entry)) (now (nexts .entry)) (now (names .entry)) → r ≡ getD l k noMailbox) ⌝ }
+    ensures { λ r. ⌜ ((l : List Mailbox) → length l ≡ n → Stands l (now (ids .entry)) (now (attributes .entry)) (now (lens .entry)) (now (validities .entry)) (now (nexts .entry)) (now (counters .entry)) (now (names .entry)) → r ≡ getD l k noMailbox) ⌝ }
 {
     if n <= k {
         return rows::vacant();
@@ -90,6 +93,8 @@ pub fn row_at(
         namelen: lens[k],
         uidvalidity: narrow_number(validities[k]),
         uidnext: narrow_number(nexts[k]),
+        counterlow: rows::low_half(counters[k]),
+        counterhigh: rows::high_half(counters[k]),
         name,
     }
 }

@@ -47,14 +47,25 @@ pub fn lay(
     lens: &mut [u8; 64],
     validities: &mut [u64; 64],
     nexts: &mut [u64; 64],
+    counters: &mut [u64; 64],
     names: &mut [u8; 4096],
 )
     requires { ⌜ (m ≤ length (now rows)) × (m ≤ 64) ⌝ }
-    ensures { λ _. ⌜ Lays (now (rows .entry)) m (now (ids .entry)) (now (attributes .entry)) (now (lens .entry)) (now (validities .entry)) (now (nexts .entry)) (now (names .entry)) (now (ids .exit)) (now (attributes .exit)) (now (lens .exit)) (now (validities .exit)) (now (nexts .exit)) (now (names .exit)) ⌝ }
+    ensures { λ _. ⌜ Lays (now (rows .entry)) m (now (ids .entry)) (now (attributes .entry)) (now (lens .entry)) (now (validities .entry)) (now (nexts .entry)) (now (counters .entry)) (now (names .entry)) (now (ids .exit)) (now (attributes .exit)) (now (lens .exit)) (now (validities .exit)) (now (nexts .exit)) (now (counters .exit)) (now (names .exit)) ⌝ }
 {
     let mut i = 0;
     while i < m {
-        columns::keep(rows[i], i, ids, attributes, lens, validities, nexts, names);
+        columns::keep(
+            rows[i],
+            i,
+            ids,
+            attributes,
+            lens,
+            validities,
+            nexts,
+            counters,
+            names,
+        );
         i += 1;
     }
 }

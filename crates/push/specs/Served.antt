@@ -47,10 +47,10 @@ sought Unknown i sel = i
 
 -- what a kind's function leaves, for every lawful memory whose words, counts, session, queue and used rows those are: v are the record's numbers, and what
 -- follows them stands from `tail` on; mailbox x at place k is the one that the record needs
-abbrev pub Serves : Kind → List ℕ → ℕ → ℕ → Mailbox → ℕ → List ℕ → List ℕ → List ℕ → List ℕ → List ℕ → List ℕ → List ℕ → Counts → Session → List ℕ → List ℕ → Came → List ℕ → List ℕ → Type 0
-Serves kind v tail k x lent ids attributes lens validities nexts names ws counts s q o z ws′ q′ =
+abbrev pub Serves : Kind → List ℕ → ℕ → ℕ → Mailbox → ℕ → List ℕ → List ℕ → List ℕ → List ℕ → List ℕ → List ℕ → List ℕ → List ℕ → Counts → Session → List ℕ → List ℕ → Came → List ℕ → List ℕ → Type 0
+Serves kind v tail k x lent ids attributes lens validities nexts counters names ws counts s q o z ws′ q′ =
     (m : Memory) → Lends m ws counts s q → Law m → length (m .rows) ≡ lent → Placed m (sought kind (getD v 0 0) (s .selected)) k x
-    → Laid (boxes m) ids attributes lens validities nexts names → Comes m (ladder m (recordOf o)) z ws ws′ q′
+    → Laid (boxes m) ids attributes lens validities nexts counters names → Comes m (ladder m (recordOf o)) z ws ws′ q′
 
 abbrev pub lentAs : List Mailbox → List ℕ → Counts → Session → List ℕ → Lent
 lentAs t ws k s q = record { table = t; words = ws; counts = k; session = s; queue = q }
@@ -62,9 +62,9 @@ Stepped rows lent ws k s q o r ws′ q′ =
     → Steps (lentAs t ws k s q) o (r .answer) (lentAs (changed (r .change) (r .at) (r .row) (k .mailboxes) t) ws′ (r .counts) (r .session) q′)
 
 -- the columns have the used rows of `rows`
-pub record Seen (rows : List Mailbox) (k : Counts) (ids attributes lens validities nexts names : List ℕ) : Type 0 where
+pub record Seen (rows : List Mailbox) (k : Counts) (ids attributes lens validities nexts counters names : List ℕ) : Type 0 where
   pub long : length rows ≡ 64
-  pub stands : Stands (take (k .mailboxes) rows) ids attributes lens validities nexts names
+  pub stands : Stands (take (k .mailboxes) rows) ids attributes lens validities nexts counters names
 
 pub comes-steps : (t : List Mailbox) (ws : List ℕ) (k : Counts) (s : Session) (q o : List ℕ) (r : Came) (ws′ q′ : List ℕ)
     → Comes (memory t (messages ws) k s q) (call (memory t (messages ws) k s q) o) r ws ws′ q′
@@ -98,7 +98,7 @@ module _ (rows : List Mailbox) (lent : ℕ) (ws : List ℕ) (k : Counts) (s : Se
   lends t = record { entries = refl; counts = refl; session = refl; queue = refl }
 
   -- lawful memory is ready
-  pub law-ready : length rows ≡ 64 → ((t : List Mailbox) → Rows t rows lent → lawful (mem t) ≡ true) → Ready ws k s q × (length ws / 5 ≤ 1024)
+  pub law-ready : length rows ≡ 64 → ((t : List Mailbox) → Rows t rows lent → lawful (mem t) ≡ true) → Ready ws k s q × (length ws / 6 ≤ 1024)
   law-ready e h =
       let w = some-rows rows lent e in
       let law = law-out (mem (w .0)) (h (w .0) (w .1)) in
@@ -124,9 +124,9 @@ module _ (rows : List Mailbox) (lent : ℕ) (ws : List ℕ) (k : Counts) (s : Se
         let l = w .long in
         ap (take (k .mailboxes)) (w .read (omega arith)) ∙ take-take (k .mailboxes) lent rows (omega arith)
 
-    module _ {ids attributes lens validities nexts names ws′ q′ : List ℕ} (stands : Stands (take (k .mailboxes) rows) ids attributes lens validities nexts names) where
+    module _ {ids attributes lens validities nexts counters names ws′ q′ : List ℕ} (stands : Stands (take (k .mailboxes) rows) ids attributes lens validities nexts counters names) where
       pub steps-served : ((t : List Mailbox) → Rows t rows lent → true ≡ lawful (mem t)) → isRecord o ≡ true
-          → ((m : Memory) → Lends m ws k s q → Law m → length (m .rows) ≡ lent → Stands (boxes m) ids attributes lens validities nexts names → Comes m (ladder m (recordOf o)) r ws ws′ q′)
+          → ((m : Memory) → Lends m ws k s q → Law m → length (m .rows) ≡ lent → Stands (boxes m) ids attributes lens validities nexts counters names → Comes m (ladder m (recordOf o)) r ws ws′ q′)
           → Stepped rows lent ws k s q o r ws′ q′
       steps-served h b f = λ t w.
           let law = law-out (mem t) (sym (h t w)) in

@@ -19,7 +19,7 @@ pub record Lent : Type 0 where
   pub session : Session
   pub queue : List ℕ
 
--- the memory that the rules speak of: five words make an entry
+-- the memory that the rules speak of: six words make an entry
 abbrev pub memoryOf : Lent → Memory
 memoryOf a = record { rows = a .table; entries = messages (a .words); counts = a .counts; session = a .session; queue = a .queue }
 

@@ -61,6 +61,7 @@ fn dispatch(
     lens: &[u8; 64],
     validities: &[u64; 64],
     nexts: &[u64; 64],
+    counters: &[u64; 64],
     names: &[u8; 4096],
     words: &mut [u64],
     counts: Counts,
@@ -68,13 +69,14 @@ fn dispatch(
     queue: &mut [u8],
     octets: &[u8],
 ) -> Outcome
-    requires { ⌜ Ready (now words) counts s (now queue) × (length (now words) / 5 ≤ 1024) × Says kind (now octets) v tail × (kindFor kind ≡ kindOf (now octets)) ⌝ }
-    ensures { λ z. ⌜ Serves kind v tail k x lent (now (ids .entry)) (now (attributes .entry)) (now (lens .entry)) (now (validities .entry)) (now (nexts .entry)) (now (names .entry)) (now (words .entry)) counts s (now (queue .entry)) (now (octets .entry)) z (now (words .exit)) (now (queue .exit)) ⌝ }
+    requires { ⌜ Ready (now words) counts s (now queue) × (length (now words) / 6 ≤ 1024) × Says kind (now octets) v tail × (kindFor kind ≡ kindOf (now octets)) ⌝ }
+    ensures { λ z. ⌜ Serves kind v tail k x lent (now (ids .entry)) (now (attributes .entry)) (now (lens .entry)) (now (validities .entry)) (now (nexts .entry)) (now (counters .entry)) (now (names .entry)) (now (words .entry)) counts s (now (queue .entry)) (now (octets .entry)) z (now (words .exit)) (now (queue .exit)) ⌝ }
 {
     let a = v[0];
     let b = v[1];
     let c = v[2];
     let d = v[3];
+    let e = v[4];
     match kind {
         Kind::Create => mailbox_records::creating::create(
             queue,
@@ -89,6 +91,7 @@ fn dispatch(
             b,
             c,
             d,
+            e,
             &octets[tail..],
         ),
         Kind::Delete => mailbox_records::deleting::delete(words, queue, counts, s, k, x, a, b),
@@ -116,9 +119,9 @@ fn dispatch(
             c,
         ),
         Kind::Grant => mailbox_records::rights::grant(queue, counts, s, k, x, a, b),
-        Kind::Arrive => message_records::arrive(words, queue, counts, s, k, x, a, Uid(b), c, d),
-        Kind::Expunge => message_records::expunge(words, queue, counts, s, k, x, a, Uid(b)),
-        Kind::Reflag => message_records::flag(words, queue, counts, s, k, x, a, Uid(b), c),
+        Kind::Arrive => message_records::arrive(words, queue, counts, s, k, x, a, Uid(b), c, d, e),
+        Kind::Expunge => message_records::expunge(words, queue, counts, s, k, x, a, Uid(b), c),
+        Kind::Reflag => message_records::flag(words, queue, counts, s, k, x, a, Uid(b), c, d),
         Kind::Select => session_records::select(words, counts, s, k, x, a),
         Kind::Ended => session_records::end_command(words, queue, counts, s, x, a),
         Kind::Command => command_records::answer(
@@ -131,6 +134,7 @@ fn dispatch(
             lens,
             validities,
             nexts,
+            counters,
             names,
             x,
             &octets[tail..],
@@ -148,6 +152,7 @@ fn serve(
     lens: &[u8; 64],
     validities: &[u64; 64],
     nexts: &[u64; 64],
+    counters: &[u64; 64],
     names: &[u8; 4096],
     words: &mut [u64],
     counts: Counts,
@@ -156,8 +161,8 @@ fn serve(
     octets: &[u8],
     r: Received,
 ) -> Outcome
-    requires { ⌜ Ready (now words) counts s (now queue) × (length (now words) / 5 ≤ 1024) × Reads (now octets) r × (r .valid ≡ true) ⌝ }
-    ensures { λ z. ⌜ ((m : Memory) → Lends m (now (words .entry)) counts s (now (queue .entry)) → Law m → length (m .rows) ≡ lent → Stands (boxes m) (now (ids .entry)) (now (attributes .entry)) (now (lens .entry)) (now (validities .entry)) (now (nexts .entry)) (now (names .entry)) → Comes m (ladder m (recordOf (now (octets .entry)))) z (now (words .entry)) (now (words .exit)) (now (queue .exit))) ⌝ }
+    requires { ⌜ Ready (now words) counts s (now queue) × (length (now words) / 6 ≤ 1024) × Reads (now octets) r × (r .valid ≡ true) ⌝ }
+    ensures { λ z. ⌜ ((m : Memory) → Lends m (now (words .entry)) counts s (now (queue .entry)) → Law m → length (m .rows) ≡ lent → Stands (boxes m) (now (ids .entry)) (now (attributes .entry)) (now (lens .entry)) (now (validities .entry)) (now (nexts .entry)) (now (counters .entry)) (now (names .entry)) → Comes m (ladder m (recordOf (now (octets .entry)))) z (now (words .entry)) (now (words .exit)) (now (queue .exit))) ⌝ }
 {
     let n = counts.mailboxes as usize;
     let values = r.values;
@@ -165,7 +170,17 @@ fn serve(
     let kind = r.kind;
     let id = sought_id(kind, values[0], s.selected);
     let k = rows::find(ids, n, id);
-    let x = lent::columns::row_at(ids, attributes, lens, validities, nexts, names, n, k);
+    let x = lent::columns::row_at(
+        ids,
+        attributes,
+        lens,
+        validities,
+        nexts,
+        counters,
+        names,
+        n,
+        k,
+    );
     dispatch(
         kind,
         values,
@@ -178,6 +193,7 @@ fn serve(
         lens,
         validities,
         nexts,
+        counters,
         names,
         words,
         counts,
@@ -197,6 +213,7 @@ pub fn decide(
     lens: &[u8; 64],
     validities: &[u64; 64],
     nexts: &[u64; 64],
+    counters: &[u64; 64],
     names: &[u8; 4096],
     words: &mut [u64],
     counts: Counts,
@@ -204,8 +221,8 @@ pub fn decide(
     queue: &mut [u8],
     octets: &[u8],
 ) -> Outcome
-    requires { ⌜ ((rows : List Mailbox) × Seen rows counts (now ids) (now attributes) (now lens) (now validities) (now nexts) (now names)) ⌝ }
-    ensures { λ r. ⌜ ((rows : List Mailbox) → Seen rows counts (now (ids .entry)) (now (attributes .entry)) (now (lens .entry)) (now (validities .entry)) (now (nexts .entry)) (now (names .entry)) → Stepped rows lent (now (words .entry)) counts s (now (queue .entry)) (now (octets .entry)) r (now (words .exit)) (now (queue .exit))) ⌝ }
+    requires { ⌜ ((rows : List Mailbox) × Seen rows counts (now ids) (now attributes) (now lens) (now validities) (now nexts) (now counters) (now names)) ⌝ }
+    ensures { λ r. ⌜ ((rows : List Mailbox) → Seen rows counts (now (ids .entry)) (now (attributes .entry)) (now (lens .entry)) (now (validities .entry)) (now (nexts .entry)) (now (counters .entry)) (now (names .entry)) → Stepped rows lent (now (words .entry)) counts s (now (queue .entry)) (now (octets .entry)) r (now (words .exit)) (now (queue .exit))) ⌝ }
 {
     let room = queue.len();
     if !lawful::is_lawful(
@@ -214,6 +231,7 @@ pub fn decide(
         lens,
         validities,
         nexts,
+        counters,
         names,
         lent,
         words,
@@ -234,6 +252,7 @@ pub fn decide(
         lens,
         validities,
         nexts,
+        counters,
         names,
         words,
         counts,
@@ -261,6 +280,7 @@ pub fn step(
     let mut lens = [0u8; 64];
     let mut validities = [0u64; 64];
     let mut nexts = [0u64; 64];
+    let mut counters = [0u64; 64];
     let mut names = [0u8; 4096];
     rows::lay(
         table,
@@ -270,6 +290,7 @@ pub fn step(
         &mut lens,
         &mut validities,
         &mut nexts,
+        &mut counters,
         &mut names,
     );
     decide(
@@ -279,6 +300,7 @@ pub fn step(
         &lens,
         &validities,
         &nexts,
+        &counters,
         &names,
         words,
         counts,

@@ -6,7 +6,7 @@ ghost use mathlib.Core.Path.{_≡_};
 ghost use Prim.Native.Nat.{_+_, _≤_, _<_};
 ghost use lib.ListN.{length};
 
-const WORDS: usize = 5120;
+const WORDS: usize = 6144;
 
 const QUEUE: usize = 8192;
 

@@ -149,7 +149,7 @@ module _ {stream all q₀ q : List ℕ} {at : ℕ} {m : Memory} {i : ℕ} (g : R
 
 -- ---- the start
 -- words of zeros are entries of zeros
-zeros : (n k : ℕ) → k ≡ n * 5 → messages (replicate k 0) ≡ replicate n noMessage
+zeros : (n k : ℕ) → k ≡ n * 6 → messages (replicate k 0) ≡ replicate n noMessage
 unfolding messages
 zeros zero k e = rw e
 zeros (suc n) zero e = absurd (let z : ⊥ = omega arith in z)
@@ -157,9 +157,10 @@ zeros (suc n) (suc zero) e = absurd (let z : ⊥ = omega arith in z)
 zeros (suc n) (suc (suc zero)) e = absurd (let z : ⊥ = omega arith in z)
 zeros (suc n) (suc (suc (suc zero))) e = absurd (let z : ⊥ = omega arith in z)
 zeros (suc n) (suc (suc (suc (suc zero)))) e = absurd (let z : ⊥ = omega arith in z)
-zeros (suc n) (suc (suc (suc (suc (suc k))))) e = ap (λ (l : List Message). noMessage ∷ l) (zeros n k (omega arith))
+zeros (suc n) (suc (suc (suc (suc (suc zero))))) e = absurd (let z : ⊥ = omega arith in z)
+zeros (suc n) (suc (suc (suc (suc (suc (suc k)))))) e = ap (λ (l : List Message). noMessage ∷ l) (zeros n k (omega arith))
 
-pub start-is : (s : List ℕ) → printed (standing (replicate 64 noMailbox) noCounts noSession (replicate 5120 0) (replicate 8192 0)) (recordsOf s) ≡ pushrun s
+pub start-is : (s : List ℕ) → printed (standing (replicate 64 noMailbox) noCounts noSession (replicate 6144 0) (replicate 8192 0)) (recordsOf s) ≡ pushrun s
 start-is s =
     ap (λ (es : List Message). printed (record { rows = replicate 64 noMailbox; entries = es; counts = noCounts; session = noSession; queue = replicate 8192 0 }) (recordsOf s))
-    (zeros 1024 5120 refl)
+    (zeros 1024 6144 refl)

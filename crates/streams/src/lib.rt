@@ -255,7 +255,7 @@ pub fn run(stream: &[u8], out: &mut [u8]) -> usize
     if 4294967296 <= stream.len() {
         return 0;
     }
-    let mut words = [0u64; 5120];
+    let mut words = [0u64; 6144];
     let mut queue = [0u8; 8192];
     walk(stream, &mut words, &mut queue, out)
 }

@@ -20,7 +20,7 @@ const CALL: usize = 70000;
 
 const QUEUE: usize = 65600;
 
-const WORDS: usize = 5200;
+const WORDS: usize = 6240;
 
 fn print(text: &[u8]) {
     io::write_all(1, text);
@@ -101,7 +101,7 @@ fn run_case(lent: usize, entries: usize, room: usize, calls: u64) -> u64
     let mut queue = [0u8; QUEUE];
     let mut octets = [0u8; CALL];
     let mut wanted = [0u8; QUEUE];
-    let n = entries * 5;
+    let n = entries * 6;
     run_calls(
         lent,
         calls,

@@ -7,7 +7,7 @@ use outcomes::Outcome;
 ghost use mathlib.Core.Path.{_≡_};
 ghost use Rattle.model.specs.Answers.{refusalNumber};
 ghost use Rattle.written.specs.Numbers.{numbersOf};
-ghost use Rattle.written.specs.Places.{lastOf, putAt, movedFrom, leftRow};
+ghost use Rattle.written.specs.Places.{lastOf, putAt, movedFrom, written, leftRow};
 
 // ---- the answer
 
@@ -106,14 +106,21 @@ pub fn moved_from(out: Outcome, k: usize, lent: usize) -> usize
     }
 }
 
+// What becomes of the row: it stays as it is, or is zeros where it is taken out.
+fn left_of(change: Change, row: Mailbox) -> Mailbox
+    ensures { λ r. ⌜ r ≡ written change row ⌝ }
+{
+    match change {
+        Change::Nothing => row,
+        Change::Put => row,
+        Change::Taken => rows::vacant(),
+    }
+}
+
 // What is written there: the row that is put, or zeros, where one is taken out.
 pub fn left_row(out: Outcome) -> Mailbox
     ensures { λ r. ⌜ r ≡ leftRow out ⌝ }
 {
     let change = out.change;
-    match change {
-        Change::Nothing => out.row,
-        Change::Put => out.row,
-        Change::Taken => rows::vacant(),
-    }
+    left_of(change, out.row)
 }

@@ -1,4 +1,4 @@
--- `exported::served` meets its contract: a walk of its MIR, by hand, with three calls and no branch. The six columns stand in locals, which are lent by `&mut` to `lay` and by `&` to `push::decide`, each for a lifetime of the call.
+-- `exported::served` meets its contract: a walk of its MIR, by hand, with three calls and no branch. The seven columns stand in locals, which are lent by `&mut` to `lay` and by `&` to `push::decide`, each for a lifetime of the call.
 -- The rows' reference is copied for `lay`, and the words and the queue go to `decide` for good. Positions are written by a script (walkgen of the recipe). Assumes nothing.
 use mathlib.Core.Path.{_≡_, refl, ap, subst}
 use mathlib.Core.List.{[], _∷_, List}
@@ -216,54 +216,54 @@ module _ {M : Type 1} (𝓤 : URA M) (H : Heap 𝓤) (A : Atoms 𝓤) (W : Given
   few m e = (omega (arith, e), omega (arith, e))
 
   -- the columns laid out are those of the table
-  seen : (m : ℕ) (c₁ c₂ c₃ c₄ c₅ c₆ : List ℕ) → m ≡ within used n → Lays ys m (zeros 64) (zeros 64) (zeros 64) (zeros 64) (zeros 64) (zeros 4096) c₁ c₂ c₃ c₄ c₅ c₆ → Seen (loaded ys) cs c₁ c₂ c₃ c₄ c₅ c₆
+  seen : (m : ℕ) (c₁ c₂ c₃ c₄ c₅ c₆ c₇ : List ℕ) → m ≡ within used n → Lays ys m (zeros 64) (zeros 64) (zeros 64) (zeros 64) (zeros 64) (zeros 64) (zeros 4096) c₁ c₂ c₃ c₄ c₅ c₆ c₇ → Seen (loaded ys) cs c₁ c₂ c₃ c₄ c₅ c₆ c₇
   unfolding zeros
-  seen m c₁ c₂ c₃ c₄ c₅ c₆ e lays = record { long = loaded-length ys; stands = stands-loaded ys used (subst (λ (k : ℕ). Lays ys k (replicate 64 0) (replicate 64 0) (replicate 64 0) (replicate 64 0) (replicate 64 0) (replicate 4096 0) c₁ c₂ c₃ c₄ c₅ c₆) e lays) }
+  seen m c₁ c₂ c₃ c₄ c₅ c₆ c₇ e lays = record { long = loaded-length ys; stands = stands-loaded ys used (subst (λ (k : ℕ). Lays ys k (replicate 64 0) (replicate 64 0) (replicate 64 0) (replicate 64 0) (replicate 64 0) (replicate 64 0) (replicate 4096 0) c₁ c₂ c₃ c₄ c₅ c₆ c₇) e lays) }
 
-  module _ (l₉ l₁₀ l₁₁ l₁₂ l₁₃ l₁₄ : ℕ) (ν₁ ν₂ ν₃ ν₄ ν₅ ν₆ : ℕ) (δ₁ δ₂ δ₃ δ₄ δ₅ δ₆ : GName) (m : ℕ) where
-    abbrev lent-lay : RefT (List Mailbox) × (ℕ × (RefT (List ℕ) × (RefT (List ℕ) × (RefT (List ℕ) × (RefT (List ℕ) × (RefT (List ℕ) × (RefT (List ℕ) × Unit {0})))))))
-    lent-lay = (xt, (m, (ref l₉ δ₁ (zeros 64), (ref l₁₀ δ₂ (zeros 64), (ref l₁₁ δ₃ (zeros 64), (ref l₁₂ δ₄ (zeros 64), (ref l₁₃ δ₅ (zeros 64), (ref l₁₄ δ₆ (zeros 4096), tt))))))))
+  module _ (l₉ l₁₀ l₁₁ l₁₂ l₁₃ l₁₄ l₁₅ : ℕ) (ν₁ ν₂ ν₃ ν₄ ν₅ ν₆ ν₇ : ℕ) (δ₁ δ₂ δ₃ δ₄ δ₅ δ₆ δ₇ : GName) (m : ℕ) where
+    abbrev lent-lay : RefT (List Mailbox) × (ℕ × (RefT (List ℕ) × (RefT (List ℕ) × (RefT (List ℕ) × (RefT (List ℕ) × (RefT (List ℕ) × (RefT (List ℕ) × (RefT (List ℕ) × Unit {0}))))))))
+    lent-lay = (xt, (m, (ref l₉ δ₁ (zeros 64), (ref l₁₀ δ₂ (zeros 64), (ref l₁₁ δ₃ (zeros 64), (ref l₁₂ δ₄ (zeros 64), (ref l₁₃ δ₅ (zeros 64), (ref l₁₄ δ₆ (zeros 64), (ref l₁₅ δ₇ (zeros 4096), tt)))))))))
 
     abbrev to-lay : Lay 𝓤 H A at-mem run .Ghost
-    to-lay = (((κ, (ν₁ ∷ [], (ν₂ ∷ [], (ν₃ ∷ [], (ν₄ ∷ [], (ν₅ ∷ [], (ν₆ ∷ [], tt))))))), (q, (fullShare, (fullShare, (fullShare, (fullShare, (fullShare, (fullShare, tt))))))), tt, lent-lay, (s ∷ [], (vint w64 m ∷ [], (vptr l₉ 0 ∷ [], (vptr l₁₀ 0 ∷ [], (vptr l₁₁ 0 ∷ [], (vptr l₁₂ 0 ∷ [], (vptr l₁₃ 0 ∷ [], (vptr l₁₄ 0 ∷ [], tt))))))))), tt)
+    to-lay = (((κ, (ν₁ ∷ [], (ν₂ ∷ [], (ν₃ ∷ [], (ν₄ ∷ [], (ν₅ ∷ [], (ν₆ ∷ [], (ν₇ ∷ [], tt)))))))), (q, (fullShare, (fullShare, (fullShare, (fullShare, (fullShare, (fullShare, (fullShare, tt)))))))), tt, lent-lay, (s ∷ [], (vint w64 m ∷ [], (vptr l₉ 0 ∷ [], (vptr l₁₀ 0 ∷ [], (vptr l₁₁ 0 ∷ [], (vptr l₁₂ 0 ∷ [], (vptr l₁₃ 0 ∷ [], (vptr l₁₄ 0 ∷ [], (vptr l₁₅ 0 ∷ [], tt)))))))))), tt)
 
-    goes-lay : m < 2 ^ 64 → (m ≤ n) × (m ≤ 64) → ent 𝓤 (⋆ 𝓤 H A (‵ (flft κ q) ∷ ‵ (flft (ν₁ ∷ []) fullShare) ∷ ‵ (flft (ν₂ ∷ []) fullShare) ∷ ‵ (flft (ν₃ ∷ []) fullShare) ∷ ‵ (flft (ν₄ ∷ []) fullShare) ∷ ‵ (flft (ν₅ ∷ []) fullShare) ∷ ‵ (flft (ν₆ ∷ []) fullShare) ∷ ‵ Own ∷ ‵ (MutRef (named 1) (ν₁ ∷ []) (Array u64 64) .own (ref l₉ δ₁ (zeros 64)) (vptr l₉ 0 ∷ [])) ∷ ‵ (MutRef (named 2) (ν₂ ∷ []) (Array u8 64) .own (ref l₁₀ δ₂ (zeros 64)) (vptr l₁₀ 0 ∷ [])) ∷ ‵ (MutRef (named 3) (ν₃ ∷ []) (Array u8 64) .own (ref l₁₁ δ₃ (zeros 64)) (vptr l₁₁ 0 ∷ [])) ∷ ‵ (MutRef (named 4) (ν₄ ∷ []) (Array u64 64) .own (ref l₁₂ δ₄ (zeros 64)) (vptr l₁₂ 0 ∷ [])) ∷ ‵ (MutRef (named 5) (ν₅ ∷ []) (Array u64 64) .own (ref l₁₃ δ₅ (zeros 64)) (vptr l₁₃ 0 ∷ [])) ∷ ‵ (MutRef (named 6) (ν₆ ∷ []) (Array u8 4096) .own (ref l₁₄ δ₆ (zeros 4096)) (vptr l₁₄ 0 ∷ [])) ∷ [])) (Lay 𝓤 H A at-mem run .pre to-lay)
+    goes-lay : m < 2 ^ 64 → (m ≤ n) × (m ≤ 64) → ent 𝓤 (⋆ 𝓤 H A (‵ (flft κ q) ∷ ‵ (flft (ν₁ ∷ []) fullShare) ∷ ‵ (flft (ν₂ ∷ []) fullShare) ∷ ‵ (flft (ν₃ ∷ []) fullShare) ∷ ‵ (flft (ν₄ ∷ []) fullShare) ∷ ‵ (flft (ν₅ ∷ []) fullShare) ∷ ‵ (flft (ν₆ ∷ []) fullShare) ∷ ‵ (flft (ν₇ ∷ []) fullShare) ∷ ‵ Own ∷ ‵ (MutRef (named 1) (ν₁ ∷ []) (Array u64 64) .own (ref l₉ δ₁ (zeros 64)) (vptr l₉ 0 ∷ [])) ∷ ‵ (MutRef (named 2) (ν₂ ∷ []) (Array u8 64) .own (ref l₁₀ δ₂ (zeros 64)) (vptr l₁₀ 0 ∷ [])) ∷ ‵ (MutRef (named 3) (ν₃ ∷ []) (Array u8 64) .own (ref l₁₁ δ₃ (zeros 64)) (vptr l₁₁ 0 ∷ [])) ∷ ‵ (MutRef (named 4) (ν₄ ∷ []) (Array u64 64) .own (ref l₁₂ δ₄ (zeros 64)) (vptr l₁₂ 0 ∷ [])) ∷ ‵ (MutRef (named 5) (ν₅ ∷ []) (Array u64 64) .own (ref l₁₃ δ₅ (zeros 64)) (vptr l₁₃ 0 ∷ [])) ∷ ‵ (MutRef (named 6) (ν₆ ∷ []) (Array u64 64) .own (ref l₁₄ δ₆ (zeros 64)) (vptr l₁₄ 0 ∷ [])) ∷ ‵ (MutRef (named 7) (ν₇ ∷ []) (Array u8 4096) .own (ref l₁₅ δ₇ (zeros 4096)) (vptr l₁₅ 0 ∷ [])) ∷ [])) (Lay 𝓤 H A at-mem run .pre to-lay)
     goes-lay fits within′ =
-        qed W (‵ (flft κ q) ∷ ‵ (flft (ν₁ ∷ []) fullShare) ∷ ‵ (flft (ν₂ ∷ []) fullShare) ∷ ‵ (flft (ν₃ ∷ []) fullShare) ∷ ‵ (flft (ν₄ ∷ []) fullShare) ∷ ‵ (flft (ν₅ ∷ []) fullShare) ∷ ‵ (flft (ν₆ ∷ []) fullShare) ∷ ‵ Own ∷ ‵ (MutRef (named 1) (ν₁ ∷ []) (Array u64 64) .own (ref l₉ δ₁ (zeros 64)) (vptr l₉ 0 ∷ [])) ∷ ‵ (MutRef (named 2) (ν₂ ∷ []) (Array u8 64) .own (ref l₁₀ δ₂ (zeros 64)) (vptr l₁₀ 0 ∷ [])) ∷ ‵ (MutRef (named 3) (ν₃ ∷ []) (Array u8 64) .own (ref l₁₁ δ₃ (zeros 64)) (vptr l₁₁ 0 ∷ [])) ∷ ‵ (MutRef (named 4) (ν₄ ∷ []) (Array u64 64) .own (ref l₁₂ δ₄ (zeros 64)) (vptr l₁₂ 0 ∷ [])) ∷ ‵ (MutRef (named 5) (ν₅ ∷ []) (Array u64 64) .own (ref l₁₃ δ₅ (zeros 64)) (vptr l₁₃ 0 ∷ [])) ∷ ‵ (MutRef (named 6) (ν₆ ∷ []) (Array u8 4096) .own (ref l₁₄ δ₆ (zeros 4096)) (vptr l₁₄ 0 ∷ [])) ∷ []) ∵ says ! within′ $
-        nothing ! $ move ! (7 ∷ 0 ∷ []) $ join ! $ move ! (6 ∷ 0 ∷ []) $ join ! $ move ! (5 ∷ 0 ∷ []) $ join ! $ move ! (4 ∷ 0 ∷ []) $ join ! $ move ! (3 ∷ 0 ∷ []) $ join ! $ move ! (2 ∷ 0 ∷ []) $ join ! $ move ! (1 ∷ 0 ∷ []) $ join ! $
-        nothing ! $ move ! (8 ∷ 0 ∷ []) $ fjoin ! $ move ! (7 ∷ 0 ∷ []) $ fjoin ! $ move ! (6 ∷ 0 ∷ []) $ fjoin ! $ move ! (5 ∷ 0 ∷ []) $ fjoin ! $ move ! (4 ∷ 0 ∷ []) $ fjoin ! $ move ! (3 ∷ 0 ∷ []) $ fjoin ! $ owned ! usize (Is usize) (uint-makes 𝓤 H A W w64) m _ (refl, fits) $ fjoin ! $ move ! (2 ∷ 0 ∷ []) $ fjoin ! $ move ! (1 ∷ 0 ∷ []) $ join ! $ done !
+        qed W (‵ (flft κ q) ∷ ‵ (flft (ν₁ ∷ []) fullShare) ∷ ‵ (flft (ν₂ ∷ []) fullShare) ∷ ‵ (flft (ν₃ ∷ []) fullShare) ∷ ‵ (flft (ν₄ ∷ []) fullShare) ∷ ‵ (flft (ν₅ ∷ []) fullShare) ∷ ‵ (flft (ν₆ ∷ []) fullShare) ∷ ‵ (flft (ν₇ ∷ []) fullShare) ∷ ‵ Own ∷ ‵ (MutRef (named 1) (ν₁ ∷ []) (Array u64 64) .own (ref l₉ δ₁ (zeros 64)) (vptr l₉ 0 ∷ [])) ∷ ‵ (MutRef (named 2) (ν₂ ∷ []) (Array u8 64) .own (ref l₁₀ δ₂ (zeros 64)) (vptr l₁₀ 0 ∷ [])) ∷ ‵ (MutRef (named 3) (ν₃ ∷ []) (Array u8 64) .own (ref l₁₁ δ₃ (zeros 64)) (vptr l₁₁ 0 ∷ [])) ∷ ‵ (MutRef (named 4) (ν₄ ∷ []) (Array u64 64) .own (ref l₁₂ δ₄ (zeros 64)) (vptr l₁₂ 0 ∷ [])) ∷ ‵ (MutRef (named 5) (ν₅ ∷ []) (Array u64 64) .own (ref l₁₃ δ₅ (zeros 64)) (vptr l₁₃ 0 ∷ [])) ∷ ‵ (MutRef (named 6) (ν₆ ∷ []) (Array u64 64) .own (ref l₁₄ δ₆ (zeros 64)) (vptr l₁₄ 0 ∷ [])) ∷ ‵ (MutRef (named 7) (ν₇ ∷ []) (Array u8 4096) .own (ref l₁₅ δ₇ (zeros 4096)) (vptr l₁₅ 0 ∷ [])) ∷ []) ∵ says ! within′ $
+        nothing ! $ move ! (8 ∷ 0 ∷ []) $ join ! $ move ! (7 ∷ 0 ∷ []) $ join ! $ move ! (6 ∷ 0 ∷ []) $ join ! $ move ! (5 ∷ 0 ∷ []) $ join ! $ move ! (4 ∷ 0 ∷ []) $ join ! $ move ! (3 ∷ 0 ∷ []) $ join ! $ move ! (2 ∷ 0 ∷ []) $ join ! $ move ! (1 ∷ 0 ∷ []) $ join ! $
+        nothing ! $ move ! (9 ∷ 0 ∷ []) $ fjoin ! $ move ! (8 ∷ 0 ∷ []) $ fjoin ! $ move ! (7 ∷ 0 ∷ []) $ fjoin ! $ move ! (6 ∷ 0 ∷ []) $ fjoin ! $ move ! (5 ∷ 0 ∷ []) $ fjoin ! $ move ! (4 ∷ 0 ∷ []) $ fjoin ! $ move ! (3 ∷ 0 ∷ []) $ fjoin ! $ owned ! usize (Is usize) (uint-makes 𝓤 H A W w64) m _ (refl, fits) $ fjoin ! $ move ! (2 ∷ 0 ∷ []) $ fjoin ! $ move ! (1 ∷ 0 ∷ []) $ join ! $ done !
 
-  module _ (l₉ l₁₀ l₁₁ l₁₂ l₁₃ l₁₄ : ℕ) (ν₁ ν₂ ν₃ ν₄ ν₅ ν₆ : ℕ) (δ₁ δ₂ δ₃ δ₄ δ₅ δ₆ : GName) (c₁ c₂ c₃ c₄ c₅ c₆ : List ℕ) where
-    abbrev lent-decide : ℕ × (RefT (List ℕ) × (RefT (List ℕ) × (RefT (List ℕ) × (RefT (List ℕ) × (RefT (List ℕ) × (RefT (List ℕ) × (RefT (List ℕ) × (Counts × (Session × (RefT (List ℕ) × (RefT (List ℕ) × Unit {0})))))))))))
-    lent-decide = (n, (ref l₉ δ₁ c₁, (ref l₁₀ δ₂ c₂, (ref l₁₁ δ₃ c₃, (ref l₁₂ δ₄ c₄, (ref l₁₃ δ₅ c₅, (ref l₁₄ δ₆ c₆, (xw, (cs, (h, (xq, (xr, tt))))))))))))
+  module _ (l₉ l₁₀ l₁₁ l₁₂ l₁₃ l₁₄ l₁₅ : ℕ) (ν₁ ν₂ ν₃ ν₄ ν₅ ν₆ ν₇ : ℕ) (δ₁ δ₂ δ₃ δ₄ δ₅ δ₆ δ₇ : GName) (c₁ c₂ c₃ c₄ c₅ c₆ c₇ : List ℕ) where
+    abbrev lent-decide : ℕ × (RefT (List ℕ) × (RefT (List ℕ) × (RefT (List ℕ) × (RefT (List ℕ) × (RefT (List ℕ) × (RefT (List ℕ) × (RefT (List ℕ) × (RefT (List ℕ) × (Counts × (Session × (RefT (List ℕ) × (RefT (List ℕ) × Unit {0}))))))))))))
+    lent-decide = (n, (ref l₉ δ₁ c₁, (ref l₁₀ δ₂ c₂, (ref l₁₁ δ₃ c₃, (ref l₁₂ δ₄ c₄, (ref l₁₃ δ₅ c₅, (ref l₁₄ δ₆ c₆, (ref l₁₅ δ₇ c₇, (xw, (cs, (h, (xq, (xr, tt)))))))))))))
 
     abbrev to-decide : Decide 𝓤 H A at-mem run .Ghost
-    to-decide = (((ν₁ ∷ [], (ν₂ ∷ [], (ν₃ ∷ [], (ν₄ ∷ [], (ν₅ ∷ [], (ν₆ ∷ [], (κ₁, (κ₂, (κ₃, tt))))))))), (fullShare, (fullShare, (fullShare, (fullShare, (fullShare, (fullShare, (q₁, (q₂, (q₃, tt))))))))), tt, lent-decide, (vint w64 n ∷ [], (vptr l₉ 0 ∷ [], (vptr l₁₀ 0 ∷ [], (vptr l₁₁ 0 ∷ [], (vptr l₁₂ 0 ∷ [], (vptr l₁₃ 0 ∷ [], (vptr l₁₄ 0 ∷ [], (sw ∷ [], (valN cs ∷ [], (valS h ∷ [], (sq ∷ [], (sr ∷ [], tt))))))))))))), tt)
+    to-decide = (((ν₁ ∷ [], (ν₂ ∷ [], (ν₃ ∷ [], (ν₄ ∷ [], (ν₅ ∷ [], (ν₆ ∷ [], (ν₇ ∷ [], (κ₁, (κ₂, (κ₃, tt)))))))))), (fullShare, (fullShare, (fullShare, (fullShare, (fullShare, (fullShare, (fullShare, (q₁, (q₂, (q₃, tt)))))))))), tt, lent-decide, (vint w64 n ∷ [], (vptr l₉ 0 ∷ [], (vptr l₁₀ 0 ∷ [], (vptr l₁₁ 0 ∷ [], (vptr l₁₂ 0 ∷ [], (vptr l₁₃ 0 ∷ [], (vptr l₁₄ 0 ∷ [], (vptr l₁₅ 0 ∷ [], (sw ∷ [], (valN cs ∷ [], (valS h ∷ [], (sq ∷ [], (sr ∷ [], tt)))))))))))))), tt)
 
     -- what `push::decide` ensures of its result and of the last lists of words and queue
     abbrev Decided : Came → List ℕ → List ℕ → Type 0
-    Decided r vs vq = (rows : List Mailbox) → Seen rows cs c₁ c₂ c₃ c₄ c₅ c₆ → Stepped rows n ws cs h xs us r vs vq
+    Decided r vs vq = (rows : List Mailbox) → Seen rows cs c₁ c₂ c₃ c₄ c₅ c₆ c₇ → Stepped rows n ws cs h xs us r vs vq
 
-    goes-decide : Seen (loaded ys) cs c₁ c₂ c₃ c₄ c₅ c₆ → ent 𝓤 (⋆ 𝓤 H A (‵ (flft (ν₁ ∷ []) fullShare) ∷ ‵ (flft (ν₂ ∷ []) fullShare) ∷ ‵ (flft (ν₃ ∷ []) fullShare) ∷ ‵ (flft (ν₄ ∷ []) fullShare) ∷ ‵ (flft (ν₅ ∷ []) fullShare) ∷ ‵ (flft (ν₆ ∷ []) fullShare) ∷ ‵ (flft κ₁ q₁) ∷ ‵ (flft κ₂ q₂) ∷ ‵ (flft κ₃ q₃) ∷ ‵ (ShrRef (named 0) (ν₁ ∷ []) (Array u64 64) .own (ref l₉ δ₁ c₁) (vptr l₉ 0 ∷ [])) ∷ ‵ (ShrRef (named 1) (ν₂ ∷ []) (Array u8 64) .own (ref l₁₀ δ₂ c₂) (vptr l₁₀ 0 ∷ [])) ∷ ‵ (ShrRef (named 2) (ν₃ ∷ []) (Array u8 64) .own (ref l₁₁ δ₃ c₃) (vptr l₁₁ 0 ∷ [])) ∷ ‵ (ShrRef (named 3) (ν₄ ∷ []) (Array u64 64) .own (ref l₁₂ δ₄ c₄) (vptr l₁₂ 0 ∷ [])) ∷ ‵ (ShrRef (named 4) (ν₅ ∷ []) (Array u64 64) .own (ref l₁₃ δ₅ c₅) (vptr l₁₃ 0 ∷ [])) ∷ ‵ (ShrRef (named 5) (ν₆ ∷ []) (Array u8 4096) .own (ref l₁₄ δ₆ c₆) (vptr l₁₄ 0 ∷ [])) ∷ ‵ (MutSlice (named 6) κ₁ u64 .own xw (sw ∷ [])) ∷ ‵ (MutSlice (named 7) κ₂ u8 .own xq (sq ∷ [])) ∷ ‵ (ShrSlice (named 8) κ₃ u8 .own xr (sr ∷ [])) ∷ [])) (Decide 𝓤 H A at-mem run .pre to-decide)
+    goes-decide : Seen (loaded ys) cs c₁ c₂ c₃ c₄ c₅ c₆ c₇ → ent 𝓤 (⋆ 𝓤 H A (‵ (flft (ν₁ ∷ []) fullShare) ∷ ‵ (flft (ν₂ ∷ []) fullShare) ∷ ‵ (flft (ν₃ ∷ []) fullShare) ∷ ‵ (flft (ν₄ ∷ []) fullShare) ∷ ‵ (flft (ν₅ ∷ []) fullShare) ∷ ‵ (flft (ν₆ ∷ []) fullShare) ∷ ‵ (flft (ν₇ ∷ []) fullShare) ∷ ‵ (flft κ₁ q₁) ∷ ‵ (flft κ₂ q₂) ∷ ‵ (flft κ₃ q₃) ∷ ‵ (ShrRef (named 0) (ν₁ ∷ []) (Array u64 64) .own (ref l₉ δ₁ c₁) (vptr l₉ 0 ∷ [])) ∷ ‵ (ShrRef (named 1) (ν₂ ∷ []) (Array u8 64) .own (ref l₁₀ δ₂ c₂) (vptr l₁₀ 0 ∷ [])) ∷ ‵ (ShrRef (named 2) (ν₃ ∷ []) (Array u8 64) .own (ref l₁₁ δ₃ c₃) (vptr l₁₁ 0 ∷ [])) ∷ ‵ (ShrRef (named 3) (ν₄ ∷ []) (Array u64 64) .own (ref l₁₂ δ₄ c₄) (vptr l₁₂ 0 ∷ [])) ∷ ‵ (ShrRef (named 4) (ν₅ ∷ []) (Array u64 64) .own (ref l₁₃ δ₅ c₅) (vptr l₁₃ 0 ∷ [])) ∷ ‵ (ShrRef (named 5) (ν₆ ∷ []) (Array u64 64) .own (ref l₁₄ δ₆ c₆) (vptr l₁₄ 0 ∷ [])) ∷ ‵ (ShrRef (named 6) (ν₇ ∷ []) (Array u8 4096) .own (ref l₁₅ δ₇ c₇) (vptr l₁₅ 0 ∷ [])) ∷ ‵ (MutSlice (named 7) κ₁ u64 .own xw (sw ∷ [])) ∷ ‵ (MutSlice (named 8) κ₂ u8 .own xq (sq ∷ [])) ∷ ‵ (ShrSlice (named 9) κ₃ u8 .own xr (sr ∷ [])) ∷ [])) (Decide 𝓤 H A at-mem run .pre to-decide)
     goes-decide e =
-        qed W (‵ (flft (ν₁ ∷ []) fullShare) ∷ ‵ (flft (ν₂ ∷ []) fullShare) ∷ ‵ (flft (ν₃ ∷ []) fullShare) ∷ ‵ (flft (ν₄ ∷ []) fullShare) ∷ ‵ (flft (ν₅ ∷ []) fullShare) ∷ ‵ (flft (ν₆ ∷ []) fullShare) ∷ ‵ (flft κ₁ q₁) ∷ ‵ (flft κ₂ q₂) ∷ ‵ (flft κ₃ q₃) ∷ ‵ (ShrRef (named 0) (ν₁ ∷ []) (Array u64 64) .own (ref l₉ δ₁ c₁) (vptr l₉ 0 ∷ [])) ∷ ‵ (ShrRef (named 1) (ν₂ ∷ []) (Array u8 64) .own (ref l₁₀ δ₂ c₂) (vptr l₁₀ 0 ∷ [])) ∷ ‵ (ShrRef (named 2) (ν₃ ∷ []) (Array u8 64) .own (ref l₁₁ δ₃ c₃) (vptr l₁₁ 0 ∷ [])) ∷ ‵ (ShrRef (named 3) (ν₄ ∷ []) (Array u64 64) .own (ref l₁₂ δ₄ c₄) (vptr l₁₂ 0 ∷ [])) ∷ ‵ (ShrRef (named 4) (ν₅ ∷ []) (Array u64 64) .own (ref l₁₃ δ₅ c₅) (vptr l₁₃ 0 ∷ [])) ∷ ‵ (ShrRef (named 5) (ν₆ ∷ []) (Array u8 4096) .own (ref l₁₄ δ₆ c₆) (vptr l₁₄ 0 ∷ [])) ∷ ‵ (MutSlice (named 6) κ₁ u64 .own xw (sw ∷ [])) ∷ ‵ (MutSlice (named 7) κ₂ u8 .own xq (sq ∷ [])) ∷ ‵ (ShrSlice (named 8) κ₃ u8 .own xr (sr ∷ [])) ∷ []) ∵ says ! (loaded ys, e) $
-        nothing ! $ move ! (9 ∷ 0 ∷ []) $ join ! $ move ! (8 ∷ 0 ∷ []) $ join ! $ move ! (7 ∷ 0 ∷ []) $ join ! $ move ! (6 ∷ 0 ∷ []) $ join ! $ move ! (5 ∷ 0 ∷ []) $ join ! $ move ! (4 ∷ 0 ∷ []) $ join ! $ move ! (3 ∷ 0 ∷ []) $ join ! $ move ! (2 ∷ 0 ∷ []) $ join ! $ move ! (1 ∷ 0 ∷ []) $ join ! $
-        -- [the tokens; what the six columns, the words, the queue and the record own]
-        nothing ! $ move ! (10 ∷ 0 ∷ []) $ fjoin ! $ move ! (9 ∷ 0 ∷ []) $ fjoin ! $ owned ! S.the-row (Is S.the-row) (LL.makes S.the-type S′.the-plain 𝓤 H A) h _ is-h $ fjoin ! $ owned ! N.the-row (Is N.the-row) (LL.makes N.the-type N′.the-plain 𝓤 H A) cs _ is-c $ fjoin ! $ move ! (8 ∷ 0 ∷ []) $ fjoin ! $ move ! (7 ∷ 0 ∷ []) $ fjoin ! $ move ! (6 ∷ 0 ∷ []) $ fjoin ! $ move ! (5 ∷ 0 ∷ []) $ fjoin ! $ move ! (4 ∷ 0 ∷ []) $ fjoin ! $ move ! (3 ∷ 0 ∷ []) $ fjoin ! $ move ! (2 ∷ 0 ∷ []) $ fjoin ! $ owned ! usize (Is usize) (uint-makes 𝓤 H A W w64) n _ (refl, room .0) $ fjoin ! $ move ! (1 ∷ 0 ∷ []) $ join ! $ done !
+        qed W (‵ (flft (ν₁ ∷ []) fullShare) ∷ ‵ (flft (ν₂ ∷ []) fullShare) ∷ ‵ (flft (ν₃ ∷ []) fullShare) ∷ ‵ (flft (ν₄ ∷ []) fullShare) ∷ ‵ (flft (ν₅ ∷ []) fullShare) ∷ ‵ (flft (ν₆ ∷ []) fullShare) ∷ ‵ (flft (ν₇ ∷ []) fullShare) ∷ ‵ (flft κ₁ q₁) ∷ ‵ (flft κ₂ q₂) ∷ ‵ (flft κ₃ q₃) ∷ ‵ (ShrRef (named 0) (ν₁ ∷ []) (Array u64 64) .own (ref l₉ δ₁ c₁) (vptr l₉ 0 ∷ [])) ∷ ‵ (ShrRef (named 1) (ν₂ ∷ []) (Array u8 64) .own (ref l₁₀ δ₂ c₂) (vptr l₁₀ 0 ∷ [])) ∷ ‵ (ShrRef (named 2) (ν₃ ∷ []) (Array u8 64) .own (ref l₁₁ δ₃ c₃) (vptr l₁₁ 0 ∷ [])) ∷ ‵ (ShrRef (named 3) (ν₄ ∷ []) (Array u64 64) .own (ref l₁₂ δ₄ c₄) (vptr l₁₂ 0 ∷ [])) ∷ ‵ (ShrRef (named 4) (ν₅ ∷ []) (Array u64 64) .own (ref l₁₃ δ₅ c₅) (vptr l₁₃ 0 ∷ [])) ∷ ‵ (ShrRef (named 5) (ν₆ ∷ []) (Array u64 64) .own (ref l₁₄ δ₆ c₆) (vptr l₁₄ 0 ∷ [])) ∷ ‵ (ShrRef (named 6) (ν₇ ∷ []) (Array u8 4096) .own (ref l₁₅ δ₇ c₇) (vptr l₁₅ 0 ∷ [])) ∷ ‵ (MutSlice (named 7) κ₁ u64 .own xw (sw ∷ [])) ∷ ‵ (MutSlice (named 8) κ₂ u8 .own xq (sq ∷ [])) ∷ ‵ (ShrSlice (named 9) κ₃ u8 .own xr (sr ∷ [])) ∷ []) ∵ says ! (loaded ys, e) $
+        nothing ! $ move ! (10 ∷ 0 ∷ []) $ join ! $ move ! (9 ∷ 0 ∷ []) $ join ! $ move ! (8 ∷ 0 ∷ []) $ join ! $ move ! (7 ∷ 0 ∷ []) $ join ! $ move ! (6 ∷ 0 ∷ []) $ join ! $ move ! (5 ∷ 0 ∷ []) $ join ! $ move ! (4 ∷ 0 ∷ []) $ join ! $ move ! (3 ∷ 0 ∷ []) $ join ! $ move ! (2 ∷ 0 ∷ []) $ join ! $ move ! (1 ∷ 0 ∷ []) $ join ! $
+        -- [the tokens; what the seven columns, the words, the queue and the record own]
+        nothing ! $ move ! (11 ∷ 0 ∷ []) $ fjoin ! $ move ! (10 ∷ 0 ∷ []) $ fjoin ! $ owned ! S.the-row (Is S.the-row) (LL.makes S.the-type S′.the-plain 𝓤 H A) h _ is-h $ fjoin ! $ owned ! N.the-row (Is N.the-row) (LL.makes N.the-type N′.the-plain 𝓤 H A) cs _ is-c $ fjoin ! $ move ! (9 ∷ 0 ∷ []) $ fjoin ! $ move ! (8 ∷ 0 ∷ []) $ fjoin ! $ move ! (7 ∷ 0 ∷ []) $ fjoin ! $ move ! (6 ∷ 0 ∷ []) $ fjoin ! $ move ! (5 ∷ 0 ∷ []) $ fjoin ! $ move ! (4 ∷ 0 ∷ []) $ fjoin ! $ move ! (3 ∷ 0 ∷ []) $ fjoin ! $ move ! (2 ∷ 0 ∷ []) $ fjoin ! $ owned ! usize (Is usize) (uint-makes 𝓤 H A W w64) n _ (refl, room .0) $ fjoin ! $ move ! (1 ∷ 0 ∷ []) $ join ! $ done !
 
   module _ (C : Calls 𝓤 H) (Λ : Loops 𝓤 H) (fm : FmC 𝓤 H (W .laws) C) (k₁ : Triple 𝓤 (C #lent·used-rows) (Used 𝓤 H A at-mem run)) (k₂ : Triple 𝓤 (C #lent·lay) (Lay 𝓤 H A at-mem run)) (k₃ : Triple 𝓤 (C #push·decide) (Decide 𝓤 H A at-mem run)) where
     walk : ent 𝓤 (onEntry 𝓤 H A f.signature (κ, (κ₁, (κ₂, (κ₃, tt)))) (q, (q₁, (q₂, (q₃, tt)))) a at) (WpFn 𝓤 H C Λ code.function (s ∷ sw ∷ valN cs ∷ valS h ∷ sq ∷ sr ∷ []) Post)
     walk =
         qed W ((‵ (flft κ q) ⊛ ‵ (flft κ₁ q₁) ⊛ ‵ (flft κ₂ q₂) ⊛ ‵ (flft κ₃ q₃) ⊛ ‵ ftrue) ∷ ‵ (owns (ShrSlice (named 0) κ T.the-row ∷ MutSlice (named 1) κ₁ u64 ∷ N.the-row ∷ S.the-row ∷ MutSlice (named 2) κ₂ u8 ∷ ShrSlice (named 3) κ₃ u8 ∷ []) a at) ∷ []) ∵ enter ! C Λ code.function (s ∷ sw ∷ valN cs ∷ valS h ∷ sq ∷ sr ∷ []) _ $
-        alloc1 ! (λ l₀. alloc1 ! (λ l₁. alloc1 ! (λ l₂. alloc1 ! (λ l₃. alloc1 ! (λ l₄. alloc1 ! (λ l₅. alloc1 ! (λ l₆. alloc1 ! (λ l₇. alloc1 ! (λ l₈. alloc1 ! (λ l₉. alloc1 ! (λ l₁₀. alloc1 ! (λ l₁₁. alloc1 ! (λ l₁₂. alloc1 ! (λ l₁₃. alloc1 ! (λ l₁₄. alloc1 ! (λ l₁₅. alloc1 ! (λ l₁₆. alloc1 ! (λ l₁₇. alloc1 ! (λ l₁₈. alloc1 ! (λ l₁₉. alloc1 ! (λ l₂₀. alloc1 ! (λ l₂₁. alloc1 ! (λ l₂₂. alloc1 ! (λ l₂₃. alloc1 ! (λ l₂₄. alloc1 ! (λ l₂₅. alloc1 ! (λ l₂₆. alloc1 ! (λ l₂₇. alloc1 ! (λ l₂₈. alloc1 ! (λ l₂₉. alloc1 ! (λ l₃₀. alloc1 ! (λ l₃₁. alloc0 ! $ params1 ! $
-        pass1 ! (init ! 60 refl (tt, (tt, (record { fits = room .0 }, tt)))) $
-        pass1 ! (init ! 58 refl (tt, (tt, (record { fits = room₁ .0 }, tt)))) $
-        pass1 ! (init ! 56 refl (LL.lawful N.the-type N′.the-laws 𝓤 H A W .typed cs _ is-c .0)) $
-        pass1 ! (init ! 54 refl (LL.lawful S.the-type S′.the-laws 𝓤 H A W .typed h _ is-h .0)) $
-        pass1 ! (init ! 52 refl (tt, (tt, (record { fits = room₂ .0 }, tt)))) $
-        pass1 ! (init ! 50 refl (tt, (tt, (record { fits = room₃ .0 }, tt)))) $
+        alloc1 ! (λ l₀. alloc1 ! (λ l₁. alloc1 ! (λ l₂. alloc1 ! (λ l₃. alloc1 ! (λ l₄. alloc1 ! (λ l₅. alloc1 ! (λ l₆. alloc1 ! (λ l₇. alloc1 ! (λ l₈. alloc1 ! (λ l₉. alloc1 ! (λ l₁₀. alloc1 ! (λ l₁₁. alloc1 ! (λ l₁₂. alloc1 ! (λ l₁₃. alloc1 ! (λ l₁₄. alloc1 ! (λ l₁₅. alloc1 ! (λ l₁₆. alloc1 ! (λ l₁₇. alloc1 ! (λ l₁₈. alloc1 ! (λ l₁₉. alloc1 ! (λ l₂₀. alloc1 ! (λ l₂₁. alloc1 ! (λ l₂₂. alloc1 ! (λ l₂₃. alloc1 ! (λ l₂₄. alloc1 ! (λ l₂₅. alloc1 ! (λ l₂₆. alloc1 ! (λ l₂₇. alloc1 ! (λ l₂₈. alloc1 ! (λ l₂₉. alloc1 ! (λ l₃₀. alloc1 ! (λ l₃₁. alloc1 ! (λ l₃₂. alloc1 ! (λ l₃₃. alloc1 ! (λ l₃₄. alloc0 ! $ params1 ! $
+        pass1 ! (init ! 66 refl (tt, (tt, (record { fits = room .0 }, tt)))) $
+        pass1 ! (init ! 64 refl (tt, (tt, (record { fits = room₁ .0 }, tt)))) $
+        pass1 ! (init ! 62 refl (LL.lawful N.the-type N′.the-laws 𝓤 H A W .typed cs _ is-c .0)) $
+        pass1 ! (init ! 60 refl (LL.lawful S.the-type S′.the-laws 𝓤 H A W .typed h _ is-h .0)) $
+        pass1 ! (init ! 58 refl (tt, (tt, (record { fits = room₂ .0 }, tt)))) $
+        pass1 ! (init ! 56 refl (tt, (tt, (record { fits = room₃ .0 }, tt)))) $
         pass0 ! $
-        move ! (65 ∷ []) $
+        move ! (71 ∷ []) $
         fsplit ! $
         move ! (1 ∷ []) $
         fsplit ! $
@@ -271,7 +271,7 @@ module _ {M : Type 1} (𝓤 : URA M) (H : Heap 𝓤) (A : Atoms 𝓤) (W : Given
         fsplit ! $ drop ! $ fsplit ! $ drop ! $ fsplit ! $
         move ! (1 ∷ []) $
         fsplit ! $
-        move ! (69 ∷ []) $
+        move ! (75 ∷ []) $
         split ! $
         move ! (1 ∷ []) $
         split ! $
@@ -279,10 +279,10 @@ module _ {M : Type 1} (𝓤 : URA M) (H : Heap 𝓤) (A : Atoms 𝓤) (W : Given
         split ! $
         move ! (1 ∷ []) $
         split ! $
-        assigns ! (of-opd ! (load ! (from ! (fld ! refl (stop !))) (look-in ! 70 (sub ! 1 refl (whole !))))) (from ! (stop !)) (init ! 58 refl (tt, record { fits = room .0 })) $
+        assigns ! (of-opd ! (load ! (from ! (fld ! refl (stop !))) (look-in ! 76 (sub ! 1 refl (whole !))))) (from ! (stop !)) (init ! 64 refl (tt, record { fits = room .0 })) $
         -- `used_rows`
         use0 W (raw (Used 𝓤 H A at-mem run .pre to-used)) goes-used $
-        calls-at ! fm (Used 𝓤 H A at-mem run) k₁ to-used (and-then ! (load ! (from ! (fld ! refl (stop !))) (look-in ! 67 (sub ! 0 refl (whole !)))) (and-then ! (load ! (from ! (stop !)) (look ! 59 refl)) (no-more !))) (λ w₁.
+        calls-at ! fm (Used 𝓤 H A at-mem run) k₁ to-used (and-then ! (load ! (from ! (fld ! refl (stop !))) (look-in ! 73 (sub ! 0 refl (whole !)))) (and-then ! (load ! (from ! (stop !)) (look ! 65 refl)) (no-more !))) (λ w₁.
         use1 W (later (some (λ (m : ℕ). (‵ ftrue ⊛ ‵ (usize .own m (w₁ ∷ []))) ⊛ raw (ensured 𝓤 H A used-fn.ended (used-fn.clauses 𝓤 H A at-mem run) tt (used, (n, tt)) tt m)))) (id⊢ 𝓤 _) $ await ! tt $ pick ! (λ m.
         split ! $
         move ! (1 ∷ []) $
@@ -292,67 +292,76 @@ module _ {M : Type 1} (𝓤 : URA M) (H : Heap 𝓤) (A : Atoms 𝓤) (W : Given
         drop ! $
         move ! (0 ∷ []) $
         peeks ! usize (Is usize) (shows 𝓤 H A usize) m (w₁ ∷ []) (λ is₁.
-        land ! (from ! (stop !)) (init ! 57 refl (uint-lawful 𝓤 H A W w64 .typed m _ is₁ .0)) $
-        rewrite ! 57 (λ (v : Val). ‵ (fat fullShare (tyInt w64) l₈ 0 v)) (ap only (is₁ .0)) refl $
+        land ! (from ! (stop !)) (init ! 63 refl (uint-lawful 𝓤 H A W w64 .typed m _ is₁ .0)) $
+        rewrite ! 63 (λ (v : Val). ‵ (fat fullShare (tyInt w64) l₈ 0 v)) (ap only (is₁ .0)) refl $
         move ! (0 ∷ []) $
         drop ! $
         -- the columns, all zeros
+        assigns ! (rep ! 64 (lit ! tt)) (from ! (stop !)) (init ! 60 refl (array-lawful 𝓤 H A W u64 (uint-lawful 𝓤 H A W w64) 64 .typed (replicate 64 0) _ (repeated u64 0 (vint w64 0) (refl, lit< tt) 64) .0)) $
+        rewrite ! 60 (λ (v : Val). ‵ (fat fullShare (tyArray (tyInt w64) 64) l₉ 0 v)) (zeros-val w64 64) refl $
+        assigns ! (rep ! 64 (lit ! tt)) (from ! (stop !)) (init ! 58 refl (array-lawful 𝓤 H A W u8 (uint-lawful 𝓤 H A W w8) 64 .typed (replicate 64 0) _ (repeated u8 0 (vint w8 0) (refl, lit< tt) 64) .0)) $
+        rewrite ! 58 (λ (v : Val). ‵ (fat fullShare (tyArray (tyInt w8) 64) l₁₀ 0 v)) (zeros-val w8 64) refl $
+        assigns ! (rep ! 64 (lit ! tt)) (from ! (stop !)) (init ! 56 refl (array-lawful 𝓤 H A W u8 (uint-lawful 𝓤 H A W w8) 64 .typed (replicate 64 0) _ (repeated u8 0 (vint w8 0) (refl, lit< tt) 64) .0)) $
+        rewrite ! 56 (λ (v : Val). ‵ (fat fullShare (tyArray (tyInt w8) 64) l₁₁ 0 v)) (zeros-val w8 64) refl $
         assigns ! (rep ! 64 (lit ! tt)) (from ! (stop !)) (init ! 54 refl (array-lawful 𝓤 H A W u64 (uint-lawful 𝓤 H A W w64) 64 .typed (replicate 64 0) _ (repeated u64 0 (vint w64 0) (refl, lit< tt) 64) .0)) $
-        rewrite ! 54 (λ (v : Val). ‵ (fat fullShare (tyArray (tyInt w64) 64) l₉ 0 v)) (zeros-val w64 64) refl $
-        assigns ! (rep ! 64 (lit ! tt)) (from ! (stop !)) (init ! 52 refl (array-lawful 𝓤 H A W u8 (uint-lawful 𝓤 H A W w8) 64 .typed (replicate 64 0) _ (repeated u8 0 (vint w8 0) (refl, lit< tt) 64) .0)) $
-        rewrite ! 52 (λ (v : Val). ‵ (fat fullShare (tyArray (tyInt w8) 64) l₁₀ 0 v)) (zeros-val w8 64) refl $
-        assigns ! (rep ! 64 (lit ! tt)) (from ! (stop !)) (init ! 50 refl (array-lawful 𝓤 H A W u8 (uint-lawful 𝓤 H A W w8) 64 .typed (replicate 64 0) _ (repeated u8 0 (vint w8 0) (refl, lit< tt) 64) .0)) $
-        rewrite ! 50 (λ (v : Val). ‵ (fat fullShare (tyArray (tyInt w8) 64) l₁₁ 0 v)) (zeros-val w8 64) refl $
-        assigns ! (rep ! 64 (lit ! tt)) (from ! (stop !)) (init ! 48 refl (array-lawful 𝓤 H A W u64 (uint-lawful 𝓤 H A W w64) 64 .typed (replicate 64 0) _ (repeated u64 0 (vint w64 0) (refl, lit< tt) 64) .0)) $
-        rewrite ! 48 (λ (v : Val). ‵ (fat fullShare (tyArray (tyInt w64) 64) l₁₂ 0 v)) (zeros-val w64 64) refl $
-        assigns ! (rep ! 64 (lit ! tt)) (from ! (stop !)) (init ! 46 refl (array-lawful 𝓤 H A W u64 (uint-lawful 𝓤 H A W w64) 64 .typed (replicate 64 0) _ (repeated u64 0 (vint w64 0) (refl, lit< tt) 64) .0)) $
-        rewrite ! 46 (λ (v : Val). ‵ (fat fullShare (tyArray (tyInt w64) 64) l₁₃ 0 v)) (zeros-val w64 64) refl $
-        assigns ! (rep ! 4096 (lit ! tt)) (from ! (stop !)) (init ! 44 refl (array-lawful 𝓤 H A W u8 (uint-lawful 𝓤 H A W w8) 4096 .typed (replicate 4096 0) _ (repeated u8 0 (vint w8 0) (refl, lit< tt) 4096) .0)) $
-        rewrite ! 44 (λ (v : Val). ‵ (fat fullShare (tyArray (tyInt w8) 4096) l₁₄ 0 v)) (zeros-val w8 4096) refl $
+        rewrite ! 54 (λ (v : Val). ‵ (fat fullShare (tyArray (tyInt w64) 64) l₁₂ 0 v)) (zeros-val w64 64) refl $
+        assigns ! (rep ! 64 (lit ! tt)) (from ! (stop !)) (init ! 52 refl (array-lawful 𝓤 H A W u64 (uint-lawful 𝓤 H A W w64) 64 .typed (replicate 64 0) _ (repeated u64 0 (vint w64 0) (refl, lit< tt) 64) .0)) $
+        rewrite ! 52 (λ (v : Val). ‵ (fat fullShare (tyArray (tyInt w64) 64) l₁₃ 0 v)) (zeros-val w64 64) refl $
+        assigns ! (rep ! 64 (lit ! tt)) (from ! (stop !)) (init ! 50 refl (array-lawful 𝓤 H A W u64 (uint-lawful 𝓤 H A W w64) 64 .typed (replicate 64 0) _ (repeated u64 0 (vint w64 0) (refl, lit< tt) 64) .0)) $
+        rewrite ! 50 (λ (v : Val). ‵ (fat fullShare (tyArray (tyInt w64) 64) l₁₄ 0 v)) (zeros-val w64 64) refl $
+        assigns ! (rep ! 4096 (lit ! tt)) (from ! (stop !)) (init ! 48 refl (array-lawful 𝓤 H A W u8 (uint-lawful 𝓤 H A W w8) 4096 .typed (replicate 4096 0) _ (repeated u8 0 (vint w8 0) (refl, lit< tt) 4096) .0)) $
+        rewrite ! 48 (λ (v : Val). ‵ (fat fullShare (tyArray (tyInt w8) 4096) l₁₅ 0 v)) (zeros-val w8 4096) refl $
+        assigns ! (addr ! (from ! (stop !))) (from ! (stop !)) (init ! 44 refl (tt, tt)) $
+        assigns ! (addr ! (from ! (stop !))) (from ! (stop !)) (init ! 42 refl (tt, tt)) $
         assigns ! (addr ! (from ! (stop !))) (from ! (stop !)) (init ! 40 refl (tt, tt)) $
         assigns ! (addr ! (from ! (stop !))) (from ! (stop !)) (init ! 38 refl (tt, tt)) $
         assigns ! (addr ! (from ! (stop !))) (from ! (stop !)) (init ! 36 refl (tt, tt)) $
         assigns ! (addr ! (from ! (stop !))) (from ! (stop !)) (init ! 34 refl (tt, tt)) $
         assigns ! (addr ! (from ! (stop !))) (from ! (stop !)) (init ! 32 refl (tt, tt)) $
-        assigns ! (addr ! (from ! (stop !))) (from ! (stop !)) (init ! 30 refl (tt, tt)) $
         -- `lay`: each is lent for a lifetime of the call
         move ! (9 ∷ []) $
         use1 W (‵ Own ⊛ ‵ Own) (shr-slice-copy 𝓤 H A W (named 0) κ T.the-row .twice xt (s ∷ [])) $ split ! $
-        move ! (55 ∷ []) $
+        move ! (61 ∷ []) $
         use1 W (‵ (mem (Array u64 64) .lies (zeros 64) l₉ 0)) (cell-in 𝓤 H A W u64 64 l₉ (uint-makes 𝓤 H A W w64) (zeros 64) (zerosIn w64 64) (words-are 64)) $
         lft-new ! tt (λ ν₁.
         move ! (1 ∷ []) $
         use1 W (later (some (λ (δ : GName). ‵ (MutRef (named 1) (ν₁ ∷ []) (Array u64 64) .own (ref l₉ δ (zeros 64)) (vptr l₉ 0 ∷ [])) ⊛ ‵ (flent (ν₁ ∷ []) (Body (mem (Array u64 64)) l₉ 0 δ))))) (lends-ref 𝓤 H A W (Array u64 64) (named 1) (ν₁ ∷ []) (zeros 64) l₉ 0) $ await ! tt $ pick ! (λ δ₁.
         split ! $
-        move ! (56 ∷ []) $
+        move ! (62 ∷ []) $
         use1 W (‵ (mem (Array u8 64) .lies (zeros 64) l₁₀ 0)) (cell-in 𝓤 H A W u8 64 l₁₀ (uint-makes 𝓤 H A W w8) (zeros 64) (zerosIn w8 64) (octets-are 64)) $
         lft-new ! tt (λ ν₂.
         move ! (1 ∷ []) $
         use1 W (later (some (λ (δ : GName). ‵ (MutRef (named 2) (ν₂ ∷ []) (Array u8 64) .own (ref l₁₀ δ (zeros 64)) (vptr l₁₀ 0 ∷ [])) ⊛ ‵ (flent (ν₂ ∷ []) (Body (mem (Array u8 64)) l₁₀ 0 δ))))) (lends-ref 𝓤 H A W (Array u8 64) (named 2) (ν₂ ∷ []) (zeros 64) l₁₀ 0) $ await ! tt $ pick ! (λ δ₂.
         split ! $
-        move ! (57 ∷ []) $
+        move ! (63 ∷ []) $
         use1 W (‵ (mem (Array u8 64) .lies (zeros 64) l₁₁ 0)) (cell-in 𝓤 H A W u8 64 l₁₁ (uint-makes 𝓤 H A W w8) (zeros 64) (zerosIn w8 64) (octets-are 64)) $
         lft-new ! tt (λ ν₃.
         move ! (1 ∷ []) $
         use1 W (later (some (λ (δ : GName). ‵ (MutRef (named 3) (ν₃ ∷ []) (Array u8 64) .own (ref l₁₁ δ (zeros 64)) (vptr l₁₁ 0 ∷ [])) ⊛ ‵ (flent (ν₃ ∷ []) (Body (mem (Array u8 64)) l₁₁ 0 δ))))) (lends-ref 𝓤 H A W (Array u8 64) (named 3) (ν₃ ∷ []) (zeros 64) l₁₁ 0) $ await ! tt $ pick ! (λ δ₃.
         split ! $
-        move ! (58 ∷ []) $
+        move ! (64 ∷ []) $
         use1 W (‵ (mem (Array u64 64) .lies (zeros 64) l₁₂ 0)) (cell-in 𝓤 H A W u64 64 l₁₂ (uint-makes 𝓤 H A W w64) (zeros 64) (zerosIn w64 64) (words-are 64)) $
         lft-new ! tt (λ ν₄.
         move ! (1 ∷ []) $
         use1 W (later (some (λ (δ : GName). ‵ (MutRef (named 4) (ν₄ ∷ []) (Array u64 64) .own (ref l₁₂ δ (zeros 64)) (vptr l₁₂ 0 ∷ [])) ⊛ ‵ (flent (ν₄ ∷ []) (Body (mem (Array u64 64)) l₁₂ 0 δ))))) (lends-ref 𝓤 H A W (Array u64 64) (named 4) (ν₄ ∷ []) (zeros 64) l₁₂ 0) $ await ! tt $ pick ! (λ δ₄.
         split ! $
-        move ! (59 ∷ []) $
+        move ! (65 ∷ []) $
         use1 W (‵ (mem (Array u64 64) .lies (zeros 64) l₁₃ 0)) (cell-in 𝓤 H A W u64 64 l₁₃ (uint-makes 𝓤 H A W w64) (zeros 64) (zerosIn w64 64) (words-are 64)) $
         lft-new ! tt (λ ν₅.
         move ! (1 ∷ []) $
         use1 W (later (some (λ (δ : GName). ‵ (MutRef (named 5) (ν₅ ∷ []) (Array u64 64) .own (ref l₁₃ δ (zeros 64)) (vptr l₁₃ 0 ∷ [])) ⊛ ‵ (flent (ν₅ ∷ []) (Body (mem (Array u64 64)) l₁₃ 0 δ))))) (lends-ref 𝓤 H A W (Array u64 64) (named 5) (ν₅ ∷ []) (zeros 64) l₁₃ 0) $ await ! tt $ pick ! (λ δ₅.
         split ! $
-        move ! (60 ∷ []) $
-        use1 W (‵ (mem (Array u8 4096) .lies (zeros 4096) l₁₄ 0)) (cell-in 𝓤 H A W u8 4096 l₁₄ (uint-makes 𝓤 H A W w8) (zeros 4096) (zerosIn w8 4096) (octets-are 4096)) $
+        move ! (66 ∷ []) $
+        use1 W (‵ (mem (Array u64 64) .lies (zeros 64) l₁₄ 0)) (cell-in 𝓤 H A W u64 64 l₁₄ (uint-makes 𝓤 H A W w64) (zeros 64) (zerosIn w64 64) (words-are 64)) $
         lft-new ! tt (λ ν₆.
         move ! (1 ∷ []) $
-        use1 W (later (some (λ (δ : GName). ‵ (MutRef (named 6) (ν₆ ∷ []) (Array u8 4096) .own (ref l₁₄ δ (zeros 4096)) (vptr l₁₄ 0 ∷ [])) ⊛ ‵ (flent (ν₆ ∷ []) (Body (mem (Array u8 4096)) l₁₄ 0 δ))))) (lends-ref 𝓤 H A W (Array u8 4096) (named 6) (ν₆ ∷ []) (zeros 4096) l₁₄ 0) $ await ! tt $ pick ! (λ δ₆.
+        use1 W (later (some (λ (δ : GName). ‵ (MutRef (named 6) (ν₆ ∷ []) (Array u64 64) .own (ref l₁₄ δ (zeros 64)) (vptr l₁₄ 0 ∷ [])) ⊛ ‵ (flent (ν₆ ∷ []) (Body (mem (Array u64 64)) l₁₄ 0 δ))))) (lends-ref 𝓤 H A W (Array u64 64) (named 6) (ν₆ ∷ []) (zeros 64) l₁₄ 0) $ await ! tt $ pick ! (λ δ₆.
+        split ! $
+        move ! (67 ∷ []) $
+        use1 W (‵ (mem (Array u8 4096) .lies (zeros 4096) l₁₅ 0)) (cell-in 𝓤 H A W u8 4096 l₁₅ (uint-makes 𝓤 H A W w8) (zeros 4096) (zerosIn w8 4096) (octets-are 4096)) $
+        lft-new ! tt (λ ν₇.
+        move ! (1 ∷ []) $
+        use1 W (later (some (λ (δ : GName). ‵ (MutRef (named 7) (ν₇ ∷ []) (Array u8 4096) .own (ref l₁₅ δ (zeros 4096)) (vptr l₁₅ 0 ∷ [])) ⊛ ‵ (flent (ν₇ ∷ []) (Body (mem (Array u8 4096)) l₁₅ 0 δ))))) (lends-ref 𝓤 H A W (Array u8 4096) (named 7) (ν₇ ∷ []) (zeros 4096) l₁₅ 0) $ await ! tt $ pick ! (λ δ₇.
         split ! $
         move ! (3 ∷ 0 ∷ []) $
         join ! $
@@ -366,6 +375,8 @@ module _ {M : Type 1} (𝓤 : URA M) (H : Heap 𝓤) (A : Atoms 𝓤) (W : Given
         join ! $
         move ! (13 ∷ 0 ∷ []) $
         join ! $
+        move ! (15 ∷ 0 ∷ []) $
+        join ! $
         move ! (2 ∷ 0 ∷ []) $
         join ! $
         move ! (3 ∷ 0 ∷ []) $
@@ -378,17 +389,19 @@ module _ {M : Type 1} (𝓤 : URA M) (H : Heap 𝓤) (A : Atoms 𝓤) (W : Given
         join ! $
         move ! (7 ∷ 0 ∷ []) $
         join ! $
-        move ! (12 ∷ 0 ∷ []) $
+        move ! (8 ∷ 0 ∷ []) $
         join ! $
-        use1 W (raw (Lay 𝓤 H A at-mem run .pre (to-lay l₉ l₁₀ l₁₁ l₁₂ l₁₃ l₁₄ ν₁ ν₂ ν₃ ν₄ ν₅ ν₆ δ₁ δ₂ δ₃ δ₄ δ₅ δ₆ m))) (goes-lay l₉ l₁₀ l₁₁ l₁₂ l₁₃ l₁₄ ν₁ ν₂ ν₃ ν₄ ν₅ ν₆ δ₁ δ₂ δ₃ δ₄ δ₅ δ₆ m (is₁ .1) (few m e₁)) $
-        calls-at ! fm (Lay 𝓤 H A at-mem run) k₂ (to-lay l₉ l₁₀ l₁₁ l₁₂ l₁₃ l₁₄ ν₁ ν₂ ν₃ ν₄ ν₅ ν₆ δ₁ δ₂ δ₃ δ₄ δ₅ δ₆ m) (and-then ! (load ! (from ! (stop !)) (look ! 70 refl)) (and-then ! (load ! (from ! (stop !)) (look ! 56 refl)) (and-then ! (load ! (from ! (stop !)) (look ! 46 refl)) (and-then ! (load ! (from ! (stop !)) (look ! 44 refl)) (and-then ! (load ! (from ! (stop !)) (look ! 42 refl)) (and-then ! (load ! (from ! (stop !)) (look ! 40 refl)) (and-then ! (load ! (from ! (stop !)) (look ! 38 refl)) (and-then ! (load ! (from ! (stop !)) (look ! 36 refl)) (no-more !))))))))) (λ w₂.
-        use1 W (later (some (λ (u : Unit {0}). ((‵ (flft κ q) ⊛ ‵ (flft (ν₁ ∷ []) fullShare) ⊛ ‵ (flft (ν₂ ∷ []) fullShare) ⊛ ‵ (flft (ν₃ ∷ []) fullShare) ⊛ ‵ (flft (ν₄ ∷ []) fullShare) ⊛ ‵ (flft (ν₅ ∷ []) fullShare) ⊛ ‵ (flft (ν₆ ∷ []) fullShare) ⊛ ‵ ftrue) ⊛ ‵ (Nothing .own u (w₂ ∷ []))) ⊛ raw (ensured 𝓤 H A lay-fn.ended (lay-fn.clauses 𝓤 H A at-mem run) (κ, (ν₁ ∷ [], (ν₂ ∷ [], (ν₃ ∷ [], (ν₄ ∷ [], (ν₅ ∷ [], (ν₆ ∷ [], tt))))))) (lent-lay l₉ l₁₀ l₁₁ l₁₂ l₁₃ l₁₄ ν₁ ν₂ ν₃ ν₄ ν₅ ν₆ δ₁ δ₂ δ₃ δ₄ δ₅ δ₆ m) tt u)))) (id⊢ 𝓤 _) $ await ! tt $ pick ! (λ u.
+        move ! (13 ∷ 0 ∷ []) $
+        join ! $
+        use1 W (raw (Lay 𝓤 H A at-mem run .pre (to-lay l₉ l₁₀ l₁₁ l₁₂ l₁₃ l₁₄ l₁₅ ν₁ ν₂ ν₃ ν₄ ν₅ ν₆ ν₇ δ₁ δ₂ δ₃ δ₄ δ₅ δ₆ δ₇ m))) (goes-lay l₉ l₁₀ l₁₁ l₁₂ l₁₃ l₁₄ l₁₅ ν₁ ν₂ ν₃ ν₄ ν₅ ν₆ ν₇ δ₁ δ₂ δ₃ δ₄ δ₅ δ₆ δ₇ m (is₁ .1) (few m e₁)) $
+        calls-at ! fm (Lay 𝓤 H A at-mem run) k₂ (to-lay l₉ l₁₀ l₁₁ l₁₂ l₁₃ l₁₄ l₁₅ ν₁ ν₂ ν₃ ν₄ ν₅ ν₆ ν₇ δ₁ δ₂ δ₃ δ₄ δ₅ δ₆ δ₇ m) (and-then ! (load ! (from ! (stop !)) (look ! 76 refl)) (and-then ! (load ! (from ! (stop !)) (look ! 62 refl)) (and-then ! (load ! (from ! (stop !)) (look ! 51 refl)) (and-then ! (load ! (from ! (stop !)) (look ! 49 refl)) (and-then ! (load ! (from ! (stop !)) (look ! 47 refl)) (and-then ! (load ! (from ! (stop !)) (look ! 45 refl)) (and-then ! (load ! (from ! (stop !)) (look ! 43 refl)) (and-then ! (load ! (from ! (stop !)) (look ! 41 refl)) (and-then ! (load ! (from ! (stop !)) (look ! 39 refl)) (no-more !)))))))))) (λ w₂.
+        use1 W (later (some (λ (u : Unit {0}). ((‵ (flft κ q) ⊛ ‵ (flft (ν₁ ∷ []) fullShare) ⊛ ‵ (flft (ν₂ ∷ []) fullShare) ⊛ ‵ (flft (ν₃ ∷ []) fullShare) ⊛ ‵ (flft (ν₄ ∷ []) fullShare) ⊛ ‵ (flft (ν₅ ∷ []) fullShare) ⊛ ‵ (flft (ν₆ ∷ []) fullShare) ⊛ ‵ (flft (ν₇ ∷ []) fullShare) ⊛ ‵ ftrue) ⊛ ‵ (Nothing .own u (w₂ ∷ []))) ⊛ raw (ensured 𝓤 H A lay-fn.ended (lay-fn.clauses 𝓤 H A at-mem run) (κ, (ν₁ ∷ [], (ν₂ ∷ [], (ν₃ ∷ [], (ν₄ ∷ [], (ν₅ ∷ [], (ν₆ ∷ [], (ν₇ ∷ [], tt)))))))) (lent-lay l₉ l₁₀ l₁₁ l₁₂ l₁₃ l₁₄ l₁₅ ν₁ ν₂ ν₃ ν₄ ν₅ ν₆ ν₇ δ₁ δ₂ δ₃ δ₄ δ₅ δ₆ δ₇ m) tt u)))) (id⊢ 𝓤 _) $ await ! tt $ pick ! (λ u.
         split ! $
         move ! (1 ∷ []) $
-        use1 W (some (λ (cols : Unit {0} × (Unit {0} × (List ℕ × (List ℕ × (List ℕ × (List ℕ × (List ℕ × (List ℕ × Unit {0})))))))). ‵ (lasts lay-fn.ended (κ, (ν₁ ∷ [], (ν₂ ∷ [], (ν₃ ∷ [], (ν₄ ∷ [], (ν₅ ∷ [], (ν₆ ∷ [], tt))))))) (lent-lay l₉ l₁₀ l₁₁ l₁₂ l₁₃ l₁₄ ν₁ ν₂ ν₃ ν₄ ν₅ ν₆ δ₁ δ₂ δ₃ δ₄ δ₅ δ₆ m) cols) ⊛ raw (fact 𝓤 (Lays ys m (zeros 64) (zeros 64) (zeros 64) (zeros 64) (zeros 64) (zeros 4096) (cols .1 .1 .0) (cols .1 .1 .1 .0) (cols .1 .1 .1 .1 .0) (cols .1 .1 .1 .1 .1 .0) (cols .1 .1 .1 .1 .1 .1 .0) (cols .1 .1 .1 .1 .1 .1 .1 .0))))) (id⊢ 𝓤 _) $ pick ! (λ cols.
+        use1 W (some (λ (cols : Unit {0} × (Unit {0} × (List ℕ × (List ℕ × (List ℕ × (List ℕ × (List ℕ × (List ℕ × (List ℕ × Unit {0}))))))))). ‵ (lasts lay-fn.ended (κ, (ν₁ ∷ [], (ν₂ ∷ [], (ν₃ ∷ [], (ν₄ ∷ [], (ν₅ ∷ [], (ν₆ ∷ [], (ν₇ ∷ [], tt)))))))) (lent-lay l₉ l₁₀ l₁₁ l₁₂ l₁₃ l₁₄ l₁₅ ν₁ ν₂ ν₃ ν₄ ν₅ ν₆ ν₇ δ₁ δ₂ δ₃ δ₄ δ₅ δ₆ δ₇ m) cols) ⊛ raw (fact 𝓤 (Lays ys m (zeros 64) (zeros 64) (zeros 64) (zeros 64) (zeros 64) (zeros 64) (zeros 4096) (cols .1 .1 .0) (cols .1 .1 .1 .0) (cols .1 .1 .1 .1 .0) (cols .1 .1 .1 .1 .1 .0) (cols .1 .1 .1 .1 .1 .1 .0) (cols .1 .1 .1 .1 .1 .1 .1 .0) (cols .1 .1 .1 .1 .1 .1 .1 .1 .0))))) (id⊢ 𝓤 _) $ pick ! (λ cols.
         split ! $
         move ! (1 ∷ []) $
-        heard ! (Lays ys m (zeros 64) (zeros 64) (zeros 64) (zeros 64) (zeros 64) (zeros 4096) (cols .1 .1 .0) (cols .1 .1 .1 .0) (cols .1 .1 .1 .1 .0) (cols .1 .1 .1 .1 .1 .0) (cols .1 .1 .1 .1 .1 .1 .0) (cols .1 .1 .1 .1 .1 .1 .1 .0)) (λ e₂.
+        heard ! (Lays ys m (zeros 64) (zeros 64) (zeros 64) (zeros 64) (zeros 64) (zeros 64) (zeros 4096) (cols .1 .1 .0) (cols .1 .1 .1 .0) (cols .1 .1 .1 .1 .0) (cols .1 .1 .1 .1 .1 .0) (cols .1 .1 .1 .1 .1 .1 .0) (cols .1 .1 .1 .1 .1 .1 .1 .0) (cols .1 .1 .1 .1 .1 .1 .1 .1 .0)) (λ e₂.
         fsplit ! $ drop ! $ fsplit ! $ drop ! $
         move ! (0 ∷ []) $
         fsplit ! $
@@ -403,12 +416,14 @@ module _ {M : Type 1} (𝓤 : URA M) (H : Heap 𝓤) (A : Atoms 𝓤) (W : Given
         move ! (1 ∷ []) $
         fsplit ! $
         move ! (1 ∷ []) $
+        fsplit ! $
+        move ! (1 ∷ []) $
         drop ! $
-        move ! (6 ∷ []) $
+        move ! (7 ∷ []) $
         split ! $
         move ! (1 ∷ []) $
         peeks ! Nothing (Is Nothing) (shows 𝓤 H A Nothing) u (w₂ ∷ []) (λ is₂.
-        land ! (from ! (stop !)) (init ! 55 refl (nothing-lawful 𝓤 H A W .typed u _ is₂ .0)) $
+        land ! (from ! (stop !)) (init ! 61 refl (nothing-lawful 𝓤 H A W .typed u _ is₂ .0)) $
         move ! (0 ∷ []) $
         drop ! $
         move ! (0 ∷ []) $
@@ -426,71 +441,82 @@ module _ {M : Type 1} (𝓤 : URA M) (H : Heap 𝓤) (A : Atoms 𝓤) (W : Given
         move ! (1 ∷ []) $
         split ! $
         move ! (1 ∷ []) $
+        split ! $
+        move ! (1 ∷ []) $
         drop ! $
-        move ! (5 ∷ []) $
+        move ! (6 ∷ []) $
         lft-end ! tt $
-        move ! (0 ∷ 18 ∷ 12 ∷ []) $
+        move ! (0 ∷ 21 ∷ 14 ∷ []) $
         use3 W (later (‵ (mem (Array u64 64) .lies (cols .1 .1 .0) l₉ 0))) (ref-back 𝓤 H A W (Array u64 64) (ν₁ ∷ []) δ₁ (cols .1 .1 .0) l₉ 0) $ await ! tt $
-        move ! (5 ∷ []) $
+        move ! (6 ∷ []) $
         lft-end ! tt $
-        move ! (0 ∷ 16 ∷ 11 ∷ []) $
+        move ! (0 ∷ 19 ∷ 13 ∷ []) $
         use3 W (later (‵ (mem (Array u8 64) .lies (cols .1 .1 .1 .0) l₁₀ 0))) (ref-back 𝓤 H A W (Array u8 64) (ν₂ ∷ []) δ₂ (cols .1 .1 .1 .0) l₁₀ 0) $ await ! tt $
-        move ! (5 ∷ []) $
+        move ! (6 ∷ []) $
         lft-end ! tt $
-        move ! (0 ∷ 14 ∷ 10 ∷ []) $
+        move ! (0 ∷ 17 ∷ 12 ∷ []) $
         use3 W (later (‵ (mem (Array u8 64) .lies (cols .1 .1 .1 .1 .0) l₁₁ 0))) (ref-back 𝓤 H A W (Array u8 64) (ν₃ ∷ []) δ₃ (cols .1 .1 .1 .1 .0) l₁₁ 0) $ await ! tt $
-        move ! (5 ∷ []) $
+        move ! (6 ∷ []) $
         lft-end ! tt $
-        move ! (0 ∷ 12 ∷ 9 ∷ []) $
+        move ! (0 ∷ 15 ∷ 11 ∷ []) $
         use3 W (later (‵ (mem (Array u64 64) .lies (cols .1 .1 .1 .1 .1 .0) l₁₂ 0))) (ref-back 𝓤 H A W (Array u64 64) (ν₄ ∷ []) δ₄ (cols .1 .1 .1 .1 .1 .0) l₁₂ 0) $ await ! tt $
-        move ! (5 ∷ []) $
+        move ! (6 ∷ []) $
         lft-end ! tt $
-        move ! (0 ∷ 10 ∷ 8 ∷ []) $
+        move ! (0 ∷ 13 ∷ 10 ∷ []) $
         use3 W (later (‵ (mem (Array u64 64) .lies (cols .1 .1 .1 .1 .1 .1 .0) l₁₃ 0))) (ref-back 𝓤 H A W (Array u64 64) (ν₅ ∷ []) δ₅ (cols .1 .1 .1 .1 .1 .1 .0) l₁₃ 0) $ await ! tt $
-        move ! (5 ∷ []) $
+        move ! (6 ∷ []) $
         lft-end ! tt $
-        move ! (0 ∷ 8 ∷ 7 ∷ []) $
-        use3 W (later (‵ (mem (Array u8 4096) .lies (cols .1 .1 .1 .1 .1 .1 .1 .0) l₁₄ 0))) (ref-back 𝓤 H A W (Array u8 4096) (ν₆ ∷ []) δ₆ (cols .1 .1 .1 .1 .1 .1 .1 .0) l₁₄ 0) $ await ! tt $
-        assigns ! (addr ! (from ! (stop !))) (from ! (stop !)) (init ! 34 refl (tt, tt)) $
-        assigns ! (addr ! (from ! (stop !))) (from ! (stop !)) (init ! 32 refl (tt, tt)) $
-        assigns ! (addr ! (from ! (stop !))) (from ! (stop !)) (init ! 30 refl (tt, tt)) $
-        assigns ! (addr ! (from ! (stop !))) (from ! (stop !)) (init ! 28 refl (tt, tt)) $
-        assigns ! (addr ! (from ! (stop !))) (from ! (stop !)) (init ! 26 refl (tt, tt)) $
-        assigns ! (addr ! (from ! (stop !))) (from ! (stop !)) (init ! 24 refl (tt, tt)) $
-        assigns ! (addr ! (from ! (fld ! refl (hop ! (look-in ! 68 (sub ! 0 refl (whole !))) (stop !))))) (from ! (stop !)) (init ! 22 refl (tt, tt)) $
-        assigns ! (agg ! (and-then ! (load ! (from ! (stop !)) (look ! 22 refl)) (and-then ! (load ! (from ! (fld ! refl (stop !))) (look-in ! 68 (sub ! 1 refl (whole !)))) (no-more !)))) (from ! (stop !)) (init ! 20 refl (tt, (tt, (record { fits = room₁ .0 }, tt)))) $
-        assigns ! (addr ! (from ! (fld ! refl (hop ! (look-in ! 62 (sub ! 0 refl (whole !))) (stop !))))) (from ! (stop !)) (init ! 18 refl (tt, tt)) $
-        assigns ! (agg ! (and-then ! (load ! (from ! (stop !)) (look ! 18 refl)) (and-then ! (load ! (from ! (fld ! refl (stop !))) (look-in ! 62 (sub ! 1 refl (whole !)))) (no-more !)))) (from ! (stop !)) (init ! 16 refl (tt, (tt, (record { fits = room₂ .0 }, tt)))) $
+        move ! (0 ∷ 11 ∷ 9 ∷ []) $
+        use3 W (later (‵ (mem (Array u64 64) .lies (cols .1 .1 .1 .1 .1 .1 .1 .0) l₁₄ 0))) (ref-back 𝓤 H A W (Array u64 64) (ν₆ ∷ []) δ₆ (cols .1 .1 .1 .1 .1 .1 .1 .0) l₁₄ 0) $ await ! tt $
+        move ! (6 ∷ []) $
+        lft-end ! tt $
+        move ! (0 ∷ 9 ∷ 8 ∷ []) $
+        use3 W (later (‵ (mem (Array u8 4096) .lies (cols .1 .1 .1 .1 .1 .1 .1 .1 .0) l₁₅ 0))) (ref-back 𝓤 H A W (Array u8 4096) (ν₇ ∷ []) δ₇ (cols .1 .1 .1 .1 .1 .1 .1 .1 .0) l₁₅ 0) $ await ! tt $
+        assigns ! (addr ! (from ! (stop !))) (from ! (stop !)) (init ! 37 refl (tt, tt)) $
+        assigns ! (addr ! (from ! (stop !))) (from ! (stop !)) (init ! 35 refl (tt, tt)) $
+        assigns ! (addr ! (from ! (stop !))) (from ! (stop !)) (init ! 33 refl (tt, tt)) $
+        assigns ! (addr ! (from ! (stop !))) (from ! (stop !)) (init ! 31 refl (tt, tt)) $
+        assigns ! (addr ! (from ! (stop !))) (from ! (stop !)) (init ! 29 refl (tt, tt)) $
+        assigns ! (addr ! (from ! (stop !))) (from ! (stop !)) (init ! 27 refl (tt, tt)) $
+        assigns ! (addr ! (from ! (stop !))) (from ! (stop !)) (init ! 25 refl (tt, tt)) $
+        assigns ! (addr ! (from ! (fld ! refl (hop ! (look-in ! 74 (sub ! 0 refl (whole !))) (stop !))))) (from ! (stop !)) (init ! 23 refl (tt, tt)) $
+        assigns ! (agg ! (and-then ! (load ! (from ! (stop !)) (look ! 23 refl)) (and-then ! (load ! (from ! (fld ! refl (stop !))) (look-in ! 74 (sub ! 1 refl (whole !)))) (no-more !)))) (from ! (stop !)) (init ! 21 refl (tt, (tt, (record { fits = room₁ .0 }, tt)))) $
+        assigns ! (addr ! (from ! (fld ! refl (hop ! (look-in ! 68 (sub ! 0 refl (whole !))) (stop !))))) (from ! (stop !)) (init ! 19 refl (tt, tt)) $
+        assigns ! (agg ! (and-then ! (load ! (from ! (stop !)) (look ! 19 refl)) (and-then ! (load ! (from ! (fld ! refl (stop !))) (look-in ! 68 (sub ! 1 refl (whole !)))) (no-more !)))) (from ! (stop !)) (init ! 17 refl (tt, (tt, (record { fits = room₂ .0 }, tt)))) $
         -- `push::decide`: they are lent again, to be read; the words and the queue go to it for good
-        move ! (12 ∷ []) $
+        move ! (13 ∷ []) $
         use1 W (‵ OwnR ⊛ ‵ OwnR) (shr-slice-copy 𝓤 H A W (named 3) κ₃ u8 .twice xr (sr ∷ [])) $ split ! $
         lft-new ! tt (λ μ₁.
-        move ! (8 ∷ []) $
+        move ! (9 ∷ []) $
         use1 W (later (some (λ (δ : GName). ‵ (ShrRef (named 0) (μ₁ ∷ []) (Array u64 64) .own (ref l₉ δ (cols .1 .1 .0)) (vptr l₉ 0 ∷ [])) ⊛ ‵ (flent (μ₁ ∷ []) (partAt (Array u64 64) fullShare (cols .1 .1 .0) l₉ 0))))) (lends-shr 𝓤 H A W (Array u64 64) (named 0) (μ₁ ∷ []) fullShare (cols .1 .1 .0) l₉ 0) $ await ! tt $ pick ! (λ ε₁.
         split ! $
         lft-new ! tt (λ μ₂.
-        move ! (10 ∷ []) $
+        move ! (11 ∷ []) $
         use1 W (later (some (λ (δ : GName). ‵ (ShrRef (named 1) (μ₂ ∷ []) (Array u8 64) .own (ref l₁₀ δ (cols .1 .1 .1 .0)) (vptr l₁₀ 0 ∷ [])) ⊛ ‵ (flent (μ₂ ∷ []) (partAt (Array u8 64) fullShare (cols .1 .1 .1 .0) l₁₀ 0))))) (lends-shr 𝓤 H A W (Array u8 64) (named 1) (μ₂ ∷ []) fullShare (cols .1 .1 .1 .0) l₁₀ 0) $ await ! tt $ pick ! (λ ε₂.
         split ! $
         lft-new ! tt (λ μ₃.
-        move ! (12 ∷ []) $
+        move ! (13 ∷ []) $
         use1 W (later (some (λ (δ : GName). ‵ (ShrRef (named 2) (μ₃ ∷ []) (Array u8 64) .own (ref l₁₁ δ (cols .1 .1 .1 .1 .0)) (vptr l₁₁ 0 ∷ [])) ⊛ ‵ (flent (μ₃ ∷ []) (partAt (Array u8 64) fullShare (cols .1 .1 .1 .1 .0) l₁₁ 0))))) (lends-shr 𝓤 H A W (Array u8 64) (named 2) (μ₃ ∷ []) fullShare (cols .1 .1 .1 .1 .0) l₁₁ 0) $ await ! tt $ pick ! (λ ε₃.
         split ! $
         lft-new ! tt (λ μ₄.
-        move ! (14 ∷ []) $
+        move ! (15 ∷ []) $
         use1 W (later (some (λ (δ : GName). ‵ (ShrRef (named 3) (μ₄ ∷ []) (Array u64 64) .own (ref l₁₂ δ (cols .1 .1 .1 .1 .1 .0)) (vptr l₁₂ 0 ∷ [])) ⊛ ‵ (flent (μ₄ ∷ []) (partAt (Array u64 64) fullShare (cols .1 .1 .1 .1 .1 .0) l₁₂ 0))))) (lends-shr 𝓤 H A W (Array u64 64) (named 3) (μ₄ ∷ []) fullShare (cols .1 .1 .1 .1 .1 .0) l₁₂ 0) $ await ! tt $ pick ! (λ ε₄.
         split ! $
         lft-new ! tt (λ μ₅.
-        move ! (16 ∷ []) $
+        move ! (17 ∷ []) $
         use1 W (later (some (λ (δ : GName). ‵ (ShrRef (named 4) (μ₅ ∷ []) (Array u64 64) .own (ref l₁₃ δ (cols .1 .1 .1 .1 .1 .1 .0)) (vptr l₁₃ 0 ∷ [])) ⊛ ‵ (flent (μ₅ ∷ []) (partAt (Array u64 64) fullShare (cols .1 .1 .1 .1 .1 .1 .0) l₁₃ 0))))) (lends-shr 𝓤 H A W (Array u64 64) (named 4) (μ₅ ∷ []) fullShare (cols .1 .1 .1 .1 .1 .1 .0) l₁₃ 0) $ await ! tt $ pick ! (λ ε₅.
         split ! $
         lft-new ! tt (λ μ₆.
-        move ! (18 ∷ []) $
-        use1 W (later (some (λ (δ : GName). ‵ (ShrRef (named 5) (μ₆ ∷ []) (Array u8 4096) .own (ref l₁₄ δ (cols .1 .1 .1 .1 .1 .1 .1 .0)) (vptr l₁₄ 0 ∷ [])) ⊛ ‵ (flent (μ₆ ∷ []) (partAt (Array u8 4096) fullShare (cols .1 .1 .1 .1 .1 .1 .1 .0) l₁₄ 0))))) (lends-shr 𝓤 H A W (Array u8 4096) (named 5) (μ₆ ∷ []) fullShare (cols .1 .1 .1 .1 .1 .1 .1 .0) l₁₄ 0) $ await ! tt $ pick ! (λ ε₆.
+        move ! (19 ∷ []) $
+        use1 W (later (some (λ (δ : GName). ‵ (ShrRef (named 5) (μ₆ ∷ []) (Array u64 64) .own (ref l₁₄ δ (cols .1 .1 .1 .1 .1 .1 .1 .0)) (vptr l₁₄ 0 ∷ [])) ⊛ ‵ (flent (μ₆ ∷ []) (partAt (Array u64 64) fullShare (cols .1 .1 .1 .1 .1 .1 .1 .0) l₁₄ 0))))) (lends-shr 𝓤 H A W (Array u64 64) (named 5) (μ₆ ∷ []) fullShare (cols .1 .1 .1 .1 .1 .1 .1 .0) l₁₄ 0) $ await ! tt $ pick ! (λ ε₆.
         split ! $
-        move ! (27 ∷ 18 ∷ []) $
+        lft-new ! tt (λ μ₇.
+        move ! (21 ∷ []) $
+        use1 W (later (some (λ (δ : GName). ‵ (ShrRef (named 6) (μ₇ ∷ []) (Array u8 4096) .own (ref l₁₅ δ (cols .1 .1 .1 .1 .1 .1 .1 .1 .0)) (vptr l₁₅ 0 ∷ [])) ⊛ ‵ (flent (μ₇ ∷ []) (partAt (Array u8 4096) fullShare (cols .1 .1 .1 .1 .1 .1 .1 .1 .0) l₁₅ 0))))) (lends-shr 𝓤 H A W (Array u8 4096) (named 6) (μ₇ ∷ []) fullShare (cols .1 .1 .1 .1 .1 .1 .1 .1 .0) l₁₅ 0) $ await ! tt $ pick ! (λ ε₇.
+        split ! $
+        move ! (30 ∷ 21 ∷ []) $
         join ! $
-        move ! (27 ∷ 0 ∷ []) $
+        move ! (30 ∷ 0 ∷ []) $
         join ! $
         move ! (1 ∷ 0 ∷ []) $
         join ! $
@@ -504,11 +530,13 @@ module _ {M : Type 1} (𝓤 : URA M) (H : Heap 𝓤) (A : Atoms 𝓤) (W : Given
         join ! $
         move ! (11 ∷ 0 ∷ []) $
         join ! $
-        move ! (16 ∷ 0 ∷ []) $
+        move ! (13 ∷ 0 ∷ []) $
         join ! $
-        move ! (17 ∷ 0 ∷ []) $
+        move ! (18 ∷ 0 ∷ []) $
         join ! $
-        move ! (17 ∷ 0 ∷ []) $
+        move ! (19 ∷ 0 ∷ []) $
+        join ! $
+        move ! (19 ∷ 0 ∷ []) $
         join ! $
         move ! (2 ∷ 0 ∷ []) $
         join ! $
@@ -522,16 +550,18 @@ module _ {M : Type 1} (𝓤 : URA M) (H : Heap 𝓤) (A : Atoms 𝓤) (W : Given
         join ! $
         move ! (7 ∷ 0 ∷ []) $
         join ! $
-        use1 W (raw (Decide 𝓤 H A at-mem run .pre (to-decide l₉ l₁₀ l₁₁ l₁₂ l₁₃ l₁₄ μ₁ μ₂ μ₃ μ₄ μ₅ μ₆ ε₁ ε₂ ε₃ ε₄ ε₅ ε₆ (cols .1 .1 .0) (cols .1 .1 .1 .0) (cols .1 .1 .1 .1 .0) (cols .1 .1 .1 .1 .1 .0) (cols .1 .1 .1 .1 .1 .1 .0) (cols .1 .1 .1 .1 .1 .1 .1 .0)))) (goes-decide l₉ l₁₀ l₁₁ l₁₂ l₁₃ l₁₄ μ₁ μ₂ μ₃ μ₄ μ₅ μ₆ ε₁ ε₂ ε₃ ε₄ ε₅ ε₆ (cols .1 .1 .0) (cols .1 .1 .1 .0) (cols .1 .1 .1 .1 .0) (cols .1 .1 .1 .1 .1 .0) (cols .1 .1 .1 .1 .1 .1 .0) (cols .1 .1 .1 .1 .1 .1 .1 .0) (seen m (cols .1 .1 .0) (cols .1 .1 .1 .0) (cols .1 .1 .1 .1 .0) (cols .1 .1 .1 .1 .1 .0) (cols .1 .1 .1 .1 .1 .1 .0) (cols .1 .1 .1 .1 .1 .1 .1 .0) e₁ e₂)) $
-        calls-at ! fm (Decide 𝓤 H A at-mem run) k₃ (to-decide l₉ l₁₀ l₁₁ l₁₂ l₁₃ l₁₄ μ₁ μ₂ μ₃ μ₄ μ₅ μ₆ ε₁ ε₂ ε₃ ε₄ ε₅ ε₆ (cols .1 .1 .0) (cols .1 .1 .1 .0) (cols .1 .1 .1 .1 .0) (cols .1 .1 .1 .1 .1 .0) (cols .1 .1 .1 .1 .1 .1 .0) (cols .1 .1 .1 .1 .1 .1 .1 .0)) (and-then ! (load ! (from ! (stop !)) (look ! 54 refl)) (and-then ! (load ! (from ! (stop !)) (look ! 30 refl)) (and-then ! (load ! (from ! (stop !)) (look ! 28 refl)) (and-then ! (load ! (from ! (stop !)) (look ! 26 refl)) (and-then ! (load ! (from ! (stop !)) (look ! 24 refl)) (and-then ! (load ! (from ! (stop !)) (look ! 22 refl)) (and-then ! (load ! (from ! (stop !)) (look ! 20 refl)) (and-then ! (load ! (from ! (stop !)) (look ! 16 refl)) (and-then ! (load ! (from ! (stop !)) (look ! 62 refl)) (and-then ! (load ! (from ! (stop !)) (look ! 60 refl)) (and-then ! (load ! (from ! (stop !)) (look ! 12 refl)) (and-then ! (load ! (from ! (stop !)) (look ! 56 refl)) (no-more !))))))))))))) (λ w₃.
-        use1 W (later (some (λ (r : Came). ((‵ (flft (μ₁ ∷ []) fullShare) ⊛ ‵ (flft (μ₂ ∷ []) fullShare) ⊛ ‵ (flft (μ₃ ∷ []) fullShare) ⊛ ‵ (flft (μ₄ ∷ []) fullShare) ⊛ ‵ (flft (μ₅ ∷ []) fullShare) ⊛ ‵ (flft (μ₆ ∷ []) fullShare) ⊛ ‵ (flft κ₁ q₁) ⊛ ‵ (flft κ₂ q₂) ⊛ ‵ (flft κ₃ q₃) ⊛ ‵ ftrue) ⊛ ‵ (O.the-row .own r (w₃ ∷ []))) ⊛ raw (ensured 𝓤 H A decide-fn.ended (decide-fn.clauses 𝓤 H A at-mem run) (μ₁ ∷ [], (μ₂ ∷ [], (μ₃ ∷ [], (μ₄ ∷ [], (μ₅ ∷ [], (μ₆ ∷ [], (κ₁, (κ₂, (κ₃, tt))))))))) (lent-decide l₉ l₁₀ l₁₁ l₁₂ l₁₃ l₁₄ μ₁ μ₂ μ₃ μ₄ μ₅ μ₆ ε₁ ε₂ ε₃ ε₄ ε₅ ε₆ (cols .1 .1 .0) (cols .1 .1 .1 .0) (cols .1 .1 .1 .1 .0) (cols .1 .1 .1 .1 .1 .0) (cols .1 .1 .1 .1 .1 .1 .0) (cols .1 .1 .1 .1 .1 .1 .1 .0)) tt r)))) (id⊢ 𝓤 _) $ await ! tt $ pick ! (λ r.
+        move ! (8 ∷ 0 ∷ []) $
+        join ! $
+        use1 W (raw (Decide 𝓤 H A at-mem run .pre (to-decide l₉ l₁₀ l₁₁ l₁₂ l₁₃ l₁₄ l₁₅ μ₁ μ₂ μ₃ μ₄ μ₅ μ₆ μ₇ ε₁ ε₂ ε₃ ε₄ ε₅ ε₆ ε₇ (cols .1 .1 .0) (cols .1 .1 .1 .0) (cols .1 .1 .1 .1 .0) (cols .1 .1 .1 .1 .1 .0) (cols .1 .1 .1 .1 .1 .1 .0) (cols .1 .1 .1 .1 .1 .1 .1 .0) (cols .1 .1 .1 .1 .1 .1 .1 .1 .0)))) (goes-decide l₉ l₁₀ l₁₁ l₁₂ l₁₃ l₁₄ l₁₅ μ₁ μ₂ μ₃ μ₄ μ₅ μ₆ μ₇ ε₁ ε₂ ε₃ ε₄ ε₅ ε₆ ε₇ (cols .1 .1 .0) (cols .1 .1 .1 .0) (cols .1 .1 .1 .1 .0) (cols .1 .1 .1 .1 .1 .0) (cols .1 .1 .1 .1 .1 .1 .0) (cols .1 .1 .1 .1 .1 .1 .1 .0) (cols .1 .1 .1 .1 .1 .1 .1 .1 .0) (seen m (cols .1 .1 .0) (cols .1 .1 .1 .0) (cols .1 .1 .1 .1 .0) (cols .1 .1 .1 .1 .1 .0) (cols .1 .1 .1 .1 .1 .1 .0) (cols .1 .1 .1 .1 .1 .1 .1 .0) (cols .1 .1 .1 .1 .1 .1 .1 .1 .0) e₁ e₂)) $
+        calls-at ! fm (Decide 𝓤 H A at-mem run) k₃ (to-decide l₉ l₁₀ l₁₁ l₁₂ l₁₃ l₁₄ l₁₅ μ₁ μ₂ μ₃ μ₄ μ₅ μ₆ μ₇ ε₁ ε₂ ε₃ ε₄ ε₅ ε₆ ε₇ (cols .1 .1 .0) (cols .1 .1 .1 .0) (cols .1 .1 .1 .1 .0) (cols .1 .1 .1 .1 .1 .0) (cols .1 .1 .1 .1 .1 .1 .0) (cols .1 .1 .1 .1 .1 .1 .1 .0) (cols .1 .1 .1 .1 .1 .1 .1 .1 .0)) (and-then ! (load ! (from ! (stop !)) (look ! 60 refl)) (and-then ! (load ! (from ! (stop !)) (look ! 33 refl)) (and-then ! (load ! (from ! (stop !)) (look ! 31 refl)) (and-then ! (load ! (from ! (stop !)) (look ! 29 refl)) (and-then ! (load ! (from ! (stop !)) (look ! 27 refl)) (and-then ! (load ! (from ! (stop !)) (look ! 25 refl)) (and-then ! (load ! (from ! (stop !)) (look ! 23 refl)) (and-then ! (load ! (from ! (stop !)) (look ! 21 refl)) (and-then ! (load ! (from ! (stop !)) (look ! 17 refl)) (and-then ! (load ! (from ! (stop !)) (look ! 68 refl)) (and-then ! (load ! (from ! (stop !)) (look ! 66 refl)) (and-then ! (load ! (from ! (stop !)) (look ! 13 refl)) (and-then ! (load ! (from ! (stop !)) (look ! 62 refl)) (no-more !)))))))))))))) (λ w₃.
+        use1 W (later (some (λ (r : Came). ((‵ (flft (μ₁ ∷ []) fullShare) ⊛ ‵ (flft (μ₂ ∷ []) fullShare) ⊛ ‵ (flft (μ₃ ∷ []) fullShare) ⊛ ‵ (flft (μ₄ ∷ []) fullShare) ⊛ ‵ (flft (μ₅ ∷ []) fullShare) ⊛ ‵ (flft (μ₆ ∷ []) fullShare) ⊛ ‵ (flft (μ₇ ∷ []) fullShare) ⊛ ‵ (flft κ₁ q₁) ⊛ ‵ (flft κ₂ q₂) ⊛ ‵ (flft κ₃ q₃) ⊛ ‵ ftrue) ⊛ ‵ (O.the-row .own r (w₃ ∷ []))) ⊛ raw (ensured 𝓤 H A decide-fn.ended (decide-fn.clauses 𝓤 H A at-mem run) (μ₁ ∷ [], (μ₂ ∷ [], (μ₃ ∷ [], (μ₄ ∷ [], (μ₅ ∷ [], (μ₆ ∷ [], (μ₇ ∷ [], (κ₁, (κ₂, (κ₃, tt)))))))))) (lent-decide l₉ l₁₀ l₁₁ l₁₂ l₁₃ l₁₄ l₁₅ μ₁ μ₂ μ₃ μ₄ μ₅ μ₆ μ₇ ε₁ ε₂ ε₃ ε₄ ε₅ ε₆ ε₇ (cols .1 .1 .0) (cols .1 .1 .1 .0) (cols .1 .1 .1 .1 .0) (cols .1 .1 .1 .1 .1 .0) (cols .1 .1 .1 .1 .1 .1 .0) (cols .1 .1 .1 .1 .1 .1 .1 .0) (cols .1 .1 .1 .1 .1 .1 .1 .1 .0)) tt r)))) (id⊢ 𝓤 _) $ await ! tt $ pick ! (λ r.
         split ! $
         move ! (1 ∷ []) $
-        use1 W (some (λ (ls : Unit {0} × (Unit {0} × (Unit {0} × (Unit {0} × (Unit {0} × (Unit {0} × (Unit {0} × (List ℕ × (Unit {0} × (Unit {0} × (List ℕ × (Unit {0} × Unit {0})))))))))))). ‵ (lasts decide-fn.ended (μ₁ ∷ [], (μ₂ ∷ [], (μ₃ ∷ [], (μ₄ ∷ [], (μ₅ ∷ [], (μ₆ ∷ [], (κ₁, (κ₂, (κ₃, tt))))))))) (lent-decide l₉ l₁₀ l₁₁ l₁₂ l₁₃ l₁₄ μ₁ μ₂ μ₃ μ₄ μ₅ μ₆ ε₁ ε₂ ε₃ ε₄ ε₅ ε₆ (cols .1 .1 .0) (cols .1 .1 .1 .0) (cols .1 .1 .1 .1 .0) (cols .1 .1 .1 .1 .1 .0) (cols .1 .1 .1 .1 .1 .1 .0) (cols .1 .1 .1 .1 .1 .1 .1 .0)) ls) ⊛ raw (fact 𝓤 (Decided l₉ l₁₀ l₁₁ l₁₂ l₁₃ l₁₄ μ₁ μ₂ μ₃ μ₄ μ₅ μ₆ ε₁ ε₂ ε₃ ε₄ ε₅ ε₆ (cols .1 .1 .0) (cols .1 .1 .1 .0) (cols .1 .1 .1 .1 .0) (cols .1 .1 .1 .1 .1 .0) (cols .1 .1 .1 .1 .1 .1 .0) (cols .1 .1 .1 .1 .1 .1 .1 .0) r (ls .1 .1 .1 .1 .1 .1 .1 .0) (ls .1 .1 .1 .1 .1 .1 .1 .1 .1 .1 .0))))) (id⊢ 𝓤 _) $ pick ! (λ ls.
+        use1 W (some (λ (ls : Unit {0} × (Unit {0} × (Unit {0} × (Unit {0} × (Unit {0} × (Unit {0} × (Unit {0} × (Unit {0} × (List ℕ × (Unit {0} × (Unit {0} × (List ℕ × (Unit {0} × Unit {0}))))))))))))). ‵ (lasts decide-fn.ended (μ₁ ∷ [], (μ₂ ∷ [], (μ₃ ∷ [], (μ₄ ∷ [], (μ₅ ∷ [], (μ₆ ∷ [], (μ₇ ∷ [], (κ₁, (κ₂, (κ₃, tt)))))))))) (lent-decide l₉ l₁₀ l₁₁ l₁₂ l₁₃ l₁₄ l₁₅ μ₁ μ₂ μ₃ μ₄ μ₅ μ₆ μ₇ ε₁ ε₂ ε₃ ε₄ ε₅ ε₆ ε₇ (cols .1 .1 .0) (cols .1 .1 .1 .0) (cols .1 .1 .1 .1 .0) (cols .1 .1 .1 .1 .1 .0) (cols .1 .1 .1 .1 .1 .1 .0) (cols .1 .1 .1 .1 .1 .1 .1 .0) (cols .1 .1 .1 .1 .1 .1 .1 .1 .0)) ls) ⊛ raw (fact 𝓤 (Decided l₉ l₁₀ l₁₁ l₁₂ l₁₃ l₁₄ l₁₅ μ₁ μ₂ μ₃ μ₄ μ₅ μ₆ μ₇ ε₁ ε₂ ε₃ ε₄ ε₅ ε₆ ε₇ (cols .1 .1 .0) (cols .1 .1 .1 .0) (cols .1 .1 .1 .1 .0) (cols .1 .1 .1 .1 .1 .0) (cols .1 .1 .1 .1 .1 .1 .0) (cols .1 .1 .1 .1 .1 .1 .1 .0) (cols .1 .1 .1 .1 .1 .1 .1 .1 .0) r (ls .1 .1 .1 .1 .1 .1 .1 .1 .0) (ls .1 .1 .1 .1 .1 .1 .1 .1 .1 .1 .1 .0))))) (id⊢ 𝓤 _) $ pick ! (λ ls.
         split ! $
         move ! (1 ∷ []) $
-        heard ! (Decided l₉ l₁₀ l₁₁ l₁₂ l₁₃ l₁₄ μ₁ μ₂ μ₃ μ₄ μ₅ μ₆ ε₁ ε₂ ε₃ ε₄ ε₅ ε₆ (cols .1 .1 .0) (cols .1 .1 .1 .0) (cols .1 .1 .1 .1 .0) (cols .1 .1 .1 .1 .1 .0) (cols .1 .1 .1 .1 .1 .1 .0) (cols .1 .1 .1 .1 .1 .1 .1 .0) r (ls .1 .1 .1 .1 .1 .1 .1 .0) (ls .1 .1 .1 .1 .1 .1 .1 .1 .1 .1 .0)) (λ e₃.
-        fsplit ! $ drop ! $ fsplit ! $ drop ! $ fsplit ! $ drop ! $ fsplit ! $ drop ! $ fsplit ! $ drop ! $ fsplit ! $ drop ! $ fsplit ! $ drop ! $
+        heard ! (Decided l₉ l₁₀ l₁₁ l₁₂ l₁₃ l₁₄ l₁₅ μ₁ μ₂ μ₃ μ₄ μ₅ μ₆ μ₇ ε₁ ε₂ ε₃ ε₄ ε₅ ε₆ ε₇ (cols .1 .1 .0) (cols .1 .1 .1 .0) (cols .1 .1 .1 .1 .0) (cols .1 .1 .1 .1 .1 .0) (cols .1 .1 .1 .1 .1 .1 .0) (cols .1 .1 .1 .1 .1 .1 .1 .0) (cols .1 .1 .1 .1 .1 .1 .1 .1 .0) r (ls .1 .1 .1 .1 .1 .1 .1 .1 .0) (ls .1 .1 .1 .1 .1 .1 .1 .1 .1 .1 .1 .0)) (λ e₃.
+        fsplit ! $ drop ! $ fsplit ! $ drop ! $ fsplit ! $ drop ! $ fsplit ! $ drop ! $ fsplit ! $ drop ! $ fsplit ! $ drop ! $ fsplit ! $ drop ! $ fsplit ! $ drop ! $
         fsplit ! $
         fsplit ! $
         move ! (1 ∷ []) $
@@ -548,7 +578,9 @@ module _ {M : Type 1} (𝓤 : URA M) (H : Heap 𝓤) (A : Atoms 𝓤) (W : Given
         split ! $
         move ! (1 ∷ []) $
         peeks ! O.the-row (Is O.the-row) (shows 𝓤 H A O.the-row) r (w₃ ∷ []) (λ is₃.
-        land ! (from ! (stop !)) (init ! 71 refl (LL.lawful O.the-type O′.the-laws 𝓤 H A W .typed r _ is₃ .0)) $
+        land ! (from ! (stop !)) (init ! 77 refl (LL.lawful O.the-type O′.the-laws 𝓤 H A W .typed r _ is₃ .0)) $
+        move ! (1 ∷ []) $
+        split ! $
         move ! (1 ∷ []) $
         split ! $
         move ! (1 ∷ []) $
@@ -568,41 +600,46 @@ module _ {M : Type 1} (𝓤 : URA M) (H : Heap 𝓤) (A : Atoms 𝓤) (W : Given
         move ! (1 ∷ []) $
         split ! $
         -- the columns come back
-        move ! (9 ∷ []) $
+        move ! (10 ∷ []) $
+        lft-end ! tt $
+        move ! (0 ∷ 20 ∷ []) $
+        lent-back ! tt $
+        use1 W (given (Is (Array u64 64) (cols .1 .1 .0) (array-vals (uint-vals w64) (cols .1 .1 .0))) (‵ (fat fullShare (tyArray (tyInt w64) 64) l₉ 0 (only (array-vals (uint-vals w64) (cols .1 .1 .0)))))) (cell-out 𝓤 H A W u64 64 l₉ (uint-vals w64) (uint-tells w64) (cols .1 .1 .0)) $ learn ! (λ _.
+        move ! (10 ∷ []) $
+        lft-end ! tt $
+        move ! (0 ∷ 19 ∷ []) $
+        lent-back ! tt $
+        use1 W (given (Is (Array u8 64) (cols .1 .1 .1 .0) (array-vals (uint-vals w8) (cols .1 .1 .1 .0))) (‵ (fat fullShare (tyArray (tyInt w8) 64) l₁₀ 0 (only (array-vals (uint-vals w8) (cols .1 .1 .1 .0)))))) (cell-out 𝓤 H A W u8 64 l₁₀ (uint-vals w8) (uint-tells w8) (cols .1 .1 .1 .0)) $ learn ! (λ _.
+        move ! (10 ∷ []) $
         lft-end ! tt $
         move ! (0 ∷ 18 ∷ []) $
         lent-back ! tt $
-        use1 W (given (Is (Array u64 64) (cols .1 .1 .0) (array-vals (uint-vals w64) (cols .1 .1 .0))) (‵ (fat fullShare (tyArray (tyInt w64) 64) l₉ 0 (only (array-vals (uint-vals w64) (cols .1 .1 .0)))))) (cell-out 𝓤 H A W u64 64 l₉ (uint-vals w64) (uint-tells w64) (cols .1 .1 .0)) $ learn ! (λ _.
-        move ! (9 ∷ []) $
+        use1 W (given (Is (Array u8 64) (cols .1 .1 .1 .1 .0) (array-vals (uint-vals w8) (cols .1 .1 .1 .1 .0))) (‵ (fat fullShare (tyArray (tyInt w8) 64) l₁₁ 0 (only (array-vals (uint-vals w8) (cols .1 .1 .1 .1 .0)))))) (cell-out 𝓤 H A W u8 64 l₁₁ (uint-vals w8) (uint-tells w8) (cols .1 .1 .1 .1 .0)) $ learn ! (λ _.
+        move ! (10 ∷ []) $
         lft-end ! tt $
         move ! (0 ∷ 17 ∷ []) $
         lent-back ! tt $
-        use1 W (given (Is (Array u8 64) (cols .1 .1 .1 .0) (array-vals (uint-vals w8) (cols .1 .1 .1 .0))) (‵ (fat fullShare (tyArray (tyInt w8) 64) l₁₀ 0 (only (array-vals (uint-vals w8) (cols .1 .1 .1 .0)))))) (cell-out 𝓤 H A W u8 64 l₁₀ (uint-vals w8) (uint-tells w8) (cols .1 .1 .1 .0)) $ learn ! (λ _.
-        move ! (9 ∷ []) $
+        use1 W (given (Is (Array u64 64) (cols .1 .1 .1 .1 .1 .0) (array-vals (uint-vals w64) (cols .1 .1 .1 .1 .1 .0))) (‵ (fat fullShare (tyArray (tyInt w64) 64) l₁₂ 0 (only (array-vals (uint-vals w64) (cols .1 .1 .1 .1 .1 .0)))))) (cell-out 𝓤 H A W u64 64 l₁₂ (uint-vals w64) (uint-tells w64) (cols .1 .1 .1 .1 .1 .0)) $ learn ! (λ _.
+        move ! (10 ∷ []) $
         lft-end ! tt $
         move ! (0 ∷ 16 ∷ []) $
         lent-back ! tt $
-        use1 W (given (Is (Array u8 64) (cols .1 .1 .1 .1 .0) (array-vals (uint-vals w8) (cols .1 .1 .1 .1 .0))) (‵ (fat fullShare (tyArray (tyInt w8) 64) l₁₁ 0 (only (array-vals (uint-vals w8) (cols .1 .1 .1 .1 .0)))))) (cell-out 𝓤 H A W u8 64 l₁₁ (uint-vals w8) (uint-tells w8) (cols .1 .1 .1 .1 .0)) $ learn ! (λ _.
-        move ! (9 ∷ []) $
+        use1 W (given (Is (Array u64 64) (cols .1 .1 .1 .1 .1 .1 .0) (array-vals (uint-vals w64) (cols .1 .1 .1 .1 .1 .1 .0))) (‵ (fat fullShare (tyArray (tyInt w64) 64) l₁₃ 0 (only (array-vals (uint-vals w64) (cols .1 .1 .1 .1 .1 .1 .0)))))) (cell-out 𝓤 H A W u64 64 l₁₃ (uint-vals w64) (uint-tells w64) (cols .1 .1 .1 .1 .1 .1 .0)) $ learn ! (λ _.
+        move ! (10 ∷ []) $
         lft-end ! tt $
         move ! (0 ∷ 15 ∷ []) $
         lent-back ! tt $
-        use1 W (given (Is (Array u64 64) (cols .1 .1 .1 .1 .1 .0) (array-vals (uint-vals w64) (cols .1 .1 .1 .1 .1 .0))) (‵ (fat fullShare (tyArray (tyInt w64) 64) l₁₂ 0 (only (array-vals (uint-vals w64) (cols .1 .1 .1 .1 .1 .0)))))) (cell-out 𝓤 H A W u64 64 l₁₂ (uint-vals w64) (uint-tells w64) (cols .1 .1 .1 .1 .1 .0)) $ learn ! (λ _.
-        move ! (9 ∷ []) $
+        use1 W (given (Is (Array u64 64) (cols .1 .1 .1 .1 .1 .1 .1 .0) (array-vals (uint-vals w64) (cols .1 .1 .1 .1 .1 .1 .1 .0))) (‵ (fat fullShare (tyArray (tyInt w64) 64) l₁₄ 0 (only (array-vals (uint-vals w64) (cols .1 .1 .1 .1 .1 .1 .1 .0)))))) (cell-out 𝓤 H A W u64 64 l₁₄ (uint-vals w64) (uint-tells w64) (cols .1 .1 .1 .1 .1 .1 .1 .0)) $ learn ! (λ _.
+        move ! (10 ∷ []) $
         lft-end ! tt $
         move ! (0 ∷ 14 ∷ []) $
         lent-back ! tt $
-        use1 W (given (Is (Array u64 64) (cols .1 .1 .1 .1 .1 .1 .0) (array-vals (uint-vals w64) (cols .1 .1 .1 .1 .1 .1 .0))) (‵ (fat fullShare (tyArray (tyInt w64) 64) l₁₃ 0 (only (array-vals (uint-vals w64) (cols .1 .1 .1 .1 .1 .1 .0)))))) (cell-out 𝓤 H A W u64 64 l₁₃ (uint-vals w64) (uint-tells w64) (cols .1 .1 .1 .1 .1 .1 .0)) $ learn ! (λ _.
-        move ! (9 ∷ []) $
-        lft-end ! tt $
-        move ! (0 ∷ 13 ∷ []) $
-        lent-back ! tt $
-        use1 W (given (Is (Array u8 4096) (cols .1 .1 .1 .1 .1 .1 .1 .0) (array-vals (uint-vals w8) (cols .1 .1 .1 .1 .1 .1 .1 .0))) (‵ (fat fullShare (tyArray (tyInt w8) 4096) l₁₄ 0 (only (array-vals (uint-vals w8) (cols .1 .1 .1 .1 .1 .1 .1 .0)))))) (cell-out 𝓤 H A W u8 4096 l₁₄ (uint-vals w8) (uint-tells w8) (cols .1 .1 .1 .1 .1 .1 .1 .0)) $ learn ! (λ _.
-        returns ! (look ! 74 refl) $
-        forget ! 18 refl $ forget ! 20 refl $ forget ! 22 refl $ forget ! 24 refl $ forget ! 26 refl $ forget ! 28 refl $ forget ! 30 refl $ forget ! 32 refl $ forget ! 34 refl $ forget ! 36 refl $ forget ! 38 refl $ forget ! 40 refl $ forget ! 42 refl $ forget ! 44 refl $ forget ! 46 refl $ forget ! 48 refl $ forget ! 50 refl $ forget ! 0 refl $ forget ! 1 refl $ forget ! 2 refl $ forget ! 3 refl $ forget ! 4 refl $ forget ! 5 refl $ forget ! 58 refl $ forget ! 60 refl $ forget ! 62 refl $ forget ! 64 refl $ forget ! 66 refl $ forget ! 68 refl $ forget ! 70 refl $ forget ! 72 refl $ forget ! 74 refl $
-        move ! (74 ∷ 75 ∷ []) $ free1 ! $ move ! (72 ∷ 73 ∷ []) $ free1 ! $ move ! (70 ∷ 71 ∷ []) $ free1 ! $ move ! (68 ∷ 69 ∷ []) $ free1 ! $ move ! (66 ∷ 67 ∷ []) $ free1 ! $ move ! (64 ∷ 65 ∷ []) $ free1 ! $ move ! (62 ∷ 63 ∷ []) $ free1 ! $ move ! (60 ∷ 61 ∷ []) $ free1 ! $ move ! (58 ∷ 59 ∷ []) $ free1 ! $ move ! (5 ∷ 57 ∷ []) $ free1 ! $ move ! (4 ∷ 55 ∷ []) $ free1 ! $ move ! (3 ∷ 53 ∷ []) $ free1 ! $ move ! (2 ∷ 51 ∷ []) $ free1 ! $ move ! (1 ∷ 49 ∷ []) $ free1 ! $ move ! (0 ∷ 47 ∷ []) $ free1 ! $ move ! (44 ∷ 45 ∷ []) $ free1 ! $ move ! (42 ∷ 43 ∷ []) $ free1 ! $ move ! (40 ∷ 41 ∷ []) $ free1 ! $ move ! (38 ∷ 39 ∷ []) $ free1 ! $ move ! (36 ∷ 37 ∷ []) $ free1 ! $ move ! (34 ∷ 35 ∷ []) $ free1 ! $ move ! (32 ∷ 33 ∷ []) $ free1 ! $ move ! (30 ∷ 31 ∷ []) $ free1 ! $ move ! (28 ∷ 29 ∷ []) $ free1 ! $ move ! (26 ∷ 27 ∷ []) $ free1 ! $ move ! (24 ∷ 25 ∷ []) $ free1 ! $ move ! (22 ∷ 23 ∷ []) $ free1 ! $ move ! (20 ∷ 21 ∷ []) $ free1 ! $ move ! (18 ∷ 19 ∷ []) $ free1 ! $ move ! (16 ∷ 17 ∷ []) $ free1 ! $ move ! (14 ∷ 15 ∷ []) $ free1 ! $ move ! (12 ∷ 13 ∷ []) $ free1 ! $ free0 ! $
+        use1 W (given (Is (Array u8 4096) (cols .1 .1 .1 .1 .1 .1 .1 .1 .0) (array-vals (uint-vals w8) (cols .1 .1 .1 .1 .1 .1 .1 .1 .0))) (‵ (fat fullShare (tyArray (tyInt w8) 4096) l₁₅ 0 (only (array-vals (uint-vals w8) (cols .1 .1 .1 .1 .1 .1 .1 .1 .0)))))) (cell-out 𝓤 H A W u8 4096 l₁₅ (uint-vals w8) (uint-tells w8) (cols .1 .1 .1 .1 .1 .1 .1 .1 .0)) $ learn ! (λ _.
+        returns ! (look ! 80 refl) $
+        forget ! 19 refl $ forget ! 21 refl $ forget ! 23 refl $ forget ! 25 refl $ forget ! 27 refl $ forget ! 29 refl $ forget ! 31 refl $ forget ! 33 refl $ forget ! 35 refl $ forget ! 37 refl $ forget ! 39 refl $ forget ! 41 refl $ forget ! 43 refl $ forget ! 45 refl $ forget ! 47 refl $ forget ! 49 refl $ forget ! 51 refl $ forget ! 53 refl $ forget ! 55 refl $ forget ! 0 refl $ forget ! 1 refl $ forget ! 2 refl $ forget ! 3 refl $ forget ! 4 refl $ forget ! 5 refl $ forget ! 6 refl $ forget ! 64 refl $ forget ! 66 refl $ forget ! 68 refl $ forget ! 70 refl $ forget ! 72 refl $ forget ! 74 refl $ forget ! 76 refl $ forget ! 78 refl $ forget ! 80 refl $
+        move ! (80 ∷ 81 ∷ []) $ free1 ! $ move ! (78 ∷ 79 ∷ []) $ free1 ! $ move ! (76 ∷ 77 ∷ []) $ free1 ! $ move ! (74 ∷ 75 ∷ []) $ free1 ! $ move ! (72 ∷ 73 ∷ []) $ free1 ! $ move ! (70 ∷ 71 ∷ []) $ free1 ! $ move ! (68 ∷ 69 ∷ []) $ free1 ! $ move ! (66 ∷ 67 ∷ []) $ free1 ! $ move ! (64 ∷ 65 ∷ []) $ free1 ! $ move ! (6 ∷ 63 ∷ []) $ free1 ! $ move ! (5 ∷ 61 ∷ []) $ free1 ! $ move ! (4 ∷ 59 ∷ []) $ free1 ! $ move ! (3 ∷ 57 ∷ []) $ free1 ! $ move ! (2 ∷ 55 ∷ []) $ free1 ! $ move ! (1 ∷ 53 ∷ []) $ free1 ! $ move ! (0 ∷ 51 ∷ []) $ free1 ! $ move ! (48 ∷ 49 ∷ []) $ free1 ! $ move ! (46 ∷ 47 ∷ []) $ free1 ! $ move ! (44 ∷ 45 ∷ []) $ free1 ! $ move ! (42 ∷ 43 ∷ []) $ free1 ! $ move ! (40 ∷ 41 ∷ []) $ free1 ! $ move ! (38 ∷ 39 ∷ []) $ free1 ! $ move ! (36 ∷ 37 ∷ []) $ free1 ! $ move ! (34 ∷ 35 ∷ []) $ free1 ! $ move ! (32 ∷ 33 ∷ []) $ free1 ! $ move ! (30 ∷ 31 ∷ []) $ free1 ! $ move ! (28 ∷ 29 ∷ []) $ free1 ! $ move ! (26 ∷ 27 ∷ []) $ free1 ! $ move ! (24 ∷ 25 ∷ []) $ free1 ! $ move ! (22 ∷ 23 ∷ []) $ free1 ! $ move ! (20 ∷ 21 ∷ []) $ free1 ! $ move ! (18 ∷ 19 ∷ []) $ free1 ! $ move ! (16 ∷ 17 ∷ []) $ free1 ! $ move ! (14 ∷ 15 ∷ []) $ free1 ! $ move ! (12 ∷ 13 ∷ []) $ free1 ! $ free0 ! $
         keep ! (8 ∷ 3 ∷ 2 ∷ 0 ∷ 9 ∷ 6 ∷ 5 ∷ 7 ∷ 4 ∷ []) $
-        by ! (exits r (ls .1 .1 .1 .1 .1 .1 .1 .0) (ls .1 .1 .1 .1 .1 .1 .1 .1 .1 .1 .0) w₃ (e₃ (loaded ys) (seen m (cols .1 .1 .0) (cols .1 .1 .1 .0) (cols .1 .1 .1 .1 .0) (cols .1 .1 .1 .1 .1 .0) (cols .1 .1 .1 .1 .1 .1 .0) (cols .1 .1 .1 .1 .1 .1 .1 .0) e₁ e₂)) lw lq)))))))))))))))))))))))))))))))))))))))))))))))))))))))))))))))))))))))))))))))
+        by ! (exits r (ls .1 .1 .1 .1 .1 .1 .1 .1 .0) (ls .1 .1 .1 .1 .1 .1 .1 .1 .1 .1 .1 .0) w₃ (e₃ (loaded ys) (seen m (cols .1 .1 .0) (cols .1 .1 .1 .0) (cols .1 .1 .1 .1 .0) (cols .1 .1 .1 .1 .1 .0) (cols .1 .1 .1 .1 .1 .1 .0) (cols .1 .1 .1 .1 .1 .1 .1 .0) (cols .1 .1 .1 .1 .1 .1 .1 .1 .0) e₁ e₂)) lw lq)))))))))))))))))))))))))))))))))))))))))))))))))))))))))))))))))))))))))))))))))))))))
 
 module _ {M : Type 1} (𝓤 : URA M) (H : Heap 𝓤) (A : Atoms 𝓤) (W : Given 𝓤 H A) where
   walks : (at-mem : Memory → SProp 𝓤) (run : Routine → Fun 𝓤) (𝓣 : Tables 𝓤 H) → Triple 𝓤 (𝓣 .C #lent·used-rows) (Used 𝓤 H A at-mem run) → Triple 𝓤 (𝓣 .C #lent·lay) (Lay 𝓤 H A at-mem run) → Triple 𝓤 (𝓣 .C #push·decide) (Decide 𝓤 H A at-mem run) → Walks 𝓤 H A f.ended stayed (WpFn 𝓤 H (𝓣 .C) (𝓣 .Λ) code.function) (f.clauses 𝓤 H A at-mem run)

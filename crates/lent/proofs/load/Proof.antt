@@ -90,7 +90,7 @@ abbrev stayed : Stays (f.ended .signature .params) (f.ended .kept)
 stayed = (stay-none-slice (0 ∷ []) tt (plain (λ _. T.the-row)) yes, tt)
 
 -- the octets before element i, which the machine computes, fit
-fits-at : (i n : ℕ) → i < n → n * 76 < 2 ^ 63 → i * 76 < 2 ^ 64
+fits-at : (i n : ℕ) → i < n → n * 84 < 2 ^ 63 → i * 84 < 2 ^ 64
 fits-at i n l r = omega (arith, l, r)
 
 holds-as : (s t : Bool) → s ≡ t → Holds s → Holds t
@@ -203,7 +203,7 @@ module _ {M : Type 1} (𝓤 : URA M) (H : Heap 𝓤) (A : Atoms 𝓤) (W : Given
       in-over : (i : Upto) → i .0 < m → i .0 < length (over ys ts (i .0))
       in-over i l = subst (λ (k : ℕ). i .0 < k) (sym (over-64 i)) (omega (arith, l, few .1))
 
-      bytes : (i : Upto) → i .0 < m → i .0 * 76 < 2 ^ 64
+      bytes : (i : Upto) → i .0 < m → i .0 * 84 < 2 ^ 64
       bytes i l = fits-at (i .0) (length ys) (in-ys i l) (room .1)
 
       onward : (i : Upto) → i .0 < m → set (over ys ts (i .0)) (i .0) (getD ys (i .0) noMailbox) ≡ over ys ts (i .0 + 1)
@@ -230,14 +230,14 @@ module _ {M : Type 1} (𝓤 : URA M) (H : Heap 𝓤) (A : Atoms 𝓤) (W : Given
           rewrite ! 17 (λ (t : Bool). ‵ (fat fullShare tyBool l₇ 0 (vbool t))) e refl $ stays ! (load ! (from ! (stop !)) (look ! 17 refl)) $
           assigns ! (bin ! (load ! (from ! (stop !)) (look ! 21 refl)) (lit ! tt) (record { fits = bytes i l })) (from ! (stop !)) (init ! 15 refl (tt, record { fits = bytes i l })) $
           assigns ! (bin ! (load ! (from ! (fld ! refl (stop !))) (look-in ! 28 (sub ! 0 refl (whole !)))) (load ! (from ! (stop !)) (look ! 15 refl)) tt) (from ! (stop !)) (init ! 13 refl (tt, tt)) $
-          rewrite ! 13 (λ (p : ℕ). ‵ (fat fullShare tyPtr l₉ 0 (vptr b p))) (sym (place-is 76 o (i .0))) refl $ move ! (0 ∷ []) $
+          rewrite ! 13 (λ (p : ℕ). ‵ (fat fullShare tyPtr l₉ 0 (vptr b p))) (sym (place-is 84 o (i .0))) refl $ move ! (0 ∷ []) $
           elem-out ! T.the-row (Is T.the-row) (shows 𝓤 H A T.the-row) (LL.vals T.the-type T′.the-laws) (LL.tells T.the-type T′.the-laws) q′ ys (i .0) noMailbox b o (in-ys i l) (λ is.
           assigns ! (of-opd ! (load ! (from ! (hop ! (look ! 15 refl) (stop !))) (look-raw ! 0 refl))) (from ! (stop !)) (init ! 13 refl (LL.lawful T.the-type T′.the-laws 𝓤 H A W .typed (getD ys (i .0) noMailbox) _ is .0)) $
           elem-back ! T.the-row q′ ys (i .0) noMailbox (val (getD ys (i .0) noMailbox) ∷ []) b o (in-ys i l) $
           assigns ! (bin ! (load ! (from ! (stop !)) (look ! 21 refl)) (lit ! tt) (record { fits = bytes i l })) (from ! (stop !)) (init ! 9 refl (tt, record { fits = bytes i l })) $
           assigns ! (addr ! (from ! (stop !))) (from ! (stop !)) (init ! 7 refl (tt, tt)) $
           assigns ! (bin ! (load ! (from ! (stop !)) (look ! 7 refl)) (load ! (from ! (stop !)) (look ! 9 refl)) tt) (from ! (stop !)) (init ! 5 refl (tt, tt)) $
-          rewrite ! 5 (λ (p : ℕ). ‵ (fat fullShare tyPtr l₁₃ 0 (vptr l₄ p))) (sym (place-is 76 0 (i .0))) refl $ move ! (2 ∷ []) $
+          rewrite ! 5 (λ (p : ℕ). ‵ (fat fullShare tyPtr l₁₃ 0 (vptr l₄ p))) (sym (place-is 84 0 (i .0))) refl $ move ! (2 ∷ []) $
           elem-out ! T.the-row (Is T.the-row) (shows 𝓤 H A T.the-row) (LL.vals T.the-type T′.the-laws) (LL.tells T.the-type T′.the-laws) fullShare (over ys ts (i .0)) (i .0) noMailbox l₄ 0 (in-over i l) (λ _.
           assigns ! (of-opd ! (load ! (from ! (stop !)) (look ! 13 refl))) (from ! (hop ! (look ! 7 refl) (stop !))) (store-raw ! 0 refl (LL.lawful T.the-type T′.the-laws 𝓤 H A W .typed (getD ys (i .0) noMailbox) _ is .0)) $
           move ! (1 ∷ []) $ drop ! $ owned ! T.the-row (Is T.the-row) (LL.makes T.the-type T′.the-plain 𝓤 H A) (getD ys (i .0) noMailbox) _ is $ move ! (1 ∷ 0 ∷ 2 ∷ []) $

@@ -69,7 +69,7 @@ abbrev stayed : Stays (f.ended .signature .params) (f.ended .kept)
 stayed = (stay-slice (0 ∷ []) tt (plain (λ _. T.the-row)), (stay-none (λ _. usize) yes, (stay-none (λ _. usize) yes, tt)))
 
 -- the octets before element i, which the machine computes, fit
-fits-at : (i n : ℕ) → i < n → n * 76 < 2 ^ 63 → i * 76 < 2 ^ 64
+fits-at : (i n : ℕ) → i < n → n * 84 < 2 ^ 63 → i * 84 < 2 ^ 64
 fits-at i n l r = omega (arith, l, r)
 
 holds-as : (s t : Bool) → s ≡ t → Holds s → Holds t
@@ -131,10 +131,10 @@ module _ {M : Type 1} (𝓤 : URA M) (H : Heap 𝓤) (A : Atoms 𝓤) (W : Given
   in-moved : (u : Upto) → u .0 < k → u .0 < length (moved (u .0))
   in-moved u l = let h = after-moved u l in omega (arith, h)
 
-  bytes : (u : Upto) → u .0 < k → u .0 * 76 < 2 ^ 64
+  bytes : (u : Upto) → u .0 < k → u .0 * 84 < 2 ^ 64
   bytes u l = let h = after-in u l in fits-at (u .0) (length ys) (omega (arith, h)) (room .1)
 
-  after-bytes : (u : Upto) → u .0 < k → (u .0 + 1) * 76 < 2 ^ 64
+  after-bytes : (u : Upto) → u .0 < k → (u .0 + 1) * 84 < 2 ^ 64
   after-bytes u l = fits-at (u .0 + 1) (length ys) (after-in u l) (room .1)
 
   more-fits : (u : Upto) → u .0 < k → u .0 + 1 < 2 ^ 64
@@ -201,14 +201,14 @@ module _ {M : Type 1} (𝓤 : URA M) (H : Heap 𝓤) (A : Atoms 𝓤) (W : Given
           assigns ! (bin ! (load ! (from ! (stop !)) (look ! 19 refl)) (lit ! tt) (record { fits = more-fits u l })) (from ! (stop !)) (init ! 15 refl (tt, record { fits = more-fits u l })) $
           assigns ! (bin ! (load ! (from ! (stop !)) (look ! 15 refl)) (lit ! tt) (record { fits = after-bytes u l })) (from ! (stop !)) (init ! 13 refl (tt, record { fits = after-bytes u l })) $
           assigns ! (bin ! (load ! (from ! (fld ! refl (stop !))) (look-in ! 25 (sub ! 0 refl (whole !)))) (load ! (from ! (stop !)) (look ! 13 refl)) tt) (from ! (stop !)) (init ! 11 refl (tt, tt)) $
-          rewrite ! 11 (λ (p : ℕ). ‵ (fat fullShare tyPtr l₈ 0 (vptr b p))) (sym (place-is 76 o (u .0 + 1))) refl $
+          rewrite ! 11 (λ (p : ℕ). ‵ (fat fullShare tyPtr l₈ 0 (vptr b p))) (sym (place-is 84 o (u .0 + 1))) refl $
           move ! (0 ∷ []) $
           elem-out ! T.the-row (Is T.the-row) (shows 𝓤 H A T.the-row) (LL.vals T.the-type T′.the-laws) (LL.tells T.the-type T′.the-laws) fullShare (moved (u .0)) (u .0 + 1) noMailbox b o (after-moved u l) (λ is.
           assigns ! (of-opd ! (load ! (from ! (hop ! (look ! 13 refl) (stop !))) (look-raw ! 0 refl))) (from ! (stop !)) (init ! 11 refl (LL.lawful T.the-type T′.the-laws 𝓤 H A W .typed (getD (moved (u .0)) (u .0 + 1) noMailbox) _ is .0)) $
           elem-back ! T.the-row fullShare (moved (u .0)) (u .0 + 1) noMailbox (val (getD (moved (u .0)) (u .0 + 1) noMailbox) ∷ []) b o (after-moved u l) $
           assigns ! (bin ! (load ! (from ! (stop !)) (look ! 19 refl)) (lit ! tt) (record { fits = bytes u l })) (from ! (stop !)) (init ! 7 refl (tt, record { fits = bytes u l })) $
           assigns ! (bin ! (load ! (from ! (fld ! refl (stop !))) (look-in ! 25 (sub ! 0 refl (whole !)))) (load ! (from ! (stop !)) (look ! 7 refl)) tt) (from ! (stop !)) (init ! 5 refl (tt, tt)) $
-          rewrite ! 5 (λ (p : ℕ). ‵ (fat fullShare tyPtr l₁₁ 0 (vptr b p))) (sym (place-is 76 o (u .0))) refl $
+          rewrite ! 5 (λ (p : ℕ). ‵ (fat fullShare tyPtr l₁₁ 0 (vptr b p))) (sym (place-is 84 o (u .0))) refl $
           move ! (0 ∷ []) $
           elem-out ! T.the-row (Is T.the-row) (shows 𝓤 H A T.the-row) (LL.vals T.the-type T′.the-laws) (LL.tells T.the-type T′.the-laws) fullShare (moved (u .0)) (u .0) noMailbox b o (in-moved u l) (λ _.
           assigns ! (of-opd ! (load ! (from ! (stop !)) (look ! 11 refl))) (from ! (hop ! (look ! 7 refl) (stop !))) (store-raw ! 0 refl (LL.lawful T.the-type T′.the-laws 𝓤 H A W .typed (getD (moved (u .0)) (u .0 + 1) noMailbox) _ is .0)) $

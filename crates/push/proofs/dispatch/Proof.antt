@@ -19,6 +19,9 @@ array-read-c c = search needs
 array-read-d : tie.Need-array-read-d
 array-read-d c = search needs
 
+array-read-e : tie.Need-array-read-e
+array-read-e c = search needs
+
 enum-told : tie.Need-enum-told
 enum-told c = search needs
 
@@ -252,6 +255,7 @@ dispatch-spec =
     array-read-b
     array-read-c
     array-read-d
+    array-read-e
     enum-told
     sub-create
     part-create-start

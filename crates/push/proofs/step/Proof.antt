@@ -18,7 +18,7 @@ use Rattle.push.proofs.step.Statement.{statement}
 use Rattle.push.proofs.step.Tie as tie
 
 narrow-row : (x : Mailbox) (vs : List Val) → Is T.the-row x vs → Narrow x
-narrow-row x vs is = let o = LL.owed T.the-type T′.the-laws x vs is in record { id = o .0 .1; validity = o .1 .1 .1 .0 .1; next = o .1 .1 .1 .1 .0 .1 }
+narrow-row x vs is = let o = LL.owed T.the-type T′.the-laws x vs is in record { id = o .0 .1; validity = o .1 .1 .1 .0 .1; next = o .1 .1 .1 .1 .0 .1; low = o .1 .1 .1 .1 .1 .0 .1; high = o .1 .1 .1 .1 .1 .1 .0 .1 }
 
 narrow-rows : (l : List Mailbox) (us : List Val) → shadow (each Mailbox (T.the-row .own) l us) → (k : ℕ) → k < length l → Narrow (getD l k noMailbox)
 narrow-rows [] us s k h = absurd (let z : ⊥ = omega arith in z)
@@ -31,8 +31,8 @@ lay-requires c κs = search needs
 
 decide-requires : tie.Need-decide-requires
 decide-requires c κs =
-    let s = c .before .before .before .before .before .before .before .before .before .before .before .before .before .before .before .before .before .before in
-    (s .args .table, record { long = s .good .0 .1 .0 .1; stands = record { laid = c .before .before .before .before .before .before .before .before .lay .ensures; narrow = narrow-take (s .args .table) (s .args .counts .mailboxes) (narrow-rows (s .args .table) _ (s .good .0 .1 .1)) } })
+    let s = c .before .before .before .before .before .before .before .before .before .before .before .before .before .before .before .before .before .before .before .before in
+    (s .args .table, record { long = s .good .0 .1 .0 .1; stands = record { laid = c .before .before .before .before .before .before .before .before .before .lay .ensures; narrow = narrow-take (s .args .table) (s .args .counts .mailboxes) (narrow-rows (s .args .table) _ (s .good .0 .1 .1)) } })
 
 same-length : tie.Need-same-length
 same-length c = search needs
@@ -42,9 +42,9 @@ same-length-2 c = search needs
 
 returns : tie.Need-returns
 returns c =
-    let s = c .before .before .before .before .before .before .before .before .before .before .before .before .before .before .before .before .before .before .before .before .before .before .before in
+    let s = c .before .before .before .before .before .before .before .before .before .before .before .before .before .before .before .before .before .before .before .before .before .before .before .before .before in
     c .before .before .before .before .decide .ensures (s .args .table)
-    (record { long = s .good .0 .1 .0 .1; stands = record { laid = c .before .before .before .before .before .before .before .before .before .before .before .before .before .lay .ensures; narrow = narrow-take (s .args .table) (s .args .counts .mailboxes) (narrow-rows (s .args .table) _ (s .good .0 .1 .1)) } })
+    (record { long = s .good .0 .1 .0 .1; stands = record { laid = c .before .before .before .before .before .before .before .before .before .before .before .before .before .before .lay .ensures; narrow = narrow-take (s .args .table) (s .args .counts .mailboxes) (narrow-rows (s .args .table) _ (s .good .0 .1 .1)) } })
 
 pub step-spec : {M : Type 1} → statement M
 step-spec = tie.close (tie.spec lay-requires decide-requires same-length same-length-2 returns)

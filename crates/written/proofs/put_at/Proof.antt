@@ -19,10 +19,10 @@ last-row-requires : tie.Need-last-row-requires
 last-row-requires c κs = search needs
 
 returns : tie.Need-returns
-returns c = search needs
+returns c = let a = c .before .before .args in ap (λ (k : Change). placed k (a .out .at) (a .used) (a .lent)) (sym (c .enum-told .given .1))
 
 returns-2 : tie.Need-returns-2
-returns-2 c = search needs
+returns-2 c = let a = c .before .before .args in ap (λ (k : Change). placed k (a .out .at) (a .used) (a .lent)) (sym (c .enum-told2 .given .1))
 
 returns-3 : tie.Need-returns-3
 returns-3 c = let a = c .before .before .before .args in c .last-row .ensures ∙ ap (λ (k : Change). placed k (a .out .at) (a .used) (a .lent)) (sym (c .before .enum-told3 .given .1))

@@ -63,13 +63,15 @@ const CALLS: [(&str, Made); 8] = [
         let messages = shape.messages - 1;
         let memory = Shape { messages, ..shape }.memory();
         let row = memory.mailboxes[0];
-        let record = records::message(row.id, row.uid_next, 0, 100);
+        let record = records::message(row.id, row.uid_next, 0, 100, row.counter + 1);
         Scene { memory, record }
     }),
     ("FL selected", |shape| {
         let memory = shape.memory();
         let uid = memory.session.told - 1;
-        let record = records::flags(memory.session.selected, uid, 1);
+        let id = memory.session.selected;
+        let counter = memory.mailbox(id).map_or(1, |row| row.counter + 1);
+        let record = records::flags(id, uid, 1, counter);
         Scene { memory, record }
     }),
     ("CE 1, none waits", |shape| {

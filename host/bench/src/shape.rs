@@ -53,11 +53,11 @@ pub enum Rights {
     Neither,
 }
 
-/// UIDs, flags and sizes.
+/// UIDs, flags, sizes and counters.
 #[derive(Clone, Copy, PartialEq, Eq, Debug)]
 pub enum Numbers {
     Small,
-    /// Ten digits, UIDs two apart, all flags.
+    /// Ten digits, UIDs two apart, all flags; counters of nineteen.
     Large,
 }
 
@@ -144,6 +144,11 @@ impl Shape {
                 Numbers::Small => 1,
                 Numbers::Large => 4_000_000_000,
             },
+            // a message's arrival raises it by one, and a record may raise it still
+            counter: match self.numbers {
+                Numbers::Small => 1,
+                Numbers::Large => COUNTER_MOST - 1 - MESSAGES as u64,
+            },
             name: self.names.make(number),
         }
     }
@@ -175,12 +180,14 @@ impl Shape {
             Numbers::Large => (2, FLAG_BITS, u32::MAX - number as u32),
         };
         row.uid_next += step;
+        row.counter += 1;
         Message {
             mailbox: row.id,
             uid,
             flags,
             size,
             state: 0,
+            counter: row.counter,
         }
     }
 

@@ -161,12 +161,15 @@ impl Maker {
             }
             0 | 1 => {
                 let entry = self.entry();
-                self.put("XP", records::expunge(entry.mailbox, entry.uid))
+                let counter = self.counter_of(entry.mailbox);
+                self.put("XP", records::expunge(entry.mailbox, entry.uid, counter))
             }
             2 => {
                 let entry = self.entry();
                 let flags = self.random.octet() & FLAG_BITS;
-                self.put("FL", records::flags(entry.mailbox, entry.uid, flags))
+                let counter = self.counter_of(entry.mailbox);
+                let record = records::flags(entry.mailbox, entry.uid, flags, counter);
+                self.put("FL", record)
             }
             3 if self.random.chance(40) => self.put("CE 0", records::command_ended(Class::Fetch)),
             3 => self.put("CE 1", records::command_ended(Class::Rest)),
@@ -191,8 +194,8 @@ impl Maker {
             _ => {
                 let held = self.entry();
                 let wrong = [
-                    records::message(held.mailbox, held.uid, 0, 10),
-                    records::flags(id, UID_MOST, 0),
+                    records::message(held.mailbox, held.uid, 0, 10, COUNTER_MOST),
+                    records::flags(id, UID_MOST, 0, COUNTER_MOST),
                     records::select(self.fresh()),
                     records::command_ended(Class::Rest)[..4].to_vec(),
                 ];
@@ -252,6 +255,7 @@ impl Maker {
             SELECTABLE | RIGHTS | some,
             notice,
             validity,
+            1,
             name.as_bytes(),
         )
     }
@@ -260,7 +264,13 @@ impl Maker {
         let row = self.row();
         let uid = row.uid_next + self.random.below(3) as u32;
         let flags = self.random.octet() & FLAG_BITS;
-        records::message(row.id, uid, flags, self.random.below(60_000) as u32)
+        let size = self.random.below(60_000) as u32;
+        records::message(row.id, uid, flags, size, row.counter + 1)
+    }
+
+    /// One above the mailbox's.
+    fn counter_of(&self, id: u16) -> u64 {
+        self.memory.mailbox(id).map_or(0, |row| row.counter) + 1
     }
 
     /// A name that no mailbox has had; INBOX is the first.

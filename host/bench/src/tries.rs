@@ -46,7 +46,7 @@ pub fn tries(kind: &str, shape: &Shape, memory: &Memory) -> Vec<Try> {
     match kind {
         "MB" => vec![(
             "a new name",
-            records::create(spare, 0x3F, owed, u32::MAX, name),
+            records::create(spare, 0x3F, owed, u32::MAX, COUNTER_MOST, name),
         )],
         "DL" => vec![
             ("the first row", records::delete(first.id, owed)),
@@ -65,8 +65,10 @@ pub fn tries(kind: &str, shape: &Shape, memory: &Memory) -> Vec<Try> {
             ("rights come", records::rights(last.id, RIGHTS)),
         ],
         "ME" => vec![("elsewhere", arrival(&first)), ("selected", arrival(&last))],
-        "XP" => about_entries(memory, records::expunge),
-        "FL" => about_entries(memory, |id, uid| records::flags(id, uid, FLAG_BITS)),
+        "XP" => about_entries(memory, |id, uid| records::expunge(id, uid, COUNTER_MOST)),
+        "FL" => about_entries(memory, |id, uid| {
+            records::flags(id, uid, FLAG_BITS, COUNTER_MOST)
+        }),
         "SE" => vec![
             ("none", records::select(0)),
             ("the first row", records::select(first.id)),
@@ -121,7 +123,7 @@ fn second(memory: &Memory) -> Mailbox {
 }
 
 fn arrival(row: &Mailbox) -> Vec<u8> {
-    records::message(row.id, row.uid_next, FLAG_BITS, u32::MAX)
+    records::message(row.id, row.uid_next, FLAG_BITS, u32::MAX, COUNTER_MOST)
 }
 
 fn drained(memory: &Memory, count: usize) -> Vec<u8> {
@@ -152,17 +154,27 @@ fn refused(memory: &Memory) -> Vec<Try> {
     let free = (1..).find(|&id| memory.mailbox(id).is_none()).unwrap_or(1);
     let owed = Notice::Owed;
     vec![
-        ("FL of no message", records::flags(last.id, UID_MOST, 0)),
+        (
+            "FL of no message",
+            records::flags(last.id, UID_MOST, 0, COUNTER_MOST),
+        ),
         ("SE of no mailbox", records::select(free)),
         (
             "MB with a name that is held",
-            records::create(free, 0x3F, owed, 1, held.as_octets()),
+            records::create(free, 0x3F, owed, 1, 1, held.as_octets()),
         ),
         (
             "RN to a name that is held",
             records::rename(last.id, owed, held.as_octets()),
         ),
-        ("ME of an old UID", records::message(last.id, 1, 0, 0)),
+        (
+            "ME of an old UID",
+            records::message(last.id, 1, 0, 0, COUNTER_MOST),
+        ),
+        (
+            "FL with an old counter",
+            records::flags(last.id, last.uid_next - 1, 0, last.counter),
+        ),
     ]
 }
 

@@ -6,9 +6,9 @@ fn main() -> std::io::Result<()> {
     let mut session = Memory::new(65536);
     let attributes = SELECTABLE | LOOKUP | READ;
     let records = [
-        create(1, attributes, Notice::Quiet, 7, b"Ops/Alarms"),
+        create(1, attributes, Notice::Quiet, 7, 1, b"Ops/Alarms"),
         command(b"a NOTIFY SET (mailboxes Ops/Alarms (MessageNew MessageExpunge))"),
-        message(1, 5, 0, 120),
+        message(1, 5, 0, 120, 2),
     ];
     for record in records {
         assert_eq!(session.step(&record), Answer::Done, "{record:?}");

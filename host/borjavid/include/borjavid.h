@@ -21,9 +21,10 @@ extern "C" {
 /* Bounds: longer tables and another queue are refused with 1. Shorter tables are lawful, none at all too. */
 #define BORJAVID_MAILBOXES 64
 #define BORJAVID_MESSAGES 1024
-#define BORJAVID_ENTRY 5 /* words of an entry: mailbox, UID, flags, size, states */
+#define BORJAVID_ENTRY 6 /* words of an entry: mailbox, UID, flags, size, states, counter */
 #define BORJAVID_QUEUE_LEAST 1024
 #define BORJAVID_QUEUE_MOST 65536
+#define BORJAVID_COUNTER_MOST UINT64_C(9223372036854775807) /* change counters are 1 to this */
 
 /* Attribute bits of a mailbox; the last two are the user's rights. */
 #define BORJAVID_SELECTABLE 1
@@ -33,15 +34,26 @@ extern "C" {
 #define BORJAVID_LOOKUP 16
 #define BORJAVID_READ 32
 
-/* A row of the mailbox table, 76 octets. The library zeroes rows that it frees. */
+/* A row of the mailbox table, 84 octets. The library zeroes rows that it frees. */
 typedef struct {
     uint16_t id;
     uint8_t attributes;
     uint8_t namelen;
     uint32_t uidvalidity;
-    uint32_t uidnext; /* one above all UIDs ever used there */
+    uint32_t uidnext;     /* one above all UIDs ever used there */
+    uint32_t counterlow;  /* the change counter in two halves, as a whole would need padding: borjavid_row_counter */
+    uint32_t counterhigh;
     uint8_t name[64]; /* zeros behind the first namelen octets */
 } borjavid_mailbox;
+
+/* The change counter of a row: the highest that the mailbox was given. */
+static inline uint64_t borjavid_row_counter(const borjavid_mailbox *row) {
+    return (uint64_t)row->counterhigh << 32 | row->counterlow;
+}
+static inline void borjavid_row_set_counter(borjavid_mailbox *row, uint64_t counter) {
+    row->counterlow = (uint32_t)counter;
+    row->counterhigh = (uint32_t)(counter >> 32);
+}
 
 /* A group of NOTIFY SET. Selectors: 0 selected, 1 selected-delayed, 2 inboxes, 3 personal, 4 subscribed, 5 subtree,
  * 6 mailboxes; the last two have `count` of the session's names, from `first` on. */
@@ -72,7 +84,7 @@ typedef struct {
 /* How much of the lent memory is in use. All zeros at the start. */
 typedef struct {
     uint64_t mailboxes; /* rows */
-    uint64_t messages;  /* entries, of five words each */
+    uint64_t messages;  /* entries, of six words each */
     uint64_t filled;    /* octets of the queue, from its front: what the host has to write out */
 } borjavid_counts;
 
@@ -90,7 +102,8 @@ enum {
     BORJAVID_BAD_RECORD = 2,      /* unknown mark, wrong length, a field out of range, a bad name */
     BORJAVID_WRONG_ID = 3,        /* the id is in use (MB) or unknown (others) */
     BORJAVID_NAME_HELD = 4,       /* another mailbox has the name */
-    BORJAVID_WRONG_UID = 5,       /* ME: not above all UIDs ever used there. XP, FL: no such message */
+    BORJAVID_WRONG_UID = 5,       /* ME: the UID is not above all ever used there. XP, FL: no such message. All three: the
+                                   * counter is not above the mailbox's */
     BORJAVID_WRONG_STATE = 6,     /* SE: unselectable or unreadable. DL: it is selected. DR: more than is filled */
     BORJAVID_TABLE_FULL = 7,      /* no row (MB) or no entry (ME) is free */
     BORJAVID_NO_ROOM = 8          /* CM: its answer doesn't fit beside what the queue holds */
@@ -98,7 +111,7 @@ enum {
 
 /* One record, of record_len octets, on the memory of one session.
  *   rows     the mailbox table: its first counts->mailboxes rows are in use
- *   words    the message table, five words an entry: its first counts->messages entries are in use. Words behind the last
+ *   words    the message table, six words an entry: its first counts->messages entries are in use. Words behind the last
  *            whole entry are never touched
  *   counts, session
  *   queue    its first counts->filled octets are to be written out to the client, in order
@@ -128,13 +141,15 @@ void borjavid_set_row(borjavid_mailbox *rows, size_t rows_len, size_t at, borjav
 
 BORJAVID_ASSERT(sizeof(size_t) == 8);
 
-BORJAVID_ASSERT(sizeof(borjavid_mailbox) == 76);
+BORJAVID_ASSERT(sizeof(borjavid_mailbox) == 84);
 BORJAVID_AT(borjavid_mailbox, id, 0);
 BORJAVID_AT(borjavid_mailbox, attributes, 2);
 BORJAVID_AT(borjavid_mailbox, namelen, 3);
 BORJAVID_AT(borjavid_mailbox, uidvalidity, 4);
 BORJAVID_AT(borjavid_mailbox, uidnext, 8);
-BORJAVID_AT(borjavid_mailbox, name, 12);
+BORJAVID_AT(borjavid_mailbox, counterlow, 12);
+BORJAVID_AT(borjavid_mailbox, counterhigh, 16);
+BORJAVID_AT(borjavid_mailbox, name, 20);
 
 BORJAVID_ASSERT(sizeof(borjavid_group) == 5);
 BORJAVID_AT(borjavid_group, selector, 0);

@@ -14,7 +14,7 @@ pub enum Refusal {
     WrongId = 3,
     /// Another mailbox has the name.
     NameHeld = 4,
-    /// The UID is no new one (`ME`), or no such message is there.
+    /// The UID is no new one (`ME`), no such message is there, or the counter is not above the mailbox's.
     WrongUid = 5,
     /// The mailbox can't be selected, is the selected one, or more was drained than the queue holds.
     WrongState = 6,

@@ -14,7 +14,7 @@ pub const QUEUE_MOST: usize = 65536;
 /// Memory of a host's own, lent for some calls. Five pieces, apart from each other by the borrow checker's word.
 pub struct Lent<'a> {
     pub rows: &'a mut [Mailbox],
-    /// The message table, five words an entry. Words behind the last whole entry are never touched.
+    /// The message table, six words an entry. Words behind the last whole entry are never touched.
     pub words: &'a mut [u64],
     pub counts: &'a mut Counts,
     pub session: &'a mut Session,

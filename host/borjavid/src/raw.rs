@@ -13,6 +13,9 @@ pub struct Mailbox {
     pub namelen: u8,
     pub uidvalidity: u32,
     pub uidnext: u32,
+    /// The change counter in two halves, as a whole would need padding: `counter` joins them.
+    pub counterlow: u32,
+    pub counterhigh: u32,
     /// Zeros behind the first `namelen` octets.
     pub name: [u8; 64],
 }
@@ -52,7 +55,7 @@ pub struct Session {
     pub names: [Name; 16],
 }
 
-/// How much of the lent memory is in use: rows, entries of five words, octets of the queue.
+/// How much of the lent memory is in use: rows, entries of six words, octets of the queue.
 #[repr(C)]
 #[derive(Clone, Copy, PartialEq, Eq, Debug, Default)]
 pub struct Counts {
@@ -70,19 +73,21 @@ pub(crate) struct Answered {
     pub count: u64,
 }
 
-/// Words of an entry of the message table: mailbox, UID, flags, size, states.
-pub(crate) const ENTRY: usize = 5;
+/// Words of an entry of the message table: mailbox, UID, flags, size, states, counter.
+pub(crate) const ENTRY: usize = 6;
 
 // No octet is padding: the fields' sizes add up to the struct's, each begins where the last ends, and the alignment is that
 // of the widest number.
 const _: () = {
-    assert!(size_of::<Mailbox>() == 76 && align_of::<Mailbox>() == 4);
+    assert!(size_of::<Mailbox>() == 84 && align_of::<Mailbox>() == 4);
     assert!(offset_of!(Mailbox, id) == 0);
     assert!(offset_of!(Mailbox, attributes) == 2);
     assert!(offset_of!(Mailbox, namelen) == 3);
     assert!(offset_of!(Mailbox, uidvalidity) == 4);
     assert!(offset_of!(Mailbox, uidnext) == 8);
-    assert!(offset_of!(Mailbox, name) == 12);
+    assert!(offset_of!(Mailbox, counterlow) == 12);
+    assert!(offset_of!(Mailbox, counterhigh) == 16);
+    assert!(offset_of!(Mailbox, name) == 20);
 
     assert!(size_of::<Group>() == 5 && align_of::<Group>() == 1);
     assert!(offset_of!(Group, selector) == 0);
@@ -123,8 +128,20 @@ impl Mailbox {
         namelen: 0,
         uidvalidity: 0,
         uidnext: 0,
+        counterlow: 0,
+        counterhigh: 0,
         name: [0; 64],
     };
+
+    /// The highest change counter that the mailbox was given.
+    pub fn counter(&self) -> u64 {
+        u64::from(self.counterhigh) << 32 | u64::from(self.counterlow)
+    }
+
+    pub fn set_counter(&mut self, counter: u64) {
+        self.counterlow = counter as u32;
+        self.counterhigh = (counter >> 32) as u32;
+    }
 }
 
 impl Session {

@@ -18,6 +18,9 @@ pub const DELETED: u8 = 4;
 pub const SEEN: u8 = 8;
 pub const DRAFT: u8 = 16;
 
+/// Change counters are 1 to this.
+pub const COUNTER_MOST: u64 = (1 << 63) - 1;
+
 /// Whether a notice is owed for the change.
 #[derive(Clone, Copy, PartialEq, Eq, Debug)]
 pub enum Notice {
@@ -35,11 +38,19 @@ pub enum Class {
     Rest = 1,
 }
 
-/// `MB`: a mailbox comes to be.
-pub fn create(id: u16, attributes: u8, notice: Notice, uid_validity: u32, name: &[u8]) -> Vec<u8> {
+/// `MB`: a mailbox comes to be, with this change counter.
+pub fn create(
+    id: u16,
+    attributes: u8,
+    notice: Notice,
+    uid_validity: u32,
+    counter: u64,
+    name: &[u8],
+) -> Vec<u8> {
     let [low, high] = id.to_le_bytes();
     let head = [low, high, attributes, notice as u8];
-    record(b"MB", &[&head, &uid_validity.to_le_bytes(), name])
+    let (validity, counter) = (uid_validity.to_le_bytes(), counter.to_le_bytes());
+    record(b"MB", &[&head, &validity, &counter, name])
 }
 
 /// `DL`: it is gone, with its messages.
@@ -65,20 +76,22 @@ pub fn rights(id: u16, rights: u8) -> Vec<u8> {
     record(b"RT", &[&id.to_le_bytes(), &[rights]])
 }
 
-/// `ME`: a message comes.
-pub fn message(id: u16, uid: u32, flags: u8, size: u32) -> Vec<u8> {
-    let (id, uid) = (id.to_le_bytes(), uid.to_le_bytes());
-    record(b"ME", &[&id, &uid, &[flags], &size.to_le_bytes()])
+/// `ME`: a message comes. Its counter, like that of every later change, is above all that the mailbox was given.
+pub fn message(id: u16, uid: u32, flags: u8, size: u32, counter: u64) -> Vec<u8> {
+    let (id, uid, size) = (id.to_le_bytes(), uid.to_le_bytes(), size.to_le_bytes());
+    record(b"ME", &[&id, &uid, &[flags], &size, &counter.to_le_bytes()])
 }
 
 /// `XP`: a message is gone.
-pub fn expunge(id: u16, uid: u32) -> Vec<u8> {
-    record(b"XP", &[&id.to_le_bytes(), &uid.to_le_bytes()])
+pub fn expunge(id: u16, uid: u32, counter: u64) -> Vec<u8> {
+    let (id, uid) = (id.to_le_bytes(), uid.to_le_bytes());
+    record(b"XP", &[&id, &uid, &counter.to_le_bytes()])
 }
 
 /// `FL`: a message has these flags.
-pub fn flags(id: u16, uid: u32, flags: u8) -> Vec<u8> {
-    record(b"FL", &[&id.to_le_bytes(), &uid.to_le_bytes(), &[flags]])
+pub fn flags(id: u16, uid: u32, flags: u8, counter: u64) -> Vec<u8> {
+    let (id, uid) = (id.to_le_bytes(), uid.to_le_bytes());
+    record(b"FL", &[&id, &uid, &[flags], &counter.to_le_bytes()])
 }
 
 /// `SE`: the client has this mailbox open, or none (0).

@@ -11,7 +11,8 @@ const UNLAWFUL: Answer = Answer::Refused(Refusal::UnlawfulMemory);
 const FULL: Answer = Answer::Refused(Refusal::TableFull);
 
 fn mailbox(id: u16) -> Vec<u8> {
-    records::create(id, 0x33, Notice::Owed, 1, format!("m{id}").as_bytes())
+    let name = format!("m{id}");
+    records::create(id, 0x33, Notice::Owed, 1, 1, name.as_bytes())
 }
 
 #[test]
@@ -31,11 +32,15 @@ fn rows() {
     }
 }
 
+/// Counters go on from here, with something in each half.
+const FIRST: u64 = 5 << 32;
+
 /// One mailbox, and as many entries in use as leave one free.
 fn nearly_full(words: &mut [u64]) -> (Mailbox, Counts) {
-    let used = (words.len() / 5).saturating_sub(1);
-    for (place, entry) in words.chunks_exact_mut(5).take(used).enumerate() {
-        entry.copy_from_slice(&[1, place as u64 + 1, 0, 9, 0]);
+    let used = (words.len() / 6).saturating_sub(1);
+    for (place, entry) in words.chunks_exact_mut(6).take(used).enumerate() {
+        let uid = place as u64 + 1;
+        entry.copy_from_slice(&[1, uid, 0, 9, 0, FIRST + uid]);
     }
     let mut row = Mailbox {
         id: 1,
@@ -46,6 +51,7 @@ fn nearly_full(words: &mut [u64]) -> (Mailbox, Counts) {
         ..Mailbox::EMPTY
     };
     row.name[0] = b'm';
+    row.set_counter(FIRST + used as u64);
     let counts = Counts {
         mailboxes: 1,
         messages: used as u64,
@@ -56,10 +62,11 @@ fn nearly_full(words: &mut [u64]) -> (Mailbox, Counts) {
 
 #[test]
 fn words() {
-    for length in 0..=5 * 1024 + 15 {
+    for length in 0..=6 * 1024 + 18 {
         let mut words = vec![0xAAAA_AAAA_AAAA_AAAA; length];
         let (row, mut counts) = nearly_full(&mut words);
         let next = row.uidnext;
+        let message = |uid| records::message(1, uid, 0, 9, FIRST + u64::from(uid));
         let mut lent = Lent {
             rows: &mut [row],
             words: &mut words,
@@ -67,23 +74,15 @@ fn words() {
             session: &mut Session::EMPTY.clone(),
             queue: &mut [0; 1024],
         };
-        let first = match length / 5 {
+        let first = match length / 6 {
             0 => FULL,
             1..=1024 => Answer::Done,
             _ => UNLAWFUL,
         };
-        let second = if length / 5 > 1024 { UNLAWFUL } else { FULL };
-        assert_eq!(
-            lent.step(&records::message(1, next, 0, 9)),
-            first,
-            "{length} words"
-        );
-        assert_eq!(
-            lent.step(&records::message(1, next + 1, 0, 9)),
-            second,
-            "{length} words"
-        );
-        let tail = &words[length / 5 * 5..];
+        let second = if length / 6 > 1024 { UNLAWFUL } else { FULL };
+        assert_eq!(lent.step(&message(next)), first, "{length} words");
+        assert_eq!(lent.step(&message(next + 1)), second, "{length} words");
+        let tail = &words[length / 6 * 6..];
         assert!(
             tail.iter().all(|&word| word == 0xAAAA_AAAA_AAAA_AAAA),
             "{length} words: the tail"
@@ -149,7 +148,7 @@ fn names_and_rows_are_found_by_their_lengths() {
     for id in 1..=64 {
         let name = vec![b'n'; usize::from(id)];
         assert_eq!(
-            lent.step(&records::create(id, 0x33, Notice::Quiet, 1, &name)),
+            lent.step(&records::create(id, 0x33, Notice::Quiet, 1, 1, &name)),
             Answer::Done
         );
         assert_eq!(lent.find_id(id), Some(usize::from(id) - 1));

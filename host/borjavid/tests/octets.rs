@@ -57,7 +57,7 @@ fn stream(random: &mut Random, most: usize, seen: &mut Seen) -> usize {
     };
     let mut memory = reference::Memory::new(queue, mailboxes, messages);
     memory.queue.fill(FILLING);
-    let words = 5 * messages + random.below(5);
+    let words = 6 * messages + random.below(6);
     let mut lent = Pieces::start(FILLING, queue, mailboxes, words);
     let mut wanted = lent.clone();
     let length = length.min(most);

@@ -56,11 +56,12 @@ fn run() {
     let mut memory = Memory::new(65536);
     for id in 1..=64 {
         let name = format!("a{id}");
-        let record = records::create(id, 0x37, Notice::Quiet, 7, name.as_bytes());
+        let record = records::create(id, 0x37, Notice::Quiet, 7, 1, name.as_bytes());
         assert_eq!(memory.step(&record), Answer::Done);
     }
     for place in 0..1024 {
-        let record = records::message(place % 64 + 1, u32::from(place / 64) + 1, 0, 1);
+        let uid = u32::from(place / 64) + 1;
+        let record = records::message(place % 64 + 1, uid, 0, 1, u64::from(uid) + 1);
         assert_eq!(memory.step(&record), Answer::Done);
     }
     assert_eq!(memory.step(&records::select(1)), Answer::Done);

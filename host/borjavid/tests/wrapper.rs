@@ -4,12 +4,15 @@ use borjavid::records::{self, Class, Notice};
 use borjavid::{Answer, Memory, Refusal};
 use std::io::{self, Write};
 
+/// Every octet of it is another.
+const COUNTER: u64 = 0x0102_0304_0506_0708;
+
 #[test]
-fn records_lie_as_01_says() {
+fn records_lie_as_01_and_request_1_say() {
     let wanted: [(Vec<u8>, &[u8]); 12] = [
         (
-            records::create(0x0201, 0x37, Notice::Quiet, 7, b"INBOX"),
-            b"MB\x0d\0\x01\x02\x37\x01\x07\0\0\0INBOX",
+            records::create(0x0201, 0x37, Notice::Quiet, 7, COUNTER, b"INBOX"),
+            b"MB\x15\0\x01\x02\x37\x01\x07\0\0\0\x08\x07\x06\x05\x04\x03\x02\x01INBOX",
         ),
         (records::delete(2, Notice::Owed), b"DL\x03\0\x02\0\0"),
         (
@@ -25,13 +28,16 @@ fn records_lie_as_01_says() {
             b"RT\x03\0\x02\0\x30",
         ),
         (
-            records::message(2, 5, records::SEEN, 0x01020304),
-            b"ME\x0b\0\x02\0\x05\0\0\0\x08\x04\x03\x02\x01",
+            records::message(2, 5, records::SEEN, 0x01020304, COUNTER),
+            b"ME\x13\0\x02\0\x05\0\0\0\x08\x04\x03\x02\x01\x08\x07\x06\x05\x04\x03\x02\x01",
         ),
-        (records::expunge(2, 5), b"XP\x06\0\x02\0\x05\0\0\0"),
         (
-            records::flags(2, 5, records::DRAFT),
-            b"FL\x07\0\x02\0\x05\0\0\0\x10",
+            records::expunge(2, 5, COUNTER),
+            b"XP\x0e\0\x02\0\x05\0\0\0\x08\x07\x06\x05\x04\x03\x02\x01",
+        ),
+        (
+            records::flags(2, 5, records::DRAFT, COUNTER),
+            b"FL\x0f\0\x02\0\x05\0\0\0\x10\x08\x07\x06\x05\x04\x03\x02\x01",
         ),
         (records::select(0), b"SE\x02\0\0\0"),
         (records::command_ended(Class::Rest), b"CE\x01\0\x01"),
@@ -45,9 +51,9 @@ fn records_lie_as_01_says() {
 
 #[test]
 fn a_name_that_no_record_can_hold_is_refused() {
-    for length in [0, 65, 65_527, 65_528, 65_536, 131_072] {
+    for length in [0, 65, 65_519, 65_520, 65_536, 131_072] {
         let mut memory = Memory::new(1024);
-        let record = records::create(1, 0x33, Notice::Owed, 1, &vec![b'a'; length]);
+        let record = records::create(1, 0x33, Notice::Owed, 1, 1, &vec![b'a'; length]);
         assert_eq!(
             memory.step(&record),
             Answer::Refused(Refusal::BadRecord),
@@ -64,10 +70,10 @@ fn a_name_that_no_record_can_hold_is_refused() {
 fn watching() -> Memory {
     let mut memory = Memory::new(1024);
     for record in [
-        records::create(1, 0x37, Notice::Quiet, 7, b"INBOX"),
+        records::create(1, 0x37, Notice::Quiet, 7, 1, b"INBOX"),
         records::select(1),
         records::command(b"a NOTIFY SET (selected (MessageNew (UID) MessageExpunge))"),
-        records::message(1, 3, 0, 100),
+        records::message(1, 3, 0, 100, 2),
     ] {
         assert_eq!(memory.step(&record), Answer::Done);
     }
@@ -102,7 +108,7 @@ fn what_is_written_out_is_drained() {
     let all = memory.queue().to_vec();
     assert_eq!(
         all,
-        b"a OK NOTIFY done\r\n* 1 EXISTS\r\n* 1 FETCH (UID 3)\r\n"
+        b"a OK NOTIFY done\r\n* 1 EXISTS\r\n* 1 FETCH (UID 3 MODSEQ (2))\r\n"
     );
     let mut out = Narrow {
         left: 20,
@@ -121,16 +127,17 @@ fn what_is_written_out_is_drained() {
 #[test]
 fn the_view_numbers_messages() {
     let mut memory = watching();
-    for uid in [8, 5, 9] {
-        memory.step(&records::message(1, uid, 0, 1));
+    for (uid, counter) in [(8, 3), (5, 4), (9, 4)] {
+        memory.step(&records::message(1, uid, 0, 1, counter));
     }
     assert_eq!(memory.view(), [3, 8, 9]);
     assert_eq!(memory.room(), (63, 1021));
-    memory.step(&records::expunge(1, 8));
+    memory.step(&records::expunge(1, 8, 5));
     assert_eq!(memory.view(), [3, 9]);
     memory.step(&records::select(0));
     assert_eq!(memory.view(), []);
-    assert_eq!(memory.mailboxes()[0].uidnext, 10);
+    let row = memory.mailboxes()[0];
+    assert_eq!((row.uidnext, row.counter()), (10, 5));
 }
 
 #[test]

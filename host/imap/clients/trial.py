@@ -166,7 +166,8 @@ class Report:
             print(f'\nthe transcripts are kept in {self.folder}')
         else:
             result = 'as expected'
-            shutil.rmtree(self.folder)
+            # a client that is going may still take files of its own away
+            shutil.rmtree(self.folder, ignore_errors=True)
         print(f'\n{self.client} | {self.steps} steps | {result}', flush=True)
         # Not sys.exit: it would wait for the threads of a client library.
         os._exit(bool(self.wrong))

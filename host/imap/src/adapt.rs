@@ -1,21 +1,18 @@
 //! OUTSIDE THE PROMISES, and off unless `--adapt` is given: lines in another form than the library writes, for clients that
-//! must have it. A client's NOTIFY may ask for any fetch attribute, FETCH and STATUS get MODSEQ, EXPUNGE becomes VANISHED
-//! (RFC 7162). Nothing that was proved speaks of lines that went through here.
+//! must have it. A client's NOTIFY may ask for any fetch attribute, and EXPUNGE becomes VANISHED, with what else QRESYNC
+//! (RFC 7162) asks of a server. Nothing that was proved speaks of lines that went through here.
 
 use crate::fetch::{self, Item};
-use crate::flags;
 use crate::parse::{is_within, joined, Read, Reader, Set, Stop};
 use crate::push::{Answer, Push};
-use crate::store::{Mailbox, Store};
+use crate::store::{Mailbox, Message, Store};
 use std::collections::VecDeque;
 
-pub const CAPABILITY: &str = " CONDSTORE QRESYNC";
+pub const CAPABILITY: &str = " QRESYNC";
 
 #[derive(Default)]
 pub struct Adapted {
-    /// The client wants MODSEQ.
-    pub condstore: bool,
-    /// And VANISHED.
+    /// The client wants VANISHED.
     pub qresync: bool,
     /// What NOTIFY asked for beyond the three attributes that the library writes.
     more: Vec<Item>,
@@ -24,15 +21,8 @@ pub struct Adapted {
 }
 
 impl Adapted {
-    pub fn enable(&mut self, word: &str) -> bool {
-        let known = word == "CONDSTORE" || word == "QRESYNC";
-        self.condstore |= known;
-        self.qresync |= word == "QRESYNC";
-        known
-    }
-
     /// One record; what it puts into the queue is rewritten at once, while the store is as the line says.
-    pub fn call(&mut self, push: &mut Push, store: &Store, user: &str, record: &[u8]) -> Answer {
+    pub fn call(&mut self, push: &mut Push, store: &Store, record: &[u8]) -> Answer {
         let mut view = push.view();
         let before = push.queue().len();
         let answer = push.call(record);
@@ -42,21 +32,20 @@ impl Adapted {
             let text = String::from_utf8_lossy(line);
             let words: Vec<&str> = text.trim_end().splitn(4, ' ').collect();
             let number = words.get(1).and_then(|word| word.parse::<usize>().ok());
-            let written = match (words.get(1).copied(), number, words.get(2).copied()) {
-                (_, Some(number), Some("EXPUNGE")) if number <= view.len() => {
+            let written = match (number, words.get(2).copied()) {
+                (Some(number), Some("EXPUNGE")) if number <= view.len() => {
                     let uid = view.remove(number - 1);
                     self.qresync.then(|| format!("* VANISHED {uid}\r\n").into())
                 }
-                (_, Some(_), Some("EXISTS")) => {
+                (Some(_), Some("EXISTS")) => {
                     view = push.view();
                     announced = true;
                     None
                 }
-                (_, Some(number), Some("FETCH")) if number <= view.len() => {
+                (Some(number), Some("FETCH")) if announced && number <= view.len() => {
                     let mailbox = store.mailboxes.get(&push.selected());
-                    mailbox.and_then(|m| self.fetch_line(line, m, view[number - 1], announced))
+                    mailbox.and_then(|m| self.fetch_line(line, m, view[number - 1]))
                 }
-                (Some("STATUS"), ..) => self.status_line(line, store, user),
                 _ => None,
             };
             let written = written.unwrap_or_else(|| line.to_vec());
@@ -65,27 +54,14 @@ impl Adapted {
         answer
     }
 
-    fn fetch_line(&self, line: &[u8], mailbox: &Mailbox, uid: u32, new: bool) -> Option<Vec<u8>> {
+    fn fetch_line(&self, line: &[u8], mailbox: &Mailbox, uid: u32) -> Option<Vec<u8>> {
         let message = mailbox.message(uid)?;
         let mut written = line.strip_suffix(b")\r\n")?.to_vec();
-        for item in self.more.iter().filter(|_| new) {
+        for item in &self.more {
             written.push(b' ');
             fetch::write(&mut written, item, message);
         }
-        if self.condstore {
-            written.extend(format!(" MODSEQ ({})", message.modseq).bytes());
-        }
         written.extend(b")\r\n");
-        Some(written)
-    }
-
-    fn status_line(&self, line: &[u8], store: &Store, user: &str) -> Option<Vec<u8>> {
-        let name = Reader::new(line.strip_prefix(b"* STATUS ")?)
-            .mailbox()
-            .ok()?;
-        let mailbox = store.named(user, &name).filter(|_| self.condstore)?;
-        let mut written = line.strip_suffix(b")\r\n")?.to_vec();
-        written.extend(format!(" HIGHESTMODSEQ {})\r\n", mailbox.modseq).bytes());
         Some(written)
     }
 
@@ -138,10 +114,11 @@ fn narrow(line: &[u8]) -> Option<(Vec<u8>, Vec<Item>)> {
         .filter(|&at| at == 0 || more.contains(&three[at]))
         .map(|at| names[at])
         .collect();
-    more.retain(|item| !three.contains(item));
-    if more.is_empty() {
+    if more.iter().all(|item| three.contains(item)) {
         return None;
     }
+    // the library writes MODSEQ unasked
+    more.retain(|item| !three.contains(item) && *item != Item::Modseq);
     let mut narrow = line[..at].to_vec();
     narrow.extend(format!("({})", kept.join(" ")).bytes());
     narrow.extend(reader.rest());
@@ -151,7 +128,7 @@ fn narrow(line: &[u8]) -> Option<(Vec<u8>, Vec<Item>)> {
 /// What a client knew when it last had the mailbox selected.
 pub struct Known {
     validity: u64,
-    modseq: u64,
+    counter: u64,
     uids: Set,
 }
 
@@ -174,7 +151,7 @@ fn known(reader: &mut Reader) -> Read<Known> {
     reader.need(b'(')?;
     let validity = reader.number()?;
     reader.space()?;
-    let modseq = reader.number()?;
+    let counter = reader.number()?;
     let mut uids = vec![(1, u32::MAX)];
     if reader.eat(b' ') && reader.peek() != b'(' {
         uids = reader.set()?;
@@ -189,28 +166,26 @@ fn known(reader: &mut Reader) -> Read<Known> {
     reader.need(b')')?;
     Ok(Known {
         validity,
-        modseq,
+        counter,
         uids,
     })
 }
 
 /// What SELECT tells such a client.
-pub fn selected(mailbox: &Mailbox, known: Option<Known>, qresync: bool) -> String {
-    let mut text = format!("* OK [HIGHESTMODSEQ {}] ok\r\n", mailbox.modseq);
+pub fn selected(mailbox: &Mailbox, known: Option<Known>, qresync: bool) -> Vec<u8> {
     let valid = |known: &Known| qresync && known.validity == u64::from(mailbox.uid_validity);
     let Some(known) = known.filter(valid) else {
-        return text;
+        return Vec::new();
     };
-    text += &vanished(mailbox, known.modseq, &known.uids);
-    let changed = |uid, modseq| modseq > known.modseq && is_within(&known.uids, uid, u32::MAX);
-    for (place, message) in mailbox.messages.iter().enumerate() {
-        if changed(message.uid, message.modseq) {
-            let (number, uid, modseq) = (place + 1, message.uid, message.modseq);
-            let flags = flags::list(message.flags);
-            text += &format!("* {number} FETCH (UID {uid} FLAGS {flags} MODSEQ ({modseq}))\r\n");
+    let mut told = vanished(mailbox, known.counter, &known.uids).into_bytes();
+    let changed =
+        |m: &Message| m.counter > known.counter && is_within(&known.uids, m.uid, u32::MAX);
+    for (number, message) in (1..).zip(&mailbox.messages) {
+        if changed(message) {
+            told.extend(fetch::line(number, &fetch::CHANGED, message));
         }
     }
-    text
+    told
 }
 
 /// The line for what is gone since then, if anything is.
@@ -222,36 +197,4 @@ pub fn vanished(mailbox: &Mailbox, since: u64, uids: &Set) -> String {
         true => String::new(),
         false => format!("* VANISHED (EARLIER) {}\r\n", joined(&gone)),
     }
-}
-
-/// `(CHANGEDSINCE n VANISHED)` behind FETCH: since when, and whether to tell what is gone.
-pub fn fetch_modifiers(reader: &mut Reader) -> Read<(u64, bool)> {
-    let (mut since, mut vanished) = (0, false);
-    reader.list(|reader| {
-        match reader.word()?.as_str() {
-            "CHANGEDSINCE" => {
-                reader.space()?;
-                since = reader.number()?;
-            }
-            "VANISHED" => vanished = true,
-            _ => return Err(Stop::Bad),
-        }
-        Ok(())
-    })?;
-    Ok((since, vanished))
-}
-
-/// `(UNCHANGEDSINCE n)` and a space before STORE's flags.
-pub fn unchanged_since(reader: &mut Reader) -> Read<u64> {
-    if !reader.eat(b'(') {
-        return Ok(u64::MAX);
-    }
-    if !reader.has_word("UNCHANGEDSINCE") {
-        return Err(Stop::Bad);
-    }
-    reader.space()?;
-    let modseq = reader.number()?;
-    reader.need(b')')?;
-    reader.space()?;
-    Ok(modseq)
 }

@@ -60,7 +60,7 @@ impl Store {
             rights: BTreeMap::from_iter(maker),
             delivery: name == names::INBOX,
             uid_next: 1,
-            modseq: 1,
+            counter: 1,
             messages: Vec::new(),
             expunged: Vec::new(),
             subscribers: BTreeSet::new(),
@@ -161,21 +161,22 @@ impl Store {
         });
     }
 
-    /// Answers the message's UID; none if the mailbox has no UID left.
+    /// Answers the message's UID; none if the mailbox has no UID or counter left.
     pub fn append(&mut self, id: u16, flags: u8, date: String, octets: Arc<[u8]>) -> Option<u32> {
         let mailbox = self.mailboxes.get_mut(&id)?;
         let uid = mailbox.uid_next;
-        mailbox.uid_next = uid.checked_add(1)?;
-        mailbox.modseq += 1;
+        let next = uid.checked_add(1)?;
+        let counter = mailbox.count()?;
+        mailbox.uid_next = next;
         let size = octets.len() as u32;
         mailbox.messages.push(Message {
             uid,
             flags,
-            modseq: mailbox.modseq,
+            counter,
             date,
             octets,
         });
-        self.tell(id, &records::message(id, uid, flags, size));
+        self.tell(id, &records::message(id, uid, flags, size, counter));
         Some(uid)
     }
 
@@ -186,10 +187,12 @@ impl Store {
         let Some(place) = mailbox.place(uid) else {
             return;
         };
-        mailbox.modseq += 1;
+        let Some(counter) = mailbox.count() else {
+            return;
+        };
         mailbox.messages[place].flags = flags;
-        mailbox.messages[place].modseq = mailbox.modseq;
-        self.tell(id, &records::flags(id, uid, flags));
+        mailbox.messages[place].counter = counter;
+        self.tell(id, &records::flags(id, uid, flags, counter));
     }
 
     pub fn expunge(&mut self, id: u16, uid: u32) {
@@ -199,11 +202,13 @@ impl Store {
         let Some(place) = mailbox.place(uid) else {
             return;
         };
-        mailbox.modseq += 1;
+        let Some(counter) = mailbox.count() else {
+            return;
+        };
         mailbox.messages.remove(place);
         if self.options.adapt {
-            mailbox.expunged.push((uid, mailbox.modseq));
+            mailbox.expunged.push((uid, counter));
         }
-        self.tell(id, &records::expunge(id, uid));
+        self.tell(id, &records::expunge(id, uid, counter));
     }
 }

@@ -40,6 +40,9 @@ enum What {
     Fields(Vec<String>, bool),
 }
 
+/// What a change of flags is told with, as the library tells it.
+pub const CHANGED: [Item; 3] = [Item::Uid, Item::Flags, Item::Modseq];
+
 impl Item {
     pub fn sets_seen(&self) -> bool {
         matches!(self, Item::Section(section) if !section.peek)
@@ -174,7 +177,7 @@ pub fn write(out: &mut Vec<u8>, item: &Item, message: &Message) {
         Item::Flags => format!("FLAGS {}", flags::list(message.flags)),
         Item::Size => format!("RFC822.SIZE {}", message.octets.len()),
         Item::Date => format!("INTERNALDATE \"{}\"", message.date),
-        Item::Modseq => format!("MODSEQ ({})", message.modseq),
+        Item::Modseq => format!("MODSEQ ({})", message.counter),
         Item::Envelope => {
             let (header, _) = mime::split(&message.octets);
             format!("ENVELOPE {}", structure::envelope(header))

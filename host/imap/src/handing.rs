@@ -1,5 +1,6 @@
 //! Which mailboxes a session's library has: those on which the user has l or r, as long as the tables hold them.
 
+use crate::history;
 use crate::push::{self, records, Answer, Notice};
 use crate::session::State;
 use crate::store::{Mailbox, Store};
@@ -10,8 +11,8 @@ impl Store {
     pub fn load(&self, state: &mut State) {
         let user = state.user.clone();
         let messages: usize = self.visible(&user).map(|m| m.messages.len()).sum();
-        let gap = self.visible(&user).any(Mailbox::has_gap);
-        if !push::fits(self.visible(&user).count(), messages + usize::from(gap)) {
+        let gone = self.visible(&user).any(|m| m.gone().is_some());
+        if !push::fits(self.visible(&user).count(), messages + usize::from(gone)) {
             state.outgrown = true;
             return;
         }
@@ -20,46 +21,53 @@ impl Store {
         }
     }
 
-    /// A mailbox with all its messages. The rights come last: the client reads one LIST where one is owed, and not a STATUS
-    /// for each message.
+    /// A mailbox with all that came to it. One that finds no room is left out, and so is one whose counters no history gives.
     pub fn hand(&self, state: &mut State, mailbox: &Mailbox, notice: Notice) {
-        let entries = mailbox.messages.len() + usize::from(mailbox.has_gap());
+        let entries = mailbox.messages.len() + usize::from(mailbox.gone().is_some());
         if !state.push.has_room(entries) {
             return state.outgrow(self);
         }
-        let attributes = mailbox.attributes(&state.user);
-        let rights = mailbox.bits(&state.user);
-        let empty = mailbox.uid_next == 1;
-        let (attributes, notice) = match empty {
-            true => (attributes, notice),
-            false => (attributes & !rights, Notice::Quiet),
-        };
-        let (id, validity) = (mailbox.id, mailbox.uid_validity);
-        let name = mailbox.name.as_bytes();
-        let record = records::create(id, attributes, notice, validity, name);
-        if state.feed(self, &record) != Answer::Done {
+        if mailbox.uid_next == 1 {
+            let attributes = mailbox.attributes(&state.user);
+            self.hand_row(state, mailbox, attributes, notice, mailbox.counter);
             return;
         }
-        state.handed.insert(id);
-        if !empty {
-            self.hand_messages(state, mailbox);
-            state.feed(self, &records::rights(id, rights));
+        match history::of(mailbox) {
+            None => state.outgrow(self),
+            Some(history) => self.hand_used(state, mailbox, &history),
         }
     }
 
-    fn hand_messages(&self, state: &mut State, mailbox: &Mailbox) {
-        let id = mailbox.id;
-        for message in &mailbox.messages {
-            let size = message.octets.len() as u32;
-            let record = records::message(id, message.uid, message.flags, size);
-            state.feed(self, &record);
+    fn hand_row(
+        &self,
+        state: &mut State,
+        mailbox: &Mailbox,
+        attributes: u8,
+        notice: Notice,
+        counter: u64,
+    ) -> Answer {
+        let (id, validity) = (mailbox.id, mailbox.uid_validity);
+        let name = mailbox.name.as_bytes();
+        let record = records::create(id, attributes, notice, validity, counter, name);
+        let answer = state.feed(self, &record);
+        if answer == Answer::Done {
+            state.handed.insert(id);
         }
-        if mailbox.has_gap() {
-            // no record has UIDNEXT: a message that comes and goes raises it
-            let last = mailbox.uid_next - 1;
-            state.feed(self, &records::message(id, last, 0, 0));
-            state.feed(self, &records::expunge(id, last));
+        answer
+    }
+
+    /// The rights come last: the client reads one LIST where one is owed, and not a STATUS for each message.
+    fn hand_used(&self, state: &mut State, mailbox: &Mailbox, history: &[Vec<u8>]) {
+        let rights = mailbox.bits(&state.user);
+        let attributes = mailbox.attributes(&state.user) & !rights;
+        let quiet = Notice::Quiet;
+        if self.hand_row(state, mailbox, attributes, quiet, history::LOWEST) != Answer::Done {
+            return;
         }
+        for record in history {
+            state.feed(self, record);
+        }
+        state.feed(self, &records::rights(mailbox.id, rights));
     }
 
     /// For a session whose account doesn't fit: the tables serve the mailbox that is to be selected, and no other.

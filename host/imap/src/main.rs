@@ -4,11 +4,13 @@
 mod adapt;
 mod changes;
 mod commands;
+mod condstore;
 mod connection;
 mod date;
 mod fetch;
 mod flags;
 mod handing;
+mod history;
 mod input;
 mod mime;
 mod names;

@@ -21,8 +21,8 @@ imap: a small IMAP server whose notices all come from the proved library
   --queue Q     octets of each connection's queue, 1024 to 65536, the latter if not given
   --log DIR     writes a transcript of each connection to DIR
   --adapt       OUTSIDE THE PROMISES (src/adapt.rs): adds to FETCH lines what a client's NOTIFY asked for beyond
-                UID, FLAGS and RFC822.SIZE, adds MODSEQ, and writes VANISHED for EXPUNGE, as some clients must have
-                it. Nothing that was proved speaks of lines that were rewritten
+                UID, FLAGS and RFC822.SIZE, and writes VANISHED for EXPUNGE, as some clients must have it. Nothing
+                that was proved speaks of lines that were rewritten
   --help        this text
 
 Users are alice, bob and carol, each with the password pw. Everybody has folders of their own; what lies beneath

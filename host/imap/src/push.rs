@@ -73,3 +73,17 @@ impl Push {
 pub fn fits(mailboxes: usize, messages: usize) -> bool {
     mailboxes <= MAILBOXES && messages <= MESSAGES
 }
+
+#[cfg(test)]
+impl Push {
+    /// UIDNEXT and counter of a mailbox, and its messages' UIDs and counters.
+    pub fn counters(&mut self, id: u16) -> (u32, u64, Vec<(u32, u64)>) {
+        let lent = self.memory.lend();
+        let row = lent.rows[lent.find_id(id).expect("a mailbox")];
+        let entries = lent.words.chunks_exact(6);
+        let used = entries.take(lent.counts.messages as usize);
+        let own = used.filter(|entry| entry[0] == u64::from(id));
+        let own = own.map(|entry| (entry[1] as u32, entry[5]));
+        (row.uidnext, row.counter(), own.collect())
+    }
+}

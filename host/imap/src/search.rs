@@ -1,5 +1,6 @@
 //! SEARCH over the selected mailbox. ESEARCH, over several, is the library's.
 
+use crate::condstore;
 use crate::date;
 use crate::flags::{DELETED, SEEN};
 use crate::mime;
@@ -19,6 +20,8 @@ pub enum Key {
     Smaller(u64),
     Uid(Set),
     Number(Set),
+    /// Changed at this counter or later.
+    Modseq(u64),
     Header(String, String),
     Body(String),
     Text(String),
@@ -71,6 +74,7 @@ fn named(word: &str, reader: &mut Reader, depth: u32) -> Read<Key> {
         "NEW" | "RECENT" => Key::Never,
         "KEYWORD" => text(reader).map(|_| Key::Never)?,
         "UNKEYWORD" => text(reader).map(|_| Key::All)?,
+        "MODSEQ" => Key::Modseq(condstore::search_key(reader)?),
         "LARGER" => Key::Larger(number(reader)?),
         "SMALLER" => Key::Smaller(number(reader)?),
         "UID" => {
@@ -129,6 +133,17 @@ fn dated(sent: bool, than: Ordering, reader: &mut Reader) -> Read<Key> {
     Ok(Key::Date { sent, than, day })
 }
 
+/// Whether a key asks for counters: the answer then ends with the highest of what was found.
+pub fn has_modseq(key: &Key) -> bool {
+    match key {
+        Key::Modseq(_) => true,
+        Key::Not(key) => has_modseq(key),
+        Key::Or(a, b) => has_modseq(a) || has_modseq(b),
+        Key::List(all) => all.iter().any(has_modseq),
+        _ => false,
+    }
+}
+
 pub fn matches(key: &Key, message: &Message, place: &Place) -> bool {
     let octets = &message.octets[..];
     let size = octets.len() as u64;
@@ -140,6 +155,7 @@ pub fn matches(key: &Key, message: &Message, place: &Place) -> bool {
         Key::Smaller(than) => size < *than,
         Key::Uid(set) => is_within(set, message.uid, place.last_uid),
         Key::Number(set) => is_within(set, place.number, place.last),
+        Key::Modseq(since) => message.counter >= *since,
         Key::Header(name, text) => mime::value(mime::split(octets).0, name)
             .is_some_and(|value| holds(value.as_bytes(), text)),
         Key::Body(text) => holds(mime::split(octets).1, text),

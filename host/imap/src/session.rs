@@ -39,6 +39,8 @@ pub struct State {
     pub closing: bool,
     /// The socket is gone.
     pub dead: bool,
+    /// The client asked for counters, so it hears of one even where it wants no flags.
+    pub condstore: bool,
     pub adapted: Option<Adapted>,
 }
 
@@ -56,6 +58,7 @@ impl Session {
             outgoing: Outgoing::default(),
             closing: false,
             dead: false,
+            condstore: false,
             adapted: options.adapt.then(Adapted::default),
         };
         Session {
@@ -130,7 +133,7 @@ impl State {
     pub fn call(&mut self, store: &Store, record: &[u8]) -> Answer {
         match &mut self.adapted {
             None => self.push.call(record),
-            Some(adapted) => adapted.call(&mut self.push, store, &self.user, record),
+            Some(adapted) => adapted.call(&mut self.push, store, record),
         }
     }
 
@@ -151,6 +154,19 @@ impl State {
         self.call(store, &records::command_ended(class))
             .count()
             .unwrap_or(0)
+    }
+
+    /// ENABLE of CONDSTORE, or of QRESYNC where there is that, which has the other in it.
+    pub fn enable(&mut self, word: &str) -> bool {
+        let known = match &mut self.adapted {
+            Some(adapted) if word == "QRESYNC" => {
+                adapted.qresync = true;
+                true
+            }
+            _ => word == "CONDSTORE",
+        };
+        self.condstore |= known;
+        known
     }
 
     pub fn set_idle(&mut self, on: bool) {

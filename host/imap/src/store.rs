@@ -17,7 +17,8 @@ pub const ALL_RIGHTS: &str = "lrswipkxtea";
 pub struct Message {
     pub uid: u32,
     pub flags: u8,
-    pub modseq: u64,
+    /// Of its arrival or its last change.
+    pub counter: u64,
     pub date: String,
     pub octets: Arc<[u8]>,
 }
@@ -32,7 +33,8 @@ pub struct Mailbox {
     pub delivery: bool,
     pub uid_validity: u32,
     pub uid_next: u32,
-    pub modseq: u64,
+    /// The highest change counter so far. Each change of each message has one of its own, also where a command makes many.
+    pub counter: u64,
     pub messages: Vec<Message>,
     /// UIDs that are gone, and when; kept for `adapt` alone.
     pub expunged: Vec<(u32, u64)>,
@@ -86,9 +88,20 @@ impl Mailbox {
         self.messages.binary_search_by_key(&uid, |m| m.uid).ok()
     }
 
-    /// Whether UIDNEXT is above what the messages alone would make it.
-    pub fn has_gap(&self) -> bool {
-        self.messages.last().map_or(1, |last| last.uid + 1) < self.uid_next
+    /// The counter of the next change, which is made now. None at the end of the range: nothing can change any more.
+    pub fn count(&mut self) -> Option<u64> {
+        let next = self.counter + 1;
+        self.counter = Some(next).filter(|&next| next <= records::COUNTER_MOST)?;
+        Some(next)
+    }
+
+    /// A UID that is gone, where what is left doesn't show all: UIDNEXT is above the messages', or an expunge came last.
+    pub fn gone(&self) -> Option<u32> {
+        let last = self.uid_next - 1;
+        let is_gone = |&uid: &u32| self.place(uid).is_none();
+        let expunged_last = self.messages.iter().all(|m| m.counter < self.counter);
+        let least = if expunged_last { 1 } else { last.max(1) };
+        (least..=last).rev().find(is_gone)
     }
 
     /// Whether the name is one of the user's names: their own, or a shared one.

@@ -14,7 +14,7 @@ fn fetch_lines_are_completed() {
     watch.alice.append("Shared/Open");
     let header = "From: a@x\r\nSubject: t\r\n\r\n";
     let first = format!(
-        "* 2 FETCH (UID 2 FLAGS () RFC822.SIZE 29 RFC822.HEADER {{{}}}",
+        "* 2 FETCH (UID 2 FLAGS () RFC822.SIZE 29 MODSEQ (3) RFC822.HEADER {{{}}}",
         header.len()
     );
     let lines = watch.heard();
@@ -23,15 +23,16 @@ fn fetch_lines_are_completed() {
     // and only those of new messages
     watch.alice.ok("SELECT Shared/Open");
     watch.alice.ok("STORE 1 FLAGS (\\Seen)");
-    assert_eq!(watch.heard(), ["* 1 FETCH (UID 1 FLAGS (\\Seen))"]);
+    let flags = "* 1 FETCH (UID 1 FLAGS (\\Seen) MODSEQ (4))";
+    assert_eq!(watch.heard(), [flags]);
     watch.end();
 }
 
 #[test]
-fn modseq_and_vanished() {
+fn expunges_vanish() {
     let mut watch = Watch::new(3, &["--adapt"]);
     assert_eq!(watch.bob.ok("ENABLE QRESYNC"), ["* ENABLED QRESYNC"]);
-    let groups = "(selected (MessageNew (UID) MessageExpunge FlagChange)) (personal (MessageNew MessageExpunge))";
+    let groups = "(selected (MessageNew (UID MODSEQ) MessageExpunge FlagChange)) (personal (MessageNew MessageExpunge))";
     watch.notify(groups);
     watch.bob.append("INBOX");
     watch.bob.ok("SELECT Shared/Open (CONDSTORE)");

@@ -168,10 +168,12 @@ fn what_is_not_promised_is_not_there() {
     let (server, mut client) = two_messages();
     assert!(!client.ok("CAPABILITY")[0].contains("QRESYNC"));
     assert_eq!(client.ok("ENABLE QRESYNC"), ["* ENABLED"]);
+    client.ok("SELECT work (CONDSTORE)");
     for command in [
         "SELECT work (QRESYNC (1 1))",
-        "STATUS work (HIGHESTMODSEQ)",
-        "FETCH 1 (MODSEQ)",
+        "UID FETCH 1 (UID) (CHANGEDSINCE 1 VANISHED)",
+        "NOTIFY SET (selected (MessageNew (MODSEQ) MessageExpunge))",
+        "ESEARCH IN (personal) MODSEQ 5",
     ] {
         assert_eq!(client.answer(command), "BAD refused", "{command}");
     }

@@ -85,7 +85,7 @@ fn an_account_outgrows_the_messages() {
     let heard = watch.bob.lines(24);
     assert_eq!(
         heard[23],
-        "* STATUS \"Shared/Open\" (UIDNEXT 1025 MESSAGES 1024)"
+        "* STATUS \"Shared/Open\" (UIDNEXT 1025 MESSAGES 1024 HIGHESTMODSEQ 1025)"
     );
     assert!(watch.bob.ok("CAPABILITY")[0].contains(" NOTIFY "));
     watch
@@ -159,23 +159,22 @@ fn an_account_outgrows_the_mailboxes() {
 /// The account outgrows the tables while the queue has no room for anything more: the client is told when it reads.
 #[test]
 fn an_account_outgrows_behind_a_full_queue() {
-    // 18 lines of 53 octets leave 6 of 1,024 - 64
-    let mut watch = Watch::new(1024 - 18 - 1, &["--queue", "1024"]);
+    // 13 lines of 73 octets leave 11 of 1,024 - 64
+    const LINES: usize = 13;
+    let mut watch = Watch::new(0, &["--queue", "1024"]);
+    let alarms = |count: usize| (0..count).map(|_| "Shared/Alarm".to_string());
+    watch.alice.ok("CREATE Shared/Alarm");
+    watch.alice.append_many(alarms(1024 - LINES - 1));
     append_large(&mut watch.alice);
     let mut deaf = watch.server.log_in("alice");
     let groups = "(subtree Shared (MessageNew MessageExpunge))";
     deaf.ok(&format!("NOTIFY SET {groups}"));
     let tag = stop_reading(&mut deaf);
-    watch
-        .alice
-        .append_many((0..18 + 5).map(|_| "Shared/Open".into()));
+    watch.alice.append_many(alarms(LINES + 5));
     read_again(&mut deaf, &tag);
-    let lines = deaf.lines(19);
-    assert!(
-        lines[17].ends_with("(UIDNEXT 1024 MESSAGES 1023)"),
-        "{lines:?}"
-    );
-    assert_eq!(lines[18], TOO_LARGE);
+    let lines = deaf.lines(LINES + 1);
+    let last = "* STATUS \"Shared/Alarm\" (UIDNEXT 1024 MESSAGES 1023 HIGHESTMODSEQ 1024)";
+    assert_eq!(lines[LINES - 1..], [last, TOO_LARGE]);
     assert_eq!(deaf.ok("NOOP"), [""; 0]);
     assert!(deaf
         .answer(&format!("NOTIFY SET {groups}"))
@@ -200,7 +199,7 @@ fn idle_behind_a_full_queue() {
     let lines = watch.bob.lines(1 + 101);
     let flags = lines
         .iter()
-        .filter(|line| line.ends_with("FLAGS (\\Flagged))"));
+        .filter(|line| line.contains("FLAGS (\\Flagged) MODSEQ ("));
     assert_eq!(flags.count(), 101);
     watch.bob.send(b"DONE\r\n");
     assert_eq!(watch.bob.line(), format!("{idle} OK IDLE done"));

@@ -73,8 +73,14 @@ fn a_grant_is_one_line_and_a_revoke_another() {
         assert_eq!(watch.heard(), ["* LIST () \"/\" \"Shared/Big\""]);
         watch.alice.append("Shared/Big");
         let (next, messages) = (302 + 2 * turn, 300 + 2 * turn);
-        let status = format!("* STATUS \"Shared/Big\" (UIDNEXT {next} MESSAGES {messages})");
-        assert_eq!(watch.heard(), [status]);
+        let counts = format!(
+            "UIDNEXT {next} MESSAGES {messages} HIGHESTMODSEQ {}",
+            next + 2
+        );
+        assert_eq!(
+            watch.heard(),
+            [format!("* STATUS \"Shared/Big\" ({counts})")]
+        );
         watch.alice.ok("DELETEACL Shared/Big bob");
         assert_eq!(
             watch.heard(),
@@ -87,7 +93,7 @@ fn a_grant_is_one_line_and_a_revoke_another() {
     assert!(watch.bob.ok("CAPABILITY")[0].contains("NOTIFY"));
     watch.alice.ok("SETACL Shared/Big bob lr");
     watch.alice.append("Shared/Big");
-    let status = "* STATUS \"Shared/Big\" (UIDNEXT 312 MESSAGES 310)";
+    let status = "* STATUS \"Shared/Big\" (UIDNEXT 312 MESSAGES 310 HIGHESTMODSEQ 314)";
     assert_eq!(watch.heard(), ["* LIST () \"/\" \"Shared/Big\"", status]);
     watch.end();
 }
@@ -203,7 +209,7 @@ fn a_rename_takes_what_lies_beneath() {
     let renamed = "* LIST () \"/\" \"Shared/new/z\" (\"OLDNAME\" (\"Shared/a\"))";
     assert_eq!(watch.heard(), [renamed]);
     watch.alice.append("Shared/new/z/b/c");
-    let status = "* STATUS \"Shared/new/z/b/c\" (UIDNEXT 2 MESSAGES 1)";
+    let status = "* STATUS \"Shared/new/z/b/c\" (UIDNEXT 2 MESSAGES 1 HIGHESTMODSEQ 2)";
     assert_eq!(watch.heard(), [status]);
     let all = watch.alice.ok("LIST \"\" Shared/*");
     assert_eq!(all.len(), 7, "{all:?}");
@@ -233,8 +239,8 @@ fn inbox_is_renamed_and_a_fresh_one_stands_there() {
     assert_eq!(watch.heard(), ["* LIST () \"/\" \"old\"", renamed]);
     other.append("INBOX");
     other.append("old/mail");
-    let fresh = "* STATUS \"INBOX\" (UIDNEXT 2 MESSAGES 1)";
-    let old = "* STATUS \"old/mail\" (UIDNEXT 3 MESSAGES 2)";
+    let fresh = "* STATUS \"INBOX\" (UIDNEXT 2 MESSAGES 1 HIGHESTMODSEQ 2)";
+    let old = "* STATUS \"old/mail\" (UIDNEXT 3 MESSAGES 2 HIGHESTMODSEQ 3)";
     assert_eq!(watch.heard(), [fresh, old]);
     let validity = |lines: Vec<String>| lines[0].split('(').nth(1).map(str::to_string);
     let moved = watch.bob.ok("STATUS old/mail (UIDVALIDITY)");

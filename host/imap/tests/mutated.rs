@@ -9,7 +9,7 @@ const SERVERS: u64 = 10;
 const CONNECTIONS: usize = 60;
 const COMMANDS: usize = 60;
 
-const WHOLE: [&str; 44] = [
+const WHOLE: [&str; 47] = [
     "SELECT INBOX",
     "EXAMINE a/b",
     "FETCH 1:* (FLAGS BODY.PEEK[HEADER.FIELDS (A \"B c\")]<0.9> ENVELOPE BODYSTRUCTURE)",
@@ -19,6 +19,9 @@ const WHOLE: [&str; 44] = [
     "STORE 1 +FLAGS.SILENT (\\Seen x)",
     "UID STORE 1:* (UNCHANGEDSINCE 3) FLAGS (\\Deleted)",
     "STORE 1:3 -FLAGS \\Flagged",
+    "FETCH 1:* (FLAGS) (CHANGEDSINCE 2)",
+    "SEARCH MODSEQ \"/flags/\\\\Seen\" all 2 OR MODSEQ 3 SEEN",
+    "SELECT INBOX (CONDSTORE)",
     "SEARCH OR FROM \"a\" NOT (SINCE 1-Jan-2020 UID 1:*) LARGER 3",
     "UID SEARCH CHARSET UTF-8 HEADER X \"\" BODY {1+}\r\nh SENTON 2-Feb-2021",
     "LIST (SUBSCRIBED) \"\" (\"*\" \"%\") RETURN (CHILDREN STATUS (MESSAGES))",
@@ -39,7 +42,7 @@ const WHOLE: [&str; 44] = [
     "NOTIFY NONE",
     "ESEARCH IN (personal subtree (a \"b\")) RETURN (COUNT) OR ALL (UID 1:4 NOT SEEN)",
     "ESEARCH RETURN (MIN MAX) 1:*",
-    "STATUS INBOX (MESSAGES UNSEEN)",
+    "STATUS INBOX (MESSAGES UNSEEN HIGHESTMODSEQ)",
     "CREATE a/b",
     "CREATE inbox/c/",
     "RENAME a c",

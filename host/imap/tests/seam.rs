@@ -75,9 +75,10 @@ fn class_0_commands_hear_of_the_rest_before_their_tag() {
         watch.alice.ok("UNSELECT");
         let lines = watch.bob.run(command);
         let exists = format!("* {} EXISTS", 4 + place);
-        let flags = "* 3 FETCH (UID 3 FLAGS (\\Flagged))".to_string();
+        let flags = "* 3 FETCH (UID 3 FLAGS (\\Flagged) MODSEQ (";
         assert!(lines.contains(&exists), "{command}: {lines:?}");
-        assert!(lines.contains(&flags), "{command}: {lines:?}");
+        let told = lines.iter().any(|line| line.starts_with(flags));
+        assert!(told, "{command}: {lines:?}");
         assert!(
             !lines.contains(&"* 1 EXPUNGE".into()),
             "{command}: {lines:?}"
@@ -93,10 +94,13 @@ fn what_notify_asked_for_comes_at_once() {
     watch.bob.ok("SELECT Shared/Open");
     watch.notify(ALL);
     watch.alice.append("Shared/Open");
-    let new = ["* 4 EXISTS", "* 4 FETCH (UID 4 FLAGS ())"];
+    let new = ["* 4 EXISTS", "* 4 FETCH (UID 4 FLAGS () MODSEQ (5))"];
     assert_eq!(watch.heard(), new);
     expunge(&mut watch, 2);
-    let gone = ["* 2 FETCH (UID 2 FLAGS (\\Deleted))", "* 2 EXPUNGE"];
+    let gone = [
+        "* 2 FETCH (UID 2 FLAGS (\\Deleted) MODSEQ (6))",
+        "* 2 EXPUNGE",
+    ];
     assert_eq!(watch.heard(), gone);
     watch.end();
 }
@@ -107,7 +111,8 @@ fn numbers_are_places_in_the_view() {
     watch.bob.ok("SELECT Shared/Open");
     watch.notify(DELAYED);
     expunge(&mut watch, 1);
-    assert_eq!(watch.heard(), ["* 1 FETCH (UID 1 FLAGS (\\Deleted))"]);
+    let deleted = "* 1 FETCH (UID 1 FLAGS (\\Deleted) MODSEQ (5))";
+    assert_eq!(watch.heard(), [deleted]);
     assert_eq!(watch.bob.ok("FETCH 2 (UID)"), ["* 2 FETCH (UID 2)"]);
     assert_eq!(watch.bob.ok("FETCH 1 (UID)"), [""; 0]);
     assert_eq!(watch.bob.ok("SEARCH ALL"), ["* SEARCH 2 3"]);
@@ -140,7 +145,10 @@ fn idle_hears_all_at_once() {
     let tag = watch.bob.start("IDLE");
     assert_eq!(watch.bob.until("+"), ["* 4 EXISTS", "+ idling"]);
     expunge(&mut watch, 1);
-    let gone = ["* 1 FETCH (UID 1 FLAGS (\\Deleted))", "* 1 EXPUNGE"];
+    let gone = [
+        "* 1 FETCH (UID 1 FLAGS (\\Deleted) MODSEQ (6))",
+        "* 1 EXPUNGE",
+    ];
     assert_eq!(watch.bob.lines(2), gone);
     watch.alice.append("Shared/Open");
     assert_eq!(watch.bob.line(), "* 4 EXISTS");
@@ -183,13 +191,13 @@ fn an_open_literal_keeps_nothing_back() {
     watch.alice.append("Shared/Open");
     assert_eq!(
         watch.heard(),
-        ["* STATUS \"Shared/Open\" (UIDNEXT 2 MESSAGES 1)"]
+        ["* STATUS \"Shared/Open\" (UIDNEXT 2 MESSAGES 1 HIGHESTMODSEQ 2)"]
     );
     watch.bob.send(&MESSAGE.as_bytes()[..9]);
     watch.alice.append("Shared/Open");
     assert_eq!(
         watch.heard(),
-        ["* STATUS \"Shared/Open\" (UIDNEXT 3 MESSAGES 2)"]
+        ["* STATUS \"Shared/Open\" (UIDNEXT 3 MESSAGES 2 HIGHESTMODSEQ 3)"]
     );
     watch.bob.send(format!("{}\r\n", &MESSAGE[9..]).as_bytes());
     assert!(watch
@@ -233,15 +241,14 @@ fn a_command_over_many_messages_doesn_t_overflow_its_own_queue() {
     let mut watch = Watch::new(600, &["--queue", "1024"]);
     watch.bob.ok("SELECT Shared/Open");
     watch.notify(ALL);
-    let is = |lines: &[String], end: &str| {
-        assert_eq!(lines.len(), 600);
-        assert!(lines.iter().all(|line| line.ends_with(end)), "{lines:?}");
+    // each message's change has a counter of its own
+    let flags = |number: usize| {
+        let counter = 601 + number;
+        format!("* {number} FETCH (UID {number} FLAGS (\\Deleted) MODSEQ ({counter}))")
     };
-    is(
-        &watch.bob.ok("STORE 1:* FLAGS (\\Deleted)"),
-        "FLAGS (\\Deleted))",
-    );
-    is(&watch.bob.ok("EXPUNGE"), " 1 EXPUNGE");
+    let stored = watch.bob.ok("STORE 1:* FLAGS (\\Deleted)");
+    assert_eq!(stored, (1..=600).map(flags).collect::<Vec<_>>());
+    assert_eq!(watch.bob.ok("EXPUNGE"), vec!["* 1 EXPUNGE"; 600]);
     assert_eq!(watch.heard(), [""; 0]);
     watch.end();
 }
@@ -262,13 +269,13 @@ fn a_command_s_end_tells_more_than_the_queue_holds() {
 #[test]
 fn own_changes_are_told_once() {
     let mut watch = Watch::new(1, &[]);
-    let flags = "* 1 FETCH (UID 1 FLAGS (\\Seen))";
+    let flags = |counter: u64| format!("* 1 FETCH (UID 1 FLAGS (\\Seen) MODSEQ ({counter}))");
     watch.bob.ok("SELECT Shared/Open");
-    assert_eq!(watch.bob.ok("STORE 1 FLAGS (\\Seen)"), [flags]);
+    assert_eq!(watch.bob.ok("STORE 1 FLAGS (\\Seen)"), [flags(3)]);
     watch.notify(ALL);
-    assert_eq!(watch.bob.ok("STORE 1 FLAGS (\\Seen)"), [flags]);
+    assert_eq!(watch.bob.ok("STORE 1 FLAGS (\\Seen)"), [flags(4)]);
     watch.notify("(selected (MessageNew MessageExpunge))");
-    assert_eq!(watch.bob.ok("STORE 1 FLAGS (\\Seen)"), [flags]);
+    assert_eq!(watch.bob.ok("STORE 1 FLAGS (\\Seen)"), [flags(5)]);
     assert_eq!(watch.bob.ok("STORE 1 FLAGS.SILENT ()"), [""; 0]);
     watch.end();
 }

@@ -30,7 +30,7 @@ const PRYING: [&str; 22] = [
     "MYRIGHTS Shared/Hid2",
     "COPY 1 Shared/Hid1",
     "LIST \"\" *",
-    "LIST \"\" \"Shared/%\" RETURN (CHILDREN SUBSCRIBED STATUS (MESSAGES UIDVALIDITY))",
+    "LIST \"\" \"Shared/%\" RETURN (CHILDREN SUBSCRIBED STATUS (MESSAGES UIDVALIDITY HIGHESTMODSEQ))",
     "LSUB \"\" *",
     "ESEARCH IN (mailboxes (Shared/Hid1 Shared/Hid2 Shared/Open) subtree Shared personal) RETURN (COUNT ALL) ALL",
     "CAPABILITY",
@@ -38,19 +38,20 @@ const PRYING: [&str; 22] = [
 
 const WATCHES: [&str; 4] = [
     "NOTIFY SET STATUS (selected (MessageNew (UID FLAGS) MessageExpunge FlagChange)) \
-     (subtree Shared (MessageNew MessageExpunge MailboxName SubscriptionChange))",
+     (subtree Shared (MessageNew MessageExpunge FlagChange MailboxName SubscriptionChange))",
     "NOTIFY SET (selected-delayed (MessageNew MessageExpunge FlagChange)) \
      (mailboxes (Shared/Hid1 Shared/Hid2 Shared/Open) (MessageNew MessageExpunge MailboxName))",
     "NOTIFY SET (personal (MessageNew MessageExpunge MailboxName)) (subscribed (MessageNew MessageExpunge))",
     "NOTIFY NONE",
 ];
 
-const OWN: [&str; 8] = [
+const OWN: [&str; 9] = [
     "NOOP",
     "FETCH 1:* (FLAGS UID)",
     "UID FETCH 1:* (FLAGS)",
     "SEARCH ALL",
     "UID SEARCH UNSEEN",
+    "FETCH 1:* (MODSEQ) (CHANGEDSINCE 3)",
     "STORE 1 +FLAGS (\\Answered)",
     "EXPUNGE",
     "UNSELECT",
@@ -155,7 +156,9 @@ fn act_bob(bob: &mut Client, chance: &mut Chance, made: &mut usize) {
         7 => {
             *made += 1;
             bob.run(&format!("CREATE mine{made}"));
-            bob.run(&format!("STATUS mine{made} (UIDVALIDITY UIDNEXT)"));
+            bob.run(&format!(
+                "STATUS mine{made} (UIDVALIDITY UIDNEXT HIGHESTMODSEQ)"
+            ));
         }
         8 => drop(bob.run(&append(chance.of(&["INBOX", "Shared/Hid1", "Shared/Open"])))),
         _ => drop(bob.run(chance.of(&OWN))),

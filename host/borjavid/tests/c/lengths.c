@@ -5,7 +5,7 @@
 #include <stdlib.h>
 #include <string.h>
 
-enum { GUARD = 64, FILL = 0xAA, MOST_ROWS = 70, MOST_WORDS = 5 * 1024 + 15, MOST_QUEUE = 70000 };
+enum { GUARD = 64, FILL = 0xAA, MOST_ROWS = 70, MOST_WORDS = 6 * 1024 + 18, MOST_QUEUE = 70000 };
 
 /* the five pieces, each behind a guard and before one */
 static struct {
@@ -23,6 +23,9 @@ static struct {
 } lent, wanted;
 
 static int tried;
+
+/* counters go on from here, every octet of it another */
+static const uint64_t FIRST = 0x0102030405060708;
 
 #define CHECK(what, ...)                                                                                               \
     do {                                                                                                               \
@@ -58,14 +61,22 @@ static size_t record(uint8_t *to, const char *mark, const void *body, size_t len
     return 4 + length;
 }
 
+static void put_counter(uint8_t *to, uint64_t counter) {
+    for (int place = 0; place < 8; place++) to[place] = counter >> 8 * place & 255;
+}
+
 static uint32_t create(size_t rows, size_t words, size_t queue, unsigned id) {
-    uint8_t octets[32], body[16] = {id & 255, id >> 8, 0x33, 0, 7, 0, 0, 0, 'm', 'a' + id / 26 % 26, 'a' + id % 26};
-    return step(rows, words, queue, octets, record(octets, "MB", body, 11)).refusal;
+    uint8_t octets[32], body[24] = {id & 255, id >> 8, 0x33, 0, 7};
+    uint8_t name[3] = {'m', 'a' + id / 26 % 26, 'a' + id % 26};
+    put_counter(body + 8, FIRST);
+    memcpy(body + 16, name, sizeof name);
+    return step(rows, words, queue, octets, record(octets, "MB", body, 19)).refusal;
 }
 
 static uint32_t arrive(size_t words, unsigned uid) {
-    uint8_t octets[32], body[11] = {1, 0, uid & 255, uid >> 8 & 255, uid >> 16 & 255, 0, 3, 9};
-    return step(1, words, 1024, octets, record(octets, "ME", body, 11)).refusal;
+    uint8_t octets[32], body[19] = {1, 0, uid & 255, uid >> 8 & 255, uid >> 16 & 255, 0, 3, 9};
+    put_counter(body + 11, FIRST + uid);
+    return step(1, words, 1024, octets, record(octets, "ME", body, 19)).refusal;
 }
 
 static void rows_arrive(void) {
@@ -75,7 +86,10 @@ static void rows_arrive(void) {
             uint32_t refusal = rows > 64 ? 1 : place < rows ? 0 : 7;
             CHECK(create(rows, 50, 1024, place + 1) == refusal, "row %zu of %zu", place, rows);
             if (refusal == 0) {
-                borjavid_mailbox row = {place + 1, 0x33, 3, 7, 1, {'m', 'a' + (place + 1) / 26 % 26, 'a' + (place + 1) % 26}};
+                uint8_t second = 'a' + (place + 1) / 26 % 26, third = 'a' + (place + 1) % 26;
+                borjavid_mailbox row = {place + 1, 0x33, 3, 7, 1, 0, 0, {'m', second, third}};
+                borjavid_row_set_counter(&row, FIRST);
+                CHECK(borjavid_row_counter(&row) == FIRST && row.counterhigh == FIRST >> 32, "row %zu", place);
                 wanted.rows[place] = row;
                 wanted.counts.mailboxes++;
             }
@@ -86,22 +100,24 @@ static void rows_arrive(void) {
 
 static void words_arrive(void) {
     for (size_t words = 0; words <= MOST_WORDS; words++) {
-        size_t entries = words / 5, used = entries ? entries - 1 : 0;
+        size_t entries = words / 6, used = entries ? entries - 1 : 0;
         start(FILL);
         CHECK(create(1, 0, 1024, 1) == 0, "one mailbox");
         for (size_t place = 0; place < used; place++) {
-            uint64_t entry[5] = {1, place + 1, 0, 9, 0};
-            memcpy(lent.words + 5 * place, entry, sizeof entry);
+            uint64_t entry[6] = {1, place + 1, 0, 9, 0, FIRST + place + 1};
+            memcpy(lent.words + 6 * place, entry, sizeof entry);
         }
         lent.counts.messages = used;
         lent.rows[0].uidnext = used + 1;
+        borjavid_row_set_counter(&lent.rows[0], FIRST + used);
         wanted = lent;
         CHECK(arrive(words, used + 1) == (entries > 1024 ? 1u : entries ? 0u : 7u), "%zu words", words);
         if (0 < entries && entries <= 1024) {
-            uint64_t entry[5] = {1, used + 1, 3, 9, 0};
-            memcpy(wanted.words + 5 * used, entry, sizeof entry);
+            uint64_t entry[6] = {1, used + 1, 3, 9, 0, FIRST + used + 1};
+            memcpy(wanted.words + 6 * used, entry, sizeof entry);
             wanted.counts.messages++;
             wanted.rows[0].uidnext++;
+            borjavid_row_set_counter(&wanted.rows[0], FIRST + used + 1);
         }
         CHECK(unchanged(), "%zu words", words);
         CHECK(arrive(words, used + 2) == (entries > 1024 ? 1u : 7u), "%zu words", words);
@@ -162,7 +178,7 @@ static void answers_arrive(void) {
     borjavid_answer answer = step(4, 50, 1024, "CE\1\0\1", 5);
     CHECK(answer.refusal == 0 && answer.counted == 1 && answer.count == 0, "nothing is owed");
     lent.counts.filled = 1000; /* no room: the EXISTS stays owed */
-    CHECK(step(4, 50, 1024, "ME\13\0\1\0\1\0\0\0\0\0\0\0\0", 15).refusal == 0, "a message");
+    CHECK(arrive(50, 1) == 0, "a message");
     answer = step(4, 50, 1024, "CE\1\0\0", 5);
     CHECK(answer.refusal == 0 && answer.counted == 1 && answer.count == 1, "one line is owed");
     answer = step(4, 50, 1024, "SE\2\0\0\0", 6);

@@ -3,7 +3,7 @@
 use borjavid::{Group, Lent, Mailbox, Name, Session};
 use reference::memory as other;
 
-const ENTRY: usize = 5;
+const ENTRY: usize = 6;
 
 /// The independent program's selectors, by the number that is lent.
 const SELECTORS: [u8; 7] = [
@@ -44,14 +44,17 @@ fn unused<T>(table: &mut [T], used: usize, before: u64, size: usize) -> &mut [T]
 }
 
 fn row_of(row: &other::Mailbox) -> Mailbox {
-    Mailbox {
+    let mut lent = Mailbox {
         id: row.id,
         attributes: row.attributes,
         namelen: row.name.len,
         uidvalidity: row.uid_validity,
         uidnext: row.uid_next,
         name: row.name.octets,
-    }
+        ..Mailbox::EMPTY
+    };
+    lent.set_counter(row.counter);
+    lent
 }
 
 fn words_of(entry: &other::Message) -> [u64; ENTRY] {
@@ -61,6 +64,7 @@ fn words_of(entry: &other::Message) -> [u64; ENTRY] {
         entry.flags.into(),
         entry.size.into(),
         entry.state.into(),
+        entry.counter,
     ]
 }
 
@@ -102,6 +106,7 @@ pub fn read(lent: &Lent) -> Option<other::Memory> {
             attributes: row.attributes,
             uid_validity: row.uidvalidity,
             uid_next: row.uidnext,
+            counter: row.counter(),
             name: reference::names::Name {
                 len: row.namelen,
                 octets: row.name,
@@ -116,6 +121,7 @@ pub fn read(lent: &Lent) -> Option<other::Memory> {
             flags: entry[2].try_into().ok()?,
             size: entry[3].try_into().ok()?,
             state: entry[4].try_into().ok()?,
+            counter: entry[5],
         };
     }
     memory.session = read_session(lent.session)?;

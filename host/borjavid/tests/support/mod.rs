@@ -2,6 +2,7 @@
 #![allow(dead_code)]
 
 pub mod image;
+pub mod scene;
 
 use borjavid::{Counts, Lent, Mailbox, Session};
 use std::mem::size_of_val;
@@ -38,6 +39,8 @@ impl Pieces {
             namelen: octet,
             uidvalidity: half,
             uidnext: half,
+            counterlow: half,
+            counterhigh: half,
             name: [octet; 64],
         };
         Pieces {

@@ -89,7 +89,10 @@ impl Run<'_> {
                 "UIDNEXT" => mailbox.uid_next.into(),
                 "UIDVALIDITY" => mailbox.uid_validity.into(),
                 "UNSEEN" => unseen.clone().count() as u64,
-                "HIGHESTMODSEQ" if self.store().options.adapt => mailbox.modseq,
+                "HIGHESTMODSEQ" => {
+                    self.state().condstore = true;
+                    mailbox.counter
+                }
                 _ => return Err(Stop::Bad),
             };
             values.push(format!("{item} {value}"));

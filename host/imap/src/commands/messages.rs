@@ -3,6 +3,7 @@
 
 use super::{done, no, End, Run};
 use crate::adapt;
+use crate::condstore;
 use crate::fetch::{self, Item};
 use crate::flags::{self, DELETED, SEEN};
 use crate::parse::{is_within, joined, Read, Reader, Set, Stop};
@@ -87,23 +88,20 @@ impl Run<'_> {
         let set = reader.set()?;
         reader.space()?;
         let mut items = fetch::items(reader)?;
-        let (mut since, mut vanished, mut modseq) = (0, false, false);
-        if let Some(adapted) = &self.state().adapted {
-            modseq = adapted.qresync;
-            if reader.eat(b' ') {
-                (since, vanished) = adapt::fetch_modifiers(reader)?;
-            }
-        } else if items.contains(&Item::Modseq) {
-            return Err(Stop::Bad);
+        let adapts = self.store().options.adapt;
+        let (mut since, mut vanished) = (0, false);
+        if reader.eat(b' ') {
+            since = condstore::changed_since(reader, |word| {
+                vanished = adapts && word == "VANISHED";
+                vanished
+            })?;
         }
         reader.end()?;
         self.needs(&['r'])?;
         if uid && !items.contains(&Item::Uid) {
             items.insert(0, Item::Uid);
         }
-        if (modseq || since > 0) && !items.contains(&Item::Modseq) {
-            items.push(Item::Modseq);
-        }
+        self.show_counters(&mut items, since);
         if vanished {
             let text = adapt::vanished(self.selected()?, since, &set);
             self.out.extend(text.bytes());
@@ -121,9 +119,20 @@ impl Run<'_> {
         done()
     }
 
+    /// MODSEQ where it goes without saying. Who asks for it, or for what changed, is a client of CONDSTORE.
+    fn show_counters(&self, items: &mut Vec<Item>, since: u64) {
+        let mut state = self.state();
+        let always = state.adapted.as_ref().is_some_and(|a| a.qresync);
+        let asked = items.contains(&Item::Modseq);
+        state.condstore |= asked || since > 0;
+        if (always || since > 0) && !asked {
+            items.push(Item::Modseq);
+        }
+    }
+
     fn fetch_one(&mut self, id: u16, number: usize, uid: u32, asked: &Asked) {
         let found = self.store().mailboxes[&id].message(uid);
-        let Some(message) = found.filter(|message| message.modseq > asked.since) else {
+        let Some(message) = found.filter(|message| message.counter > asked.since) else {
             return;
         };
         let flags = message.flags;
@@ -140,18 +149,16 @@ impl Run<'_> {
         reader.space()?;
         let set = reader.set()?;
         reader.space()?;
-        let unchanged_since = match self.store().options.adapt {
-            true => adapt::unchanged_since(reader)?,
-            false => u64::MAX,
-        };
+        let unchanged_since = condstore::unchanged_since(reader)?;
         let (how, silent, given) = flag_change(reader)?;
         self.needs_to_change(&['w', 's', 't'])?;
+        self.state().condstore |= unchanged_since.is_some();
         let mut failed = Vec::new();
         self.with_each(&self.chosen(&set, uid), |run, id, number, message| {
             let Some(found) = run.store().mailboxes[&id].message(message) else {
                 return Ok(());
             };
-            if found.modseq > unchanged_since {
+            if unchanged_since.is_some_and(|since| found.counter > since) {
                 failed.push(if uid { message } else { number as u32 });
                 return Ok(());
             }
@@ -178,17 +185,13 @@ impl Run<'_> {
         let waits =
             !state.push.notified() && mailbox.may(&self.user, 'l') && mailbox.may(&self.user, 'r');
         let told = waits || state.push.told() > before;
-        let modseq = state.adapted.as_ref().is_some_and(|a| a.condstore);
+        let wanted = !silent || state.condstore;
         drop(state);
-        if told || (silent && !modseq) {
+        if told || !wanted {
             return;
         }
-        let mut items = vec![Item::Uid, Item::Flags];
-        if modseq {
-            items.push(Item::Modseq);
-        }
         if let Some(message) = mailbox.message(uid) {
-            let line = fetch::line(number, &items, message);
+            let line = fetch::line(number, &fetch::CHANGED, message);
             self.out.extend(line);
         }
     }

@@ -44,7 +44,7 @@ pub fn class(word: &str) -> Class {
 
 pub const BEFORE_LOGIN: &str = "IMAP4rev1 LITERAL+ SASL-IR AUTH=PLAIN ID";
 const AFTER_LOGIN: &str = "IMAP4rev1 LITERAL+ ID ENABLE IDLE NAMESPACE UIDPLUS UNSELECT CHILDREN LIST-EXTENDED LIST-STATUS \
-                           ACL RIGHTS=texk";
+                           ACL RIGHTS=texk CONDSTORE";
 /// What the library does.
 const PUSH: &str = " NOTIFY MULTISEARCH";
 
@@ -220,8 +220,7 @@ impl<'a> Run<'a> {
         let mut enabled = String::from("* ENABLED");
         while reader.eat(b' ') {
             let word = reader.word()?;
-            let mut state = self.state();
-            if state.adapted.as_mut().is_some_and(|a| a.enable(&word)) {
+            if self.state().enable(&word) {
                 enabled += &format!(" {word}");
             }
         }

@@ -24,6 +24,7 @@ impl Run<'_> {
         let view = self.state().push.view();
         let (last, last_uid) = (view.len() as u32, view.last().copied().unwrap_or(0));
         let mut line = String::from("* SEARCH");
+        let mut highest = 0;
         for (number, message) in (1..).zip(view) {
             let Some(message) = mailbox.message(message) else {
                 continue;
@@ -35,6 +36,13 @@ impl Run<'_> {
             };
             if keys.iter().all(|key| search::matches(key, message, &place)) {
                 line += &format!(" {}", if uid { message.uid } else { number });
+                highest = highest.max(message.counter);
+            }
+        }
+        if keys.iter().any(search::has_modseq) {
+            self.state().condstore = true;
+            if highest > 0 {
+                line += &format!(" (MODSEQ {highest})");
             }
         }
         self.line(&line);

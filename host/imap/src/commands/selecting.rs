@@ -2,8 +2,9 @@
 
 use super::{done, no, End, Run};
 use crate::adapt::{self, Known};
+use crate::condstore;
 use crate::flags::{self, SEEN};
-use crate::parse::{Read, Reader, Stop};
+use crate::parse::{Read, Reader};
 use crate::push::{records, Answer};
 use crate::store::Mailbox;
 
@@ -32,11 +33,11 @@ impl Run<'_> {
         state.read_only = examine || !mailbox.rights(&self.user).contains(changes);
         let (read_only, exists) = (state.read_only, state.push.view().len());
         drop(state);
-        let mut text = opened(mailbox, exists, read_only);
+        let mut told = opened(mailbox, exists, read_only).into_bytes();
         if let Some(adapted) = &self.state().adapted {
-            text += &adapt::selected(mailbox, known, adapted.qresync);
+            told.extend(adapt::selected(mailbox, known, adapted.qresync));
         }
-        self.out.extend(text.bytes());
+        self.out.extend(told);
         Ok(End::Ok(match read_only {
             true => "[READ-ONLY] done".into(),
             false => "[READ-WRITE] done".into(),
@@ -45,9 +46,12 @@ impl Run<'_> {
 
     fn parameter(&self, reader: &mut Reader) -> Read<Option<Known>> {
         let mut state = self.state();
-        let adapted = state.adapted.as_mut().ok_or(Stop::Bad)?;
-        adapted.condstore = true;
-        adapt::select_parameter(reader)
+        let known = match &state.adapted {
+            Some(_) => adapt::select_parameter(reader)?,
+            None => condstore::select_parameter(reader).map(|()| None)?,
+        };
+        state.condstore = true;
+        Ok(known)
     }
 
     /// What the old mailbox still owes goes with it, whether the new one can be had or not.
@@ -55,7 +59,7 @@ impl Run<'_> {
         let mut state = self.state();
         let was_open = state.push.selected() != 0;
         self.store().leave(&mut state);
-        let says = state.adapted.as_ref().is_some_and(|a| a.condstore);
+        let says = state.condstore;
         drop(state);
         if was_open && says {
             self.line("* OK [CLOSED] old mailbox");
@@ -90,8 +94,9 @@ fn opened(mailbox: &Mailbox, exists: usize, read_only: bool) -> String {
          * {exists} EXISTS\r\n\
          * 0 RECENT\r\n\
          * OK [UIDVALIDITY {}] ok\r\n\
-         * OK [UIDNEXT {}] ok\r\n",
-        mailbox.uid_validity, mailbox.uid_next
+         * OK [UIDNEXT {}] ok\r\n\
+         * OK [HIGHESTMODSEQ {}] ok\r\n",
+        mailbox.uid_validity, mailbox.uid_next, mailbox.counter
     );
     let unseen = mailbox.messages.iter().position(|m| m.flags & SEEN == 0);
     if let Some(place) = unseen {

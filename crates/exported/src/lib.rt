@@ -3,64 +3,15 @@
 use model::Counts;
 use model::Mailbox;
 use model::Session;
-use outcomes::Outcome;
 use written::Answered;
 ghost use mathlib.Core.Path.{_≡_};
-ghost use lib.ListN.{length, take, set};
+ghost use lib.ListN.{take, set};
 ghost use Rattle.model.specs.Memory.{place};
-ghost use Rattle.lent.specs.Rows.{loaded, placeNamed};
-ghost use Rattle.push.specs.Served.{Stepped, lentAs};
+ghost use Rattle.lent.specs.Rows.{placeNamed};
+ghost use Rattle.push.specs.Served.{lentAs};
 ghost use Rattle.exported.specs.Called.{Calls};
 
 // ---- the step
-
-// One record, served: the used rows are laid out by columns, and what becomes of the table is in the outcome.
-fn served(
-    rows: &[Mailbox],
-    words: &mut [u64],
-    counts: Counts,
-    s: Session,
-    queue: &mut [u8],
-    record: &[u8],
-) -> Outcome
-    ensures { λ r. ⌜ Stepped (loaded (now (rows .entry))) (length (now (rows .entry))) (now (words .entry)) counts s (now (queue .entry)) (now («record» .entry)) r (now (words .exit)) (now (queue .exit)) ⌝ }
-{
-    let n = rows.len();
-    let m = lent::used_rows(counts.mailboxes, n);
-    let mut ids = [0u64; 64];
-    let mut attributes = [0u8; 64];
-    let mut lens = [0u8; 64];
-    let mut validities = [0u64; 64];
-    let mut nexts = [0u64; 64];
-    let mut counters = [0u64; 64];
-    let mut names = [0u8; 4096];
-    lent::lay(
-        rows,
-        m,
-        &mut ids,
-        &mut attributes,
-        &mut lens,
-        &mut validities,
-        &mut nexts,
-        &mut counters,
-        &mut names,
-    );
-    push::decide(
-        n,
-        &ids,
-        &attributes,
-        &lens,
-        &validities,
-        &nexts,
-        &counters,
-        &names,
-        words,
-        counts,
-        s,
-        queue,
-        record,
-    )
-}
 
 // One record on the memory that a host lends. The counts stand beside the session, each lent by `&mut`: a command that is not accepted
 // changes the one and not the other. Rows, words, counts and session fill the six registers of a call; queue and record lie behind them,
@@ -78,7 +29,7 @@ pub extern "C" fn borjavid_step(
 {
     let n = rows.len();
     let before = *counts;
-    let out = served(rows, words, before, *session, queue, record);
+    let out = serving::served(rows, words, before, *session, queue, record);
     *counts = out.counts;
     *session = out.session;
     let k = written::put_at(out, before.mailboxes, n);

@@ -20,7 +20,7 @@ use Rattle.model.specs.declared.Session.{Session}
 use Rattle.entries.specs.Words.{messages, messages-count}
 use Rattle.rows.specs.Columns.{Laid}
 use Rattle.quick.specs.Passing.{Owners, tablesOk}
-use Rattle.lawful.specs.Clashing.{Called}
+use Rattle.lawful_mail.specs.Clashing.{Called}
 
 -- the table t as it is lent: its length, and its rows where they are not too many to be read
 pub record Lent (t rows : List Mailbox) (lent : ℕ) : Type 0 where
@@ -99,17 +99,6 @@ module _ (l : List Mailbox) (selected told k next : ℕ) (e : k ≡ place select
 
   pub view-known : (selected ≡ 0 → ⊥) → k < length l → next ≡ getD l k noMailbox .uidnext → leb told next ≡ viewBy l selected told
   view-known h g q = rw (ne-eqb selected 0 h, known-whole selected l k e g, ← e, q)
-
--- ---- an entry's owner
-module _ (l : List Mailbox) (d : Message) (k next : ℕ) (e : k ≡ place (d .mailbox) l) where
-  pub owner-unknown : length l ≤ k → false ≡ owned l d
-  owner-unknown g = rw (unknown-whole (d .mailbox) l k e g)
-
-  pub owner-passed : k < length l → next ≡ getD l k noMailbox .uidnext → next ≤ uidOf d → false ≡ owned l d
-  owner-passed g q h = rw (known-whole (d .mailbox) l k e g, ← e, ← q, le-ltb (uidOf d) next h)
-
-  pub owner-known : (highest : ℕ) → k < length l → next ≡ getD l k noMailbox .uidnext → uidOf d < next → highest ≡ counterOf (getD l k noMailbox) → leb (d .counter) highest ≡ owned l d
-  owner-known highest g q h r = rw (known-whole (d .mailbox) l k e g, ← e, ← q, lt-ltb (uidOf d) next h, r)
 
 -- ---- the contents: with the session, the view and the mailboxes in order the tables decide
 swap : (a b c : Bool) → (a && (b && c)) ≡ (b && (a && c))

@@ -1,12 +1,8 @@
 // Refusal 1: whether all that is lent is lawful. The rows come by columns; the quick tests decide where they can, the exact ones behind them.
-mod exact;
-mod fields;
-mod naming;
-
-use exact::mail_apart;
-use exact::mail_ok;
-use exact::rows_apart;
-use fields::rows_ok;
+use lawful_mail::mail_apart;
+use lawful_mail::mail_ok;
+use lawful_mail::rows_apart;
+use lawful_rows::rows_ok;
 use model::Counts;
 use model::Session;
 use model::Uid;
@@ -23,7 +19,7 @@ ghost use Rattle.entries.specs.Words.{messages};
 ghost use Rattle.rows.specs.Columns.{Column, Laid};
 ghost use Rattle.quick.specs.Passing.{Owners, entryOk, tablesOk};
 ghost use Rattle.quick.specs.Distinct.{Low};
-ghost use Rattle.lawful.specs.Clashing.{Called};
+ghost use Rattle.lawful_mail.specs.Clashing.{Called};
 ghost use Rattle.lawful.specs.Lent.{Lent, memory, filledBy, sizesBy, viewBy};
 
 // ---- the tables: what a quick test says yes to, or else the exact one

@@ -1,8 +1,5 @@
 // `ME`, `XP` and `FL`: what a record about a message leaves of the message table, the queue and the session. Each kind has its module;
 // here stand the STATUS lines of a mailbox that is not selected, and what all of them ask.
-pub mod arrivals;
-pub mod expunges;
-pub mod flags;
 pub mod showing;
 
 use model::Mailbox;
@@ -37,7 +34,7 @@ pub struct Arrived {
 }
 
 // Both.
-fn both(a: bool, b: bool) -> bool
+pub fn both(a: bool, b: bool) -> bool
     ensures { λ r. ⌜ r ≡ (a && b) ⌝ }
 {
     if a {
@@ -78,7 +75,7 @@ fn say_status(
 }
 
 // The STATUS line of row x with its messages among the first used, or else the overflow line.
-fn say_row(words: &[u64], used: usize, queue: &mut [u8], at: usize, x: Mailbox) -> Said
+pub fn say_row(words: &[u64], used: usize, queue: &mut [u8], at: usize, x: Mailbox) -> Said
     requires { ⌜ (used * 6 ≤ length (now words)) × (64 ≤ length (now queue)) × (length (now queue) ≤ 65536) × (at ≤ length (now queue) - 64) ⌝ }
     ensures { λ r. ⌜ Says (now (queue .entry)) at (statusText x (take used (messages (now (words .entry))))) (now (queue .exit)) (r .fits) (r .end) ⌝ }
 {
@@ -105,7 +102,7 @@ fn say_flag_status(queue: &mut [u8], at: usize, name: &[u8], validity: u64, high
 }
 
 // The same of row x.
-fn say_change(queue: &mut [u8], at: usize, x: Mailbox) -> Said
+pub fn say_change(queue: &mut [u8], at: usize, x: Mailbox) -> Said
     requires { ⌜ (64 ≤ length (now queue)) × (length (now queue) ≤ 65536) × (at ≤ length (now queue) - 64) ⌝ }
     ensures { λ r. ⌜ Says (now (queue .entry)) at (changeText x) (now (queue .exit)) (r .fits) (r .end) ⌝ }
 {

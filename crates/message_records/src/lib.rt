@@ -63,7 +63,7 @@ pub fn flag(
         return outcomes::refused(Refusal::WrongUid, counts, s);
     }
     let row = rows::with_counter(x, counter);
-    let left = mail::flags::flag(
+    let left = mail_flags::flag(
         words,
         used,
         queue,
@@ -104,7 +104,7 @@ pub fn expunge(
         return outcomes::refused(Refusal::WrongUid, counts, s);
     }
     let row = rows::with_counter(x, counter);
-    let left = mail::expunges::expunge(words, used, queue, s, counts.filled as usize, row, at);
+    let left = mail_expunges::expunge(words, used, queue, s, counts.filled as usize, row, at);
     put_left(k, row, counts, left)
 }
 
@@ -138,7 +138,7 @@ pub fn arrive(
     if words.len() / 6 <= used {
         return outcomes::refused(Refusal::TableFull, counts, s);
     }
-    let came = mail::arrivals::receive(
+    let came = mail_arrivals::receive(
         words,
         used,
         queue,

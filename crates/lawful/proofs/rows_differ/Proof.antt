@@ -5,7 +5,7 @@ use lib.ListN.{length}
 use borrow.Author.Tests.{not-false}
 use Rattle.quick.specs.Distinct.{Differ}
 use Rattle.quick.specs.Digest.{digest}
-use Rattle.lawful.specs.Clashing.{digests-apart}
+use Rattle.lawful_mail.specs.Clashing.{digests-apart}
 use borrow.Author.Needs.{needs}
 use Rattle.lawful.proofs.rows_differ.Statement.{statement}
 use Rattle.lawful.proofs.rows_differ.Tie as tie

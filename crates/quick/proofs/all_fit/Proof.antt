@@ -31,17 +31,19 @@ returns c =
     λ l h w v ok a z. let e : args .used ≡ 0 = omega (arith, ltb-true (args .used) 1 z) in rw e (good-none l (args .selected) (args .told .0))
 
 mul-end : tie.Need-mul-end Inv-loop μ-loop
-mul-end c = search needs
+mul-end c = omega arith
 
 run-requires : tie.Need-run-requires Inv-loop μ-loop
 run-requires c κs =
-    let start = c .before .before .before in (
+    let start = c .before .before .before in
+    let fits = start .pre .0 in
+    let few = start .pre .1 in (
       search needs,
       search needs,
       search needs,
+      omega arith,
       search needs,
-      search needs,
-      low-wider (start .args .slots .now) (start .args .n) 64 (omega arith) (omega arith) (start .pre .2),
+      low-wider (start .args .slots .now) (start .args .n) 64 (omega arith) few (start .pre .2),
     )
 
 loop-holds : tie.Need-loop-holds Inv-loop μ-loop
@@ -56,31 +58,31 @@ loop-holds c =
     )
 
 mul-owner : tie.Need-mul-owner Inv-loop μ-loop
-mul-owner c = search needs
+mul-owner c = omega arith
 
 shared-slice-read-owner : tie.Need-shared-slice-read-owner Inv-loop μ-loop
-shared-slice-read-owner c = search needs
+shared-slice-read-owner c = omega arith
 
 owner-requires : tie.Need-owner-requires Inv-loop μ-loop
 owner-requires c κs = search needs
 
 mul-entry-fits : tie.Need-mul-entry-fits Inv-loop μ-loop
-mul-entry-fits c = search needs
+mul-entry-fits c = omega arith
 
 array-read-entry-fits : tie.Need-array-read-entry-fits Inv-loop μ-loop
-array-read-entry-fits c = search needs
+array-read-entry-fits c = omega arith
 
 mul-entry-fits-2 : tie.Need-mul-entry-fits-2 Inv-loop μ-loop
-mul-entry-fits-2 c = search needs
+mul-entry-fits-2 c = omega arith
 
 element-copy-out-entry-fits : tie.Need-element-copy-out-entry-fits Inv-loop μ-loop
-element-copy-out-entry-fits c = search needs
+element-copy-out-entry-fits c = omega arith
 
 mul-entry-fits-3 : tie.Need-mul-entry-fits-3 Inv-loop μ-loop
-mul-entry-fits-3 c = search needs
+mul-entry-fits-3 c = omega arith
 
 element-copy-out-entry-fits-2 : tie.Need-element-copy-out-entry-fits-2 Inv-loop μ-loop
-element-copy-out-entry-fits-2 c = search needs
+element-copy-out-entry-fits-2 c = omega arith
 
 entry-fits-requires : tie.Need-entry-fits-requires Inv-loop μ-loop
 entry-fits-requires c κs = search needs
@@ -89,55 +91,62 @@ returns-2 : tie.Need-returns-2 Inv-loop μ-loop
 returns-2 c = λ l h w v ok a z. tf false z refl
 
 add-last : tie.Need-add-last Inv-loop μ-loop
-add-last c = search needs
+add-last c = omega arith
 
 mul-last : tie.Need-mul-last Inv-loop μ-loop
-mul-last c = search needs
+mul-last c = omega arith
 
 shared-slice-read-last : tie.Need-shared-slice-read-last Inv-loop μ-loop
-shared-slice-read-last c = search needs
+shared-slice-read-last c = omega arith
 
 mul-last-2 : tie.Need-mul-last-2 Inv-loop μ-loop
-mul-last-2 c = search needs
+mul-last-2 c = omega arith
 
 array-write-last : tie.Need-array-write-last Inv-loop μ-loop
-array-write-last c = search needs
+array-write-last c = omega arith
 
 add-t21 : tie.Need-add-t21 Inv-loop μ-loop
-add-t21 c = search needs
+add-t21 c = omega arith
 
 add-t34 : tie.Need-add-t34 Inv-loop μ-loop
-add-t34 c = search needs
+add-t34 c = omega arith
 
 mul-t28 : tie.Need-mul-t28 Inv-loop μ-loop
-mul-t28 c = search needs
+mul-t28 c = omega arith
 
 shared-slice-read-t31 : tie.Need-shared-slice-read-t31 Inv-loop μ-loop
-shared-slice-read-t31 c = search needs
+shared-slice-read-t31 c = omega arith
 
 add-t39 : tie.Need-add-t39 Inv-loop μ-loop
-add-t39 c = search needs
+add-t39 c = omega arith
 
 mul-t40 : tie.Need-mul-t40 Inv-loop μ-loop
-mul-t40 c = search needs
+mul-t40 c = omega arith
 
 shared-slice-read-t42 : tie.Need-shared-slice-read-t42 Inv-loop μ-loop
-shared-slice-read-t42 c = search needs
+shared-slice-read-t42 c = omega arith
 
 run-requires-2 : tie.Need-run-requires-2 Inv-loop μ-loop
 run-requires-2 c κs =
     let start = c .before .before .before .before .before .before .before .before .before .before .before .before .before .before .before .before .before .before .before in
-    let long = c .before .before .before .before .before .before .before .before .before .before .before .before .before .before .loop .inv .3 in (
-      search needs,
-      search needs,
-      search needs,
-      search needs,
-      simp length-set long,
-      low-wider (start .args .slots .now) (start .args .n) 64 (omega arith) (omega arith) (start .pre .2),
+    let turn = c .before .before .before .before .before .before .before .before .before .before .before .before .before .before .loop in
+    let more = c .before .before .before .before .before .before .before .before .before .before .before .before .if2 .taken in
+    let some = c .before .before .before .before .before .before .before .before .before .before .before .before .before .before .before .before .before .if1 .left in
+    let size = turn .inv .0 in
+    let inside = turn .inv .1 in
+    let whole = turn .inv .2 in
+    let fits = start .pre .0 in
+    let few = start .pre .1 in (
+      omega arith,
+      omega arith,
+      omega arith,
+      omega arith,
+      simp length-set (turn .inv .3),
+      low-wider (start .args .slots .now) (start .args .n) 64 (omega arith) few (start .pre .2),
     )
 
 loop-less : tie.Need-loop-less Inv-loop μ-loop
-loop-less c = search needs
+loop-less c = omega arith
 
 loop-again : tie.Need-loop-again Inv-loop μ-loop
 loop-again c =
@@ -148,8 +157,15 @@ loop-again c =
     let k = c .before .before .before .before .before .before .before .before .before .before .before .owner .result in
     let row = c .before .before .before .before .before .before .before .before .before .before .before .owner .ensures in
     let some = c .before .before .before .before .before .before .before .before .before .before .before .before .before .before .before .before .before .before .if1 .left in
+    let more = c .before .before .before .before .before .before .before .before .before .before .before .before .before .if2 .taken in
+    let size = turn .inv .0 in
+    let inside = turn .inv .1 in
+    let whole = turn .inv .2 in
+    let long = turn .inv .3 in
+    let space = start .pre .0 in
+    let few = start .pre .1 in
     let ran = c .run2 .ensures in (
-      search needs,
+      size,
       ran .inside,
       ran .whole,
       ran .long,

@@ -17,11 +17,11 @@ use Rattle.model.specs.Account.{front, settle, accountOf, fateAt, Exact, Occasi
 use Rattle.model.specs.declared.Answer.{Answer}
 use Rattle.model.specs.declared.Answer.the-variants.{Done, Counted, Refused}
 use Rattle.demands.specs.Ledger.Demand2.{demand2}
-use Rattle.entries.specs.Words.{messages}
-use Rattle.push.specs.Steps.{Lent, memoryOf, after-is}
-use Rattle.push.specs.Runs.{Begins}
-use Rattle.written.specs.declared.Answered.{Answered}
-use Rattle.written.specs.Numbers.{numbersOf}
+use Rattle.table_messages.specs.Words.{messages}
+use Rattle.step.specs.Steps.{Lent, memoryOf, after-is}
+use Rattle.step.specs.Runs.{Begins}
+use Rattle.lent_answer.specs.declared.Answered.{Answered}
+use Rattle.lent_answer.specs.Numbers.{numbersOf}
 use Rattle.exported.specs.Hosts.{Hosted, Makes, HostRuns, lastOf, octetsOf, behind, HostsTold}
 
 -- ---- the memory behind a run

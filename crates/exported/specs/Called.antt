@@ -8,13 +8,13 @@ use Rattle.model.specs.declared.Counts.{Counts}
 use Rattle.model.specs.declared.Session.{Session}
 use Rattle.model.specs.declared.Answer.{Answer}
 use Rattle.laws.specs.Shift.{over, without}
-use Rattle.outcomes.specs.declared.Outcome.{Outcome as Came}
-use Rattle.push.specs.Steps.{Lent, Steps}
-use Rattle.push.specs.Served.{Stepped, lentAs}
-use Rattle.lent.specs.Rows.{loaded, lent-loaded}
-use Rattle.written.specs.declared.Answered.{Answered}
-use Rattle.written.specs.Numbers.{numbersOf}
-use Rattle.written.specs.Places.{putAt, movedFrom, leftRow}
+use Rattle.record_outcome.specs.declared.Outcome.{Outcome as Came}
+use Rattle.step.specs.Steps.{Lent, Steps}
+use Rattle.step.specs.Served.{Stepped, lentAs}
+use Rattle.lent_rows.specs.Rows.{loaded, lent-loaded}
+use Rattle.lent_answer.specs.declared.Answered.{Answered}
+use Rattle.lent_answer.specs.Numbers.{numbersOf}
+use Rattle.lent_answer.specs.Places.{putAt, movedFrom, leftRow}
 use Rattle.exported.specs.Written.{left, written-back}
 
 -- a call with octets o on lent memory a answers the numbers r and leaves b

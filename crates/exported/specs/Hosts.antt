@@ -13,10 +13,10 @@ use Rattle.model.specs.Hidden.{Octets}
 use Rattle.model.specs.Fates.{Debt, waits, told, tells, isSilent}
 use Rattle.model.specs.Seen.{apparent, seen, history, settingOf, settingBy, heldBy}
 use Rattle.model.specs.Account.{front, settle, accountOf, fateAt, Exact, Occasion, losses, overflows, Rested}
-use Rattle.push.specs.Steps.{Lent, memoryOf}
-use Rattle.push.specs.Runs.{holds, Begins}
-use Rattle.written.specs.declared.Answered.{Answered}
-use Rattle.written.specs.Numbers.{numbersOf}
+use Rattle.step.specs.Steps.{Lent, memoryOf}
+use Rattle.step.specs.Runs.{holds, Begins}
+use Rattle.lent_answer.specs.declared.Answered.{Answered}
+use Rattle.lent_answer.specs.Numbers.{numbersOf}
 use Rattle.exported.specs.Called.{Calls}
 
 -- a call that a host made: its octets, the numbers that it was answered, and what it lent as the call left it

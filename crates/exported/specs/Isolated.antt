@@ -9,10 +9,10 @@ use lib.ListN.{length, getD, getElem?}
 use Rattle.model.specs.Lists.{anyb, keep}
 use Rattle.model.specs.Records.{about}
 use Rattle.model.specs.Hidden.{excepted}
-use Rattle.push.specs.Steps.{Lent}
-use Rattle.push.specs.Runs.{Made, Runs, holds, hiddenIn, others, freely, shows}
-use Rattle.push.specs.Isolated.{alike}
-use Rattle.written.specs.declared.Answered.{Answered}
+use Rattle.step.specs.Steps.{Lent}
+use Rattle.step.specs.Runs.{Made, Runs, holds, hiddenIn, others, freely, shows}
+use Rattle.step.specs.Isolated.{alike}
+use Rattle.lent_answer.specs.declared.Answered.{Answered}
 use Rattle.exported.specs.Hosts.{Hosted, HostRuns, octetsOf, hiddenOf, besides, unrefused, shown, HostsAlike}
 
 -- ---- the run of the step behind a host's

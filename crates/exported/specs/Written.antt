@@ -17,16 +17,16 @@ use Rattle.model.specs.declared.Counts.{Counts}
 use Rattle.model.specs.declared.Session.{Session}
 use Rattle.demands.specs.Lasting.Law.{law-out}
 use Rattle.laws.specs.Shift.{without, over}
-use Rattle.rows.specs.Shift.{closed, shift-end}
-use Rattle.outcomes.specs.Coming.{changed}
-use Rattle.outcomes.specs.Laws.{call-unlawful}
-use Rattle.outcomes.specs.declared.Change.{Change}
-use Rattle.outcomes.specs.declared.Change.the-variants.{Nothing, Put, Taken}
-use Rattle.outcomes.specs.declared.Outcome.{Outcome as Came}
-use Rattle.push.specs.Steps.{memoryOf, Steps}
-use Rattle.push.specs.Served.{lentAs}
-use Rattle.lent.specs.Closing.{moved-none, closed-past}
-use Rattle.written.specs.Places.{placed, putAt, taken, movedFrom, written, leftRow}
+use Rattle.table_mailboxes.specs.Shift.{closed, shift-end}
+use Rattle.record_outcome.specs.Coming.{changed}
+use Rattle.record_outcome.specs.Laws.{call-unlawful}
+use Rattle.record_outcome.specs.declared.Change.{Change}
+use Rattle.record_outcome.specs.declared.Change.the-variants.{Nothing, Put, Taken}
+use Rattle.record_outcome.specs.declared.Outcome.{Outcome as Came}
+use Rattle.step.specs.Steps.{memoryOf, Steps}
+use Rattle.step.specs.Served.{lentAs}
+use Rattle.lent_rows.specs.Closing.{moved-none, closed-past}
+use Rattle.lent_answer.specs.Places.{placed, putAt, taken, movedFrom, written, leftRow}
 use Rattle.exported.specs.Kept.{call-rows}
 
 -- the rows move up within the table

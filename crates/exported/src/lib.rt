@@ -1,14 +1,14 @@
 // What a host calls: the step on memory that it lends, and thin functions over its mailbox table. Each takes what the host keeps,
 // asks nothing, and says of every octet what becomes of it.
+use lent_answer::Answered;
 use model::Counts;
 use model::Mailbox;
 use model::Session;
-use written::Answered;
 ghost use mathlib.Core.Path.{_≡_};
 ghost use lib.ListN.{take, set};
 ghost use Rattle.model.specs.Memory.{place};
-ghost use Rattle.lent.specs.Rows.{placeNamed};
-ghost use Rattle.push.specs.Served.{lentAs};
+ghost use Rattle.lent_rows.specs.Rows.{placeNamed};
+ghost use Rattle.step.specs.Served.{lentAs};
 ghost use Rattle.exported.specs.Called.{Calls};
 
 // ---- the step
@@ -29,14 +29,14 @@ pub extern "C" fn borjavid_step(
 {
     let n = rows.len();
     let before = *counts;
-    let out = serving::served(rows, words, before, *session, queue, record);
+    let out = step_lent::served(rows, words, before, *session, queue, record);
     *counts = out.counts;
     *session = out.session;
-    let k = written::put_at(out, before.mailboxes, n);
-    let from = written::moved_from(out, k, n);
-    let x = written::left_row(out);
-    lent::write_back(rows, from, k, x);
-    written::numbers(out)
+    let k = lent_answer::put_at(out, before.mailboxes, n);
+    let from = lent_answer::moved_from(out, k, n);
+    let x = lent_answer::left_row(out);
+    lent_rows::write_back(rows, from, k, x);
+    lent_answer::numbers(out)
 }
 
 // ---- the mailbox table
@@ -47,9 +47,9 @@ pub extern "C" fn borjavid_find_id(rows: &[Mailbox], used: usize, id: u16) -> us
     ensures { λ r. ⌜ r ≡ place id (take used (take 64 (now (rows .entry)))) ⌝ }
 {
     let n = rows.len();
-    let m = lent::reach(used, n);
-    let t = lent::load(rows);
-    lent::find_id(t, m, id)
+    let m = lent_rows::reach(used, n);
+    let t = lent_rows::load(rows);
+    lent_rows::find_id(t, m, id)
 }
 
 // The place of the first used row with the name, octet for octet, or how many are used; searched likewise.
@@ -58,9 +58,9 @@ pub extern "C" fn borjavid_find_name(rows: &[Mailbox], used: usize, name: &[u8])
     ensures { λ r. ⌜ r ≡ placeNamed (now (name .entry)) (take used (take 64 (now (rows .entry)))) ⌝ }
 {
     let n = rows.len();
-    let m = lent::reach(used, n);
-    let t = lent::load(rows);
-    lent::find_name(t, m, name)
+    let m = lent_rows::reach(used, n);
+    let t = lent_rows::load(rows);
+    lent_rows::find_name(t, m, name)
 }
 
 // Row k becomes x; where there is none, nothing changes.
@@ -68,5 +68,5 @@ pub extern "C" fn borjavid_find_name(rows: &[Mailbox], used: usize, name: &[u8])
 pub extern "C" fn borjavid_set_row(rows: &mut [Mailbox], k: usize, x: Mailbox)
     ensures { λ _. ⌜ now (rows .exit) ≡ set (now (rows .entry)) k x ⌝ }
 {
-    lent::set_row(rows, k, x);
+    lent_rows::set_row(rows, k, x);
 }

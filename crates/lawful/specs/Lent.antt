@@ -11,16 +11,16 @@ use borrow.Author.Tests.{eq-eqb, ne-eqb, le-leb, lt-leb, leb-true, lt-ltb, le-lt
 use Rattle.model.specs.Laws.{each}
 use Rattle.model.specs.Lists.{allb, apart, every}
 use Rattle.model.specs.Memory.{Memory, known, theMailbox, place, uidOf, noMailbox, counterOf}
-use Rattle.rows.specs.Walks.{unknown-whole, known-whole}
+use Rattle.table_mailboxes.specs.Walks.{unknown-whole, known-whole}
 use Rattle.model.specs.Lawful.{mailboxOk, messageOk, clash, twin, owned, stateOk, viewOk, sessionOk, sizesOk, contentsOk, lawful}
 use Rattle.model.specs.declared.Mailbox.{Mailbox}
 use Rattle.model.specs.declared.Message.{Message}
 use Rattle.model.specs.declared.Counts.{Counts}
 use Rattle.model.specs.declared.Session.{Session}
-use Rattle.entries.specs.Words.{messages, messages-count}
-use Rattle.rows.specs.Columns.{Laid}
-use Rattle.quick.specs.Passing.{Owners, tablesOk}
-use Rattle.lawful_mail.specs.Clashing.{Called}
+use Rattle.table_messages.specs.Words.{messages, messages-count}
+use Rattle.table_mailboxes.specs.Columns.{Laid}
+use Rattle.lawful_quick.specs.Passing.{Owners, tablesOk}
+use Rattle.lawful_messages.specs.Clashing.{Called}
 
 -- the table t as it is lent: its length, and its rows where they are not too many to be read
 pub record Lent (t rows : List Mailbox) (lent : ℕ) : Type 0 where

@@ -1,8 +1,8 @@
 // Refusal 1: whether all that is lent is lawful. The rows come by columns; the quick tests decide where they can, the exact ones behind them.
-use lawful_mail::mail_apart;
-use lawful_mail::mail_ok;
-use lawful_mail::rows_apart;
-use lawful_rows::rows_ok;
+use lawful_mailboxes::rows_ok;
+use lawful_messages::mail_apart;
+use lawful_messages::mail_ok;
+use lawful_messages::rows_apart;
 use model::Counts;
 use model::Session;
 use model::Uid;
@@ -15,11 +15,11 @@ ghost use Rattle.model.specs.Lists.{apart, allb, every};
 ghost use Rattle.model.specs.Memory.{counterOf};
 ghost use Rattle.model.specs.Lawful.{clash, twin, mailboxOk, contentsOk, lawful};
 ghost use Rattle.model.specs.declared.Mailbox.{Mailbox};
-ghost use Rattle.entries.specs.Words.{messages};
-ghost use Rattle.rows.specs.Columns.{Column, Laid};
-ghost use Rattle.quick.specs.Passing.{Owners, entryOk, tablesOk};
-ghost use Rattle.quick.specs.Distinct.{Low};
-ghost use Rattle.lawful_mail.specs.Clashing.{Called};
+ghost use Rattle.table_messages.specs.Words.{messages};
+ghost use Rattle.table_mailboxes.specs.Columns.{Column, Laid};
+ghost use Rattle.lawful_quick.specs.Passing.{Owners, entryOk, tablesOk};
+ghost use Rattle.lawful_quick.specs.Distinct.{Low};
+ghost use Rattle.lawful_messages.specs.Clashing.{Called};
 ghost use Rattle.lawful.specs.Lent.{Lent, memory, filledBy, sizesBy, viewBy};
 
 // ---- the tables: what a quick test says yes to, or else the exact one
@@ -36,14 +36,14 @@ fn rows_differ(
     requires { ⌜ (n ≤ 64) × (now slots ≡ replicate 1024 0) × (now chain ≡ replicate 64 0) ⌝ }
     ensures { λ r. ⌜ ((l : List Mailbox) → length l ≡ n → Called l (now (ids .entry)) (now (lens .entry)) (now (names .entry)) → allb mailboxOk l ≡ true → r ≡ apart clash l) × Low (now (slots .exit)) n × Low (now (chain .exit)) n ⌝ }
 {
-    if !quick::differ(ids, n, slots, chain) {
+    if !lawful_quick::differ(ids, n, slots, chain) {
         return rows_apart(ids, lens, names, n);
     }
     let all = &names[..];
-    let digests = quick::digests_of(all, n);
+    let digests = lawful_quick::digests_of(all, n);
     let mut marks = [0u8; 1024];
     let mut links = [0u8; 64];
-    if quick::differ(&digests, n, &mut marks, &mut links) {
+    if lawful_quick::differ(&digests, n, &mut marks, &mut links) {
         return true;
     }
     rows_apart(ids, lens, names, n)
@@ -65,7 +65,7 @@ fn messages_ok(
     requires { ⌜ (n ≤ 64) × (used * 6 ≤ length (now words)) × Low (now slots) n × Low (now chain) n ⌝ }
     ensures { λ r. ⌜ ((l : List Mailbox) → length l ≡ n → Owners l (now (ids .entry)) (now (nexts .entry)) → Column counterOf l (now (counters .entry)) → allb mailboxOk l ≡ true → apart clash l ≡ true → r ≡ (allb (entryOk l selected (told .0)) (take used (messages (now (words .entry)))) && apart twin (take used (messages (now (words .entry)))))) ⌝ }
 {
-    if quick::all_fit(
+    if lawful_quick::all_fit(
         words,
         used,
         ids,
@@ -172,7 +172,7 @@ fn view_ok(ids: &[u64; 64], nexts: &[u64; 64], n: usize, selected: u64, told: Ui
     if selected == 0 {
         return told.0 == 0;
     }
-    let k = rows::find(ids, n, selected);
+    let k = table_mailboxes::find(ids, n, selected);
     if n <= k {
         return false;
     }
@@ -196,7 +196,7 @@ fn contents_ok(
     requires { ⌜ (n ≤ 64) × (used * 6 ≤ length (now words)) ⌝ }
     ensures { λ r. ⌜ ((l : List Mailbox) → length l ≡ n → Laid l (now (ids .entry)) (now (attributes .entry)) (now (lens .entry)) (now (validities .entry)) (now (nexts .entry)) (now (counters .entry)) (now (names .entry)) → r ≡ every (contentsOk l (take used (messages (now (words .entry)))) s)) ⌝ }
 {
-    if !session::session_ok(s) {
+    if !lawful_session::session_ok(s) {
         return false;
     }
     let selected = s.selected as u64;

@@ -1,7 +1,7 @@
 // Serves the records on standard input as they come, on tables of its own: 64 mailboxes, 1,024 messages, a queue of 8,192 octets.
 // A record is as long as its length field says; what is torn at the end is one record more. Behind each, before it waits for the next,
 // it writes `! n` where the record is refused and all that the queue holds, and drains the queue.
-use streams::Standing;
+use step_stream::Standing;
 ghost use mathlib.Core.Path.{_≡_};
 ghost use Prim.Native.Nat.{_+_, _≤_, _<_};
 ghost use lib.ListN.{length};
@@ -80,7 +80,7 @@ fn print_shown(s: Standing, out: &[u8]) -> Standing
     }
 }
 
-// One record. What it shows, and what it leaves, the rules say (`streams::turn`).
+// One record. What it shows, and what it leaves, the rules say (`step_stream::turn`).
 fn serve_one(
     s: Standing,
     words: &mut [u64],
@@ -91,7 +91,7 @@ fn serve_one(
     requires { ⌜ (s .end ≡ 0) × (length (now queue) ≡ 8192) × (8197 ≤ length (now out)) ⌝ }
     ensures { λ r. ⌜ r .end ≡ 0 ⌝ }
 {
-    let t = streams::turn(s, words, queue, octets, out);
+    let t = step_stream::turn(s, words, queue, octets, out);
     print_shown(t, out)
 }
 
@@ -99,7 +99,7 @@ fn serve_one(
 fn serve(words: &mut [u64], queue: &mut [u8], octets: &mut [u8], out: &mut [u8])
     requires { ⌜ (length (now queue) ≡ 8192) × (65539 ≤ length (now octets)) × (8197 ≤ length (now out)) ⌝ }
 {
-    let mut s = streams::start();
+    let mut s = step_stream::start();
     let mut turns: u64 = 0;
     while turns < 18446744073709551615 {
         let n = next_record(octets);

@@ -1,4 +1,4 @@
-//! The cases that the program `vectors` is run on: what is stored is what is written by hand, the independent program answers
+//! The cases that the program `run_cases` is run on: what is stored is what is written by hand, the independent program answers
 //! them all, every rule of docs/RULES.md has one or a reason to have none, and the random ones show all there is.
 
 use reference::cases::{random, stored, text, total, Case};
@@ -21,7 +21,7 @@ fn all() -> Vec<Case> {
 }
 
 fn stored_octets(name: &str) -> Vec<u8> {
-    std::fs::read(root().join("crates/vectors").join(name)).expect("a file of crates/vectors")
+    std::fs::read(root().join("crates/run_cases").join(name)).expect("a file of crates/run_cases")
 }
 
 #[test]
@@ -31,11 +31,11 @@ fn what_vectors_reads_and_must_print_is_up_to_date() {
     for case in &cases {
         case.write(&mut octets).expect("octets");
     }
-    assert!(stored_octets("stdin") == octets, "crates/vectors/stdin");
+    assert!(stored_octets("stdin") == octets, "crates/run_cases/stdin");
     let mut lines: String = cases.iter().map(Case::passed).collect();
     lines += &total(&cases);
     let printed = String::from_utf8(stored_octets("stdout")).expect("text");
-    assert_eq!(printed, lines, "crates/vectors/stdout");
+    assert_eq!(printed, lines, "crates/run_cases/stdout");
 }
 
 #[test]

@@ -42,22 +42,22 @@ use denote.Exit.{yes}
 use lib.ListN.{take}
 use Rattle.model.specs.declared.Mailbox.{Mailbox}
 use Rattle.model.specs.Memory.{place}
-use Rattle.lent.specs.Rows.{within, loaded, taken-loaded}
+use Rattle.lent_rows.specs.Rows.{within, loaded, taken-loaded}
 use denote.Struct.Laws as LL
 use Rattle.model.proofs.Mailbox as T
 use Rattle.model.proofs.Mailbox.Laws as T′
-use Rattle.lent.proofs.reach as reach-fn
-use Rattle.lent.proofs.reach.Symbol as reach-def
-use Rattle.lent.proofs.reach.Symbol.{name as #lent·reach}
-use Rattle.lent.proofs.reach.Met as reach-thm
-use Rattle.lent.proofs.load as load-fn
-use Rattle.lent.proofs.load.Symbol as load-def
-use Rattle.lent.proofs.load.Symbol.{name as #lent·load}
-use Rattle.lent.proofs.load.Met as load-thm
-use Rattle.lent.proofs.find_id as find-id-fn
-use Rattle.lent.proofs.find_id.Symbol as find-id-def
-use Rattle.lent.proofs.find_id.Symbol.{name as #lent·find-id}
-use Rattle.lent.proofs.find_id.Met as find-id-thm
+use Rattle.lent_rows.proofs.reach as reach-fn
+use Rattle.lent_rows.proofs.reach.Symbol as reach-def
+use Rattle.lent_rows.proofs.reach.Symbol.{name as #lent-rows·reach}
+use Rattle.lent_rows.proofs.reach.Met as reach-thm
+use Rattle.lent_rows.proofs.load as load-fn
+use Rattle.lent_rows.proofs.load.Symbol as load-def
+use Rattle.lent_rows.proofs.load.Symbol.{name as #lent-rows·load}
+use Rattle.lent_rows.proofs.load.Met as load-thm
+use Rattle.lent_rows.proofs.find_id as find-id-fn
+use Rattle.lent_rows.proofs.find_id.Symbol as find-id-def
+use Rattle.lent_rows.proofs.find_id.Symbol.{name as #lent-rows·find-id}
+use Rattle.lent_rows.proofs.find_id.Met as find-id-thm
 use Rattle.exported.proofs.borjavid_find_id.Key.{name as #exported·borjavid-find-id}
 use Rattle.exported.proofs.borjavid_find_id as f
 use Rattle.exported.proofs.borjavid_find_id.Statement as stated
@@ -154,7 +154,7 @@ module _ {M : Type 1} (𝓤 : URA M) (H : Heap 𝓤) (A : Atoms 𝓤) (W : Given
   found : (m : ℕ) (t : List Mailbox) (r : ℕ) → m ≡ within k n → t ≡ loaded ys → r ≡ place j (take m t) → r ≡ place j (take k (take 64 ys))
   found m t r e h g = g ∙ (ap (λ (i : ℕ). place j (take i t)) e ∙ (ap (λ (l : List Mailbox). place j (take (within k n) l)) h ∙ ap (place j) (taken-loaded k ys)))
 
-  module _ (C : Calls 𝓤 H) (Λ : Loops 𝓤 H) (fm : FmC 𝓤 H (W .laws) C) (k₁ : Triple 𝓤 (C #lent·reach) (Reach 𝓤 H A at-mem run)) (k₂ : Triple 𝓤 (C #lent·load) (Load 𝓤 H A at-mem run)) (k₃ : Triple 𝓤 (C #lent·find-id) (Find 𝓤 H A at-mem run)) where
+  module _ (C : Calls 𝓤 H) (Λ : Loops 𝓤 H) (fm : FmC 𝓤 H (W .laws) C) (k₁ : Triple 𝓤 (C #lent-rows·reach) (Reach 𝓤 H A at-mem run)) (k₂ : Triple 𝓤 (C #lent-rows·load) (Load 𝓤 H A at-mem run)) (k₃ : Triple 𝓤 (C #lent-rows·find-id) (Find 𝓤 H A at-mem run)) where
     walk : ent 𝓤 (onEntry 𝓤 H A f.signature (κ, tt) (q, tt) x at) (WpFn 𝓤 H C Λ code.function (s ∷ vint w64 k ∷ vint w16 j ∷ []) Post)
     walk =
         qed W ((‵ (flft κ q) ⊛ ‵ ftrue) ∷ ‵ (owns (ShrSlice (named 0) κ T.the-row ∷ usize ∷ u16 ∷ []) x at) ∷ []) ∵ enter ! C Λ code.function (s ∷ vint w64 k ∷ vint w16 j ∷ []) _ $
@@ -190,7 +190,7 @@ module _ {M : Type 1} (𝓤 : URA M) (H : Heap 𝓤) (A : Atoms 𝓤) (W : Given
         by ! (exits r (found m t r e₁ e₂ e₃) (is₃ .1)))))))))))))))))))))
 
 module _ {M : Type 1} (𝓤 : URA M) (H : Heap 𝓤) (A : Atoms 𝓤) (W : Given 𝓤 H A) where
-  walks : (at-mem : Memory → SProp 𝓤) (run : Routine → Fun 𝓤) (𝓣 : Tables 𝓤 H) → Triple 𝓤 (𝓣 .C #lent·reach) (Reach 𝓤 H A at-mem run) → Triple 𝓤 (𝓣 .C #lent·load) (Load 𝓤 H A at-mem run) → Triple 𝓤 (𝓣 .C #lent·find-id) (Find 𝓤 H A at-mem run)
+  walks : (at-mem : Memory → SProp 𝓤) (run : Routine → Fun 𝓤) (𝓣 : Tables 𝓤 H) → Triple 𝓤 (𝓣 .C #lent-rows·reach) (Reach 𝓤 H A at-mem run) → Triple 𝓤 (𝓣 .C #lent-rows·load) (Load 𝓤 H A at-mem run) → Triple 𝓤 (𝓣 .C #lent-rows·find-id) (Find 𝓤 H A at-mem run)
       → Walks 𝓤 H A f.ended stayed (WpFn 𝓤 H (𝓣 .C) (𝓣 .Λ) code.function) (f.clauses 𝓤 H A at-mem run)
   walks at-mem run 𝓣 k₁ k₂ k₃ = walked 𝓤 H A f.ended stayed (f.clauses 𝓤 H A at-mem run) (WpFn 𝓤 H (𝓣 .C) (𝓣 .Λ) code.function)
       (λ κs. (slice-vals, (uint-vals w64, (uint-vals w16, tt)))) (λ κs. (shr-slice-tells (named 0) (κs .0) T.the-row, (uint-tells w64, (uint-tells w16, tt))))
@@ -200,7 +200,7 @@ module _ {M : Type 1} (𝓤 : URA M) (H : Heap 𝓤) (A : Atoms 𝓤) (W : Given
   goes : AllGo 𝓤 H A W 1 (f.signature .params) (f.ended .kept) stayed
   goes = (goes-none-slice 𝓤 H A W 1 (0 ∷ []) tt (plain (λ _. T.the-row)) yes, (goes-none 𝓤 H A W 1 (λ _. usize) yes (λ κs x f. refl), (goes-none 𝓤 H A W 1 (λ _. u16) yes (λ κs x f. refl), tt)))
 
-meets : {M : Type 1} (𝓤 : URA M) (H : Heap 𝓤) (A : Atoms 𝓤) (W : Given 𝓤 H A) (at-mem : Memory → SProp 𝓤) (run : Routine → Fun 𝓤) (𝓣 : Tables 𝓤 H) → Triple 𝓤 (𝓣 .C #lent·reach) (Reach 𝓤 H A at-mem run) → Triple 𝓤 (𝓣 .C #lent·load) (Load 𝓤 H A at-mem run) → Triple 𝓤 (𝓣 .C #lent·find-id) (Find 𝓤 H A at-mem run)
+meets : {M : Type 1} (𝓤 : URA M) (H : Heap 𝓤) (A : Atoms 𝓤) (W : Given 𝓤 H A) (at-mem : Memory → SProp 𝓤) (run : Routine → Fun 𝓤) (𝓣 : Tables 𝓤 H) → Triple 𝓤 (𝓣 .C #lent-rows·reach) (Reach 𝓤 H A at-mem run) → Triple 𝓤 (𝓣 .C #lent-rows·load) (Load 𝓤 H A at-mem run) → Triple 𝓤 (𝓣 .C #lent-rows·find-id) (Find 𝓤 H A at-mem run)
     → Meets 𝓤 H A f.signature (WpFn 𝓤 H (𝓣 .C) (𝓣 .Λ) code.function) (f.spec 𝓤 H A at-mem run)
 meets 𝓤 H A W at-mem run 𝓣 k₁ k₂ k₃ = walk-meets 𝓤 H A f.ended stayed W (goes 𝓤 H A W) (f.clauses 𝓤 H A at-mem run) (WpFn 𝓤 H (𝓣 .C) (𝓣 .Λ) code.function) (WpFn-mono 𝓤 H (W .laws) 𝓣 code.function) (walks 𝓤 H A W at-mem run 𝓣 k₁ k₂ k₃)
 
@@ -210,6 +210,6 @@ borjavid-find-id-spec 𝓤 H 𝓜 𝓖 𝓡 =
     entered 𝓤 H (tripleOf 𝓤 H (𝓖 .A) f.signature (f.spec 𝓤 H (𝓖 .A) (𝓜 .mem) (𝓡 .run)))
     (tables 𝓤 H 𝓜 𝓡 code.env .C) (tables 𝓤 H 𝓜 𝓡 code.env .Λ) #exported·borjavid-find-id code.function (code.unfolded 𝓤 H 𝓜 𝓡)
     (meets 𝓤 H (𝓖 .A) (givenOf 𝓤 H 𝓜 𝓖) (𝓜 .mem) (𝓡 .run) (tablesOf 𝓤 H 𝓜 (tables 𝓤 H 𝓜 𝓡 code.env))
-    (cited 𝓤 H (Reach 𝓤 H (𝓖 .A) (𝓜 .mem) (𝓡 .run)) 𝓜 𝓡 code.env #lent·reach reach-def.routine code.calls-lent·reach (reach-thm.met 𝓤 H 𝓜 𝓖 𝓡))
-    (cited 𝓤 H (Load 𝓤 H (𝓖 .A) (𝓜 .mem) (𝓡 .run)) 𝓜 𝓡 code.env #lent·load load-def.routine code.calls-lent·load (load-thm.met 𝓤 H 𝓜 𝓖 𝓡))
-    (cited 𝓤 H (Find 𝓤 H (𝓖 .A) (𝓜 .mem) (𝓡 .run)) 𝓜 𝓡 code.env #lent·find-id find-id-def.routine code.calls-lent·find-id (find-id-thm.met 𝓤 H 𝓜 𝓖 𝓡)))
+    (cited 𝓤 H (Reach 𝓤 H (𝓖 .A) (𝓜 .mem) (𝓡 .run)) 𝓜 𝓡 code.env #lent-rows·reach reach-def.routine code.calls-lent-rows·reach (reach-thm.met 𝓤 H 𝓜 𝓖 𝓡))
+    (cited 𝓤 H (Load 𝓤 H (𝓖 .A) (𝓜 .mem) (𝓡 .run)) 𝓜 𝓡 code.env #lent-rows·load load-def.routine code.calls-lent-rows·load (load-thm.met 𝓤 H 𝓜 𝓖 𝓡))
+    (cited 𝓤 H (Find 𝓤 H (𝓖 .A) (𝓜 .mem) (𝓡 .run)) 𝓜 𝓡 code.env #lent-rows·find-id find-id-def.routine code.calls-lent-rows·find-id (find-id-thm.met 𝓤 H 𝓜 𝓖 𝓡)))

@@ -42,22 +42,22 @@ use denote.Triple.Walked.{says, Stays, stay-none, stay-none-slice, walkOf, AllGo
 use denote.Exit.{yes}
 use lib.ListN.{take}
 use Rattle.model.specs.declared.Mailbox.{Mailbox}
-use Rattle.lent.specs.Rows.{within, loaded, taken-loaded, placeNamed}
+use Rattle.lent_rows.specs.Rows.{within, loaded, taken-loaded, placeNamed}
 use denote.Struct.Laws as LL
 use Rattle.model.proofs.Mailbox as T
 use Rattle.model.proofs.Mailbox.Laws as T′
-use Rattle.lent.proofs.reach as reach-fn
-use Rattle.lent.proofs.reach.Symbol as reach-def
-use Rattle.lent.proofs.reach.Symbol.{name as #lent·reach}
-use Rattle.lent.proofs.reach.Met as reach-thm
-use Rattle.lent.proofs.load as load-fn
-use Rattle.lent.proofs.load.Symbol as load-def
-use Rattle.lent.proofs.load.Symbol.{name as #lent·load}
-use Rattle.lent.proofs.load.Met as load-thm
-use Rattle.lent.proofs.find_name as find-name-fn
-use Rattle.lent.proofs.find_name.Symbol as find-name-def
-use Rattle.lent.proofs.find_name.Symbol.{name as #lent·find-name}
-use Rattle.lent.proofs.find_name.Met as find-name-thm
+use Rattle.lent_rows.proofs.reach as reach-fn
+use Rattle.lent_rows.proofs.reach.Symbol as reach-def
+use Rattle.lent_rows.proofs.reach.Symbol.{name as #lent-rows·reach}
+use Rattle.lent_rows.proofs.reach.Met as reach-thm
+use Rattle.lent_rows.proofs.load as load-fn
+use Rattle.lent_rows.proofs.load.Symbol as load-def
+use Rattle.lent_rows.proofs.load.Symbol.{name as #lent-rows·load}
+use Rattle.lent_rows.proofs.load.Met as load-thm
+use Rattle.lent_rows.proofs.find_name as find-name-fn
+use Rattle.lent_rows.proofs.find_name.Symbol as find-name-def
+use Rattle.lent_rows.proofs.find_name.Symbol.{name as #lent-rows·find-name}
+use Rattle.lent_rows.proofs.find_name.Met as find-name-thm
 use Rattle.exported.proofs.borjavid_find_name.Key.{name as #exported·borjavid-find-name}
 use Rattle.exported.proofs.borjavid_find_name as f
 use Rattle.exported.proofs.borjavid_find_name.Statement as stated
@@ -163,7 +163,7 @@ module _ {M : Type 1} (𝓤 : URA M) (H : Heap 𝓤) (A : Atoms 𝓤) (W : Given
   found : (m : ℕ) (t : List Mailbox) (r : ℕ) → m ≡ within k n → t ≡ loaded ys → r ≡ placeNamed us (take m t) → r ≡ placeNamed us (take k (take 64 ys))
   found m t r e h g = g ∙ (ap (λ (i : ℕ). placeNamed us (take i t)) e ∙ (ap (λ (l : List Mailbox). placeNamed us (take (within k n) l)) h ∙ ap (placeNamed us) (taken-loaded k ys)))
 
-  module _ (C : Calls 𝓤 H) (Λ : Loops 𝓤 H) (fm : FmC 𝓤 H (W .laws) C) (k₁ : Triple 𝓤 (C #lent·reach) (Reach 𝓤 H A at-mem run)) (k₂ : Triple 𝓤 (C #lent·load) (Load 𝓤 H A at-mem run)) (k₃ : Triple 𝓤 (C #lent·find-name) (Find 𝓤 H A at-mem run)) where
+  module _ (C : Calls 𝓤 H) (Λ : Loops 𝓤 H) (fm : FmC 𝓤 H (W .laws) C) (k₁ : Triple 𝓤 (C #lent-rows·reach) (Reach 𝓤 H A at-mem run)) (k₂ : Triple 𝓤 (C #lent-rows·load) (Load 𝓤 H A at-mem run)) (k₃ : Triple 𝓤 (C #lent-rows·find-name) (Find 𝓤 H A at-mem run)) where
     walk : ent 𝓤 (onEntry 𝓤 H A f.signature (κ, (κ₁, tt)) (q, (q₁, tt)) x at) (WpFn 𝓤 H C Λ code.function (s ∷ vint w64 k ∷ sr ∷ []) Post)
     walk =
         qed W ((‵ (flft κ q) ⊛ ‵ (flft κ₁ q₁) ⊛ ‵ ftrue) ∷ ‵ (owns (ShrSlice (named 0) κ T.the-row ∷ usize ∷ ShrSlice (named 1) κ₁ u8 ∷ []) x at) ∷ []) ∵ enter ! C Λ code.function (s ∷ vint w64 k ∷ sr ∷ []) _ $
@@ -200,7 +200,7 @@ module _ {M : Type 1} (𝓤 : URA M) (H : Heap 𝓤) (A : Atoms 𝓤) (W : Given
         by ! (exits r (found m t r e₁ e₂ e₃) (is₃ .1)))))))))))))))))))))
 
 module _ {M : Type 1} (𝓤 : URA M) (H : Heap 𝓤) (A : Atoms 𝓤) (W : Given 𝓤 H A) where
-  walks : (at-mem : Memory → SProp 𝓤) (run : Routine → Fun 𝓤) (𝓣 : Tables 𝓤 H) → Triple 𝓤 (𝓣 .C #lent·reach) (Reach 𝓤 H A at-mem run) → Triple 𝓤 (𝓣 .C #lent·load) (Load 𝓤 H A at-mem run) → Triple 𝓤 (𝓣 .C #lent·find-name) (Find 𝓤 H A at-mem run)
+  walks : (at-mem : Memory → SProp 𝓤) (run : Routine → Fun 𝓤) (𝓣 : Tables 𝓤 H) → Triple 𝓤 (𝓣 .C #lent-rows·reach) (Reach 𝓤 H A at-mem run) → Triple 𝓤 (𝓣 .C #lent-rows·load) (Load 𝓤 H A at-mem run) → Triple 𝓤 (𝓣 .C #lent-rows·find-name) (Find 𝓤 H A at-mem run)
       → Walks 𝓤 H A f.ended stayed (WpFn 𝓤 H (𝓣 .C) (𝓣 .Λ) code.function) (f.clauses 𝓤 H A at-mem run)
   walks at-mem run 𝓣 k₁ k₂ k₃ = walked 𝓤 H A f.ended stayed (f.clauses 𝓤 H A at-mem run) (WpFn 𝓤 H (𝓣 .C) (𝓣 .Λ) code.function)
       (λ κs. (slice-vals, (uint-vals w64, (slice-vals, tt)))) (λ κs. (shr-slice-tells (named 0) (κs .0) T.the-row, (uint-tells w64, (shr-slice-tells (named 1) (κs .1 .0) u8, tt))))
@@ -210,7 +210,7 @@ module _ {M : Type 1} (𝓤 : URA M) (H : Heap 𝓤) (A : Atoms 𝓤) (W : Given
   goes : AllGo 𝓤 H A W 2 (f.signature .params) (f.ended .kept) stayed
   goes = (goes-none-slice 𝓤 H A W 2 (0 ∷ []) tt (plain (λ _. T.the-row)) yes, (goes-none 𝓤 H A W 2 (λ _. usize) yes (λ κs x f. refl), (goes-none-slice 𝓤 H A W 2 (1 ∷ []) tt (plain (λ _. u8)) yes, tt)))
 
-meets : {M : Type 1} (𝓤 : URA M) (H : Heap 𝓤) (A : Atoms 𝓤) (W : Given 𝓤 H A) (at-mem : Memory → SProp 𝓤) (run : Routine → Fun 𝓤) (𝓣 : Tables 𝓤 H) → Triple 𝓤 (𝓣 .C #lent·reach) (Reach 𝓤 H A at-mem run) → Triple 𝓤 (𝓣 .C #lent·load) (Load 𝓤 H A at-mem run) → Triple 𝓤 (𝓣 .C #lent·find-name) (Find 𝓤 H A at-mem run)
+meets : {M : Type 1} (𝓤 : URA M) (H : Heap 𝓤) (A : Atoms 𝓤) (W : Given 𝓤 H A) (at-mem : Memory → SProp 𝓤) (run : Routine → Fun 𝓤) (𝓣 : Tables 𝓤 H) → Triple 𝓤 (𝓣 .C #lent-rows·reach) (Reach 𝓤 H A at-mem run) → Triple 𝓤 (𝓣 .C #lent-rows·load) (Load 𝓤 H A at-mem run) → Triple 𝓤 (𝓣 .C #lent-rows·find-name) (Find 𝓤 H A at-mem run)
     → Meets 𝓤 H A f.signature (WpFn 𝓤 H (𝓣 .C) (𝓣 .Λ) code.function) (f.spec 𝓤 H A at-mem run)
 meets 𝓤 H A W at-mem run 𝓣 k₁ k₂ k₃ = walk-meets 𝓤 H A f.ended stayed W (goes 𝓤 H A W) (f.clauses 𝓤 H A at-mem run) (WpFn 𝓤 H (𝓣 .C) (𝓣 .Λ) code.function) (WpFn-mono 𝓤 H (W .laws) 𝓣 code.function) (walks 𝓤 H A W at-mem run 𝓣 k₁ k₂ k₃)
 
@@ -220,6 +220,6 @@ borjavid-find-name-spec 𝓤 H 𝓜 𝓖 𝓡 =
     entered 𝓤 H (tripleOf 𝓤 H (𝓖 .A) f.signature (f.spec 𝓤 H (𝓖 .A) (𝓜 .mem) (𝓡 .run)))
     (tables 𝓤 H 𝓜 𝓡 code.env .C) (tables 𝓤 H 𝓜 𝓡 code.env .Λ) #exported·borjavid-find-name code.function (code.unfolded 𝓤 H 𝓜 𝓡)
     (meets 𝓤 H (𝓖 .A) (givenOf 𝓤 H 𝓜 𝓖) (𝓜 .mem) (𝓡 .run) (tablesOf 𝓤 H 𝓜 (tables 𝓤 H 𝓜 𝓡 code.env))
-    (cited 𝓤 H (Reach 𝓤 H (𝓖 .A) (𝓜 .mem) (𝓡 .run)) 𝓜 𝓡 code.env #lent·reach reach-def.routine code.calls-lent·reach (reach-thm.met 𝓤 H 𝓜 𝓖 𝓡))
-    (cited 𝓤 H (Load 𝓤 H (𝓖 .A) (𝓜 .mem) (𝓡 .run)) 𝓜 𝓡 code.env #lent·load load-def.routine code.calls-lent·load (load-thm.met 𝓤 H 𝓜 𝓖 𝓡))
-    (cited 𝓤 H (Find 𝓤 H (𝓖 .A) (𝓜 .mem) (𝓡 .run)) 𝓜 𝓡 code.env #lent·find-name find-name-def.routine code.calls-lent·find-name (find-name-thm.met 𝓤 H 𝓜 𝓖 𝓡)))
+    (cited 𝓤 H (Reach 𝓤 H (𝓖 .A) (𝓜 .mem) (𝓡 .run)) 𝓜 𝓡 code.env #lent-rows·reach reach-def.routine code.calls-lent-rows·reach (reach-thm.met 𝓤 H 𝓜 𝓖 𝓡))
+    (cited 𝓤 H (Load 𝓤 H (𝓖 .A) (𝓜 .mem) (𝓡 .run)) 𝓜 𝓡 code.env #lent-rows·load load-def.routine code.calls-lent-rows·load (load-thm.met 𝓤 H 𝓜 𝓖 𝓡))
+    (cited 𝓤 H (Find 𝓤 H (𝓖 .A) (𝓜 .mem) (𝓡 .run)) 𝓜 𝓡 code.env #lent-rows·find-name find-name-def.routine code.calls-lent-rows·find-name (find-name-thm.met 𝓤 H 𝓜 𝓖 𝓡)))

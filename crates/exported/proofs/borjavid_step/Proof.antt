@@ -48,13 +48,13 @@ use denote.Exit.{yes}
 use Rattle.model.specs.declared.Mailbox.{Mailbox}
 use Rattle.model.specs.declared.Counts.{Counts}
 use Rattle.model.specs.declared.Session.{Session}
-use Rattle.outcomes.specs.declared.Outcome.{Outcome as Came}
+use Rattle.record_outcome.specs.declared.Outcome.{Outcome as Came}
 use Rattle.laws.specs.Shift.{over, without}
-use Rattle.push.specs.Served.{Stepped, lentAs}
-use Rattle.lent.specs.Rows.{loaded}
-use Rattle.written.specs.declared.Answered.{Answered}
-use Rattle.written.specs.Numbers.{numbersOf}
-use Rattle.written.specs.Places.{putAt, movedFrom, leftRow}
+use Rattle.step.specs.Served.{Stepped, lentAs}
+use Rattle.lent_rows.specs.Rows.{loaded}
+use Rattle.lent_answer.specs.declared.Answered.{Answered}
+use Rattle.lent_answer.specs.Numbers.{numbersOf}
+use Rattle.lent_answer.specs.Places.{putAt, movedFrom, leftRow}
 use Rattle.exported.specs.Written.{moved-fits}
 use Rattle.exported.specs.Called.{Calls as CallsOf, calls-of}
 use denote.Struct.Laws as LL
@@ -64,35 +64,35 @@ use Rattle.model.proofs.Counts as N
 use Rattle.model.proofs.Counts.Laws as N′
 use Rattle.model.proofs.Session as S
 use Rattle.model.proofs.Session.Laws as S′
-use Rattle.outcomes.proofs.Outcome as O
-use Rattle.outcomes.proofs.Outcome.Laws as O′
-use Rattle.written.proofs.Answered as D
-use Rattle.written.proofs.Answered.Laws as D′
+use Rattle.record_outcome.proofs.Outcome as O
+use Rattle.record_outcome.proofs.Outcome.Laws as O′
+use Rattle.lent_answer.proofs.Answered as D
+use Rattle.lent_answer.proofs.Answered.Laws as D′
 use Rattle.exported.proofs.Shared.{LentShared, lends-shared, shared-back}
-use Rattle.serving.proofs.served as served-fn
-use Rattle.serving.proofs.served.Symbol as served-def
-use Rattle.serving.proofs.served.Symbol.{name as #serving·served}
-use Rattle.serving.proofs.served.Met as served-thm
-use Rattle.written.proofs.put_at as put-at-fn
-use Rattle.written.proofs.put_at.Symbol as put-at-def
-use Rattle.written.proofs.put_at.Symbol.{name as #written·put-at}
-use Rattle.written.proofs.put_at.Met as put-at-thm
-use Rattle.written.proofs.moved_from as moved-from-fn
-use Rattle.written.proofs.moved_from.Symbol as moved-from-def
-use Rattle.written.proofs.moved_from.Symbol.{name as #written·moved-from}
-use Rattle.written.proofs.moved_from.Met as moved-from-thm
-use Rattle.written.proofs.left_row as left-row-fn
-use Rattle.written.proofs.left_row.Symbol as left-row-def
-use Rattle.written.proofs.left_row.Symbol.{name as #written·left-row}
-use Rattle.written.proofs.left_row.Met as left-row-thm
-use Rattle.lent.proofs.write_back as write-back-fn
-use Rattle.lent.proofs.write_back.Symbol as write-back-def
-use Rattle.lent.proofs.write_back.Symbol.{name as #lent·write-back}
-use Rattle.lent.proofs.write_back.Met as write-back-thm
-use Rattle.written.proofs.numbers as numbers-fn
-use Rattle.written.proofs.numbers.Symbol as numbers-def
-use Rattle.written.proofs.numbers.Symbol.{name as #written·numbers}
-use Rattle.written.proofs.numbers.Met as numbers-thm
+use Rattle.step_lent.proofs.served as served-fn
+use Rattle.step_lent.proofs.served.Symbol as served-def
+use Rattle.step_lent.proofs.served.Symbol.{name as #step-lent·served}
+use Rattle.step_lent.proofs.served.Met as served-thm
+use Rattle.lent_answer.proofs.put_at as put-at-fn
+use Rattle.lent_answer.proofs.put_at.Symbol as put-at-def
+use Rattle.lent_answer.proofs.put_at.Symbol.{name as #lent-answer·put-at}
+use Rattle.lent_answer.proofs.put_at.Met as put-at-thm
+use Rattle.lent_answer.proofs.moved_from as moved-from-fn
+use Rattle.lent_answer.proofs.moved_from.Symbol as moved-from-def
+use Rattle.lent_answer.proofs.moved_from.Symbol.{name as #lent-answer·moved-from}
+use Rattle.lent_answer.proofs.moved_from.Met as moved-from-thm
+use Rattle.lent_answer.proofs.left_row as left-row-fn
+use Rattle.lent_answer.proofs.left_row.Symbol as left-row-def
+use Rattle.lent_answer.proofs.left_row.Symbol.{name as #lent-answer·left-row}
+use Rattle.lent_answer.proofs.left_row.Met as left-row-thm
+use Rattle.lent_rows.proofs.write_back as write-back-fn
+use Rattle.lent_rows.proofs.write_back.Symbol as write-back-def
+use Rattle.lent_rows.proofs.write_back.Symbol.{name as #lent-rows·write-back}
+use Rattle.lent_rows.proofs.write_back.Met as write-back-thm
+use Rattle.lent_answer.proofs.numbers as numbers-fn
+use Rattle.lent_answer.proofs.numbers.Symbol as numbers-def
+use Rattle.lent_answer.proofs.numbers.Symbol.{name as #lent-answer·numbers}
+use Rattle.lent_answer.proofs.numbers.Met as numbers-thm
 use Rattle.exported.proofs.borjavid_step.Key.{name as #exported·borjavid-step}
 use Rattle.exported.proofs.borjavid_step as f
 use Rattle.exported.proofs.borjavid_step.Statement as stated
@@ -263,7 +263,7 @@ module _ {M : Type 1} (𝓤 : URA M) (H : Heap 𝓤) (A : Atoms 𝓤) (W : Given
       suffices ! _ (ends-at 𝓤 H A f.ended stayed (f.clauses 𝓤 H A at-mem run) W (((κ, (κ₁, (κ₂, (κ₃, (κ₄, (κ₅, tt)))))), (q, (q₁, (q₂, (q₃, (q₄, (q₅, tt)))))), bounds, a, at), tt) (valD d) d (zs, (vs, (r .counts, (r .session, (vq, (tt, tt)))))) (lz, (lw, (tt, (tt, (lq, (tt, tt))))))) $ says ! called $
       nothing ! $ move ! (6 ∷ 0 ∷ []) $ join ! $ move ! (5 ∷ 0 ∷ []) $ join ! $ move ! (4 ∷ 0 ∷ []) $ join ! $ move ! (3 ∷ 0 ∷ []) $ join ! $ move ! (2 ∷ 0 ∷ []) $ join ! $ move ! (1 ∷ 0 ∷ []) $ join ! $ frame ! $ nothing ! $ move ! (8 ∷ 0 ∷ []) $ fjoin ! $ move ! (7 ∷ 0 ∷ []) $ fjoin ! $ move ! (5 ∷ 6 ∷ []) $ feqI ! (List Val) (vptr b₃ o₃ ∷ []) (vptr b₃ o₃ ∷ []) refl $ fjoin3 ! $ move ! (0 ∷ 1 ∷ []) $ fjoin ! $ move ! (3 ∷ 4 ∷ []) $ feqI ! (List Val) (vptr b₂ o₂ ∷ []) (vptr b₂ o₂ ∷ []) refl $ fjoin3 ! $ move ! (0 ∷ 1 ∷ []) $ fjoin ! $ move ! (2 ∷ 0 ∷ []) $ fjoin ! $ move ! (1 ∷ 0 ∷ []) $ fjoin ! $ frame ! $ owned ! D.the-row (Is D.the-row) (LL.makes D.the-type D′.the-plain 𝓤 H A) d _ is $ done !
 
-  module _ (C : Calls 𝓤 H) (Λ : Loops 𝓤 H) (fm : FmC 𝓤 H (W .laws) C) (k₁ : Triple 𝓤 (C #serving·served) (Served 𝓤 H A at-mem run)) (k₂ : Triple 𝓤 (C #written·put-at) (PutAt 𝓤 H A at-mem run)) (k₃ : Triple 𝓤 (C #written·moved-from) (MovedFrom 𝓤 H A at-mem run)) (k₄ : Triple 𝓤 (C #written·left-row) (LeftRow 𝓤 H A at-mem run)) (k₅ : Triple 𝓤 (C #lent·write-back) (WriteBack 𝓤 H A at-mem run)) (k₆ : Triple 𝓤 (C #written·numbers) (Numbers 𝓤 H A at-mem run)) where
+  module _ (C : Calls 𝓤 H) (Λ : Loops 𝓤 H) (fm : FmC 𝓤 H (W .laws) C) (k₁ : Triple 𝓤 (C #step-lent·served) (Served 𝓤 H A at-mem run)) (k₂ : Triple 𝓤 (C #lent-answer·put-at) (PutAt 𝓤 H A at-mem run)) (k₃ : Triple 𝓤 (C #lent-answer·moved-from) (MovedFrom 𝓤 H A at-mem run)) (k₄ : Triple 𝓤 (C #lent-answer·left-row) (LeftRow 𝓤 H A at-mem run)) (k₅ : Triple 𝓤 (C #lent-rows·write-back) (WriteBack 𝓤 H A at-mem run)) (k₆ : Triple 𝓤 (C #lent-answer·numbers) (Numbers 𝓤 H A at-mem run)) where
     walk : ent 𝓤 (onEntry 𝓤 H A f.signature (κ, (κ₁, (κ₂, (κ₃, (κ₄, (κ₅, tt)))))) (q, (q₁, (q₂, (q₃, (q₄, (q₅, tt)))))) a at) (WpFn 𝓤 H C Λ code.function (s ∷ sw ∷ vptr b₂ o₂ ∷ vptr b₃ o₃ ∷ sq ∷ sr ∷ []) Post)
     walk =
         qed W ((‵ (flft κ q) ⊛ ‵ (flft κ₁ q₁) ⊛ ‵ (flft κ₂ q₂) ⊛ ‵ (flft κ₃ q₃) ⊛ ‵ (flft κ₄ q₄) ⊛ ‵ (flft κ₅ q₅) ⊛ ‵ ftrue) ∷ ‵ (owns (MutSlice (named 0) κ T.the-row ∷ MutSlice (named 1) κ₁ u64 ∷ MutRef (named 2) κ₂ N.the-row ∷ MutRef (named 3) κ₃ S.the-row ∷ MutSlice (named 4) κ₄ u8 ∷ ShrSlice (named 5) κ₅ u8 ∷ []) a at) ∷ []) ∵ enter ! C Λ code.function (s ∷ sw ∷ vptr b₂ o₂ ∷ vptr b₃ o₃ ∷ sq ∷ sr ∷ []) _ $
@@ -510,7 +510,7 @@ module _ {M : Type 1} (𝓤 : URA M) (H : Heap 𝓤) (A : Atoms 𝓤) (W : Given
         by ! (exits r (zs .0) (ls .1 .0) (ls .1 .1 .1 .1 .0) e (calls-of ys ws cs h xs us r (ls .1 .0) (ls .1 .1 .1 .1 .0) (zs .0) k j d e e₁ e₂ e₃ e₄ e₅ e₆) lz lw lq (of-answered e w₆ is₆))))))))))))))))))))))))))))))))))))))))))))))))))))))))))))
 
 module _ {M : Type 1} (𝓤 : URA M) (H : Heap 𝓤) (A : Atoms 𝓤) (W : Given 𝓤 H A) where
-  walks : (at-mem : Memory → SProp 𝓤) (run : Routine → Fun 𝓤) (𝓣 : Tables 𝓤 H) → Triple 𝓤 (𝓣 .C #serving·served) (Served 𝓤 H A at-mem run) → Triple 𝓤 (𝓣 .C #written·put-at) (PutAt 𝓤 H A at-mem run) → Triple 𝓤 (𝓣 .C #written·moved-from) (MovedFrom 𝓤 H A at-mem run) → Triple 𝓤 (𝓣 .C #written·left-row) (LeftRow 𝓤 H A at-mem run) → Triple 𝓤 (𝓣 .C #lent·write-back) (WriteBack 𝓤 H A at-mem run) → Triple 𝓤 (𝓣 .C #written·numbers) (Numbers 𝓤 H A at-mem run)
+  walks : (at-mem : Memory → SProp 𝓤) (run : Routine → Fun 𝓤) (𝓣 : Tables 𝓤 H) → Triple 𝓤 (𝓣 .C #step-lent·served) (Served 𝓤 H A at-mem run) → Triple 𝓤 (𝓣 .C #lent-answer·put-at) (PutAt 𝓤 H A at-mem run) → Triple 𝓤 (𝓣 .C #lent-answer·moved-from) (MovedFrom 𝓤 H A at-mem run) → Triple 𝓤 (𝓣 .C #lent-answer·left-row) (LeftRow 𝓤 H A at-mem run) → Triple 𝓤 (𝓣 .C #lent-rows·write-back) (WriteBack 𝓤 H A at-mem run) → Triple 𝓤 (𝓣 .C #lent-answer·numbers) (Numbers 𝓤 H A at-mem run)
       → Walks 𝓤 H A f.ended stayed (WpFn 𝓤 H (𝓣 .C) (𝓣 .Λ) code.function) (f.clauses 𝓤 H A at-mem run)
   walks at-mem run 𝓣 k₁ k₂ k₃ k₄ k₅ k₆ = walked 𝓤 H A f.ended stayed (f.clauses 𝓤 H A at-mem run) (WpFn 𝓤 H (𝓣 .C) (𝓣 .Λ) code.function)
       (λ κs. (slice-vals, (slice-vals, (ptr-vals, (ptr-vals, (slice-vals, (slice-vals, tt)))))))
@@ -524,7 +524,7 @@ module _ {M : Type 1} (𝓤 : URA M) (H : Heap 𝓤) (A : Atoms 𝓤) (W : Given
   goes : AllGo 𝓤 H A W 6 (f.signature .params) (f.ended .kept) stayed
   goes = (goes-gave-slice 𝓤 H A W 6 0 tt (plain (λ _. T.the-row)), (goes-gave-slice 𝓤 H A W 6 1 tt (plain (λ _. u64)), (goes-ref 𝓤 H A W 6 2 tt (plain (λ _. N.the-row)), (goes-ref 𝓤 H A W 6 3 tt (plain (λ _. S.the-row)), (goes-gave-slice 𝓤 H A W 6 4 tt (plain (λ _. u8)), (goes-none-slice 𝓤 H A W 6 (5 ∷ []) tt (plain (λ _. u8)) yes, tt))))))
 
-meets : {M : Type 1} (𝓤 : URA M) (H : Heap 𝓤) (A : Atoms 𝓤) (W : Given 𝓤 H A) (at-mem : Memory → SProp 𝓤) (run : Routine → Fun 𝓤) (𝓣 : Tables 𝓤 H) → Triple 𝓤 (𝓣 .C #serving·served) (Served 𝓤 H A at-mem run) → Triple 𝓤 (𝓣 .C #written·put-at) (PutAt 𝓤 H A at-mem run) → Triple 𝓤 (𝓣 .C #written·moved-from) (MovedFrom 𝓤 H A at-mem run) → Triple 𝓤 (𝓣 .C #written·left-row) (LeftRow 𝓤 H A at-mem run) → Triple 𝓤 (𝓣 .C #lent·write-back) (WriteBack 𝓤 H A at-mem run) → Triple 𝓤 (𝓣 .C #written·numbers) (Numbers 𝓤 H A at-mem run)
+meets : {M : Type 1} (𝓤 : URA M) (H : Heap 𝓤) (A : Atoms 𝓤) (W : Given 𝓤 H A) (at-mem : Memory → SProp 𝓤) (run : Routine → Fun 𝓤) (𝓣 : Tables 𝓤 H) → Triple 𝓤 (𝓣 .C #step-lent·served) (Served 𝓤 H A at-mem run) → Triple 𝓤 (𝓣 .C #lent-answer·put-at) (PutAt 𝓤 H A at-mem run) → Triple 𝓤 (𝓣 .C #lent-answer·moved-from) (MovedFrom 𝓤 H A at-mem run) → Triple 𝓤 (𝓣 .C #lent-answer·left-row) (LeftRow 𝓤 H A at-mem run) → Triple 𝓤 (𝓣 .C #lent-rows·write-back) (WriteBack 𝓤 H A at-mem run) → Triple 𝓤 (𝓣 .C #lent-answer·numbers) (Numbers 𝓤 H A at-mem run)
     → Meets 𝓤 H A f.signature (WpFn 𝓤 H (𝓣 .C) (𝓣 .Λ) code.function) (f.spec 𝓤 H A at-mem run)
 meets 𝓤 H A W at-mem run 𝓣 k₁ k₂ k₃ k₄ k₅ k₆ = walk-meets 𝓤 H A f.ended stayed W (goes 𝓤 H A W) (f.clauses 𝓤 H A at-mem run) (WpFn 𝓤 H (𝓣 .C) (𝓣 .Λ) code.function) (WpFn-mono 𝓤 H (W .laws) 𝓣 code.function) (walks 𝓤 H A W at-mem run 𝓣 k₁ k₂ k₃ k₄ k₅ k₆)
 
@@ -534,9 +534,9 @@ borjavid-step-spec 𝓤 H 𝓜 𝓖 𝓡 =
     entered 𝓤 H (tripleOf 𝓤 H (𝓖 .A) f.signature (f.spec 𝓤 H (𝓖 .A) (𝓜 .mem) (𝓡 .run)))
     (tables 𝓤 H 𝓜 𝓡 code.env .C) (tables 𝓤 H 𝓜 𝓡 code.env .Λ) #exported·borjavid-step code.function (code.unfolded 𝓤 H 𝓜 𝓡)
     (meets 𝓤 H (𝓖 .A) (givenOf 𝓤 H 𝓜 𝓖) (𝓜 .mem) (𝓡 .run) (tablesOf 𝓤 H 𝓜 (tables 𝓤 H 𝓜 𝓡 code.env))
-    (cited 𝓤 H (Served 𝓤 H (𝓖 .A) (𝓜 .mem) (𝓡 .run)) 𝓜 𝓡 code.env #serving·served served-def.routine code.calls-serving·served (served-thm.met 𝓤 H 𝓜 𝓖 𝓡))
-    (cited 𝓤 H (PutAt 𝓤 H (𝓖 .A) (𝓜 .mem) (𝓡 .run)) 𝓜 𝓡 code.env #written·put-at put-at-def.routine code.calls-written·put-at (put-at-thm.met 𝓤 H 𝓜 𝓖 𝓡))
-    (cited 𝓤 H (MovedFrom 𝓤 H (𝓖 .A) (𝓜 .mem) (𝓡 .run)) 𝓜 𝓡 code.env #written·moved-from moved-from-def.routine code.calls-written·moved-from (moved-from-thm.met 𝓤 H 𝓜 𝓖 𝓡))
-    (cited 𝓤 H (LeftRow 𝓤 H (𝓖 .A) (𝓜 .mem) (𝓡 .run)) 𝓜 𝓡 code.env #written·left-row left-row-def.routine code.calls-written·left-row (left-row-thm.met 𝓤 H 𝓜 𝓖 𝓡))
-    (cited 𝓤 H (WriteBack 𝓤 H (𝓖 .A) (𝓜 .mem) (𝓡 .run)) 𝓜 𝓡 code.env #lent·write-back write-back-def.routine code.calls-lent·write-back (write-back-thm.met 𝓤 H 𝓜 𝓖 𝓡))
-    (cited 𝓤 H (Numbers 𝓤 H (𝓖 .A) (𝓜 .mem) (𝓡 .run)) 𝓜 𝓡 code.env #written·numbers numbers-def.routine code.calls-written·numbers (numbers-thm.met 𝓤 H 𝓜 𝓖 𝓡)))
+    (cited 𝓤 H (Served 𝓤 H (𝓖 .A) (𝓜 .mem) (𝓡 .run)) 𝓜 𝓡 code.env #step-lent·served served-def.routine code.calls-step-lent·served (served-thm.met 𝓤 H 𝓜 𝓖 𝓡))
+    (cited 𝓤 H (PutAt 𝓤 H (𝓖 .A) (𝓜 .mem) (𝓡 .run)) 𝓜 𝓡 code.env #lent-answer·put-at put-at-def.routine code.calls-lent-answer·put-at (put-at-thm.met 𝓤 H 𝓜 𝓖 𝓡))
+    (cited 𝓤 H (MovedFrom 𝓤 H (𝓖 .A) (𝓜 .mem) (𝓡 .run)) 𝓜 𝓡 code.env #lent-answer·moved-from moved-from-def.routine code.calls-lent-answer·moved-from (moved-from-thm.met 𝓤 H 𝓜 𝓖 𝓡))
+    (cited 𝓤 H (LeftRow 𝓤 H (𝓖 .A) (𝓜 .mem) (𝓡 .run)) 𝓜 𝓡 code.env #lent-answer·left-row left-row-def.routine code.calls-lent-answer·left-row (left-row-thm.met 𝓤 H 𝓜 𝓖 𝓡))
+    (cited 𝓤 H (WriteBack 𝓤 H (𝓖 .A) (𝓜 .mem) (𝓡 .run)) 𝓜 𝓡 code.env #lent-rows·write-back write-back-def.routine code.calls-lent-rows·write-back (write-back-thm.met 𝓤 H 𝓜 𝓖 𝓡))
+    (cited 𝓤 H (Numbers 𝓤 H (𝓖 .A) (𝓜 .mem) (𝓡 .run)) 𝓜 𝓡 code.env #lent-answer·numbers numbers-def.routine code.calls-lent-answer·numbers (numbers-thm.met 𝓤 H 𝓜 𝓖 𝓡)))

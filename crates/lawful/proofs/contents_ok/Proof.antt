@@ -3,8 +3,8 @@ use mathlib.Core.Path.{sym, _∙_}
 use lib.ListN.{take}
 use borrow.Author.Tests.{not-true, not-false}
 use Rattle.model.specs.Lawful.{contentsOk}
-use Rattle.entries.specs.Words.{messages}
-use Rattle.session.specs.Tests.{no-at}
+use Rattle.table_messages.specs.Words.{messages}
+use Rattle.lawful_session.specs.Tests.{no-at}
 use Rattle.lawful.specs.Lent.{owners, called, tables-decide}
 use borrow.Author.Needs.{needs}
 use Rattle.lawful.proofs.contents_ok.Statement.{statement}

@@ -4,8 +4,8 @@ use mathlib.Core.Bool.{true, false}
 use lib.ListN.{take}
 use borrow.Author.Tests.{not-true, not-false}
 use Rattle.model.specs.Lists.{allb}
-use Rattle.entries.specs.Words.{messages}
-use Rattle.quick.specs.Passing.{entryOk, good-decides}
+use Rattle.table_messages.specs.Words.{messages}
+use Rattle.lawful_quick.specs.Passing.{entryOk, good-decides}
 use borrow.Author.Needs.{needs}
 use Rattle.lawful.proofs.messages_ok.Statement.{statement}
 use Rattle.lawful.proofs.messages_ok.Tie as tie

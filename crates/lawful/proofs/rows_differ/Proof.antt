@@ -3,9 +3,9 @@ use mathlib.Core.Path.{_≡_, sym}
 use native.Mathlib.Omega.{arith}
 use lib.ListN.{length}
 use borrow.Author.Tests.{not-false}
-use Rattle.quick.specs.Distinct.{Differ}
-use Rattle.quick.specs.Digest.{digest}
-use Rattle.lawful_mail.specs.Clashing.{digests-apart}
+use Rattle.lawful_quick.specs.Distinct.{Differ}
+use Rattle.lawful_quick.specs.Digest.{digest}
+use Rattle.lawful_messages.specs.Clashing.{digests-apart}
 use borrow.Author.Needs.{needs}
 use Rattle.lawful.proofs.rows_differ.Statement.{statement}
 use Rattle.lawful.proofs.rows_differ.Tie as tie

@@ -5,7 +5,7 @@ use mathlib.Core.Path.{sym, _∙_}
 use Prim.Native.Nat.{_-_}
 use borrow.Author.Tests.{not-true, not-false, lt-leb, le-leb}
 use Rattle.model.specs.Laws.{all-hold}
-use Rattle.session.specs.Tests.{no-at}
+use Rattle.lawful_session.specs.Tests.{no-at}
 use Rattle.lawful.specs.Lent.{sizesBy, too-small, too-large, right-size}
 
 returns : tie.Need-returns

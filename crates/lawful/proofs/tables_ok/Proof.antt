@@ -5,9 +5,9 @@ use lib.ListN.{take}
 use borrow.Author.Tests.{not-true, not-false}
 use Rattle.model.specs.Lists.{apart, allb}
 use Rattle.model.specs.Lawful.{clash, twin}
-use Rattle.entries.specs.Words.{messages}
-use Rattle.rows.specs.Walks.{first-no}
-use Rattle.quick.specs.Passing.{entryOk, slow-order}
+use Rattle.table_messages.specs.Words.{messages}
+use Rattle.table_mailboxes.specs.Walks.{first-no}
+use Rattle.lawful_quick.specs.Passing.{entryOk, slow-order}
 use borrow.Author.Needs.{needs}
 use Rattle.lawful.proofs.tables_ok.Statement.{statement}
 use Rattle.lawful.proofs.tables_ok.Tie as tie

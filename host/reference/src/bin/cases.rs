@@ -1,4 +1,4 @@
-//! Cases for the program `vectors`.
+//! Cases for the program `run_cases`.
 //!
 //! `cases stored FOLDER`: those of FOLDER/vectors and FOLDER/cases, in octets; with `--lines`, what `vectors` must print of them.
 //! `cases judge FOLDER`: the first call of each case that the independent program answers otherwise.

@@ -1,4 +1,4 @@
-//! Cases for the program `vectors`: calls on memory that starts empty, with what each must answer and what the queue must
+//! Cases for the program `run_cases`: calls on memory that starts empty, with what each must answer and what the queue must
 //! hold behind it.
 
 pub mod random;

@@ -1,0 +1,21 @@
+-- `noticed`: both rights, and a group asks for event k. Assumes nothing.
+use borrow.Author.Needs.{needs}
+use Rattle.event_mailbox.proofs.noticed.Statement.{statement}
+use Rattle.event_mailbox.proofs.noticed.Tie as tie
+use mathlib.Core.Path.{sym, _∙_}
+use borrow.Author.Tests.{not-true, not-false}
+
+both-requires : tie.Need-both-requires
+both-requires c κs = search needs
+
+returns : tie.Need-returns
+returns c = rw (sym (c .before .both .ensures) ∙ not-true _ (c .if1 .taken))
+
+is-asked-of-requires : tie.Need-is-asked-of-requires
+is-asked-of-requires c κs = search needs
+
+returns-2 : tie.Need-returns-2
+returns-2 c = rw (sym (c .before .before .both .ensures) ∙ not-false _ (c .before .if1 .left)) (c .is-asked-of .ensures)
+
+pub noticed-spec : {M : Type 1} → statement M
+noticed-spec = tie.close (tie.spec both-requires returns is-asked-of-requires returns-2)

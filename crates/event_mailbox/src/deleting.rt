@@ -1,0 +1,18 @@
+// `DL`: a mailbox is taken out. What is said of it goes by its rights and its name before.
+use line_mailbox::Mark;
+use line_put::Kept;
+use model::Mailbox;
+use model::Session;
+ghost use lib.ListN.{length};
+ghost use Rattle.event_mailbox.specs.Heard.{Hears};
+ghost use Rattle.event_mailbox.specs.Free.{Room};
+ghost use Rattle.event_mailbox.specs.Deleting.{deleteHeard};
+
+// What is said of row x before it goes: asked and allowed as a create is.
+pub fn delete(queue: &mut [u8], s: Session, filled: usize, x: Mailbox, quiet: u8) -> Kept
+    requires { ⌜ Room (length (now queue)) filled s ⌝ }
+    ensures { λ r. ⌜ Hears (deleteHeard (now (queue .entry)) s filled x quiet) (now (queue .exit)) (r .session) (r .filled) ⌝ }
+{
+    let on = crate::creating::create_told(s, x, quiet);
+    crate::tell_row(queue, s, filled, on, Mark::NonExistent, x)
+}

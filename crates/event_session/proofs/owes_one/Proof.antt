@@ -1,0 +1,26 @@
+-- `owes_one`: the mailbox, then the UID, then the states. Assumes nothing.
+use borrow.Author.Needs.{needs}
+use Rattle.event_session.specs.Quiet.{other-box, owes-news, owes-states}
+use Rattle.event_session.proofs.owes_one.Statement.{statement}
+use Rattle.event_session.proofs.owes_one.Tie as tie
+
+get-requires : tie.Need-get-requires
+get-requires c κs = search needs
+
+returns : tie.Need-returns
+returns c = let a = c .before .before .before .before .args in other-box (a .id) (a .told .0) (c .before .before .get .result) _ (c .before .before .get .ensures) (c .if1 .taken)
+
+returns-2 : tie.Need-returns-2
+returns-2 c = let a = c .before .before .before .before .before .before .before .args in owes-news (a .id) (a .told .0) (c .before .before .before .before .before .get .result) _ (c .before .before .before .before .before .get .ensures) (c .before .before .before .if1 .left) (c .if2 .taken)
+
+returns-3 : tie.Need-returns-3
+returns-3 c = let a = c .before .before .before .before .before .before .before .before .args in owes-states (a .id) (a .told .0) (c .before .before .before .before .before .before .get .result) _ (c .before .before .before .before .before .before .get .ensures) (c .before .before .before .before .if1 .left) (c .before .if2 .left)
+
+pub owes-one-spec : {M : Type 1} → statement M
+owes-one-spec =
+    tie.close
+    (tie.spec
+    get-requires
+    returns
+    returns-2
+    returns-3)

@@ -1,0 +1,71 @@
+use mathlib.Core.Path.{refl}
+use mathlib.Core.Bool.{false}
+use native.Mathlib.Omega.{arith}
+use borrow.Author.Tests.{eqb-true}
+use Rattle.model.specs.Laws.{tf}
+use borrow.Author.Needs.{needs}
+use Rattle.lawful_mailboxes.proofs.naming.ends_ok.Statement.{statement}
+use Rattle.lawful_mailboxes.proofs.naming.ends_ok.Tie as tie
+
+returns : tie.Need-returns
+returns c = λ z. tf false z refl
+
+returns-2 : tie.Need-returns-2
+returns-2 c = λ z. tf false z refl
+
+returns-3 : tie.Need-returns-3
+returns-3 c = λ z. tf false z refl
+
+shared-slice-read-if4 : tie.Need-shared-slice-read-if4
+shared-slice-read-if4 c = search needs
+
+returns-4 : tie.Need-returns-4
+returns-4 c = λ z. tf false z refl
+
+add-end : tie.Need-add-end
+add-end c = search needs
+
+sub-last : tie.Need-sub-last
+sub-last c = search needs
+
+shared-slice-read-last : tie.Need-shared-slice-read-last
+shared-slice-read-last c = search needs
+
+returns-5 : tie.Need-returns-5
+returns-5 c = λ z. tf false z refl
+
+returns-6 : tie.Need-returns-6
+returns-6 c = λ z. tf false z refl
+
+shared-slice-read-result : tie.Need-shared-slice-read-result
+shared-slice-read-result c = search needs
+
+returns-7 : tie.Need-returns-7
+returns-7 c =
+    λ z.
+    record {
+      some = omega arith;
+      few = omega arith;
+      other = c .before .before .before .before .before .before .if3 .left;
+      first = c .before .before .before .before .if4 .left;
+      full = c .before .before .if5 .left;
+      last = c .before .if6 .left;
+      behind = eqb-true _ _ z;
+    }
+
+pub ends-ok-spec : {M : Type 1} → statement M
+ends-ok-spec =
+    tie.close
+    (tie.spec
+    returns
+    returns-2
+    returns-3
+    shared-slice-read-if4
+    returns-4
+    add-end
+    sub-last
+    shared-slice-read-last
+    returns-5
+    returns-6
+    shared-slice-read-result
+    returns-7)

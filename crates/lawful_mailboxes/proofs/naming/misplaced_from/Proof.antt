@@ -1,0 +1,72 @@
+use mathlib.Core.Path.{_≡_, refl}
+use Prim.Native.Nat.{_≤_, _-_}
+use native.Mathlib.Omega.{arith}
+use Rattle.lawful_mailboxes.specs.Neighbours.{misplacedUp, misplaced-next}
+use borrow.Author.Needs.{needs}
+use Rattle.lawful_mailboxes.proofs.naming.misplaced_from.Statement.{statement}
+use Rattle.lawful_mailboxes.proofs.naming.misplaced_from.Tie as tie
+
+abbrev Inv-loop : tie.InvT-loop
+Inv-loop octets at n sum₀ i₀ sum i = (i ≤ n) × (sum ≤ i) × (sum ≡ misplacedUp octets at i)
+
+abbrev μ-loop : tie.MeasureT-loop
+μ-loop octets at n sum₀ i₀ sum i = n - i
+
+loop-holds : tie.Need-loop-holds Inv-loop μ-loop
+unfolding misplacedUp
+loop-holds c = (search needs, search needs, refl)
+
+add-misplaced : tie.Need-add-misplaced Inv-loop μ-loop
+add-misplaced c = search needs
+
+shared-slice-read-misplaced : tie.Need-shared-slice-read-misplaced Inv-loop μ-loop
+shared-slice-read-misplaced c = search needs
+
+add-misplaced-2 : tie.Need-add-misplaced-2 Inv-loop μ-loop
+add-misplaced-2 c = search needs
+
+add-misplaced-3 : tie.Need-add-misplaced-3 Inv-loop μ-loop
+add-misplaced-3 c = search needs
+
+shared-slice-read-misplaced-2 : tie.Need-shared-slice-read-misplaced-2 Inv-loop μ-loop
+shared-slice-read-misplaced-2 c = search needs
+
+misplaced-requires : tie.Need-misplaced-requires Inv-loop μ-loop
+misplaced-requires c κs = search needs
+
+add-sum : tie.Need-add-sum Inv-loop μ-loop
+add-sum c = search needs
+
+add-i : tie.Need-add-i Inv-loop μ-loop
+add-i c = search needs
+
+loop-less : tie.Need-loop-less Inv-loop μ-loop
+loop-less c = search needs
+
+loop-again : tie.Need-loop-again Inv-loop μ-loop
+loop-again c =
+    let args = c .before .before .before .before .before .before .args in
+    let turn = c .before .before .before .before .loop in
+    (search needs, search needs, misplaced-next (args .octets .now) (args .at) (turn .i) (turn .sum) (c .misplaced .result) (turn .inv .2) (c .misplaced .ensures .0))
+
+returns : tie.Need-returns Inv-loop μ-loop
+returns c = let e : c .before .loop .i ≡ c .before .before .before .args .n = omega arith in rw e at (c .before .loop .inv .2)
+
+pub misplaced-from-spec : {M : Type 1} → statement M
+misplaced-from-spec =
+    tie.close
+    (tie.spec
+    Inv-loop
+    μ-loop
+    loop-holds
+    add-misplaced
+    shared-slice-read-misplaced
+    add-misplaced-2
+    add-misplaced-3
+    shared-slice-read-misplaced-2
+    misplaced-requires
+    add-sum
+    add-i
+    loop-less
+    loop-again
+    returns)

@@ -1,0 +1,68 @@
+use Rattle.lawful_messages.proofs.any_clash.Statement.{statement}
+use Rattle.lawful_messages.proofs.any_clash.Tie as tie
+use mathlib.Core.Path.{_≡_, refl, sym, _∙_}
+use mathlib.Core.List.{List}
+use Prim.Native.Nat.{_≤_, _-_}
+use native.Mathlib.Omega.{arith}
+use lib.ListN.{length, drop, getD}
+use Rattle.model.specs.Lists.{anyb}
+use Rattle.model.specs.Memory.{noMailbox}
+use Rattle.model.specs.Lawful.{clash}
+use Rattle.model.specs.declared.Mailbox.{Mailbox}
+use Rattle.table_mailboxes.specs.Walks.{any-found, any-on, any-over}
+use Rattle.lawful_messages.specs.Clashing.{Called, clash-at}
+use borrow.Author.Needs.{needs}
+
+abbrev Inv-loop : tie.InvT-loop
+Inv-loop ids lens names n from j i₀ i = (from ≤ i) × (i ≤ n) × ((l : List Mailbox) → length l ≡ n → Called l ids lens names → anyb (clash (getD l j noMailbox)) (drop from l) ≡ anyb (clash (getD l j noMailbox)) (drop i l))
+
+abbrev μ-loop : tie.MeasureT-loop
+μ-loop ids lens names n from j i₀ i = n - i
+
+loop-holds : tie.Need-loop-holds Inv-loop μ-loop
+loop-holds c = (search needs, search needs, λ l h w. refl)
+
+do-clash-requires : tie.Need-do-clash-requires Inv-loop μ-loop
+do-clash-requires c κs = search needs
+
+returns : tie.Need-returns Inv-loop μ-loop
+returns c =
+    let args = c .before .before .before .before .args in
+    let turn = c .before .before .before .loop in
+    λ l h w.
+    let at = clash-at l (args .ids .now) (args .lens .now) (args .names .now) w (args .j) (turn .i) (omega arith) (omega arith) in
+    sym (turn .inv .2 l h w ∙ any-found (clash (getD l (args .j) noMailbox)) l (turn .i) noMailbox (omega arith) (sym (c .before .do-clash .ensures ∙ at) ∙ c .if1 .taken))
+
+add-i : tie.Need-add-i Inv-loop μ-loop
+add-i c = search needs
+
+loop-less : tie.Need-loop-less Inv-loop μ-loop
+loop-less c = search needs
+
+loop-again : tie.Need-loop-again Inv-loop μ-loop
+loop-again c =
+    let args = c .before .before .before .before .args in
+    let turn = c .before .before .before .loop in (
+      search needs,
+      search needs,
+      λ l h w.
+          let at = clash-at l (args .ids .now) (args .lens .now) (args .names .now) w (args .j) (turn .i) (omega arith) (omega arith) in
+          turn .inv .2 l h w ∙ any-on (clash (getD l (args .j) noMailbox)) l (turn .i) noMailbox (omega arith) (sym (c .before .do-clash .ensures ∙ at) ∙ c .if1 .left),
+    )
+
+returns-2 : tie.Need-returns-2 Inv-loop μ-loop
+returns-2 c = λ l h w. sym (c .before .loop .inv .2 l h w ∙ any-over (clash (getD l (c .before .before .args .j) noMailbox)) l (c .before .loop .i) (omega arith))
+
+pub any-clash-spec : {M : Type 1} → statement M
+any-clash-spec =
+    tie.close
+    (tie.spec
+    Inv-loop
+    μ-loop
+    loop-holds
+    do-clash-requires
+    returns
+    add-i
+    loop-less
+    loop-again
+    returns-2)

@@ -1,0 +1,71 @@
+use Rattle.lawful_messages.proofs.mail_apart.Statement.{statement}
+use Rattle.lawful_messages.proofs.mail_apart.Tie as tie
+use mathlib.Core.Path.{_≡_, refl, sym, _∙_, ap}
+use Prim.Native.Nat.{_≤_, _-_, _+_}
+use native.Mathlib.Omega.{arith}
+use lib.ListN.{take, drop}
+use Rattle.model.specs.Lists.{anyb, apart}
+use Rattle.model.specs.Memory.{noMessage}
+use Rattle.model.specs.Lawful.{twin}
+use Rattle.model.specs.declared.Message.{Message}
+use Rattle.table_messages.specs.Words.{messages, messages-length}
+use Rattle.table_mailboxes.specs.Walks.{apart-here, apart-next, apart-past}
+use borrow.Author.Needs.{needs}
+
+abbrev Inv-loop : tie.InvT-loop
+Inv-loop words n i₀ i = (i ≤ n) × (apart twin (take n (messages words)) ≡ apart twin (drop i (take n (messages words))))
+
+abbrev μ-loop : tie.MeasureT-loop
+μ-loop words n i₀ i = n - i
+
+loop-holds : tie.Need-loop-holds Inv-loop μ-loop
+loop-holds c = (search needs, refl)
+
+add-any-twin : tie.Need-add-any-twin Inv-loop μ-loop
+add-any-twin c = search needs
+
+get-requires : tie.Need-get-requires Inv-loop μ-loop
+get-requires c κs = search needs
+
+any-twin-requires : tie.Need-any-twin-requires Inv-loop μ-loop
+any-twin-requires c κs = search needs
+
+returns : tie.Need-returns Inv-loop μ-loop
+returns c =
+    let args = c .before .before .before .before .before .before .args in
+    let turn = c .before .before .before .before .loop in
+    let k = messages-length (args .n) (args .words .now) (c .before .before .before .before .before .before .pre) in sym (turn .inv .1 ∙ apart-here twin (messages (args .words .now)) (args .n) (turn .i) (omega arith) noMessage (omega arith) (ap (λ (d : Message). anyb (twin d) (drop (turn .i + 1) (take (args .n) (messages (args .words .now))))) (sym (c .before .before .get .ensures)) ∙ sym (c .before .any-twin .ensures) ∙ c .if1 .taken))
+
+add-i : tie.Need-add-i Inv-loop μ-loop
+add-i c = search needs
+
+loop-less : tie.Need-loop-less Inv-loop μ-loop
+loop-less c = search needs
+
+loop-again : tie.Need-loop-again Inv-loop μ-loop
+loop-again c =
+    let args = c .before .before .before .before .before .before .args in
+    let turn = c .before .before .before .before .loop in
+    let k = messages-length (args .n) (args .words .now) (c .before .before .before .before .before .before .pre) in (search needs, turn .inv .1 ∙ apart-next twin (messages (args .words .now)) (args .n) (turn .i) (omega arith) noMessage (omega arith) (ap (λ (d : Message). anyb (twin d) (drop (turn .i + 1) (take (args .n) (messages (args .words .now))))) (sym (c .before .before .get .ensures)) ∙ sym (c .before .any-twin .ensures) ∙ c .if1 .left))
+
+returns-2 : tie.Need-returns-2 Inv-loop μ-loop
+returns-2 c =
+    let args = c .before .before .before .args in
+    let turn = c .before .loop in
+    let k = messages-length (args .n) (args .words .now) (c .before .before .before .pre) in sym (turn .inv .1 ∙ apart-past twin (messages (args .words .now)) (args .n) (turn .i) (omega arith) (omega arith))
+
+pub mail-apart-spec : {M : Type 1} → statement M
+mail-apart-spec =
+    tie.close
+    (tie.spec
+    Inv-loop
+    μ-loop
+    loop-holds
+    add-any-twin
+    get-requires
+    any-twin-requires
+    returns
+    add-i
+    loop-less
+    loop-again
+    returns-2)

@@ -1,0 +1,107 @@
+-- Each number is none of those before it; then its slot names it, and its row the one that had the slot.
+use mathlib.Core.Path.{_≡_, refl}
+use mathlib.Core.Bool.{false}
+use Prim.Native.Nat.{ℕ, _≤_, _-_}
+use native.Mathlib.Omega.{arith}
+use lib.ListN.{length, getD, length-set, length-replicate}
+use borrow.Author.Tests.{not-false}
+use Rattle.model.specs.Laws.{tf}
+use Rattle.table_mailboxes.specs.Columns.{all-below}
+use Rattle.lawful_quick.specs.Distinct.{Absent, Differ, Low, Taken, low-zeros, taken-next, low-next}
+use borrow.Author.Needs.{needs}
+use Rattle.lawful_quick.proofs.differ.Statement.{statement}
+use Rattle.lawful_quick.proofs.differ.Tie as tie
+
+abbrev Inv-loop : tie.InvT-loop
+Inv-loop d n slots₀ chain₀ i₀ slots chain i = (1 ≤ i) × (i ≤ 64) × (length slots ≡ 1024) × (length chain ≡ 64) × Differ d i × Low slots n × Low chain n × Taken d slots i
+
+abbrev μ-loop : tie.MeasureT-loop
+μ-loop d n slots₀ chain₀ i₀ slots chain i = n - i
+
+loop-holds : tie.Need-loop-holds Inv-loop μ-loop
+loop-holds c = (
+  search needs,
+  search needs,
+  rw (c .pre .1) (length-replicate {A = ℕ} 1024 0),
+  rw (c .pre .2) (length-replicate {A = ℕ} 64 0),
+  λ k h j q e. (let z : ⊥ = omega arith in z),
+  low-zeros 1024 (c .args .n) _ (c .pre .1),
+  low-zeros 64 (c .args .n) _ (c .pre .2),
+  λ j a b e. (let z : ⊥ = omega arith in z),
+)
+
+is-new-requires : tie.Need-is-new-requires Inv-loop μ-loop
+is-new-requires c κs = (omega arith, c .before .before .loop .inv .7)
+
+returns : tie.Need-returns Inv-loop μ-loop
+returns c = (λ z. tf false z refl, c .before .before .before .before .loop .inv .5, c .before .before .before .before .loop .inv .6)
+
+mul-slot : tie.Need-mul-slot Inv-loop μ-loop
+mul-slot c = search needs
+
+element-copy-out-slot : tie.Need-element-copy-out-slot Inv-loop μ-loop
+element-copy-out-slot c = search needs
+
+slot-requires : tie.Need-slot-requires Inv-loop μ-loop
+slot-requires c κs = search needs
+
+element-copy-out-chain : tie.Need-element-copy-out-chain Inv-loop μ-loop
+element-copy-out-chain c = search needs
+
+element-write-chain : tie.Need-element-write-chain Inv-loop μ-loop
+element-write-chain c = search needs
+
+octet-requires : tie.Need-octet-requires Inv-loop μ-loop
+octet-requires c κs = search needs
+
+element-write-slots : tie.Need-element-write-slots Inv-loop μ-loop
+element-write-slots c = search needs
+
+add-i : tie.Need-add-i Inv-loop μ-loop
+add-i c = search needs
+
+loop-less : tie.Need-loop-less Inv-loop μ-loop
+loop-less c = search needs
+
+loop-again : tie.Need-loop-again Inv-loop μ-loop
+loop-again c =
+    let args = c .before .before .before .before .before .before .before .before .before .args in
+    let turn = c .before .before .before .before .before .before .before .before .loop in
+    let new = c .before .before .before .before .before .is-new .ensures (not-false _ (c .before .before .before .before .if1 .left)) in
+    let at = c .before .before .slot .result in
+    let wide = turn .inv .2 in
+    let long = turn .inv .3 in
+    let e : c .octet .result ≡ turn .i = omega arith in (
+      search needs,
+      search needs,
+      simp length-set wide,
+      simp length-set long,
+      all-below (λ (k : ℕ). Absent (args .d .now) k (getD (args .d .now) k 0)) (turn .i) (turn .inv .4) new,
+      rw e (low-next (turn .slots) (turn .i) at (omega arith) (args .n) (omega arith) (turn .inv .5)),
+      low-next (turn .chain) (getD (turn .slots) at 0) (turn .i) (omega arith) (args .n) (turn .inv .5 (omega arith) at) (turn .inv .6),
+      rw e (taken-next (turn .slots) (turn .i) at (omega arith) (args .d .now) (turn .inv .0) (c .before .before .slot .ensures .0) (turn .inv .7)),
+    )
+
+returns-2 : tie.Need-returns-2 Inv-loop μ-loop
+returns-2 c = (λ z k h. c .before .loop .inv .4 k (omega arith), c .before .loop .inv .5, c .before .loop .inv .6)
+
+pub differ-spec : {M : Type 1} → statement M
+differ-spec =
+    tie.close
+    (tie.spec
+    Inv-loop
+    μ-loop
+    loop-holds
+    is-new-requires
+    returns
+    mul-slot
+    element-copy-out-slot
+    slot-requires
+    element-copy-out-chain
+    element-write-chain
+    octet-requires
+    element-write-slots
+    add-i
+    loop-less
+    loop-again
+    returns-2)

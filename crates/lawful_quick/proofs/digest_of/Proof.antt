@@ -1,0 +1,72 @@
+-- Each turn mixes in one word more of the row.
+use mathlib.Core.Path.{_≡_, refl, ap, _∙_}
+use Prim.Native.Nat.{_≤_, _-_}
+use native.Mathlib.Omega.{arith}
+use Rattle.table_mailboxes.specs.Columns.{block}
+use Rattle.lawful_quick.specs.Digest.{mixedUp, folded, mixed-next}
+use borrow.Author.Needs.{needs}
+use Rattle.lawful_quick.proofs.digest_of.Statement.{statement}
+use Rattle.lawful_quick.proofs.digest_of.Tie as tie
+
+abbrev Inv-loop : tie.InvT-loop
+Inv-loop names k d₀ i₀ d i = (i ≤ 8) × (d ≡ mixedUp (block names k) i)
+
+abbrev μ-loop : tie.MeasureT-loop
+μ-loop names k d₀ i₀ d i = 8 - i
+
+loop-holds : tie.Need-loop-holds Inv-loop μ-loop
+unfolding mixedUp
+loop-holds c = (search needs, refl)
+
+mul-word : tie.Need-mul-word Inv-loop μ-loop
+mul-word c = search needs
+
+mul-word-2 : tie.Need-mul-word-2 Inv-loop μ-loop
+mul-word-2 c = search needs
+
+add-word : tie.Need-add-word Inv-loop μ-loop
+add-word c = search needs
+
+word-requires : tie.Need-word-requires Inv-loop μ-loop
+word-requires c κs = search needs
+
+mix-requires : tie.Need-mix-requires Inv-loop μ-loop
+mix-requires c κs = search needs
+
+add-i : tie.Need-add-i Inv-loop μ-loop
+add-i c = search needs
+
+loop-less : tie.Need-loop-less Inv-loop μ-loop
+loop-less c = search needs
+
+loop-again : tie.Need-loop-again Inv-loop μ-loop
+loop-again c =
+    let args = c .before .before .before .before .before .args in
+    let turn = c .before .before .before .loop in
+    (search needs, mixed-next (args .names .now) (args .k) (turn .i) (turn .d) (c .before .word .result) (c .mix .result) (omega arith) (turn .inv .1) (c .before .word .ensures) (c .mix .ensures))
+
+fold-requires : tie.Need-fold-requires Inv-loop μ-loop
+fold-requires c κs = search needs
+
+returns : tie.Need-returns Inv-loop μ-loop
+returns c =
+    let turn = c .before .before .loop in
+    let e : turn .i ≡ 8 = omega arith in c .fold .ensures ∙ ap folded (rw e at (turn .inv .1))
+
+pub digest-of-spec : {M : Type 1} → statement M
+digest-of-spec =
+    tie.close
+    (tie.spec
+    Inv-loop
+    μ-loop
+    loop-holds
+    mul-word
+    mul-word-2
+    add-word
+    word-requires
+    mix-requires
+    add-i
+    loop-less
+    loop-again
+    fold-requires
+    returns)

@@ -1,0 +1,61 @@
+use Rattle.lawful_session.proofs.blank_groups.Statement.{statement}
+use Rattle.lawful_session.proofs.blank_groups.Tie as tie
+use mathlib.Core.Path.{_≡_, refl, sym, _∙_}
+use Prim.Native.Nat.{_≤_, _-_}
+use native.Mathlib.Omega.{arith}
+use lib.ListN.{length, drop}
+use borrow.Author.Tests.{not-true, not-false}
+use Rattle.model.specs.Lists.{allb}
+use Rattle.model.specs.Lawful.{blankGroup}
+use Rattle.model.specs.Memory.{noGroup}
+use Rattle.table_mailboxes.specs.Walks.{mapped-length, all-on, all-broken, all-over}
+use borrow.Author.Needs.{needs}
+
+abbrev Inv-loop : tie.InvT-loop
+Inv-loop from groups i₀ i = (i ≤ 8) × (allb blankGroup (drop from groups) ≡ allb blankGroup (drop i groups))
+
+abbrev μ-loop : tie.MeasureT-loop
+μ-loop from groups i₀ i = 8 - i
+
+loop-holds : tie.Need-loop-holds Inv-loop μ-loop
+loop-holds c = (search needs, refl)
+
+mul-g : tie.Need-mul-g Inv-loop μ-loop
+mul-g c = search needs
+
+array-copy-out-g : tie.Need-array-copy-out-g Inv-loop μ-loop
+array-copy-out-g c = search needs
+
+blank-group-requires : tie.Need-blank-group-requires Inv-loop μ-loop
+blank-group-requires c κs = search needs
+
+returns : tie.Need-returns Inv-loop μ-loop
+returns c = let long : length (c .before .before .before .before .before .args .t1) ≡ 8 = search (needs, mapped-length) in sym (c .before .before .before .before .loop .inv .1 ∙ all-broken blankGroup (c .before .before .before .before .before .args .t1) (c .before .before .before .before .loop .i) noGroup (omega arith) (sym (c .before .blank-group .ensures) ∙ not-true _ (c .if1 .taken)))
+
+add-i : tie.Need-add-i Inv-loop μ-loop
+add-i c = search needs
+
+loop-less : tie.Need-loop-less Inv-loop μ-loop
+loop-less c = search needs
+
+loop-again : tie.Need-loop-again Inv-loop μ-loop
+loop-again c = let long : length (c .before .before .before .before .before .args .t1) ≡ 8 = search (needs, mapped-length) in (search needs, c .before .before .before .before .loop .inv .1 ∙ all-on blankGroup (c .before .before .before .before .before .args .t1) (c .before .before .before .before .loop .i) noGroup (omega arith) (sym (c .before .blank-group .ensures) ∙ not-false _ (c .if1 .left)))
+
+returns-2 : tie.Need-returns-2 Inv-loop μ-loop
+returns-2 c = let long : length (c .before .before .args .t1) ≡ 8 = search (needs, mapped-length) in sym (c .before .loop .inv .1 ∙ all-over blankGroup (c .before .before .args .t1) (c .before .loop .i) (omega arith))
+
+pub blank-groups-spec : {M : Type 1} → statement M
+blank-groups-spec =
+    tie.close
+    (tie.spec
+    Inv-loop
+    μ-loop
+    loop-holds
+    mul-g
+    array-copy-out-g
+    blank-group-requires
+    returns
+    add-i
+    loop-less
+    loop-again
+    returns-2)

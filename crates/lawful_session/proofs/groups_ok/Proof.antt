@@ -1,0 +1,69 @@
+use Rattle.lawful_session.proofs.groups_ok.Statement.{statement}
+use Rattle.lawful_session.proofs.groups_ok.Tie as tie
+use mathlib.Core.Path.{_≡_, refl, sym, _∙_}
+use Prim.Native.Nat.{_≤_, _-_, _*_}
+use native.Mathlib.Omega.{arith}
+use lib.ListN.{length, take, drop}
+use borrow.Author.Tests.{not-true, not-false}
+use Rattle.model.specs.Lawful.{groupsOk}
+use Rattle.model.specs.Memory.{noGroup}
+use Rattle.table_mailboxes.specs.Walks.{mapped-length}
+use Rattle.lawful_session.specs.Tests.{groups-next, groups-here, groups-past}
+use borrow.Author.Needs.{needs}
+
+abbrev Inv-loop : tie.InvT-loop
+Inv-loop n groups first₀ i₀ first i = (i ≤ n) × ((first ≤ i * 255) × (groupsOk 0 (take n groups) ≡ groupsOk first (drop i (take n groups))))
+
+abbrev μ-loop : tie.MeasureT-loop
+μ-loop n groups first₀ i₀ first i = n - i
+
+loop-holds : tie.Need-loop-holds Inv-loop μ-loop
+loop-holds c = (search needs, (search needs, refl))
+
+mul-g : tie.Need-mul-g Inv-loop μ-loop
+mul-g c = search needs
+
+array-copy-out-g : tie.Need-array-copy-out-g Inv-loop μ-loop
+array-copy-out-g c = search needs
+
+group-ok-requires : tie.Need-group-ok-requires Inv-loop μ-loop
+group-ok-requires c κs = search needs
+
+returns : tie.Need-returns Inv-loop μ-loop
+returns c = let long : length (c .before .before .before .before .before .args .t1) ≡ 8 = search (needs, mapped-length) in sym (c .before .before .before .before .loop .inv .1 .1 ∙ groups-here (c .before .before .before .before .before .args .t1) (c .before .before .before .before .before .args .n) (c .before .before .before .before .loop .i) (c .before .before .before .before .loop .first) noGroup (omega arith) (omega arith) (sym (c .before .group-ok .ensures) ∙ not-true _ (c .if1 .taken)))
+
+wide-octet-requires : tie.Need-wide-octet-requires Inv-loop μ-loop
+wide-octet-requires c κs = search needs
+
+add-first : tie.Need-add-first Inv-loop μ-loop
+add-first c = search needs
+
+add-i : tie.Need-add-i Inv-loop μ-loop
+add-i c = search needs
+
+loop-less : tie.Need-loop-less Inv-loop μ-loop
+loop-less c = search needs
+
+loop-again : tie.Need-loop-again Inv-loop μ-loop
+loop-again c = let long : length (c .before .before .before .before .before .before .args .t1) ≡ 8 = search (needs, mapped-length) in (search needs, (search needs, rw (c .wide-octet .ensures .0) (c .before .before .before .before .before .loop .inv .1 .1 ∙ groups-next (c .before .before .before .before .before .before .args .t1) (c .before .before .before .before .before .before .args .n) (c .before .before .before .before .before .loop .i) (c .before .before .before .before .before .loop .first) noGroup (omega arith) (omega arith) (sym (c .before .before .group-ok .ensures) ∙ not-false _ (c .before .if1 .left)))))
+
+returns-2 : tie.Need-returns-2 Inv-loop μ-loop
+returns-2 c = let long : length (c .before .before .args .t1) ≡ 8 = search (needs, mapped-length) in sym (c .before .loop .inv .1 .1 ∙ groups-past (c .before .before .args .t1) (c .before .before .args .n) (c .before .loop .i) (c .before .loop .first) noGroup (omega arith) (omega arith))
+
+pub groups-ok-spec : {M : Type 1} → statement M
+groups-ok-spec =
+    tie.close
+    (tie.spec
+    Inv-loop
+    μ-loop
+    loop-holds
+    mul-g
+    array-copy-out-g
+    group-ok-requires
+    returns
+    wide-octet-requires
+    add-first
+    add-i
+    loop-less
+    loop-again
+    returns-2)

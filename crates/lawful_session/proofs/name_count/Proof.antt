@@ -1,0 +1,60 @@
+use Rattle.lawful_session.proofs.name_count.Statement.{statement}
+use Rattle.lawful_session.proofs.name_count.Tie as tie
+use mathlib.Core.Path.{_≡_}
+use Prim.Native.Nat.{_≤_, _-_, _+_, _*_}
+use native.Mathlib.Omega.{arith}
+use lib.ListN.{length, take, drop}
+use Rattle.model.specs.Lawful.{lentNameCount}
+use Rattle.model.specs.Memory.{noGroup}
+use Rattle.table_mailboxes.specs.Walks.{mapped-length}
+use Rattle.lawful_session.specs.Tests.{count-next, count-past}
+use borrow.Author.Needs.{needs}
+
+abbrev Inv-loop : tie.InvT-loop
+Inv-loop n groups sum₀ i₀ sum i = (i ≤ n) × ((sum ≤ i * 255) × (lentNameCount (take n groups) ≡ sum + lentNameCount (drop i (take n groups))))
+
+abbrev μ-loop : tie.MeasureT-loop
+μ-loop n groups sum₀ i₀ sum i = n - i
+
+loop-holds : tie.Need-loop-holds Inv-loop μ-loop
+loop-holds c = (search needs, (search needs, omega arith))
+
+mul-g : tie.Need-mul-g Inv-loop μ-loop
+mul-g c = search needs
+
+array-copy-out-g : tie.Need-array-copy-out-g Inv-loop μ-loop
+array-copy-out-g c = search needs
+
+wide-octet-requires : tie.Need-wide-octet-requires Inv-loop μ-loop
+wide-octet-requires c κs = search needs
+
+add-sum : tie.Need-add-sum Inv-loop μ-loop
+add-sum c = search needs
+
+add-i : tie.Need-add-i Inv-loop μ-loop
+add-i c = search needs
+
+loop-less : tie.Need-loop-less Inv-loop μ-loop
+loop-less c = search needs
+
+loop-again : tie.Need-loop-again Inv-loop μ-loop
+loop-again c = let long : length (c .before .before .before .before .args .t1) ≡ 8 = search (needs, mapped-length) in (search needs, (search needs, count-next (c .before .before .before .before .args .t1) (c .before .before .before .before .args .n) (c .before .before .before .loop .i) (c .before .before .before .loop .sum) (c .wide-octet .result) noGroup (omega arith) (omega arith) (c .before .before .before .loop .inv .1 .1) (c .wide-octet .ensures .0)))
+
+returns : tie.Need-returns Inv-loop μ-loop
+returns c = let long : length (c .before .before .args .t1) ≡ 8 = search (needs, mapped-length) in count-past (c .before .before .args .t1) (c .before .before .args .n) (c .before .loop .i) (c .before .loop .sum) 0 noGroup (omega arith) (omega arith) (c .before .loop .inv .1 .1)
+
+pub name-count-spec : {M : Type 1} → statement M
+name-count-spec =
+    tie.close
+    (tie.spec
+    Inv-loop
+    μ-loop
+    loop-holds
+    mul-g
+    array-copy-out-g
+    wide-octet-requires
+    add-sum
+    add-i
+    loop-less
+    loop-again
+    returns)

@@ -1,0 +1,88 @@
+use borrow.Author.Needs.{needs}
+use Rattle.lawful_session.proofs.session_ok.Statement.{statement}
+use Rattle.lawful_session.proofs.session_ok.Tie as tie
+use mathlib.Core.Path.{sym, _∙_}
+use borrow.Author.Tests.{not-true, not-false, le-leb, lt-leb}
+use Rattle.model.specs.Laws.{all-hold}
+use Rattle.lawful_session.specs.Tests.{groupTests, sessionTests, no-at, many-selected, few-selected, names-last}
+
+returns : tie.Need-returns
+returns c = no-at (sessionTests (c .before .before .args .s)) 0 (lt-leb (c .before .before .args .s .notified) 1 (c .if1 .taken))
+
+returns-2 : tie.Need-returns-2
+returns-2 c = no-at (sessionTests (c .before .before .before .before .args .s)) 1 (lt-leb (c .before .before .before .before .args .s .groupcount) 8 (c .if2 .taken))
+
+either-requires : tie.Need-either-requires
+either-requires c κs = search needs
+
+returns-3 : tie.Need-returns-3
+returns-3 c = no-at (sessionTests (c .before .before .before .before .before .before .before .before .args .s)) 2 (sym (c .before .either .ensures) ∙ not-true _ (c .if3 .taken))
+
+cast-n : tie.Need-cast-n
+cast-n c = search needs
+
+groups-ok-requires : tie.Need-groups-ok-requires
+groups-ok-requires c κs = search needs
+
+returns-4 : tie.Need-returns-4
+returns-4 c = no-at (sessionTests (c .before .before .before .before .before .before .before .before .before .before .before .before .args .s)) 3 (sym (c .before .groups-ok .ensures) ∙ not-true _ (c .if4 .taken))
+
+selected-count-requires : tie.Need-selected-count-requires
+selected-count-requires c κs = search needs
+
+returns-5 : tie.Need-returns-5
+returns-5 c = no-at (sessionTests (c .before .before .before .before .before .before .before .before .before .before .before .before .before .before .args .s)) 4 (many-selected (c .before .before .before .before .before .before .before .before .before .before .before .before .before .before .args .s) (c .before .selected-count .result) (c .before .selected-count .ensures) (c .if5 .taken))
+
+name-count-requires : tie.Need-name-count-requires
+name-count-requires c κs = search needs
+
+returns-6 : tie.Need-returns-6
+returns-6 c = no-at (sessionTests (c .before .before .before .before .before .before .before .before .before .before .before .before .before .before .before .before .args .s)) 5 (rw (← c .before .name-count .ensures) (lt-leb (c .before .name-count .result) 16 (c .if6 .taken)))
+
+blank-groups-requires : tie.Need-blank-groups-requires
+blank-groups-requires c κs = search needs
+
+returns-7 : tie.Need-returns-7
+returns-7 c =
+    let counted = c .before .before .before in
+    let grouped = counted .before .before .before .before in
+    let start = grouped .before .before .before .before .before .before .before .before .before .before .before in
+    no-at (sessionTests (start .args .s)) 7 (sym (c .before .blank-groups .ensures) ∙ not-true _ (c .if7 .taken))
+
+names-fit-requires : tie.Need-names-fit-requires
+names-fit-requires c κs = search needs
+
+returns-8 : tie.Need-returns-8
+returns-8 c =
+    let blank = c .before .before in
+    let few = blank .before .before in
+    let single = few .before .before in
+    let grouped = single .before .before in
+    let noted = grouped .before .before .before .before in
+    let short = noted .before .before .before .before in
+    let first = short .before .before in
+    let s = first .before .before .args .s in
+    c .names-fit .ensures
+    ∙ names-last s (few .before .name-count .result) (few .before .name-count .ensures)
+    (all-hold (groupTests s) (le-leb (s .notified) 1 (first .if1 .left), (le-leb (s .groupcount) 8 (short .if2 .left), (sym (noted .before .either .ensures) ∙ not-false _ (noted .if3 .left), (sym (grouped .before .groups-ok .ensures) ∙ not-false _ (grouped .if4 .left), (few-selected s (single .before .selected-count .result) (single .before .selected-count .ensures) (single .if5 .left), (rw (← few .before .name-count .ensures) (le-leb (few .before .name-count .result) 16 (few .if6 .left)), tt)))))))
+    (sym (blank .before .blank-groups .ensures) ∙ not-false _ (blank .if7 .left))
+
+pub session-ok-spec : {M : Type 1} → statement M
+session-ok-spec =
+    tie.close
+    (tie.spec
+    returns
+    returns-2
+    either-requires
+    returns-3
+    cast-n
+    groups-ok-requires
+    returns-4
+    selected-count-requires
+    returns-5
+    name-count-requires
+    returns-6
+    blank-groups-requires
+    returns-7
+    names-fit-requires
+    returns-8)

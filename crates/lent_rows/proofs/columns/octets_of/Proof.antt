@@ -1,0 +1,69 @@
+-- `octets_of`: the 64 octets of the name of row k. The invariant: the first j of them are copied. Assumes nothing.
+use borrow.Author.Needs.{needs}
+use mathlib.Core.Path.{_≡_, refl, _∙_}
+use mathlib.Core.List.{append-nil}
+use Prim.Native.Nat.{_≤_, _+_, _-_, _*_}
+use native.Mathlib.Omega.{arith}
+use native.Mathlib.Numerals.{add-one}
+use lib.ListN.{length, drop, replicate, length-drop}
+use lib.Seq.{paste, paste-suc, getD-drop}
+use Rattle.table_mailboxes.specs.Columns.{block}
+use Rattle.lent_rows.proofs.columns.octets_of.Statement.{statement}
+use Rattle.lent_rows.proofs.columns.octets_of.Tie as tie
+
+abbrev Inv-loop : tie.InvT-loop
+Inv-loop names k name₀ all at j₀ name j = (j ≤ 64) × (name ≡ paste name₀ 0 (drop at names) j)
+
+abbrev μ-loop : tie.MeasureT-loop
+μ-loop names k name₀ all at j₀ name j = 64 - j
+
+mul-at : tie.Need-mul-at Inv-loop μ-loop
+mul-at c = search needs
+
+loop-holds : tie.Need-loop-holds Inv-loop μ-loop
+loop-holds c = (search needs, refl)
+
+add-name : tie.Need-add-name Inv-loop μ-loop
+add-name c = search needs
+
+shared-slice-read-name : tie.Need-shared-slice-read-name Inv-loop μ-loop
+shared-slice-read-name c = search needs
+
+array-write-name : tie.Need-array-write-name Inv-loop μ-loop
+array-write-name c = search needs
+
+add-j : tie.Need-add-j Inv-loop μ-loop
+add-j c = search needs
+
+loop-less : tie.Need-loop-less Inv-loop μ-loop
+loop-less c = search needs
+
+loop-again : tie.Need-loop-again Inv-loop μ-loop
+loop-again c =
+    let a = c .before .before .before .before .args in
+    let turn = c .before .before .loop in
+    let long : length (a .names .now) ≡ 4096 = search needs in
+    let z : 0 + turn .j ≡ turn .j = omega arith in
+    let some = length-drop (64 * a .k) (a .names .now) in
+    (search needs, rw (add-one (turn .j), ← paste-suc (replicate 64 0) 0 (drop (64 * a .k) (a .names .now)) (turn .j) 0 (omega arith) (omega arith), getD-drop (64 * a .k) (a .names .now) (turn .j) 0, ← turn .inv .1, z))
+
+returns : tie.Need-returns Inv-loop μ-loop
+returns c =
+    let z : c .before .loop .j ≡ 64 = omega arith in
+    rw z at (c .before .loop .inv .1) ∙ append-nil (block (c .before .before .before .args .names .now) (c .before .before .before .args .k))
+
+pub octets-of-spec : {M : Type 1} → statement M
+octets-of-spec =
+    tie.close
+    (tie.spec
+    Inv-loop
+    μ-loop
+    mul-at
+    loop-holds
+    add-name
+    shared-slice-read-name
+    array-write-name
+    add-j
+    loop-less
+    loop-again
+    returns)

@@ -1,0 +1,55 @@
+-- `put_answer`: the tagged line, or the line of `*`. Assumes nothing.
+use borrow.Author.Needs.{needs}
+use Rattle.line_answer.proofs.put_answer.Statement.{statement}
+use Rattle.line_answer.proofs.put_answer.Tie as tie
+use native.Mathlib.Omega.{arith}
+use Rattle.line_put.specs.Put.{_then_, put-as}
+use Rattle.read_commands.specs.Judging.{wordOf}
+use Rattle.line_answer.specs.Tagged.{answer-text}
+
+put-requires : tie.Need-put-requires
+put-requires c κs = search needs
+
+slice-aggregate-put : tie.Need-slice-aggregate-put
+slice-aggregate-put c = search needs
+
+put-requires-2 : tie.Need-put-requires-2
+put-requires-2 c κs = search needs
+
+put-words-requires : tie.Need-put-words-requires
+put-words-requires c κs = search needs
+
+slice-aggregate-put-2 : tie.Need-slice-aggregate-put-2
+slice-aggregate-put-2 c = search needs
+
+put-requires-3 : tie.Need-put-requires-3
+put-requires-3 c κs = search needs
+
+same-length : tie.Need-same-length
+same-length c = search needs
+
+returns : tie.Need-returns
+returns c =
+    let a = c .before .before .before .before .before .before .before .before .before .before .before .before .before .before .before .before .before .before .before .before .args in
+    let pre = c .before .before .before .before .before .before .before .before .before .before .before .before .before .before .before .before .before .before .before .before .pre in
+    let put = c .before .before .before .before .before .before .before .before .before .before .before .before .before .before .before .before .put in
+    let put2 = c .before .before .before .before .before .before .before .before .before .before .before .put2 in
+    let put-words = c .before .before .before .before .before .before .before .put-words in
+    let put3 = c .before .before .put3 in
+    let text = _then_ (_then_ (_then_ (put .ensures) (put2 .ensures)) (put-words .ensures .0)) (put3 .ensures) in (
+      put-as text (answer-text (a .tag .now) (wordOf (a .verb)) (a .reply)),
+      omega (arith, pre, put .ensures .next, put2 .ensures .next, put-words .ensures .1, put3 .ensures .next),
+    )
+
+pub put-answer-spec : {M : Type 1} → statement M
+put-answer-spec =
+    tie.close
+    (tie.spec
+    put-requires
+    slice-aggregate-put
+    put-requires-2
+    put-words-requires
+    slice-aggregate-put-2
+    put-requires-3
+    same-length
+    returns)

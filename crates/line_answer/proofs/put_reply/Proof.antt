@@ -1,0 +1,77 @@
+-- `put_reply`: the same to a command line: with its tag, or with `*` where it has none. Assumes nothing.
+use borrow.Author.Needs.{needs}
+use Rattle.line_answer.proofs.put_reply.Statement.{statement}
+use Rattle.line_answer.proofs.put_reply.Tie as tie
+use mathlib.Core.Path.{sym, ap, _∙_}
+use mathlib.Core.List.{List}
+use Prim.Native.Nat.{ℕ}
+use native.Mathlib.Omega.{arith}
+use lib.Seq.{length-take-le}
+use borrow.Author.Tests.{not-true, not-false}
+use Rattle.model.specs.Lines.{answer, render}
+use Rattle.line_put.specs.Put.{put-as}
+use Rattle.read_commands.specs.Judging.{wordOf}
+use Rattle.line_answer.specs.Tagged.{tag-none, tag-some, tag-short}
+
+is-tagged-requires : tie.Need-is-tagged-requires
+is-tagged-requires c κs = search needs
+
+slice-aggregate-put-answer : tie.Need-slice-aggregate-put-answer
+slice-aggregate-put-answer c = search needs
+
+put-answer-requires : tie.Need-put-answer-requires
+put-answer-requires c κs = search needs
+
+same-length : tie.Need-same-length
+same-length c = search needs
+
+returns : tie.Need-returns
+returns c =
+    let a = c .before .before .before .before .before .before .before .before .before .args in
+    let is-tagged = c .before .before .before .before .before .before .is-tagged in
+    let if1 = c .before .before .before .before .before .if1 in
+    let put-answer = c .before .before .put-answer in
+    let e = tag-none (a .text .now) (sym (is-tagged .ensures) ∙ not-true _ (if1 .taken)) in
+    (put-as (put-answer .ensures .0) (ap (λ (t : List ℕ). render (answer t (wordOf (a .verb)) (a .reply))) e), put-answer .ensures .1)
+
+tag-end-requires : tie.Need-tag-end-requires
+tag-end-requires c κs = search needs
+
+slice-aggregate-put-answer-2 : tie.Need-slice-aggregate-put-answer-2
+slice-aggregate-put-answer-2 c = sym (length-take-le _ _ (c .before .before .tag-end .ensures .within))
+
+put-answer-requires-2 : tie.Need-put-answer-requires-2
+put-answer-requires-2 c κs = let a = c .before .before .before .before .before .before .before .args in
+    let w = c .before .before .tag-end .ensures in
+    let s = tag-short (a .text .now) (sym (c .before .before .before .before .is-tagged .ensures) ∙ not-false _ (c .before .before .before .if1 .left)) in
+    let e = w .exact in
+    let l = length-take-le (c .before .before .tag-end .result) (a .text .now) (w .within) in
+    omega (arith, l, e, s, c .before .before .before .before .before .before .before .pre)
+
+same-length-2 : tie.Need-same-length-2
+same-length-2 c = search needs
+
+returns-2 : tie.Need-returns-2
+returns-2 c =
+    let a = c .before .before .before .before .before .before .before .before .before .before .args in
+    let is-tagged = c .before .before .before .before .before .before .before .is-tagged in
+    let if1 = c .before .before .before .before .before .before .if1 in
+    let tag-end = c .before .before .before .before .before .tag-end in
+    let put-answer2 = c .before .before .put-answer2 in
+    let e = tag-some (a .text .now) _ (tag-end .ensures .exact) (sym (is-tagged .ensures) ∙ not-false _ (if1 .left)) in
+    (put-as (put-answer2 .ensures .0) (ap (λ (t : List ℕ). render (answer t (wordOf (a .verb)) (a .reply))) e), put-answer2 .ensures .1)
+
+pub put-reply-spec : {M : Type 1} → statement M
+put-reply-spec =
+    tie.close
+    (tie.spec
+    is-tagged-requires
+    slice-aggregate-put-answer
+    put-answer-requires
+    same-length
+    returns
+    tag-end-requires
+    slice-aggregate-put-answer-2
+    put-answer-requires-2
+    same-length-2
+    returns-2)

@@ -1,0 +1,113 @@
+use Rattle.line_found.proofs.put_rows.Statement.{statement}
+use Rattle.line_found.proofs.put_rows.Tie as tie
+use Rattle.line_found.proofs.put_rows.Reads as reads
+use Rattle.line_found.proofs.put_rows.Lts as lts
+use Rattle.line_found.proofs.put_row.Reads as put-row-reads
+use mathlib.Core.Path.{_≡_, refl, _∙_}
+use native.Mathlib.Omega.{arith}
+use Prim.Native.Nat.{_+_, _-_, _*_, _≤_, _<_}
+use lib.ListN.{length}
+use Rattle.line_found.specs.Telling.{Goes, goes-next, goes-end}
+use borrow.Author.Needs.{needs}
+
+abbrev Inv-loop : tie.InvT-loop
+Inv-loop queue₀ at limit tag lens names validities rows n w uids starts counts i₀ end₀ queue i end =
+    (i ≤ n) × (length queue ≡ length queue₀) × (end + 43500 * i ≤ at + 43500 * n) × Goes tag lens names validities rows w uids starts counts queue₀ at limit n queue end i
+
+abbrev μ-loop : tie.MeasureT-loop
+μ-loop queue₀ at limit tag lens names validities rows n w uids starts counts i₀ end₀ queue i end =
+    i
+
+loop-holds : tie.Need-loop-holds Inv-loop μ-loop
+loop-holds c = (search needs, refl, omega arith, λ q r p. p)
+
+sub-i : tie.Need-sub-i Inv-loop μ-loop
+sub-i c = search needs
+
+mul-k : tie.Need-mul-k Inv-loop μ-loop
+mul-k c = search needs
+
+shared-slice-read-k : tie.Need-shared-slice-read-k Inv-loop μ-loop
+shared-slice-read-k c = search needs
+
+element-copy-out-put-row : tie.Need-element-copy-out-put-row Inv-loop μ-loop
+element-copy-out-put-row c = search needs
+
+mul-put-row : tie.Need-mul-put-row Inv-loop μ-loop
+mul-put-row c = search needs
+
+element-copy-out-put-row-2 : tie.Need-element-copy-out-put-row-2 Inv-loop μ-loop
+element-copy-out-put-row-2 c = search needs
+
+mul-put-row-2 : tie.Need-mul-put-row-2 Inv-loop μ-loop
+mul-put-row-2 c = search needs
+
+shared-slice-read-put-row : tie.Need-shared-slice-read-put-row Inv-loop μ-loop
+shared-slice-read-put-row c = search needs
+
+mul-put-row-3 : tie.Need-mul-put-row-3 Inv-loop μ-loop
+mul-put-row-3 c = search needs
+
+shared-slice-read-put-row-2 : tie.Need-shared-slice-read-put-row-2 Inv-loop μ-loop
+shared-slice-read-put-row-2 c = search needs
+
+put-row-requires : tie.Need-put-row-requires Inv-loop μ-loop
+put-row-requires c κs =
+    let h : 0 < c .before .before .before .before .before .before .before .before .loop .i = search needs in
+    let w = c .before .before .before .before .before .before .before .before .loop .inv .0 in
+    let e = c .before .before .before .before .before .before .before .before .loop .inv .2 in
+    let a = c .before .before .before .before .before .before .before .before .before .before .before .before .before .before .before .pre .0 .1 .0 in
+    let z = c .before .before .before .before .before .before .before .before .before .before .before .before .before .before .before .pre .1 .0 .0 in
+    let u = c .before .before .before .before .before .before .before .before .before .before .before .before .before .before .before .pre .2 .0 in
+    let b = c .before .before .before .before .before .before .before .before .before .before .before .before .before .before .before .pre .2 .1 (c .before .before .before .before .before .before .before .before .loop .i - 1) (omega arith) (omega arith) in
+    let b₀ = b .0 in
+    let b₁ = b .1 in
+    ((search needs, (omega arith, c .before .before .before .before .before .before .before .before .before .before .before .before .before .before .before .pre .0 .1 .1)), ((search needs, search needs), (omega arith, b₁)))
+
+loop-less : tie.Need-loop-less Inv-loop μ-loop
+loop-less c = search needs
+
+loop-again : tie.Need-loop-again Inv-loop μ-loop
+loop-again c =
+    let h : 0 < c .before .before .before .before .before .before .before .before .before .before .before .loop .i = search needs in
+    let w = c .before .before .before .before .before .before .before .before .before .before .before .loop .inv .0 in
+    let e = c .before .before .before .before .before .before .before .before .before .before .before .loop .inv .2 in
+    let s = c .before .before .put-row .ensures .1 in (
+      omega arith,
+      c .before .before .put-row .ensures .0 .same ∙ c .before .before .before .before .before .before .before .before .before .before .before .loop .inv .1,
+      omega arith,
+      goes-next (c .before .before .before .before .before .before .before .before .before .before .before .before .before .before .before .before .before .before .args .tag .now) (c .before .before .before .before .before .before .before .before .before .before .before .before .before .before .before .before .before .before .args .lens .now) (c .before .before .before .before .before .before .before .before .before .before .before .before .before .before .before .before .before .before .args .names .now) (c .before .before .before .before .before .before .before .before .before .before .before .before .before .before .before .before .before .before .args .validities .now) (c .before .before .before .before .before .before .before .before .before .before .before .before .before .before .before .before .before .before .args .rows .now) (c .before .before .before .before .before .before .before .before .before .before .before .before .before .before .before .before .before .before .args .w) (c .before .before .before .before .before .before .before .before .before .before .before .before .before .before .before .before .before .before .args .uids .now) (c .before .before .before .before .before .before .before .before .before .before .before .before .before .before .before .before .before .before .args .starts .now) (c .before .before .before .before .before .before .before .before .before .before .before .before .before .before .before .before .before .before .args .counts .now) (c .before .before .before .before .before .before .before .before .before .before .before .before .before .before .before .before .before .before .args .queue .now) (c .before .before .before .before .before .before .before .before .before .before .before .before .before .before .before .before .before .before .args .at) (c .before .before .before .before .before .before .before .before .before .before .before .before .before .before .before .before .before .before .args .limit) (c .before .before .before .before .before .before .before .before .before .before .before .before .before .before .before .before .before .before .args .n) (c .before .before .before .before .before .before .before .before .before .before .before .loop .queue) (c .before .before .before .before .before .before .before .before .before .before .before .loop .end) (c .before .before .before .before .before .before .before .before .before .before .before .loop .i) _ _ h (c .before .before .before .before .before .before .before .before .before .before .before .loop .inv .3) (c .before .before .put-row .ensures .0),
+    )
+
+same-length : tie.Need-same-length Inv-loop μ-loop
+same-length c = search needs
+
+returns : tie.Need-returns Inv-loop μ-loop
+returns c =
+    let e = c .before .loop .inv .2 in
+    let l = c .before .loop .inv .1 in
+    let v = c .before .before .before .before .before .before .before .before .pre .0 .0 in
+    (goes-end (c .before .before .before .before .before .before .before .before .args .tag .now) (c .before .before .before .before .before .before .before .before .args .lens .now) (c .before .before .before .before .before .before .before .before .args .names .now) (c .before .before .before .before .before .before .before .before .args .validities .now) (c .before .before .before .before .before .before .before .before .args .rows .now) (c .before .before .before .before .before .before .before .before .args .w) (c .before .before .before .before .before .before .before .before .args .uids .now) (c .before .before .before .before .before .before .before .before .args .starts .now) (c .before .before .before .before .before .before .before .before .args .counts .now) (c .before .before .before .before .before .before .before .before .args .queue .now) (c .before .before .before .before .before .before .before .before .args .at) (c .before .before .before .before .before .before .before .before .args .limit) (c .before .before .before .before .before .before .before .before .args .n) (c .before .loop .queue) (c .before .loop .end) (c .before .loop .i) (omega arith) (omega arith) (c .before .loop .inv .3), omega arith)
+
+pub put-rows-spec : {M : Type 1} → statement M
+put-rows-spec =
+    tie.close
+    (tie.spec
+    Inv-loop
+    μ-loop
+    loop-holds
+    sub-i
+    mul-k
+    shared-slice-read-k
+    element-copy-out-put-row
+    mul-put-row
+    element-copy-out-put-row-2
+    mul-put-row-2
+    shared-slice-read-put-row
+    mul-put-row-3
+    shared-slice-read-put-row-2
+    put-row-requires
+    loop-less
+    loop-again
+    same-length
+    returns)

@@ -1,0 +1,40 @@
+-- `line_mailbox::put_highest` meets its contract: the counter, then the line's end. Assumes nothing.
+use borrow.Author.Needs.{needs}
+use Rattle.line_mailbox.proofs.put_highest.Statement.{statement}
+use Rattle.line_mailbox.proofs.put_highest.Tie as tie
+use native.Mathlib.Omega.{arith}
+use Rattle.line_put.specs.Put.{_then_}
+use Rattle.line_mailbox.specs.Texts.{ending}
+
+slice-aggregate-put-counted : tie.Need-slice-aggregate-put-counted
+slice-aggregate-put-counted c = search needs
+
+put-counted-requires : tie.Need-put-counted-requires
+put-counted-requires c κs = search needs
+
+slice-aggregate-put : tie.Need-slice-aggregate-put
+slice-aggregate-put c = search needs
+
+put-requires : tie.Need-put-requires
+put-requires c κs = search needs
+
+same-length : tie.Need-same-length
+same-length c = search needs
+
+returns : tie.Need-returns
+unfolding ending
+returns c =
+    let counted = c .before .before .before .before .before .before .before .put-counted .ensures in
+    let closed = c .before .before .put .ensures in
+    (_then_ (counted .0) closed, omega (arith, counted .1, closed .next))
+
+pub put-highest-spec : {M : Type 1} → statement M
+put-highest-spec =
+    tie.close
+    (tie.spec
+    slice-aggregate-put-counted
+    put-counted-requires
+    slice-aggregate-put
+    put-requires
+    same-length
+    returns)

@@ -1,0 +1,53 @@
+-- `line_message::put_modseq` meets its contract: the gap, then the item piece by piece. Assumes nothing.
+use borrow.Author.Needs.{needs}
+use Rattle.line_message.proofs.items.put_modseq.Statement.{statement}
+use Rattle.line_message.proofs.items.put_modseq.Tie as tie
+use mathlib.Core.Path.{refl}
+use mathlib.Core.Bool.{true}
+use native.Mathlib.Omega.{arith}
+use Rattle.model.specs.Lines.{modseq, itemText}
+use Rattle.line_put.specs.Put.{_then_, put-as}
+use Rattle.line_message.specs.Items.{piece-gap}
+
+put-gap-requires : tie.Need-put-gap-requires
+put-gap-requires c κs = search needs
+
+slice-aggregate-put : tie.Need-slice-aggregate-put
+slice-aggregate-put c = search needs
+
+put-requires : tie.Need-put-requires
+put-requires c κs = search needs
+
+put-number-requires : tie.Need-put-number-requires
+put-number-requires c κs = search needs
+
+slice-aggregate-put-2 : tie.Need-slice-aggregate-put-2
+slice-aggregate-put-2 c = search needs
+
+put-requires-2 : tie.Need-put-requires-2
+put-requires-2 c κs = search needs
+
+same-length : tie.Need-same-length
+same-length c = search needs
+
+returns : tie.Need-returns
+returns c =
+    let args = c .before .before .before .before .before .before .before .before .before .before .before .before .before .before .before .before .before .before .before .args in
+    let gapped = c .before .before .before .before .before .before .before .before .before .before .before .before .before .before .before .before .put-gap .ensures in
+    let word = c .before .before .before .before .before .before .before .before .before .before .before .put .ensures in
+    let number = c .before .before .before .before .before .before .before .put-number .ensures in
+    let closed = c .before .before .put2 .ensures in
+    (put-as (_then_ (gapped .0) (_then_ word (_then_ (number .0) closed))) (piece-gap true (args .began) (itemText (modseq (args .counter))) refl), omega (arith, gapped .1, word .next, number .1, closed .next))
+
+pub put-modseq-spec : {M : Type 1} → statement M
+put-modseq-spec =
+    tie.close
+    (tie.spec
+    put-gap-requires
+    slice-aggregate-put
+    put-requires
+    put-number-requires
+    slice-aggregate-put-2
+    put-requires-2
+    same-length
+    returns)

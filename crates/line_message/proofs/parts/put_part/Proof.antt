@@ -1,0 +1,74 @@
+use Rattle.line_message.proofs.parts.put_part.Statement.{statement}
+use Rattle.line_message.proofs.parts.put_part.Tie as tie
+use Rattle.line_message.proofs.parts.put_part.Reads as reads
+use Rattle.line_message.proofs.parts.put_part.Lts as lts
+use Rattle.table_messages.proofs.entry.Reads as entry-reads
+use Rattle.line_message.proofs.parts.put_one.Reads as put-one-reads
+use mathlib.Core.Path.{_≡_, refl, _∙_}
+use Prim.Native.Nat.{_≤_, _+_, _-_, _*_}
+use native.Mathlib.Omega.{arith}
+use lib.ListN.{length}
+use Rattle.line_put.specs.Put.{Goes}
+use Rattle.table_messages.specs.Words.{messages}
+use Rattle.order_messages.specs.Chosen.{chosen}
+use Rattle.line_message.specs.Parts.{partText, part-next, part-end, next-most}
+use borrow.Author.Needs.{needs}
+
+abbrev Inv-loop : tie.InvT-loop
+Inv-loop words order count queue₀ at limit part told end₀ next₀ j₀ queue end next j = (j ≤ count) × (length queue ≡ length queue₀) × (end + 231 * j ≤ at + 231 * count) × (next .0 + j ≤ next₀ .0 + count) × Goes queue₀ at limit (partText part (told .0) (next₀ .0) (chosen (messages words) order count)) queue end (partText part (told .0) (next .0) (chosen (messages words) order j))
+
+abbrev μ-loop : tie.MeasureT-loop
+μ-loop words order count queue₀ at limit part told end₀ next₀ j₀ queue end next j = j
+
+loop-holds : tie.Need-loop-holds Inv-loop μ-loop
+loop-holds c = (omega arith, refl, omega arith, omega arith, λ q r p. p)
+
+sub-j : tie.Need-sub-j Inv-loop μ-loop
+sub-j c = search needs
+
+mul-entry : tie.Need-mul-entry Inv-loop μ-loop
+mul-entry c = search needs
+
+shared-slice-read-entry : tie.Need-shared-slice-read-entry Inv-loop μ-loop
+shared-slice-read-entry c = search needs
+
+entry-requires : tie.Need-entry-requires Inv-loop μ-loop
+entry-requires c κs = search needs
+
+put-one-requires : tie.Need-put-one-requires Inv-loop μ-loop
+put-one-requires c κs = let o = c .before .before .before .before .loop in (omega arith, omega arith, omega arith)
+
+loop-less : tie.Need-loop-less Inv-loop μ-loop
+loop-less c = search needs
+
+loop-again : tie.Need-loop-again Inv-loop μ-loop
+loop-again c = let a = c .before .before .before .before .before .before .before .before .before .before .before .before .args in
+    let o = c .before .before .before .before .before .before .before .before .loop in
+    let p = c .before .before .before .put-one .ensures in
+    let m = next-most (a .told .0) (o .next .0) (c .before .before .before .before .before .entry .result) (a .part) in
+    (omega arith, p .put .same ∙ o .inv .1, omega (arith, p .short), omega (arith, p .next), part-next (a .part) (a .told .0) (messages (a .words .now)) (a .order .now) (a .queue .now) (a .at) (a .limit) _ (o .queue) (o .end) (o .j) (o .next .0) (c .before .before .before .before .before .entry .result) _ _ _ (c .before .before .before .before .before .before .before .loop-test .taken) (o .inv .4) (c .before .before .before .before .before .entry .ensures) (p .put) (p .next))
+
+same-length : tie.Need-same-length Inv-loop μ-loop
+same-length c = search needs
+
+returns : tie.Need-returns Inv-loop μ-loop
+returns c = let a = c .before .before .before .before .before .args in
+    let o = c .before .loop in
+    (part-end (a .part) (a .told .0) (messages (a .words .now)) (a .order .now) (a .queue .now) (a .at) (a .limit) _ (o .queue) (o .end) (o .j) (o .next .0) (omega arith) (omega arith) (o .inv .4), omega arith)
+
+pub put-part-spec : {M : Type 1} → statement M
+put-part-spec =
+    tie.close
+    (tie.spec
+    Inv-loop
+    μ-loop
+    loop-holds
+    sub-j
+    mul-entry
+    shared-slice-read-entry
+    entry-requires
+    put-one-requires
+    loop-less
+    loop-again
+    same-length
+    returns)

@@ -1,0 +1,91 @@
+-- `any_name`: whether a name of the range is the name, or has it in its subtree. Assumes nothing.
+use Rattle.match_groups.proofs.any_name.Statement.{statement}
+use Rattle.match_groups.proofs.any_name.Tie as tie
+use mathlib.Core.Path.{_≡_, refl, sym, _∙_, ap}
+use Prim.Native.Nat.{ℕ, _-_}
+use native.Mathlib.Omega.{arith}
+use lib.ListN.{length, take, drop}
+use Rattle.table_mailboxes.specs.Walks.{any-here, any-next, any-past, mapped-length}
+use Rattle.model.specs.Lists.{anyb}
+use Rattle.model.specs.Names.{Name}
+use Rattle.match_groups.specs.Asking.{vacantName, hit, hitBy, names-run}
+use borrow.Author.Needs.{needs}
+
+abbrev Inv-loop : tie.InvT-loop
+Inv-loop name deep s end i₀ i = anyb (hitBy deep name) (drop i₀ (take end (s .names))) ≡ anyb (hitBy deep name) (drop i (take end (s .names)))
+
+abbrev μ-loop : tie.MeasureT-loop
+μ-loop name deep s end i₀ i = end - i
+
+reach-requires : tie.Need-reach-requires Inv-loop μ-loop
+reach-requires c κs = search needs
+
+wide-requires : tie.Need-wide-requires Inv-loop μ-loop
+wide-requires c κs = search needs
+
+loop-holds : tie.Need-loop-holds Inv-loop μ-loop
+loop-holds c = refl
+
+mul-x : tie.Need-mul-x Inv-loop μ-loop
+mul-x c = search needs
+
+element-copy-out-x : tie.Need-element-copy-out-x Inv-loop μ-loop
+element-copy-out-x c = search needs
+
+hits-requires : tie.Need-hits-requires Inv-loop μ-loop
+hits-requires c κs = search needs
+
+returns : tie.Need-returns Inv-loop μ-loop
+returns c =
+    let a = c .before .before .before .before .before .before .before .before .args in
+    let reach = c .before .before .before .before .before .before .reach in
+    let wide = c .before .before .before .before .before .wide in
+    let loop = c .before .before .before .before .loop in
+    let long : length (a .t1 .names) ≡ 16 = search (needs, mapped-length) in
+    let p = hitBy (a .deep) (a .name .now) in
+    let end = reach .result in
+    sym (names-run (λ (t : Name). hit (a .deep) t (a .name .now)) (a .t1) (a .range) end (reach .ensures .1 (a .t1 .names) long)
+    ∙ (ap (λ (k : ℕ). anyb p (drop k (take end (a .t1 .names)))) (sym (wide .ensures .0))
+    ∙ (loop .inv ∙ any-here p (a .t1 .names) end (loop .i) (omega arith) vacantName (omega arith) (sym (c .before .hits .ensures) ∙ c .if1 .taken))))
+
+add-i : tie.Need-add-i Inv-loop μ-loop
+add-i c = search needs
+
+loop-less : tie.Need-loop-less Inv-loop μ-loop
+loop-less c = search needs
+
+loop-again : tie.Need-loop-again Inv-loop μ-loop
+loop-again c =
+    let a = c .before .before .before .before .before .before .before .before .args in
+    let reach = c .before .before .before .before .before .before .reach in
+    let loop = c .before .before .before .before .loop in
+    let long : length (a .t1 .names) ≡ 16 = search (needs, mapped-length) in
+    loop .inv ∙ any-next (hitBy (a .deep) (a .name .now)) (a .t1 .names) (reach .result) (loop .i) (omega arith) vacantName (omega arith)
+    (sym (c .before .hits .ensures) ∙ c .if1 .left)
+
+returns-2 : tie.Need-returns-2 Inv-loop μ-loop
+returns-2 c = let a = c .before .before .before .before .before .args in
+    let long : length (a .t1 .names) ≡ 16 = search (needs, mapped-length) in
+    let p = hitBy (a .deep) (a .name .now) in
+    let end = c .before .before .before .reach .result in
+    sym (names-run (λ (t : Name). hit (a .deep) t (a .name .now)) (a .t1) (a .range) end (c .before .before .before .reach .ensures .1 (a .t1 .names) long)
+    ∙ (ap (λ (k : ℕ). anyb p (drop k (take end (a .t1 .names)))) (sym (c .before .before .wide .ensures .0))
+    ∙ (c .before .loop .inv ∙ any-past p (a .t1 .names) end (c .before .loop .i) (omega arith) (omega arith))))
+
+pub any-name-spec : {M : Type 1} → statement M
+any-name-spec =
+    tie.close
+    (tie.spec
+    Inv-loop
+    μ-loop
+    reach-requires
+    wide-requires
+    loop-holds
+    mul-x
+    element-copy-out-x
+    hits-requires
+    returns
+    add-i
+    loop-less
+    loop-again
+    returns-2)

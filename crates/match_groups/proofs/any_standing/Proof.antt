@@ -1,0 +1,86 @@
+-- `any_standing`: whether one of the session's does. Assumes nothing.
+use Rattle.match_groups.proofs.any_standing.Statement.{statement}
+use Rattle.match_groups.proofs.any_standing.Tie as tie
+use mathlib.Core.Path.{_≡_, refl, sym, _∙_, ap}
+use Prim.Native.Nat.{_-_}
+use native.Mathlib.Omega.{arith}
+use lib.ListN.{length, take, drop}
+use Rattle.table_mailboxes.specs.Walks.{any-here, any-next, any-past, mapped-length}
+use Rattle.model.specs.Lists.{anyb}
+use Rattle.match_groups.specs.Asking.{vacantGroup, standing, standsAs, any-groups}
+use borrow.Author.Needs.{needs}
+
+abbrev Inv-loop : tie.InvT-loop
+Inv-loop delayed k s n i₀ i = anyb (standsAs delayed k) (take n (s .groups)) ≡ anyb (standsAs delayed k) (drop i (take n (s .groups)))
+
+abbrev μ-loop : tie.MeasureT-loop
+μ-loop delayed k s n i₀ i = n - i
+
+groups-requires : tie.Need-groups-requires Inv-loop μ-loop
+groups-requires c κs = search needs
+
+loop-holds : tie.Need-loop-holds Inv-loop μ-loop
+loop-holds c = refl
+
+mul-group-of : tie.Need-mul-group-of Inv-loop μ-loop
+mul-group-of c = search needs
+
+element-copy-out-group-of : tie.Need-element-copy-out-group-of Inv-loop μ-loop
+element-copy-out-group-of c = search needs
+
+group-of-requires : tie.Need-group-of-requires Inv-loop μ-loop
+group-of-requires c κs = search needs
+
+stands-requires : tie.Need-stands-requires Inv-loop μ-loop
+stands-requires c κs = search needs
+
+returns : tie.Need-returns Inv-loop μ-loop
+returns c =
+    let a = c .before .before .before .before .before .before .before .args in
+    let groups = c .before .before .before .before .before .before .groups in
+    let loop = c .before .before .before .before .before .loop in
+    let long : length (a .t1 .groups) ≡ 8 = search (needs, mapped-length) in
+    let n = groups .result in
+    let here = ap (standing (a .delayed) (a .k)) (sym (c .before .before .group-of .ensures)) ∙ (sym (c .before .stands .ensures) ∙ c .if1 .taken) in
+    sym (any-groups (a .t1) n (groups .ensures .1 (a .t1 .groups) long) (standing (a .delayed) (a .k))
+    ∙ (loop .inv ∙ any-here (standsAs (a .delayed) (a .k)) (a .t1 .groups) n (loop .i) (omega arith) vacantGroup (omega arith) here))
+
+add-i : tie.Need-add-i Inv-loop μ-loop
+add-i c = search needs
+
+loop-less : tie.Need-loop-less Inv-loop μ-loop
+loop-less c = search needs
+
+loop-again : tie.Need-loop-again Inv-loop μ-loop
+loop-again c =
+    let a = c .before .before .before .before .before .before .before .args in
+    let groups = c .before .before .before .before .before .before .groups in
+    let loop = c .before .before .before .before .before .loop in
+    let long : length (a .t1 .groups) ≡ 8 = search (needs, mapped-length) in
+    let on = ap (standing (a .delayed) (a .k)) (sym (c .before .before .group-of .ensures)) ∙ (sym (c .before .stands .ensures) ∙ c .if1 .left) in
+    loop .inv ∙ any-next (standsAs (a .delayed) (a .k)) (a .t1 .groups) (groups .result) (loop .i) (omega arith) vacantGroup (omega arith) on
+
+returns-2 : tie.Need-returns-2 Inv-loop μ-loop
+returns-2 c = let a = c .before .before .before .args in
+    let long : length (a .t1 .groups) ≡ 8 = search (needs, mapped-length) in
+    let n = c .before .before .groups .result in
+    sym (any-groups (a .t1) n (c .before .before .groups .ensures .1 (a .t1 .groups) long) (standing (a .delayed) (a .k))
+    ∙ (c .before .loop .inv ∙ any-past (standsAs (a .delayed) (a .k)) (a .t1 .groups) n (c .before .loop .i) (omega arith) (omega arith)))
+
+pub any-standing-spec : {M : Type 1} → statement M
+any-standing-spec =
+    tie.close
+    (tie.spec
+    Inv-loop
+    μ-loop
+    groups-requires
+    loop-holds
+    mul-group-of
+    element-copy-out-group-of
+    group-of-requires
+    stands-requires
+    returns
+    add-i
+    loop-less
+    loop-again
+    returns-2)

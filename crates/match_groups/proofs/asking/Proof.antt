@@ -1,0 +1,89 @@
+-- `asking`: the number of the first group that meets the mailbox and asks for event k, or 0. Assumes nothing.
+use Rattle.match_groups.proofs.asking.Statement.{statement}
+use Rattle.match_groups.proofs.asking.Tie as tie
+use mathlib.Core.Path.{_≡_, sym, _∙_, ap}
+use Prim.Native.Nat.{_-_}
+use native.Mathlib.Omega.{arith}
+use lib.ListN.{length, take, drop}
+use Rattle.table_mailboxes.specs.Walks.{mapped-length}
+use Rattle.match_groups.specs.Asking.{vacantGroup, asksAs, asksIn, later, number, number-groups, number-start, number-here, number-next, number-past}
+use borrow.Author.Needs.{needs}
+
+abbrev Inv-loop : tie.InvT-loop
+Inv-loop name a k s n i₀ i = number (asksAs s name a k) (take n (s .groups)) ≡ later i (number (asksAs s name a k) (drop i (take n (s .groups))))
+
+abbrev μ-loop : tie.MeasureT-loop
+μ-loop name a k s n i₀ i = n - i
+
+groups-requires : tie.Need-groups-requires Inv-loop μ-loop
+groups-requires c κs = search needs
+
+loop-holds : tie.Need-loop-holds Inv-loop μ-loop
+loop-holds c = number-start _ _
+
+mul-group-of : tie.Need-mul-group-of Inv-loop μ-loop
+mul-group-of c = search needs
+
+element-copy-out-group-of : tie.Need-element-copy-out-group-of Inv-loop μ-loop
+element-copy-out-group-of c = search needs
+
+group-of-requires : tie.Need-group-of-requires Inv-loop μ-loop
+group-of-requires c κs = search needs
+
+asks-requires : tie.Need-asks-requires Inv-loop μ-loop
+asks-requires c κs = search needs
+
+add-result : tie.Need-add-result Inv-loop μ-loop
+add-result c = search needs
+
+returns : tie.Need-returns Inv-loop μ-loop
+returns c =
+    let a = c .before .before .before .before .before .before .before .before .args in
+    let groups = c .before .before .before .before .before .before .groups in
+    let loop = c .before .before .before .before .before .loop in
+    let long : length (a .t1 .groups) ≡ 8 = search (needs, mapped-length) in
+    let n = groups .result in
+    let here = ap (asksIn (a .t1) (a .name .now) (a .a) (a .k)) (sym (c .before .before .group-of .ensures)) ∙ (sym (c .before .asks .ensures) ∙ c .if1 .taken) in
+    sym (number-groups (a .t1) n (groups .ensures .1 (a .t1 .groups) long) (asksIn (a .t1) (a .name .now) (a .a) (a .k))
+    ∙ number-here (asksAs (a .t1) (a .name .now) (a .a) (a .k)) (a .t1 .groups) n (loop .i) (omega arith) _ (loop .inv) vacantGroup (omega arith) here)
+
+add-i : tie.Need-add-i Inv-loop μ-loop
+add-i c = search needs
+
+loop-less : tie.Need-loop-less Inv-loop μ-loop
+loop-less c = search needs
+
+loop-again : tie.Need-loop-again Inv-loop μ-loop
+loop-again c =
+    let a = c .before .before .before .before .before .before .before .before .args in
+    let groups = c .before .before .before .before .before .before .groups in
+    let loop = c .before .before .before .before .before .loop in
+    let long : length (a .t1 .groups) ≡ 8 = search (needs, mapped-length) in
+    let on = ap (asksIn (a .t1) (a .name .now) (a .a) (a .k)) (sym (c .before .before .group-of .ensures)) ∙ (sym (c .before .asks .ensures) ∙ c .if1 .left) in
+    number-next (asksAs (a .t1) (a .name .now) (a .a) (a .k)) (a .t1 .groups) (groups .result) (loop .i) (omega arith) _ (loop .inv) vacantGroup (omega arith) on
+
+returns-2 : tie.Need-returns-2 Inv-loop μ-loop
+returns-2 c = let a = c .before .before .before .before .args in
+    let long : length (a .t1 .groups) ≡ 8 = search (needs, mapped-length) in
+    let n = c .before .before .groups .result in
+    sym (number-groups (a .t1) n (c .before .before .groups .ensures .1 (a .t1 .groups) long) (asksIn (a .t1) (a .name .now) (a .a) (a .k))
+    ∙ number-past (asksAs (a .t1) (a .name .now) (a .a) (a .k)) (a .t1 .groups) n (c .before .loop .i) (omega arith) _ (c .before .loop .inv) (omega arith))
+
+pub asking-spec : {M : Type 1} → statement M
+asking-spec =
+    tie.close
+    (tie.spec
+    Inv-loop
+    μ-loop
+    groups-requires
+    loop-holds
+    mul-group-of
+    element-copy-out-group-of
+    group-of-requires
+    asks-requires
+    add-result
+    returns
+    add-i
+    loop-less
+    loop-again
+    returns-2)

@@ -1,0 +1,56 @@
+-- `hits`: whether a kept name is the name, or has it in its subtree. Assumes nothing.
+use borrow.Author.Needs.{needs}
+use Rattle.match_groups.proofs.hits.Statement.{statement}
+use Rattle.match_groups.proofs.hits.Tie as tie
+use mathlib.Core.Path.{_≡_, sym}
+use native.Mathlib.Omega.{arith}
+use lib.ListN.{length}
+use lib.Seq.{length-take-le}
+use Rattle.model.specs.Lists.{same}
+
+clip-requires : tie.Need-clip-requires
+clip-requires c κs = search needs
+
+array-share-prefix-o : tie.Need-array-share-prefix-o
+array-share-prefix-o c = let lx : length (c .before .before .before .before .args .x .octets) ≡ 64 = search needs in omega arith
+
+slice-aggregate-in-subtree : tie.Need-slice-aggregate-in-subtree
+slice-aggregate-in-subtree c = let lx : length (c .before .before .before .before .before .args .x .octets) ≡ 64 = search needs in sym (length-take-le _ _ (omega arith))
+
+in-subtree-requires : tie.Need-in-subtree-requires
+in-subtree-requires c κs = search needs
+
+returns : tie.Need-returns
+returns c =
+    let a = c .before .before .before .before .before .before .args in
+    let lx : length (a .x .octets) ≡ 64 = search needs in rw (c .before .before .if1 .taken, ← c .before .before .before .clip .ensures .1 (a .x .octets) lx)
+    (c .in-subtree .ensures)
+
+array-share-prefix-o-2 : tie.Need-array-share-prefix-o-2
+array-share-prefix-o-2 c = let lx : length (c .before .before .before .before .args .x .octets) ≡ 64 = search needs in omega arith
+
+slice-aggregate-same : tie.Need-slice-aggregate-same
+slice-aggregate-same c = let lx : length (c .before .before .before .before .before .args .x .octets) ≡ 64 = search needs in sym (length-take-le _ _ (omega arith))
+
+same-requires : tie.Need-same-requires
+same-requires c κs = search needs
+
+returns-2 : tie.Need-returns-2
+returns-2 c =
+    let a = c .before .before .before .before .before .before .args in
+    let lx : length (a .x .octets) ≡ 64 = search needs in rw (c .before .before .if1 .left, ← c .before .before .before .clip .ensures .1 (a .x .octets) lx)
+    (c .same .ensures)
+
+pub hits-spec : {M : Type 1} → statement M
+hits-spec =
+    tie.close
+    (tie.spec
+    clip-requires
+    array-share-prefix-o
+    slice-aggregate-in-subtree
+    in-subtree-requires
+    returns
+    array-share-prefix-o-2
+    slice-aggregate-same
+    same-requires
+    returns-2)

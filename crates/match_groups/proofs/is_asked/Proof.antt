@@ -1,0 +1,23 @@
+-- `is_asked`: whether a group asks for event k of the mailbox with this name and these attributes. Assumes nothing.
+use borrow.Author.Needs.{needs}
+use Rattle.match_groups.proofs.is_asked.Statement.{statement}
+use Rattle.match_groups.proofs.is_asked.Tie as tie
+use mathlib.Core.Path.{_∙_, ap}
+use mathlib.Core.Bool.{not, _&&_}
+use Prim.Native.Nat.{ℕ}
+use Rattle.model.specs.Groups.{groupsOf, meets}
+use Rattle.match_groups.specs.Asking.{asksBit, number-any}
+use Rattle.model.specs.declared.Group.{Group}
+use lib.Dec.{eqb}
+
+asking-requires : tie.Need-asking-requires
+asking-requires c κs = search needs
+
+returns : tie.Need-returns
+returns c =
+    let a = c .before .before .args in
+    ap (λ (n : ℕ). not (eqb n 0)) (c .asking .ensures) ∙ number-any (λ (g : Group). meets (a .s) (a .name .now) (a .a) (g .selector) && asksBit (a .k) g)
+    (groupsOf (a .s))
+
+pub is-asked-spec : {M : Type 1} → statement M
+is-asked-spec = tie.close (tie.spec asking-requires returns)

@@ -1,0 +1,101 @@
+-- `mark_asked`: a group after the other; with the groups to come all is as it was. Assumes nothing.
+use borrow.Author.Needs.{needs}
+use mathlib.Core.Path.{_≡_, refl, sym, ap, _∙_}
+use mathlib.Core.Bool.{Bool, _&&_, _||_}
+use mathlib.Core.List.{List}
+use Prim.Native.Nat.{ℕ, _+_, _-_}
+use native.Mathlib.Omega.{arith}
+use lib.ListN.{length, take, drop, getD}
+use Rattle.model.specs.Lists.{anyb}
+use Rattle.model.specs.Groups.{groupOf, meets}
+use Rattle.model.specs.declared.Group.{Group}
+use Rattle.model.specs.declared.LentGroup.{LentGroup}
+use Rattle.model.specs.declared.Session.{Session}
+use Rattle.table_mailboxes.specs.Columns.{nameAt}
+use Rattle.table_mailboxes.specs.Walks.{front, any-past, mapped-length}
+use Rattle.match_groups.specs.Asking.{vacantGroup, any-groups}
+use Rattle.match_groups.specs.Notes.{noted}
+use Rattle.match_groups.specs.Marks.{asksOf, Left, left-next, left-past}
+use Rattle.match_groups.proofs.marking.mark_asked.Statement.{statement}
+use Rattle.match_groups.proofs.marking.mark_asked.Tie as tie
+
+-- a group asks for such events of row k, and the same of one as it is kept
+abbrev asking : Session → Bool → List ℕ → List ℕ → List ℕ → ℕ → Group → Bool
+asking s messages attributes lens names k g = meets s (nameAt lens names k) (getD attributes k 0) (g .selector) && asksOf messages g
+
+abbrev asks : Session → Bool → List ℕ → List ℕ → List ℕ → ℕ → LentGroup → Bool
+asks s messages attributes lens names k g = asking s messages attributes lens names k (groupOf g)
+
+abbrev Inv-loop : tie.InvT-loop
+Inv-loop messages attributes lens names n marks₀ s end i₀ marks i = (length marks ≡ length marks₀) × Left n (λ (k : ℕ). anyb (asks s messages attributes lens names k) (take end (s .groups))) (λ (k : ℕ). anyb (asks s messages attributes lens names k) (drop i (take end (s .groups)))) marks₀ marks
+
+abbrev μ-loop : tie.MeasureT-loop
+μ-loop messages attributes lens names n marks₀ s end i₀ marks i = end - i
+
+groups-requires : tie.Need-groups-requires Inv-loop μ-loop
+groups-requires c κs = search needs
+
+loop-holds : tie.Need-loop-holds Inv-loop μ-loop
+loop-holds c = (refl, λ k h. refl)
+
+mul-group-of : tie.Need-mul-group-of Inv-loop μ-loop
+mul-group-of c = search needs
+
+element-copy-out-group-of : tie.Need-element-copy-out-group-of Inv-loop μ-loop
+element-copy-out-group-of c = search needs
+
+group-of-requires : tie.Need-group-of-requires Inv-loop μ-loop
+group-of-requires c κs = search needs
+
+mark-group-requires : tie.Need-mark-group-requires Inv-loop μ-loop
+mark-group-requires c κs = (omega arith, omega (arith, c .before .before .before .before .loop .inv .0, c .before .before .before .before .before .before .before .pre))
+
+add-i : tie.Need-add-i Inv-loop μ-loop
+add-i c = search needs
+
+loop-less : tie.Need-loop-less Inv-loop μ-loop
+loop-less c = search needs
+
+loop-again : tie.Need-loop-again Inv-loop μ-loop
+loop-again c =
+    let a = c .before .before .before .before .before .before .before .before .before .before .args in
+    let l = c .before .before .before .before .before .before .before .loop in
+    let end = c .before .before .before .before .before .before .before .before .groups .result in
+    let long : length (a .t1 .groups) ≡ 8 = search (needs, mapped-length) in
+    let p = asks (a .t1) (a .messages) (a .attributes .now) (a .lens .now) (a .names .now) in (
+      c .before .marks .given ∙ l .inv .0,
+      λ k h. left-next (noted (getD (l .marks) k 0)) (p k (getD (a .t1 .groups) (l .i) vacantGroup)) (anyb (p k) (drop (l .i + 1) (take end (a .t1 .groups)))) (l .inv .1 k h)
+          (ap (anyb (p k)) (front (a .t1 .groups) end (l .i) vacantGroup (omega arith) (omega arith)))
+          (c .before .before .mark-group .ensures k h ∙ ap (λ (g : Group). noted (getD (l .marks) k 0) || asking (a .t1) (a .messages) (a .attributes .now) (a .lens .now) (a .names .now) k g) (c .before .before .before .before .group-of .ensures)),
+    )
+
+same-length : tie.Need-same-length Inv-loop μ-loop
+same-length c = c .before .loop .inv .0
+
+returns : tie.Need-returns Inv-loop μ-loop
+returns c =
+    let a = c .before .before .before .before .args in
+    let l = c .before .loop in
+    let end = c .before .before .groups .result in
+    let long : length (a .t1 .groups) ≡ 8 = search (needs, mapped-length) in
+    λ k h. left-past (noted (getD (l .marks) k 0)) (l .inv .1 k h) (any-past (asks (a .t1) (a .messages) (a .attributes .now) (a .lens .now) (a .names .now) k) (a .t1 .groups) end (l .i) (omega arith) (omega arith))
+    ∙ ap (λ (b : Bool). noted (getD (a .marks .now) k 0) || b)
+    (sym (any-groups (a .t1) end (c .before .before .groups .ensures .1 (a .t1 .groups) long) (asking (a .t1) (a .messages) (a .attributes .now) (a .lens .now) (a .names .now) k)))
+
+pub mark-asked-spec : {M : Type 1} → statement M
+mark-asked-spec =
+    tie.close
+    (tie.spec
+    Inv-loop
+    μ-loop
+    groups-requires
+    loop-holds
+    mul-group-of
+    element-copy-out-group-of
+    group-of-requires
+    mark-group-requires
+    add-i
+    loop-less
+    loop-again
+    same-length
+    returns)

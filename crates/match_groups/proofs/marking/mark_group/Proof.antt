@@ -1,0 +1,35 @@
+-- `mark_group`: whom its selector meets, or nobody. Assumes nothing.
+use borrow.Author.Needs.{needs}
+use mathlib.Core.Path.{sym, ap, _∙_}
+use mathlib.Core.Bool.{Bool, _||_}
+use lib.ListN.{getD}
+use borrow.Author.Tests.{not-true, not-false}
+use Rattle.table_mailboxes.specs.Columns.{nameAt}
+use Rattle.match_groups.specs.Notes.{noted}
+use Rattle.match_groups.specs.Marks.{marks-none, met-asking, met-silent}
+use Rattle.match_groups.proofs.marking.mark_group.Statement.{statement}
+use Rattle.match_groups.proofs.marking.mark_group.Tie as tie
+
+asks-of-requires : tie.Need-asks-of-requires
+asks-of-requires c κs = search needs
+
+returns : tie.Need-returns
+returns c =
+    let a = c .before .before .before .args in
+    marks-none (a .n) _ (a .marks .now) (λ k. met-silent (a .s) (nameAt (a .lens .now) (a .names .now) k) (getD (a .attributes .now) k 0) (a .g) _ (sym (c .before .asks-of .ensures) ∙ not-true _ (c .if1 .taken)))
+
+mark-met-requires : tie.Need-mark-met-requires
+mark-met-requires c κs = search needs
+
+same-length : tie.Need-same-length
+same-length c = search needs
+
+returns-2 : tie.Need-returns-2
+returns-2 c =
+    let a = c .before .before .before .before .before .before .before .args in
+    λ k h. c .before .before .mark-met .ensures k h
+    ∙ ap (λ (b : Bool). noted (getD (a .marks .now) k 0) || b) (met-asking (a .s) (nameAt (a .lens .now) (a .names .now) k) (getD (a .attributes .now) k 0) (a .g) _ (sym (c .before .before .before .before .before .asks-of .ensures) ∙ not-false _ (c .before .before .before .before .if1 .left)))
+
+pub mark-group-spec : {M : Type 1} → statement M
+mark-group-spec =
+    tie.close (tie.spec asks-of-requires returns mark-met-requires same-length returns-2)

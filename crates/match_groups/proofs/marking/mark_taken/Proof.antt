@@ -1,0 +1,75 @@
+-- `mark_taken`: a row after the other. Assumes nothing.
+use borrow.Author.Needs.{needs}
+use mathlib.Core.Path.{_≡_, refl, ap, _∙_}
+use mathlib.Core.Bool.{Bool, _||_}
+use Prim.Native.Nat.{ℕ, _≤_, _-_}
+use native.Mathlib.Omega.{arith}
+use lib.ListN.{length, getD, length-set}
+use Rattle.match_groups.specs.Notes.{noted}
+use Rattle.match_groups.specs.Marks.{takenBy, Marking, marking-start, marking-next}
+use Rattle.match_groups.proofs.marking.mark_taken.Statement.{statement}
+use Rattle.match_groups.proofs.marking.mark_taken.Tie as tie
+
+abbrev Inv-loop : tie.InvT-loop
+Inv-loop selector attributes n marks₀ k₀ marks k = (k ≤ n) × (length marks ≡ length marks₀) × Marking k (λ (j : ℕ). takenBy selector (getD attributes j 0)) marks₀ marks
+
+abbrev μ-loop : tie.MeasureT-loop
+μ-loop selector attributes n marks₀ k₀ marks k = n - k
+
+loop-holds : tie.Need-loop-holds Inv-loop μ-loop
+loop-holds c = (omega arith, refl, marking-start _ (c .before .args .marks .now))
+
+element-copy-out-takes : tie.Need-element-copy-out-takes Inv-loop μ-loop
+element-copy-out-takes c = search needs
+
+takes-requires : tie.Need-takes-requires Inv-loop μ-loop
+takes-requires c κs = search needs
+
+slice-read-mark : tie.Need-slice-read-mark Inv-loop μ-loop
+slice-read-mark c = omega (arith, c .before .before .before .before .before .before .pre, c .before .before .before .before .loop .inv .1)
+
+marked-requires : tie.Need-marked-requires Inv-loop μ-loop
+marked-requires c κs = search needs
+
+slice-write-marks : tie.Need-slice-write-marks Inv-loop μ-loop
+slice-write-marks c = omega (arith, c .before .before .before .before .before .before .before .pre, c .before .before .before .before .before .loop .inv .1)
+
+add-k : tie.Need-add-k Inv-loop μ-loop
+add-k c = search needs
+
+loop-less : tie.Need-loop-less Inv-loop μ-loop
+loop-less c = search needs
+
+loop-again : tie.Need-loop-again Inv-loop μ-loop
+loop-again c =
+    let l = c .before .before .before .before .before .loop in
+    let long = l .inv .1 in (
+      omega arith,
+      length-set (l .marks) (l .k) (c .marked .result) ∙ long,
+      marking-next _ (c .before .before .before .before .before .before .before .args .marks .now) (l .marks) (l .k) (c .marked .result) (omega (arith, c .before .before .before .before .before .before .before .pre)) (l .inv .2)
+          (c .marked .ensures ∙ ap (λ (b : Bool). noted (getD (l .marks) (l .k) 0) || b) (c .before .before .takes .ensures)),
+    )
+
+same-length : tie.Need-same-length Inv-loop μ-loop
+same-length c = c .before .loop .inv .1
+
+returns : tie.Need-returns Inv-loop μ-loop
+returns c = λ k h. c .before .loop .inv .2 .below k (omega arith)
+
+pub mark-taken-spec : {M : Type 1} → statement M
+mark-taken-spec =
+    tie.close
+    (tie.spec
+    Inv-loop
+    μ-loop
+    loop-holds
+    element-copy-out-takes
+    takes-requires
+    slice-read-mark
+    marked-requires
+    slice-write-marks
+    add-k
+    loop-less
+    loop-again
+    same-length
+    returns)

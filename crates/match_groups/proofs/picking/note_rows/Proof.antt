@@ -1,0 +1,123 @@
+-- `note_rows`: the marks of all groups first, then a row after the other. Assumes nothing.
+use borrow.Author.Needs.{needs}
+use mathlib.Core.Path.{_≡_, refl, _∙_}
+use Prim.Native.Nat.{ℕ, _≤_, _<_, _-_}
+use native.Mathlib.Omega.{arith}
+use lib.ListN.{length, getD, length-set}
+use Rattle.table_mailboxes.specs.Columns.{nameAt}
+use Rattle.match_groups.specs.Notes.{Notes, notes-next, notes-all}
+use Rattle.match_groups.specs.Marks.{fresh}
+use Rattle.match_groups.proofs.picking.note_rows.Statement.{statement}
+use Rattle.match_groups.proofs.picking.note_rows.Tie as tie
+
+abbrev Inv-loop : tie.InvT-loop
+Inv-loop s wanted ids attributes lens names n picked₀ asks₀ messages mailbox any k₀ picked asks k = (k ≤ n)
+    × (length picked ≡ length picked₀)
+    × (length asks ≡ length asks₀)
+    × ((j : ℕ) → j < k → Notes s wanted (getD ids j 0) (getD attributes j 0) (nameAt lens names j) (getD picked j 0) (getD asks j 0))
+
+abbrev μ-loop : tie.MeasureT-loop
+μ-loop s wanted ids attributes lens names n picked₀ asks₀ messages mailbox any k₀ picked asks k = n - k
+
+slice-aggregate-mark-asked : tie.Need-slice-aggregate-mark-asked Inv-loop μ-loop
+slice-aggregate-mark-asked c = search needs
+
+mark-asked-requires : tie.Need-mark-asked-requires Inv-loop μ-loop
+mark-asked-requires c κs = search needs
+
+slice-aggregate-mark-asked-2 : tie.Need-slice-aggregate-mark-asked-2 Inv-loop μ-loop
+slice-aggregate-mark-asked-2 c = search needs
+
+mark-asked-requires-2 : tie.Need-mark-asked-requires-2 Inv-loop μ-loop
+mark-asked-requires-2 c κs = search needs
+
+selected-asks-any-requires : tie.Need-selected-asks-any-requires Inv-loop μ-loop
+selected-asks-any-requires c κs = search needs
+
+loop-holds : tie.Need-loop-holds Inv-loop μ-loop
+loop-holds c = (omega arith, refl, refl, λ j h. absurd (let z : ⊥ = omega arith in z))
+
+mul-note : tie.Need-mul-note Inv-loop μ-loop
+mul-note c = search needs
+
+element-copy-out-note : tie.Need-element-copy-out-note Inv-loop μ-loop
+element-copy-out-note c = search needs
+
+element-copy-out-note-2 : tie.Need-element-copy-out-note-2 Inv-loop μ-loop
+element-copy-out-note-2 c = search needs
+
+array-read-note : tie.Need-array-read-note Inv-loop μ-loop
+array-read-note c = search needs
+
+array-read-note-2 : tie.Need-array-read-note-2 Inv-loop μ-loop
+array-read-note-2 c = search needs
+
+note-requires : tie.Need-note-requires Inv-loop μ-loop
+note-requires c κs = search needs
+
+slice-write-picked : tie.Need-slice-write-picked Inv-loop μ-loop
+slice-write-picked c = let l = c .before .before .before .before .loop in omega (arith, c .before .before .before .before .before .before .before .before .before .before .before .before .before .before .pre .1, l .inv .0, l .inv .1, c .before .before .before .loop-test)
+
+slice-write-asks : tie.Need-slice-write-asks Inv-loop μ-loop
+slice-write-asks c = let l = c .before .before .before .before .loop in omega (arith, c .before .before .before .before .before .before .before .before .before .before .before .before .before .before .pre .2, l .inv .0, l .inv .2, c .before .before .before .loop-test)
+
+add-k : tie.Need-add-k Inv-loop μ-loop
+add-k c = search needs
+
+loop-less : tie.Need-loop-less Inv-loop μ-loop
+loop-less c = search needs
+
+loop-again : tie.Need-loop-again Inv-loop μ-loop
+loop-again c =
+    let a = c .before .before .before .before .before .before .before .before .before .before .before .before .before .before .args in
+    let l = c .before .before .before .before .loop in
+    let row = c .note in
+    let p = l .inv .1 in
+    let q = l .inv .2 in
+    let h : l .k < a .n = omega (arith, c .before .before .before .loop-test) in (
+      omega arith,
+      length-set (l .picked) (l .k) (row .result .picked) ∙ p,
+      length-set (l .asks) (l .k) (row .result .asks) ∙ q,
+      notes-next (λ (j p q : ℕ). Notes (a .s) (a .wanted) (getD (a .ids .now) j 0) (getD (a .attributes .now) j 0) (nameAt (a .lens .now) (a .names .now) j) p q)
+          (l .picked) (l .asks) (l .k) (row .result .picked) (row .result .asks)
+          (omega (arith, c .before .before .before .before .before .before .before .before .before .before .before .before .before .before .pre .1, p)) (omega (arith, c .before .before .before .before .before .before .before .before .before .before .before .before .before .before .pre .2, q)) (l .inv .3)
+          (row .ensures (a .s) (nameAt (a .lens .now) (a .names .now) (l .k)) refl (c .before .before .before .before .before .selected-asks-any .ensures)
+          (fresh 64 (l .k) (omega arith) (c .before .before .before .before .before .before .before .before .before .before .mark-asked .ensures (l .k) h)) (fresh 64 (l .k) (omega arith) (c .before .before .before .before .before .before .before .mark-asked2 .ensures (l .k) h))),
+    )
+
+same-length : tie.Need-same-length Inv-loop μ-loop
+same-length c = c .before .loop .inv .1
+
+same-length-2 : tie.Need-same-length-2 Inv-loop μ-loop
+same-length-2 c = c .before .loop .inv .2
+
+returns : tie.Need-returns Inv-loop μ-loop
+returns c = let a = c .before .before .before .before .before .before .before .before .before .before .before .args in
+    notes-all (a .s) (a .wanted) (a .ids .now) (a .attributes .now) (a .lens .now) (a .names .now) _ _ (a .n) (λ j h. c .before .loop .inv .3 j (omega arith))
+
+pub note-rows-spec : {M : Type 1} → statement M
+note-rows-spec =
+    tie.close
+    (tie.spec
+    Inv-loop
+    μ-loop
+    slice-aggregate-mark-asked
+    mark-asked-requires
+    slice-aggregate-mark-asked-2
+    mark-asked-requires-2
+    selected-asks-any-requires
+    loop-holds
+    mul-note
+    element-copy-out-note
+    element-copy-out-note-2
+    array-read-note
+    array-read-note-2
+    note-requires
+    slice-write-picked
+    slice-write-asks
+    add-k
+    loop-less
+    loop-again
+    same-length
+    same-length-2
+    returns)

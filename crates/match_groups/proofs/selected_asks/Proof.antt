@@ -1,0 +1,15 @@
+-- `selected_asks`: the selected group asks for event k, at once or delayed. Assumes nothing.
+use borrow.Author.Needs.{needs}
+use Rattle.match_groups.proofs.selected_asks.Statement.{statement}
+use Rattle.match_groups.proofs.selected_asks.Tie as tie
+use mathlib.Core.Path.{_∙_}
+use Rattle.match_groups.specs.Asking.{selected-stands}
+
+any-standing-requires : tie.Need-any-standing-requires
+any-standing-requires c κs = search needs
+
+returns : tie.Need-returns
+returns c = c .any-standing .ensures ∙ selected-stands (c .before .args .s) (c .before .args .k)
+
+pub selected-asks-spec : {M : Type 1} → statement M
+selected-asks-spec = tie.close (tie.spec any-standing-requires returns)

@@ -1,0 +1,439 @@
+use Prim.Native.Nat.{ℕ, _<_, _≤_, _+_, _-_, _*_}
+use borrow.Fn.Kinds.{In}
+use borrow.Fn.PlainCycle.{Measures, is, falls, and}
+use Rattle.match_keys.proofs.key_at.Reads as key-at
+use Rattle.match_keys.proofs.key_at.Kinds as key-at-kinds
+use Rattle.match_keys.proofs.+key_at+keys_hold.Lts-key_at as key-at-lts
+use Rattle.match_keys.proofs.keys_hold.Reads as keys-hold
+use Rattle.match_keys.proofs.keys_hold.Kinds as keys-hold-kinds
+use Rattle.match_keys.proofs.+key_at+keys_hold.Lts-keys_hold as keys-hold-lts
+use Rattle.match_keys.proofs.agree.Reads as agree-reads
+use Rattle.match_keys.proofs.behind.Reads as behind-reads
+use Rattle.match_keys.proofs.cell.Reads as cell-reads
+use Rattle.match_keys.proofs.last_nest.Reads as last-nest-reads
+use Rattle.match_keys.proofs.negated.Reads as negated-reads
+use Rattle.match_keys.proofs.test_at.Reads as test-at-reads
+use Rattle.match_keys.proofs.+key_at+keys_hold.{statement}
+use Rattle.match_keys.proofs.+key_at+keys_hold.Tie.{close}
+use Rattle.match_keys.specs.Laws.{Going, going-start, going-decided, going-next, going-in, going-end, answers-nest}
+use Rattle.model.specs.Searching.{agrees}
+use mathlib.Core.Path.{ap, sym, _∙_}
+use native.Mathlib.Omega.{arith}
+use borrow.Author.Needs.{needs}
+
+abbrev μ-key-at : Measures 2 key-at-kinds.ps ℕ
+μ-key-at κs a = 2 * (a .1 .1 .0 - a .1 .0)
+
+abbrev μ-keys-hold : Measures 2 keys-hold-kinds.ps ℕ
+μ-keys-hold κs a = 2 * (a .1 .1 .0 - a .1 .0) + 1
+
+abbrev key-at-at : ℕ → In 2 key-at-kinds.ps
+key-at-at t = and 2 key-at-kinds.ps (is 2 key-at-kinds.ps μ-key-at t) key-at.Pre
+
+abbrev key-at-below : ℕ → In 2 key-at-kinds.ps
+key-at-below t = and 2 key-at-kinds.ps (falls 2 key-at-kinds.ps _<_ μ-key-at t) key-at.Pre
+
+abbrev keys-hold-at : ℕ → In 2 keys-hold-kinds.ps
+keys-hold-at t = and 2 keys-hold-kinds.ps (is 2 keys-hold-kinds.ps μ-keys-hold t) keys-hold.Pre
+
+abbrev keys-hold-below : ℕ → In 2 keys-hold-kinds.ps
+keys-hold-below t =
+    and 2 keys-hold-kinds.ps (falls 2 keys-hold-kinds.ps _<_ μ-keys-hold t) keys-hold.Pre
+
+key-at-cell-requires : (t : ℕ) → key-at-lts.Need-cell-requires (
+  cell-reads.Asked,
+  cell-reads.Learnt,
+  test-at-reads.Asked,
+  test-at-reads.Learnt,
+  behind-reads.Asked,
+  behind-reads.Learnt,
+  keys-hold-below t,
+  keys-hold.Post,
+  agree-reads.Asked,
+  agree-reads.Learnt,
+) (key-at-at t) key-at.Post
+key-at-cell-requires t c κs = search needs
+
+key-at-test-at-requires : (t : ℕ) → key-at-lts.Need-test-at-requires (
+  cell-reads.Asked,
+  cell-reads.Learnt,
+  test-at-reads.Asked,
+  test-at-reads.Learnt,
+  behind-reads.Asked,
+  behind-reads.Learnt,
+  keys-hold-below t,
+  keys-hold.Post,
+  agree-reads.Asked,
+  agree-reads.Learnt,
+) (key-at-at t) key-at.Post
+key-at-test-at-requires t c κs = search needs
+
+key-at-returns : (t : ℕ) → key-at-lts.Need-returns (
+  cell-reads.Asked,
+  cell-reads.Learnt,
+  test-at-reads.Asked,
+  test-at-reads.Learnt,
+  behind-reads.Asked,
+  behind-reads.Learnt,
+  keys-hold-below t,
+  keys-hold.Post,
+  agree-reads.Asked,
+  agree-reads.Learnt,
+) (key-at-at t) key-at.Post
+key-at-returns t c = search needs
+
+key-at-behind-requires : (t : ℕ) → key-at-lts.Need-behind-requires (
+  cell-reads.Asked,
+  cell-reads.Learnt,
+  test-at-reads.Asked,
+  test-at-reads.Learnt,
+  behind-reads.Asked,
+  behind-reads.Learnt,
+  keys-hold-below t,
+  keys-hold.Post,
+  agree-reads.Asked,
+  agree-reads.Learnt,
+) (key-at-at t) key-at.Post
+key-at-behind-requires t c κs = search needs
+
+key-at-add-keys-hold : (t : ℕ) → key-at-lts.Need-add-keys-hold (
+  cell-reads.Asked,
+  cell-reads.Learnt,
+  test-at-reads.Asked,
+  test-at-reads.Learnt,
+  behind-reads.Asked,
+  behind-reads.Learnt,
+  keys-hold-below t,
+  keys-hold.Post,
+  agree-reads.Asked,
+  agree-reads.Learnt,
+) (key-at-at t) key-at.Post
+key-at-add-keys-hold t c = search needs
+
+key-at-keys-hold-requires : (t : ℕ) → key-at-lts.Need-keys-hold-requires (
+  cell-reads.Asked,
+  cell-reads.Learnt,
+  test-at-reads.Asked,
+  test-at-reads.Learnt,
+  behind-reads.Asked,
+  behind-reads.Learnt,
+  keys-hold-below t,
+  keys-hold.Post,
+  agree-reads.Asked,
+  agree-reads.Learnt,
+) (key-at-at t) key-at.Post
+key-at-keys-hold-requires t c κs = let b = c .behind .ensures .inside in (omega arith, omega arith)
+
+key-at-agree-requires : (t : ℕ) → key-at-lts.Need-agree-requires (
+  cell-reads.Asked,
+  cell-reads.Learnt,
+  test-at-reads.Asked,
+  test-at-reads.Learnt,
+  behind-reads.Asked,
+  behind-reads.Learnt,
+  keys-hold-below t,
+  keys-hold.Post,
+  agree-reads.Asked,
+  agree-reads.Learnt,
+) (key-at-at t) key-at.Post
+key-at-agree-requires t c κs = search needs
+
+key-at-returns-2 : (t : ℕ) → key-at-lts.Need-returns-2 (
+  cell-reads.Asked,
+  cell-reads.Learnt,
+  test-at-reads.Asked,
+  test-at-reads.Learnt,
+  behind-reads.Asked,
+  behind-reads.Learnt,
+  keys-hold-below t,
+  keys-hold.Post,
+  agree-reads.Asked,
+  agree-reads.Learnt,
+) (key-at-at t) key-at.Post
+key-at-returns-2 t c = answers-nest (c .before .before .before .before .before .before .args .cells .now) (c .before .before .before .before .before .before .args .at) (c .before .before .before .before .cell .result) (c .before .before .before .before .cell .ensures) (c .before .before .before .before .before .before .args .stop) (c .before .before .before .before .before .before .args .facts .now) (record { holds = c .agree .result; after = c .before .before .behind .result }) (c .before .before .before .if1 .left) (c .before .before .behind .ensures) (c .before .keys-hold .result) (c .before .keys-hold .ensures) (c .agree .ensures)
+
+abbrev keys-hold-Inv-loop : keys-hold-lts.InvT-loop
+keys-hold-Inv-loop cells at stop any facts i₀ some₀ on₀ i some on = (at ≤ i) × Going cells at stop any facts i some on
+
+abbrev keys-hold-μ-loop : keys-hold-lts.MeasureT-loop
+keys-hold-μ-loop cells at stop any facts i₀ some₀ on₀ i some on = stop - i
+
+keys-hold-loop-holds : (t : ℕ) → keys-hold-lts.Need-loop-holds (
+  last-nest-reads.Asked,
+  last-nest-reads.Learnt,
+  cell-reads.Asked,
+  cell-reads.Learnt,
+  agree-reads.Asked,
+  agree-reads.Learnt,
+  key-at-below t,
+  key-at.Post,
+  negated-reads.Asked,
+  negated-reads.Learnt,
+) (keys-hold-at t) keys-hold.Post keys-hold-Inv-loop keys-hold-μ-loop
+keys-hold-loop-holds t c = (omega arith, going-start (c .before .args .cells .now) (c .before .args .at) (c .before .args .stop) (c .before .args .any) (c .before .args .facts .now))
+
+keys-hold-last-nest-requires : (t : ℕ) → keys-hold-lts.Need-last-nest-requires (
+  last-nest-reads.Asked,
+  last-nest-reads.Learnt,
+  cell-reads.Asked,
+  cell-reads.Learnt,
+  agree-reads.Asked,
+  agree-reads.Learnt,
+  key-at-below t,
+  key-at.Post,
+  negated-reads.Asked,
+  negated-reads.Learnt,
+) (keys-hold-at t) keys-hold.Post keys-hold-Inv-loop keys-hold-μ-loop
+keys-hold-last-nest-requires t c κs = search needs
+
+keys-hold-cell-requires : (t : ℕ) → keys-hold-lts.Need-cell-requires (
+  last-nest-reads.Asked,
+  last-nest-reads.Learnt,
+  cell-reads.Asked,
+  cell-reads.Learnt,
+  agree-reads.Asked,
+  agree-reads.Learnt,
+  key-at-below t,
+  key-at.Post,
+  negated-reads.Asked,
+  negated-reads.Learnt,
+) (keys-hold-at t) keys-hold.Post keys-hold-Inv-loop keys-hold-μ-loop
+keys-hold-cell-requires t c κs = search needs
+
+keys-hold-agree-requires : (t : ℕ) → keys-hold-lts.Need-agree-requires (
+  last-nest-reads.Asked,
+  last-nest-reads.Learnt,
+  cell-reads.Asked,
+  cell-reads.Learnt,
+  agree-reads.Asked,
+  agree-reads.Learnt,
+  key-at-below t,
+  key-at.Post,
+  negated-reads.Asked,
+  negated-reads.Learnt,
+) (keys-hold-at t) keys-hold.Post keys-hold-Inv-loop keys-hold-μ-loop
+keys-hold-agree-requires t c κs = search needs
+
+keys-hold-add-i : (t : ℕ) → keys-hold-lts.Need-add-i (
+  last-nest-reads.Asked,
+  last-nest-reads.Learnt,
+  cell-reads.Asked,
+  cell-reads.Learnt,
+  agree-reads.Asked,
+  agree-reads.Learnt,
+  key-at-below t,
+  key-at.Post,
+  negated-reads.Asked,
+  negated-reads.Learnt,
+) (keys-hold-at t) keys-hold.Post keys-hold-Inv-loop keys-hold-μ-loop
+keys-hold-add-i t c = search needs
+
+keys-hold-loop-less : (t : ℕ) → keys-hold-lts.Need-loop-less (
+  last-nest-reads.Asked,
+  last-nest-reads.Learnt,
+  cell-reads.Asked,
+  cell-reads.Learnt,
+  agree-reads.Asked,
+  agree-reads.Learnt,
+  key-at-below t,
+  key-at.Post,
+  negated-reads.Asked,
+  negated-reads.Learnt,
+) (keys-hold-at t) keys-hold.Post keys-hold-Inv-loop keys-hold-μ-loop
+keys-hold-loop-less t c = search needs
+
+keys-hold-loop-again : (t : ℕ) → keys-hold-lts.Need-loop-again (
+  last-nest-reads.Asked,
+  last-nest-reads.Learnt,
+  cell-reads.Asked,
+  cell-reads.Learnt,
+  agree-reads.Asked,
+  agree-reads.Learnt,
+  key-at-below t,
+  key-at.Post,
+  negated-reads.Asked,
+  negated-reads.Learnt,
+) (keys-hold-at t) keys-hold.Post keys-hold-Inv-loop keys-hold-μ-loop
+keys-hold-loop-again t c = let n = c .before .before .before .last-nest .ensures (c .before .before .if1 .taken) in (omega arith, going-in (c .before .before .before .before .before .before .before .args .cells .now) (c .before .before .before .before .before .before .before .args .at) (c .before .before .before .before .before .before .before .args .stop) (c .before .before .before .before .before .before .before .args .any) (c .before .before .before .before .before .before .before .args .facts .now) (c .before .before .before .before .before .loop .i) (c .before .before .before .before .before .loop .some) (c .before .before .before .before .before .loop .on) (c .before .before .before .before .before .loop .inv .1) (c .before .before .before .before .loop-test .taken) (c .before .cell .result) (c .before .cell .ensures) (let q = c .before .cell .ensures in omega (arith, n .0)) (n .1) (c .agree .result) (c .agree .ensures))
+
+keys-hold-key-at-requires : (t : ℕ) → keys-hold-lts.Need-key-at-requires (
+  last-nest-reads.Asked,
+  last-nest-reads.Learnt,
+  cell-reads.Asked,
+  cell-reads.Learnt,
+  agree-reads.Asked,
+  agree-reads.Learnt,
+  key-at-below t,
+  key-at.Post,
+  negated-reads.Asked,
+  negated-reads.Learnt,
+) (keys-hold-at t) keys-hold.Post keys-hold-Inv-loop keys-hold-μ-loop
+keys-hold-key-at-requires t c κs = (omega arith, (omega arith, omega arith))
+
+keys-hold-agree-requires-2 : (t : ℕ) → keys-hold-lts.Need-agree-requires-2 (
+  last-nest-reads.Asked,
+  last-nest-reads.Learnt,
+  cell-reads.Asked,
+  cell-reads.Learnt,
+  agree-reads.Asked,
+  agree-reads.Learnt,
+  key-at-below t,
+  key-at.Post,
+  negated-reads.Asked,
+  negated-reads.Learnt,
+) (keys-hold-at t) keys-hold.Post keys-hold-Inv-loop keys-hold-μ-loop
+keys-hold-agree-requires-2 t c κs = search needs
+
+keys-hold-agree-requires-3 : (t : ℕ) → keys-hold-lts.Need-agree-requires-3 (
+  last-nest-reads.Asked,
+  last-nest-reads.Learnt,
+  cell-reads.Asked,
+  cell-reads.Learnt,
+  agree-reads.Asked,
+  agree-reads.Learnt,
+  key-at-below t,
+  key-at.Post,
+  negated-reads.Asked,
+  negated-reads.Learnt,
+) (keys-hold-at t) keys-hold.Post keys-hold-Inv-loop keys-hold-μ-loop
+keys-hold-agree-requires-3 t c κs = search needs
+
+keys-hold-returns : (t : ℕ) → keys-hold-lts.Need-returns (
+  last-nest-reads.Asked,
+  last-nest-reads.Learnt,
+  cell-reads.Asked,
+  cell-reads.Learnt,
+  agree-reads.Asked,
+  agree-reads.Learnt,
+  key-at-below t,
+  key-at.Post,
+  negated-reads.Asked,
+  negated-reads.Learnt,
+) (keys-hold-at t) keys-hold.Post keys-hold-Inv-loop keys-hold-μ-loop
+keys-hold-returns t c = going-decided (c .before .before .before .before .before .before .before .before .before .args .cells .now) (c .before .before .before .before .before .before .before .before .before .args .at) (c .before .before .before .before .before .before .before .before .before .args .stop) (c .before .before .before .before .before .before .before .before .before .args .any) (c .before .before .before .before .before .before .before .before .before .args .facts .now) (c .before .before .before .before .before .before .before .loop .i) (c .before .before .before .before .before .before .before .loop .some) (c .before .before .before .before .before .before .before .loop .on) (c .before .before .before .before .before .before .before .loop .inv .1) (c .before .before .before .before .before .before .loop-test .taken) (c .before .before .before .key-at .result) (c .before .before .before .key-at .ensures) (sym (c .before .before .agree2 .ensures) ∙ c .before .if2 .taken) (c .agree3 .result) (c .agree3 .ensures)
+
+keys-hold-loop-less-2 : (t : ℕ) → keys-hold-lts.Need-loop-less-2 (
+  last-nest-reads.Asked,
+  last-nest-reads.Learnt,
+  cell-reads.Asked,
+  cell-reads.Learnt,
+  agree-reads.Asked,
+  agree-reads.Learnt,
+  key-at-below t,
+  key-at.Post,
+  negated-reads.Asked,
+  negated-reads.Learnt,
+) (keys-hold-at t) keys-hold.Post keys-hold-Inv-loop keys-hold-μ-loop
+keys-hold-loop-less-2 t c = let a = c .before .before .key-at .ensures .after in omega arith
+
+keys-hold-loop-again-2 : (t : ℕ) → keys-hold-lts.Need-loop-again-2 (
+  last-nest-reads.Asked,
+  last-nest-reads.Learnt,
+  cell-reads.Asked,
+  cell-reads.Learnt,
+  agree-reads.Asked,
+  agree-reads.Learnt,
+  key-at-below t,
+  key-at.Post,
+  negated-reads.Asked,
+  negated-reads.Learnt,
+) (keys-hold-at t) keys-hold.Post keys-hold-Inv-loop keys-hold-μ-loop
+keys-hold-loop-again-2 t c = let a = c .before .before .key-at .ensures .after in (omega arith, going-next (c .before .before .before .before .before .before .before .before .args .cells .now) (c .before .before .before .before .before .before .before .before .args .at) (c .before .before .before .before .before .before .before .before .args .stop) (c .before .before .before .before .before .before .before .before .args .any) (c .before .before .before .before .before .before .before .before .args .facts .now) (c .before .before .before .before .before .before .loop .i) (c .before .before .before .before .before .before .loop .some) (c .before .before .before .before .before .before .loop .on) (c .before .before .before .before .before .before .loop .inv .1) (c .before .before .before .before .before .loop-test .taken) (c .before .before .key-at .result) (c .before .before .key-at .ensures) (sym (c .before .agree2 .ensures) ∙ c .if2 .left))
+
+keys-hold-negated-requires : (t : ℕ) → keys-hold-lts.Need-negated-requires (
+  last-nest-reads.Asked,
+  last-nest-reads.Learnt,
+  cell-reads.Asked,
+  cell-reads.Learnt,
+  agree-reads.Asked,
+  agree-reads.Learnt,
+  key-at-below t,
+  key-at.Post,
+  negated-reads.Asked,
+  negated-reads.Learnt,
+) (keys-hold-at t) keys-hold.Post keys-hold-Inv-loop keys-hold-μ-loop
+keys-hold-negated-requires t c κs = search needs
+
+keys-hold-agree-requires-4 : (t : ℕ) → keys-hold-lts.Need-agree-requires-4 (
+  last-nest-reads.Asked,
+  last-nest-reads.Learnt,
+  cell-reads.Asked,
+  cell-reads.Learnt,
+  agree-reads.Asked,
+  agree-reads.Learnt,
+  key-at-below t,
+  key-at.Post,
+  negated-reads.Asked,
+  negated-reads.Learnt,
+) (keys-hold-at t) keys-hold.Post keys-hold-Inv-loop keys-hold-μ-loop
+keys-hold-agree-requires-4 t c κs = search needs
+
+keys-hold-returns-2 : (t : ℕ) → keys-hold-lts.Need-returns-2 (
+  last-nest-reads.Asked,
+  last-nest-reads.Learnt,
+  cell-reads.Asked,
+  cell-reads.Learnt,
+  agree-reads.Asked,
+  agree-reads.Learnt,
+  key-at-below t,
+  key-at.Post,
+  negated-reads.Asked,
+  negated-reads.Learnt,
+) (keys-hold-at t) keys-hold.Post keys-hold-Inv-loop keys-hold-μ-loop
+keys-hold-returns-2 t c = going-end (c .before .before .before .before .before .args .cells .now) (c .before .before .before .before .before .args .at) (c .before .before .before .before .before .args .stop) (c .before .before .before .before .before .args .any) (c .before .before .before .before .before .args .facts .now) (c .before .before .before .loop .i) (c .before .before .before .loop .some) (c .before .before .before .loop .on) (c .before .before .before .loop .inv .1) (c .before .before .loop-test .left) (c .agree4 .result) (c .agree4 .ensures ∙ ap (agrees (c .before .before .before .loop .on)) (c .before .negated .ensures))
+
+pub +key-at+keys-hold-spec : {M : Type 1} → statement M
++key-at+keys-hold-spec = close μ-key-at μ-keys-hold (λ t. key-at-lts.spec (
+  cell-reads.Asked,
+  cell-reads.Learnt,
+  test-at-reads.Asked,
+  test-at-reads.Learnt,
+  behind-reads.Asked,
+  behind-reads.Learnt,
+  keys-hold-below t,
+  keys-hold.Post,
+  agree-reads.Asked,
+  agree-reads.Learnt,
+)
+    (key-at-at t)
+    key-at.Post
+    (key-at-cell-requires t)
+    (key-at-test-at-requires t)
+    (key-at-returns t)
+    (key-at-behind-requires t)
+    (key-at-add-keys-hold t)
+    (key-at-keys-hold-requires t)
+    (key-at-agree-requires t)
+    (key-at-returns-2 t))
+    λ t. keys-hold-lts.spec (
+      last-nest-reads.Asked,
+      last-nest-reads.Learnt,
+      cell-reads.Asked,
+      cell-reads.Learnt,
+      agree-reads.Asked,
+      agree-reads.Learnt,
+      key-at-below t,
+      key-at.Post,
+      negated-reads.Asked,
+      negated-reads.Learnt,
+    )
+    (keys-hold-at t)
+    keys-hold.Post
+    keys-hold-Inv-loop
+    keys-hold-μ-loop
+    (keys-hold-loop-holds t)
+    (keys-hold-last-nest-requires t)
+    (keys-hold-cell-requires t)
+    (keys-hold-agree-requires t)
+    (keys-hold-add-i t)
+    (keys-hold-loop-less t)
+    (keys-hold-loop-again t)
+    (keys-hold-key-at-requires t)
+    (keys-hold-agree-requires-2 t)
+    (keys-hold-agree-requires-3 t)
+    (keys-hold-returns t)
+    (keys-hold-loop-less-2 t)
+    (keys-hold-loop-again-2 t)
+    (keys-hold-negated-requires t)
+    (keys-hold-agree-requires-4 t)
+    (keys-hold-returns-2 t)

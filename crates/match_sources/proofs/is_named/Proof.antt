@@ -1,0 +1,74 @@
+use Rattle.match_sources.proofs.is_named.Statement.{statement}
+use Rattle.match_sources.proofs.is_named.Tie as tie
+use Rattle.match_sources.proofs.is_named.Reads as reads
+use Rattle.match_sources.proofs.is_named.Lts as lts
+use Rattle.match_sources.proofs.is_meant.Reads as is-meant-reads
+use Rattle.match_sources.proofs.run_end.Reads as run-end-reads
+use mathlib.Core.Path.{_≡_, refl, sym, _∙_}
+use native.Mathlib.Omega.{arith}
+use Prim.Native.Nat.{_-_}
+use lib.ListN.{length, take, drop}
+use Rattle.model.specs.Lists.{anyb}
+use Rattle.model.specs.Groups.{lentName}
+use Rattle.model.specs.declared.LentName.{LentName}
+use Rattle.table_mailboxes.specs.Walks.{mapped-length, any-here, any-next, any-past}
+use Rattle.match_sources.specs.Admitting.{meant, named-run, vacantName}
+use borrow.Author.Needs.{needs}
+
+abbrev Inv-loop : tie.InvT-loop
+Inv-loop name kept scope end i₀ i = anyb (λ (x : LentName). meant scope (lentName x) name) (drop i₀ (take end (kept .names))) ≡ anyb (λ (x : LentName). meant scope (lentName x) name) (drop i (take end (kept .names)))
+
+abbrev μ-loop : tie.MeasureT-loop
+μ-loop name kept scope end i₀ i = end - i
+
+run-end-requires : tie.Need-run-end-requires Inv-loop μ-loop
+run-end-requires c κs = search needs
+
+loop-holds : tie.Need-loop-holds Inv-loop μ-loop
+loop-holds c = refl
+
+mul-x : tie.Need-mul-x Inv-loop μ-loop
+mul-x c = search needs
+
+element-copy-out-x : tie.Need-element-copy-out-x Inv-loop μ-loop
+element-copy-out-x c = search needs
+
+is-meant-requires : tie.Need-is-meant-requires Inv-loop μ-loop
+is-meant-requires c κs = search needs
+
+returns : tie.Need-returns Inv-loop μ-loop
+returns c = let long : length (c .before .before .before .before .before .before .before .args .t1 .names) ≡ 16 = search (needs, mapped-length) in
+    sym (any-here (λ (x : LentName). meant (c .before .before .before .before .before .before .before .args .one .scope) (lentName x) (c .before .before .before .before .before .before .before .args .name .now)) (c .before .before .before .before .before .before .before .args .t1 .names) (c .before .before .before .before .before .run-end .result) (c .before .before .before .before .loop .i) (omega arith) vacantName (omega arith) (sym (c .before .is-meant .ensures) ∙ c .if1 .taken))
+    ∙ (sym (c .before .before .before .before .loop .inv) ∙ named-run (c .before .before .before .before .before .before .before .args .t1 .names) (c .before .before .before .before .before .before .before .args .name .now) (c .before .before .before .before .before .before .before .args .one) (c .before .before .before .before .before .run-end .result) (c .before .before .before .before .before .run-end .ensures .1 (c .before .before .before .before .before .before .before .args .t1 .names) long))
+
+add-i : tie.Need-add-i Inv-loop μ-loop
+add-i c = search needs
+
+loop-less : tie.Need-loop-less Inv-loop μ-loop
+loop-less c = search needs
+
+loop-again : tie.Need-loop-again Inv-loop μ-loop
+loop-again c = let long : length (c .before .before .before .before .before .before .before .args .t1 .names) ≡ 16 = search (needs, mapped-length) in
+    c .before .before .before .before .loop .inv ∙ any-next (λ (x : LentName). meant (c .before .before .before .before .before .before .before .args .one .scope) (lentName x) (c .before .before .before .before .before .before .before .args .name .now)) (c .before .before .before .before .before .before .before .args .t1 .names) (c .before .before .before .before .before .run-end .result) (c .before .before .before .before .loop .i) (omega arith) vacantName (omega arith) (sym (c .before .is-meant .ensures) ∙ c .if1 .left)
+
+returns-2 : tie.Need-returns-2 Inv-loop μ-loop
+returns-2 c = let long : length (c .before .before .before .before .args .t1 .names) ≡ 16 = search (needs, mapped-length) in
+    sym (any-past (λ (x : LentName). meant (c .before .before .before .before .args .one .scope) (lentName x) (c .before .before .before .before .args .name .now)) (c .before .before .before .before .args .t1 .names) (c .before .before .run-end .result) (c .before .loop .i) (omega arith) (omega arith))
+    ∙ (sym (c .before .loop .inv) ∙ named-run (c .before .before .before .before .args .t1 .names) (c .before .before .before .before .args .name .now) (c .before .before .before .before .args .one) (c .before .before .run-end .result) (c .before .before .run-end .ensures .1 (c .before .before .before .before .args .t1 .names) long))
+
+pub is-named-spec : {M : Type 1} → statement M
+is-named-spec =
+    tie.close
+    (tie.spec
+    Inv-loop
+    μ-loop
+    run-end-requires
+    loop-holds
+    mul-x
+    element-copy-out-x
+    is-meant-requires
+    returns
+    add-i
+    loop-less
+    loop-again
+    returns-2)

@@ -1,0 +1,27 @@
+-- `is_searched`: without the right to read nothing is searched; else one of the sources must admit the mailbox. Assumes nothing.
+use borrow.Author.Needs.{needs}
+use Rattle.match_sources.proofs.is_searched.Statement.{statement}
+use Rattle.match_sources.proofs.is_searched.Tie as tie
+use mathlib.Core.Path.{sym, _∙_}
+use borrow.Author.Tests.{not-true, not-false}
+use Rattle.match_sources.specs.Admitting.{searched-not, searched-by}
+
+has-requires : tie.Need-has-requires
+has-requires c κs = search needs
+
+returns : tie.Need-returns
+returns c =
+    searched-not (c .before .before .before .args .listed) (c .before .before .before .args .attributes) (c .before .before .before .args .name .now)
+    (c .before .before .before .args .selected) (sym (c .before .has .ensures) ∙ not-true _ (c .if1 .taken))
+
+any-admits-requires : tie.Need-any-admits-requires
+any-admits-requires c κs = search needs
+
+returns-2 : tie.Need-returns-2
+returns-2 c =
+    c .any-admits .ensures
+    ∙ searched-by (c .before .before .before .before .args .listed) (c .before .before .before .before .args .attributes) (c .before .before .before .before .args .name .now)
+    (c .before .before .before .before .args .selected) (sym (c .before .before .has .ensures) ∙ not-false _ (c .before .if1 .left))
+
+pub is-searched-spec : {M : Type 1} → statement M
+is-searched-spec = tie.close (tie.spec has-requires returns any-admits-requires returns-2)

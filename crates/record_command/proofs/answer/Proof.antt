@@ -1,0 +1,64 @@
+-- `answer`: by the verb, if the line has one. Assumes nothing.
+use borrow.Author.Needs.{needs}
+use mathlib.Core.Path.{refl, ap}
+use mathlib.Core.Bool.{not}
+use native.Mathlib.Omega.{arith}
+use lib.Dec.{eqb}
+use Rattle.model.specs.Limits.{limits}
+use Rattle.model.specs.declared.Reply.the-variants.{Bad}
+use Rattle.read_options.specs.declared.Verb.the-variants.{Other}
+use Rattle.event_mailbox.specs.Free.{sizes}
+use Rattle.read_commands.specs.Judging.{answerOf, judgedOf}
+use Rattle.record_command.specs.Verbs.{verb-judged, reply-judged}
+use Rattle.record_command.proofs.answer.Statement.{statement}
+use Rattle.record_command.proofs.answer.Tie as tie
+
+head-requires : tie.Need-head-requires
+head-requires c κs = search needs
+
+enum-known-verb : tie.Need-enum-known-verb
+enum-known-verb c = search needs
+
+answer-by-requires : tie.Need-answer-by-requires
+answer-by-requires c κs = search needs
+
+enum-told : tie.Need-enum-told
+enum-told c = search needs
+
+refuse-requires : tie.Need-refuse-requires
+refuse-requires c κs = let z = sizes _ _ (c .before .before .before .before .before .before .before .args .s) (c .before .before .before .before .before .before .before .pre .0 .room) in (omega arith, omega arith)
+
+same-length : tie.Need-same-length
+same-length c = search needs
+
+same-length-2 : tie.Need-same-length-2
+same-length-2 c = search needs
+
+returns : tie.Need-returns
+returns c =
+    λ m lent law laid sel. c .before .before .before .before .answer-by .ensures m lent law laid sel (rw (c .before .before .before .before .before .before .before .before .verb .given .1) at (c .before .before .before .before .before .before .before .before .before .before .head .ensures))
+
+same-length-3 : tie.Need-same-length-3
+same-length-3 c = search needs
+
+returns-2 : tie.Need-returns-2
+returns-2 c =
+    let a = c .before .before .before .before .before .before .before .before .before .before .args in
+    λ m lent law laid sel.
+    let e = ap (judgedOf limits (not (eqb (a .s .selected) 0))) (rw (c .before .before .before .before .enum-told .given .1) at (c .before .before .before .before .before .before .head .ensures)) in
+    c .before .before .refuse .ensures m (a .words .now) lent (verb-judged m (a .words .now) (a .counts) (a .s) (a .queue .now) (a .text .now) lent (answerOf Other Bad) e) (reply-judged m (a .words .now) (a .counts) (a .s) (a .queue .now) (a .text .now) lent (answerOf Other Bad) e refl) refl
+
+pub answer-spec : {M : Type 1} → statement M
+answer-spec =
+    tie.close
+    (tie.spec
+    head-requires
+    enum-known-verb
+    answer-by-requires
+    enum-told
+    refuse-requires
+    same-length
+    same-length-2
+    returns
+    same-length-3
+    returns-2)

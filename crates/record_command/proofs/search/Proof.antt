@@ -1,0 +1,72 @@
+-- `search`: by the reply. Assumes nothing.
+use borrow.Author.Needs.{needs}
+use mathlib.Core.Path.{_≡_, ap, sym, _∙_}
+use mathlib.Core.Bool.{not}
+use native.Mathlib.Omega.{arith}
+use lib.Dec.{eqb}
+use borrow.Author.Tests.{not-true, not-false}
+use Rattle.model.specs.Requests.{esearch}
+use Rattle.model.specs.Commands.{commandOf}
+use Rattle.model.specs.Limits.{limits}
+use Rattle.model.specs.declared.Limits.{Limits}
+use Rattle.event_mailbox.specs.Free.{sizes}
+use Rattle.read_commands.specs.Judging.{judgedOf, wholeBy}
+use Rattle.record_command.specs.Verbs.{verb-judged, reply-judged, accepted-judged, search-are}
+use Rattle.record_command.proofs.search.Statement.{statement}
+use Rattle.record_command.proofs.search.Tie as tie
+
+limits-requires : tie.Need-limits-requires
+limits-requires c κs = search needs
+
+slice-aggregate-judge-search : tie.Need-slice-aggregate-judge-search
+slice-aggregate-judge-search c = search needs
+
+judge-search-requires : tie.Need-judge-search-requires
+judge-search-requires c κs = search needs
+
+is-accepted-requires : tie.Need-is-accepted-requires
+is-accepted-requires c κs = search needs
+
+refuse-requires : tie.Need-refuse-requires
+refuse-requires c κs = let z = sizes _ _ (c .before .before .before .before .before .before .before .before .before .before .before .args .s) (c .before .before .before .before .before .before .before .before .before .before .before .pre .0 .room) in (omega arith, omega arith)
+
+same-length : tie.Need-same-length
+same-length c = search needs
+
+returns : tie.Need-returns
+returns c =
+    let a = c .before .before .before .before .before .before .before .before .before .before .before .before .before .before .args in
+    let e : wholeBy esearch (a .text .now) (a .at) ≡ commandOf (a .text .now) → c .before .before .before .before .before .before .before .judge-search .result ≡ judgedOf limits (not (eqb (a .s .selected) 0)) (commandOf (a .text .now)) = λ h.
+    c .before .before .before .before .before .before .before .judge-search .ensures .exact ∙ (ap (λ (l : Limits). judgedOf l (not (eqb (a .s .selected) 0)) (wholeBy esearch (a .text .now) (a .at))) (c .before .before .before .before .before .before .before .before .before .limits .ensures) ∙ ap (judgedOf limits (not (eqb (a .s .selected) 0))) h) in
+    let no = sym (c .before .before .before .before .before .is-accepted .ensures) ∙ not-true _ (c .before .before .before .before .if1 .taken) in
+    λ m nexts counters lent law laid head. c .before .before .refuse .ensures m (a .words .now) lent (verb-judged m (a .words .now) (a .counts) (a .s) (a .queue .now) (a .text .now) lent (c .before .before .before .before .before .before .before .judge-search .result) (e head)) (reply-judged m (a .words .now) (a .counts) (a .s) (a .queue .now) (a .text .now) lent (c .before .before .before .before .before .before .before .judge-search .result) (e head) no) no
+
+answer-requires : tie.Need-answer-requires
+answer-requires c κs = search needs
+
+same-length-2 : tie.Need-same-length-2
+same-length-2 c = search needs
+
+returns-2 : tie.Need-returns-2
+returns-2 c =
+    let a = c .before .before .before .before .before .before .before .before .before .before .before .before .before .before .args in
+    let e : wholeBy esearch (a .text .now) (a .at) ≡ commandOf (a .text .now) → c .before .before .before .before .before .before .before .judge-search .result ≡ judgedOf limits (not (eqb (a .s .selected) 0)) (commandOf (a .text .now)) = λ h.
+    c .before .before .before .before .before .before .before .judge-search .ensures .exact ∙ (ap (λ (l : Limits). judgedOf l (not (eqb (a .s .selected) 0)) (wholeBy esearch (a .text .now) (a .at))) (c .before .before .before .before .before .before .before .before .before .limits .ensures) ∙ ap (judgedOf limits (not (eqb (a .s .selected) 0))) h) in
+    let yes = sym (c .before .before .before .before .before .is-accepted .ensures) ∙ not-false _ (c .before .before .before .before .if1 .left) in
+    λ m nexts counters lent law laid head. let first = accepted-judged m (a .words .now) (a .counts) (a .s) (a .queue .now) (a .text .now) lent (c .before .before .before .before .before .before .before .judge-search .result) (e head) yes in
+    search-are m (a .text .now) (a .at) head first _ (λ p q is. c .before .before .answer .ensures m nexts counters p q lent law laid is first)
+
+pub search-spec : {M : Type 1} → statement M
+search-spec =
+    tie.close
+    (tie.spec
+    limits-requires
+    slice-aggregate-judge-search
+    judge-search-requires
+    is-accepted-requires
+    refuse-requires
+    same-length
+    returns
+    answer-requires
+    same-length-2
+    returns-2)

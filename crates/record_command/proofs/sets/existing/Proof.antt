@@ -1,0 +1,22 @@
+-- `existing`: counted, or nothing is said of it. Assumes nothing.
+use borrow.Author.Needs.{needs}
+use Rattle.model.specs.Laws.{tf}
+use Rattle.record_command.proofs.sets.existing.Statement.{statement}
+use Rattle.record_command.proofs.sets.existing.Tie as tie
+
+count-requires : tie.Need-count-requires
+count-requires c κs = search needs
+
+returns : tie.Need-returns
+returns c = λ e. c .count .ensures
+
+returns-2 : tie.Need-returns-2
+returns-2 c = λ e. tf (c .before .before .args .status) e (c .if1 .left)
+
+pub existing-spec : {M : Type 1} → statement M
+existing-spec =
+    tie.close
+    (tie.spec
+    count-requires
+    returns
+    returns-2)

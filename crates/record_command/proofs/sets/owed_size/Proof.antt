@@ -1,0 +1,59 @@
+-- `owed_size`: measured at 0, with the limit 0. Assumes nothing.
+use borrow.Author.Needs.{needs}
+use Rattle.record_command.proofs.sets.owed_size.Statement.{statement}
+use Rattle.record_command.proofs.sets.owed_size.Tie as tie
+use mathlib.Core.Path.{sym, refl, _∙_}
+use native.Mathlib.Omega.{arith}
+use borrow.Author.Tests.{not-true, not-false}
+use Rattle.table_messages.specs.Words.{messages}
+use Rattle.order_messages.specs.Counts.{order-short}
+use Rattle.record_command.specs.Owing.{owed-none, owed-measured}
+
+returns : tie.Need-returns
+returns c =
+    let a = c .before .before .before .args in
+    (λ m lent law e. owed-none m (a .words .now) (a .counts) (a .s) (a .queue .now) lent law (sym e ∙ not-true _ (c .if1 .taken)), omega arith, refl)
+
+cast-id : tie.Need-cast-id
+cast-id c = search needs
+
+cast-told : tie.Need-cast-told
+cast-told c = search needs
+
+slice-aggregate-by-uid : tie.Need-slice-aggregate-by-uid
+slice-aggregate-by-uid c = search needs
+
+by-uid-requires : tie.Need-by-uid-requires
+by-uid-requires c κs = search needs
+
+slice-aggregate-put-owed : tie.Need-slice-aggregate-put-owed
+slice-aggregate-put-owed c = search needs
+
+put-owed-requires : tie.Need-put-owed-requires
+put-owed-requires c κs =
+    let a = c .before .before .before .before .before .before .before .before .before .before .args in
+    let n = order-short (messages (a .words .now)) _ (c .before .before .before .by-uid .result) (a .counts .messages) (a .s .selected) (c .before .before .before .by-uid .ensures) in
+    (omega arith, omega arith, omega arith, omega arith)
+
+same-length : tie.Need-same-length
+same-length c = search needs
+
+returns-2 : tie.Need-returns-2
+returns-2 c =
+    let a = c .before .before .before .before .before .before .before .before .before .before .before .before .before .args in
+    let p = c .before .before .put-owed .ensures in
+    (λ m lent law e. owed-measured m (a .words .now) (a .counts) (a .s) (a .queue .now) lent law (sym e ∙ not-false _ (c .before .before .before .before .before .before .before .before .before .before .if1 .left)) (c .before .before .before .before .before .before .by-uid .ensures) (p .0), (let w = p .1 in omega arith), p .0 .kept (omega arith))
+
+pub owed-size-spec : {M : Type 1} → statement M
+owed-size-spec =
+    tie.close
+    (tie.spec
+    returns
+    cast-id
+    cast-told
+    slice-aggregate-by-uid
+    by-uid-requires
+    slice-aggregate-put-owed
+    put-owed-requires
+    same-length
+    returns-2)

@@ -1,0 +1,77 @@
+-- `set`: notes beside the rows and their order, then by the size. Assumes nothing.
+use borrow.Author.Needs.{needs}
+use mathlib.Core.Path.{ap, _∙_}
+use native.Mathlib.Omega.{arith}
+use Rattle.model.specs.Memory.{bothRights}
+use Rattle.model.specs.declared.Mailbox.{Mailbox}
+use Rattle.event_mailbox.specs.Free.{sizes}
+use Rattle.record_command.specs.Listed.{noted-rows}
+use Rattle.record_command.specs.Setting.{noted-set}
+use Rattle.record_command.proofs.sets.set.Statement.{statement}
+use Rattle.record_command.proofs.sets.set.Tie as tie
+
+slice-aggregate-note-rows : tie.Need-slice-aggregate-note-rows
+slice-aggregate-note-rows c = search needs
+
+slice-aggregate-note-rows-2 : tie.Need-slice-aggregate-note-rows-2
+slice-aggregate-note-rows-2 c = search needs
+
+note-rows-requires : tie.Need-note-rows-requires
+note-rows-requires c κs = search needs
+
+slice-aggregate-by-name : tie.Need-slice-aggregate-by-name
+slice-aggregate-by-name c = search needs
+
+slice-aggregate-by-name-2 : tie.Need-slice-aggregate-by-name-2
+slice-aggregate-by-name-2 c = search needs
+
+by-name-requires : tie.Need-by-name-requires
+by-name-requires c κs = search needs
+
+existing-requires : tie.Need-existing-requires
+existing-requires c κs = search needs
+
+both-requires : tie.Need-both-requires
+both-requires c κs = search needs
+
+set-noted-requires : tie.Need-set-noted-requires
+set-noted-requires c κs =
+    let z = sizes _ _ (c .before .before .before .before .before .before .before .before .before .before .before .before .before .before .before .before .before .before .before .before .args .s) (c .before .before .before .before .before .before .before .before .before .before .before .before .before .before .before .before .before .before .before .before .pre .room) in
+    let u = c .before .before .before .before .before .before .before .before .before .before .before .before .before .before .before .before .before .before .before .before .pre .rows in
+    let v = c .before .before .before .before .before .before .before .before .before .before .before .before .before .before .before .before .before .before .before .before .pre .messages in
+    let w = c .before .before .before .before .before .before .before .before .before .before .before .before .before .before .before .before .before .before .before .before .pre .words in
+    let x = c .before .before .before .before .before .before .before .before .before .by-name .ensures .1 in
+    (omega arith, omega arith, omega arith, omega arith, omega arith, omega arith)
+
+same-length : tie.Need-same-length
+same-length c = search needs
+
+same-length-2 : tie.Need-same-length-2
+same-length-2 c = search needs
+
+returns : tie.Need-returns
+returns c =
+    let a = c .before .before .before .before .before .before .before .before .before .before .before .before .before .before .before .before .before .before .before .before .before .before .before .before .before .args in
+    λ m p gs lent law laid sel is first asks.
+    c .before .before .before .before .set-noted .ensures m p (a .status) gs lent law is first asks
+    (noted-set m (a .words .now) (a .counts) (a .s) (a .queue .now) lent (a .status) gs (a .asked) asks
+    (λ same. noted-rows m (a .words .now) (a .counts) (a .s) (a .queue .now) lent law (a .ids .now) (a .attributes .now) (a .lens .now) (a .validities .now) (a .nexts .now) (a .counters .now) (a .names .now) laid (a .asked) same (a .status) _ _ _ _ (c .before .before .before .before .before .before .before .before .before .before .before .before .before .before .by-name .result) (c .before .before .before .before .before .before .before .before .before .before .before .before .before .before .before .before .before .before .before .before .before .before .before .before .before .pre .rows)
+    (c .before .before .before .before .before .before .before .before .before .before .before .before .before .before .before .before .before .before .before .note-rows .ensures) (c .before .before .before .before .before .before .before .before .before .before .before .before .before .before .by-name .ensures .0) (c .before .before .before .before .before .before .before .before .before .before .before .existing .ensures)))
+    (c .before .before .before .before .before .before .before .before .before .before .both .ensures ∙ ap bothRights sel) (ap (λ (x : Mailbox). x .uidnext) sel)
+
+pub set-spec : {M : Type 1} → statement M
+set-spec =
+    tie.close
+    (tie.spec
+    slice-aggregate-note-rows
+    slice-aggregate-note-rows-2
+    note-rows-requires
+    slice-aggregate-by-name
+    slice-aggregate-by-name-2
+    by-name-requires
+    existing-requires
+    both-requires
+    set-noted-requires
+    same-length
+    same-length-2
+    returns)

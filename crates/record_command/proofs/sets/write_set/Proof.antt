@@ -1,0 +1,63 @@
+-- `write_set`: the end of a command of class 1, and what follows it. Assumes nothing.
+use borrow.Author.Needs.{needs}
+use mathlib.Core.Path.{ap, _∙_}
+use native.Mathlib.Omega.{arith}
+use lib.ListN.{length}
+use Rattle.model.specs.Listing.{watching}
+use Rattle.model.specs.declared.Counts.{Counts}
+use Rattle.model.specs.declared.Answer.the-variants.{Done}
+use Rattle.record_outcome.specs.Coming.{quiet}
+use Rattle.record_command.specs.Setting.{set-comes, asked-view}
+use Rattle.record_command.proofs.sets.write_set.Statement.{statement}
+use Rattle.record_command.proofs.sets.write_set.Tie as tie
+
+sub-limit : tie.Need-sub-limit
+sub-limit c = search needs
+
+slice-aggregate-end-command : tie.Need-slice-aggregate-end-command
+slice-aggregate-end-command c = search needs
+
+end-command-requires : tie.Need-end-command-requires
+end-command-requires c κs = search needs
+
+put-work-requires : tie.Need-put-work-requires
+put-work-requires c κs = search needs
+
+with-counts-requires : tie.Need-with-counts-requires
+with-counts-requires c κs = search needs
+
+viewed-requires : tie.Need-viewed-requires
+viewed-requires c κs = search needs
+
+unmoved-requires : tie.Need-unmoved-requires
+unmoved-requires c κs = search needs
+
+same-length : tie.Need-same-length
+same-length c = c .before .before .before .before .before .before .before .before .before .before .before .before .words .given
+
+same-length-2 : tie.Need-same-length-2
+same-length-2 c = search needs
+
+returns : tie.Need-returns
+returns c =
+    let a = c .before .before .before .before .before .before .before .before .before .before .before .before .before .before .before .before .before .before .before .before .args in
+    λ m p wanted gs lent law is first asks noted right uid begins fits. set-comes m (a .text .now) p wanted gs is first law
+    (let x = ap length (lent .queue) in let y = ap (λ (k : Counts). k .filled) (lent .counts) in omega arith)
+    (a .words .now) (a .counts) (a .s) (a .queue .now) lent (a .rights) (a .next) _ right uid (c .before .before .before .before .before .before .before .before .before .before .before .before .before .end-command .result) (c .before .before .before .before .before .before .before .before .before .before .before .before .before .end-command .ensures) begins
+    (c .before .before .before .before .before .before .put-work .ensures .0 m (watching (m .session) gs) wanted noted) (c .before .viewed .result) (c .before .viewed .ensures ∙ asked-view (a .s) (a .asked) (c .before .before .before .before .before .before .before .before .before .before .before .before .before .end-command .result .session) gs asks) _
+    (c .unmoved .ensures ∙ ap (λ (k : Counts). quiet Done k (c .before .viewed .result)) (c .before .before .with-counts .ensures))
+
+pub write-set-spec : {M : Type 1} → statement M
+write-set-spec =
+    tie.close
+    (tie.spec
+    sub-limit
+    slice-aggregate-end-command
+    end-command-requires
+    put-work-requires
+    with-counts-requires
+    viewed-requires
+    unmoved-requires
+    same-length
+    same-length-2
+    returns)

@@ -1,0 +1,86 @@
+// `DL`: a mailbox is taken out, and its messages with it.
+use model::Answer;
+use model::Counts;
+use model::Mailbox;
+use model::Refusal;
+use model::Session;
+use record_outcome::Change;
+use record_outcome::Outcome;
+use table_messages::Sweep;
+ghost use mathlib.Core.Path.{_≡_};
+ghost use mathlib.Core.Bool.{not, _&&_};
+ghost use Prim.Native.Nat.{_*_, _≤_};
+ghost use lib.Dec.{eqb};
+ghost use lib.ListN.{length};
+ghost use Rattle.model.specs.Memory.{Memory};
+ghost use Rattle.model.specs.Records.{delete};
+ghost use Rattle.demands.specs.Lasting.Law.{Law};
+ghost use Rattle.event_mailbox.specs.Free.{Room};
+ghost use Rattle.record_outcome.specs.Coming.{Lends, Ready, Placed, Comes, ladder};
+ghost use Rattle.record_mailbox.specs.Deleting.{TakenOut};
+
+// Whether mailbox `id` is the selected one.
+fn is_selected(s: Session, id: u64) -> bool
+    ensures { λ r. ⌜ r ≡ (not (eqb id 0) && eqb id (s .selected)) ⌝ }
+{
+    if id == 0 {
+        return false;
+    }
+    id == s.selected as u64
+}
+
+// Row x at place k is taken out, with the messages of mailbox `id`.
+fn take_out(
+    words: &mut [u64],
+    queue: &mut [u8],
+    counts: Counts,
+    s: Session,
+    k: usize,
+    x: Mailbox,
+    id: u64,
+    quiet: u64,
+) -> Outcome
+    requires { ⌜ Room (length (now queue)) (counts .filled) s × (1 ≤ counts .mailboxes) × (counts .messages * 6 ≤ length (now words)) × (quiet ≤ 1) ⌝ }
+    ensures { λ r. ⌜ TakenOut (now (words .entry)) (now (queue .entry)) counts s k x id quiet (now (words .exit)) (now (queue .exit)) r ⌝ }
+{
+    let filled = counts.filled as usize;
+    let kept = event_mailbox::deleting::delete(queue, s, filled, x, quiet as u8);
+    let used = table_messages::settle(words, counts.messages as usize, Sweep::Deleted(id));
+    let session = kept.session;
+    let left = counts.mailboxes - 1;
+    Outcome {
+        answer: Answer::Done,
+        change: Change::Taken,
+        at: k,
+        row: x,
+        counts: Counts {
+            mailboxes: left,
+            messages: used as u64,
+            filled: kept.filled,
+        },
+        session,
+    }
+}
+
+// Mailbox `id`, which is row x at place k and not selected, is no more.
+pub fn delete(
+    words: &mut [u64],
+    queue: &mut [u8],
+    counts: Counts,
+    s: Session,
+    k: usize,
+    x: Mailbox,
+    id: u64,
+    quiet: u64,
+) -> Outcome
+    requires { ⌜ Ready (now words) counts s (now queue) × (quiet ≤ 1) ⌝ }
+    ensures { λ r. ⌜ ((m : Memory) → Lends m (now (words .entry)) counts s (now (queue .entry)) → Law m → Placed m id k x → Comes m (ladder m (delete id quiet)) r (now (words .entry)) (now (words .exit)) (now (queue .exit))) ⌝ }
+{
+    if counts.mailboxes <= k as u64 {
+        return record_outcome::refused(Refusal::WrongId, counts, s);
+    }
+    if is_selected(s, id) {
+        return record_outcome::refused(Refusal::WrongState, counts, s);
+    }
+    take_out(words, queue, counts, s, k, x, id, quiet)
+}

@@ -1,0 +1,93 @@
+-- `record_read::fields_at` meets its contract: what all fields say is what the fields passed say, and the rest. Assumes nothing.
+use Rattle.record_read.proofs.bodies.fields_at.Statement.{statement}
+use Rattle.record_read.proofs.bodies.fields_at.Tie as tie
+use borrow.Author.Needs.{needs}
+use native.Mathlib.Omega.{arith}
+use Prim.Native.Nat.{_-_, _≤_}
+use mathlib.Core.Path.{_≡_}
+use lib.ListN.{length, take}
+use Rattle.record_read.specs.Layouts.{fieldFor}
+use Rattle.record_read.proofs.Turns.{Passed, passed-none, row-more, row-read}
+
+abbrev Inv-loop : tie.InvT-loop
+Inv-loop o count letters all₀ values₀ end₀ i₀ all values end i = Passed o (take count letters) all values end i × (i ≤ count)
+
+abbrev μ-loop : tie.MeasureT-loop
+μ-loop o count letters all₀ values₀ end₀ i₀ all values end i = count - i
+
+loop-holds : tie.Need-loop-holds Inv-loop μ-loop
+loop-holds c = (passed-none (c .before .args .o .now) (take (c .before .args .count) (c .before .args .t2)), omega arith)
+
+array-read-field-of : tie.Need-array-read-field-of Inv-loop μ-loop
+array-read-field-of c = search needs
+
+field-of-requires : tie.Need-field-of-requires Inv-loop μ-loop
+field-of-requires c κs = search needs
+
+width-of-requires : tie.Need-width-of-requires Inv-loop μ-loop
+width-of-requires c κs = search needs
+
+number-at-requires : tie.Need-number-at-requires Inv-loop μ-loop
+number-at-requires c κs = (omega arith, c .width-of .ensures .2)
+
+in-range-requires : tie.Need-in-range-requires Inv-loop μ-loop
+in-range-requires c κs = search needs
+
+both-requires : tie.Need-both-requires Inv-loop μ-loop
+both-requires c κs = search needs
+
+mul-values : tie.Need-mul-values Inv-loop μ-loop
+mul-values c = search needs
+
+array-write-values : tie.Need-array-write-values Inv-loop μ-loop
+array-write-values c = search needs
+
+add-end : tie.Need-add-end Inv-loop μ-loop
+add-end c = search needs
+
+add-i : tie.Need-add-i Inv-loop μ-loop
+add-i c = search needs
+
+loop-less : tie.Need-loop-less Inv-loop μ-loop
+loop-less c = search needs
+
+loop-again : tie.Need-loop-again Inv-loop μ-loop
+loop-again c =
+    let start = c .before .before .before .before .before .before .before .before in
+    let args = start .args in
+    let l = c .before .before .before .before .before .before .loop in
+    let field = c .before .before .before .before .field-of in
+    let wide = c .before .before .before .width-of .ensures in
+    let five : length (args .t2) ≡ 5 = omega arith in (
+      row-more (args .o .now) (args .t2) (args .count) five (start .pre) (l .inv .0) (omega arith) (fieldFor (field .result)) (field .ensures)
+          (wide .0) (wide .1) (c .before .before .number-at .ensures) (c .before .in-range .ensures) (c .both .ensures),
+      omega arith,
+    )
+
+returns : tie.Need-returns Inv-loop μ-loop
+returns c =
+    let args = c .before .before .before .args in
+    let l = c .before .loop in
+    let five : length (args .t2) ≡ 5 = omega arith in
+    row-read (args .o .now) (args .t2) (args .count) five (c .before .before .before .pre) (l .inv .0) (l .inv .1) (omega arith)
+
+pub fields-at-spec : {M : Type 1} → statement M
+fields-at-spec =
+    tie.close
+    (tie.spec
+    Inv-loop
+    μ-loop
+    loop-holds
+    array-read-field-of
+    field-of-requires
+    width-of-requires
+    number-at-requires
+    in-range-requires
+    both-requires
+    mul-values
+    array-write-values
+    add-end
+    add-i
+    loop-less
+    loop-again
+    returns)

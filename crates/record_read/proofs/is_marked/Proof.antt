@@ -1,0 +1,28 @@
+-- `record_read::is_marked` meets its contract: the length, then each octet. Assumes nothing.
+use borrow.Author.Needs.{needs}
+use Rattle.record_read.proofs.is_marked.Statement.{statement}
+use Rattle.record_read.proofs.is_marked.Tie as tie
+use Rattle.record_read.proofs.Marks.{mark-short, mark-other, mark-second}
+
+returns : tie.Need-returns
+returns c = mark-short (c .before .args .a) (c .before .args .b) (c .before .args .o .now) (c .if1 .taken)
+
+shared-slice-read-if2 : tie.Need-shared-slice-read-if2
+shared-slice-read-if2 c = search needs
+
+returns-2 : tie.Need-returns-2
+returns-2 c =
+    let args = c .before .before .before .args in
+    mark-other (args .a) (args .b) (args .o .now) (c .before .before .if1 .left) (c .if2 .taken)
+
+shared-slice-read-result : tie.Need-shared-slice-read-result
+shared-slice-read-result c = search needs
+
+returns-3 : tie.Need-returns-3
+returns-3 c =
+    let args = c .before .before .before .before .args in
+    mark-second (args .a) (args .b) (args .o .now) (c .before .before .before .if1 .left) (c .before .if2 .left)
+
+pub is-marked-spec : {M : Type 1} → statement M
+is-marked-spec =
+    tie.close (tie.spec returns shared-slice-read-if2 returns-2 shared-slice-read-result returns-3)

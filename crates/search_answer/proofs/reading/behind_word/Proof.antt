@@ -1,0 +1,38 @@
+-- `behind_word`: the verb behind the tag, where the line is a search. Assumes nothing.
+use borrow.Author.Needs.{needs}
+use Rattle.search_answer.proofs.reading.behind_word.Statement.{statement}
+use Rattle.search_answer.proofs.reading.behind_word.Tie as tie
+use Rattle.search_answer.specs.Headed.{behind-found, behind-none}
+
+tag-end-requires : tie.Need-tag-end-requires
+tag-end-requires c κs = search needs
+
+add-verb-at : tie.Need-add-verb-at
+add-verb-at c = search needs
+
+verb-at-requires : tie.Need-verb-at-requires
+verb-at-requires c κs = search needs
+
+enum-known-at : tie.Need-enum-known-at
+enum-known-at c = search needs
+
+enum-told : tie.Need-enum-told
+enum-told c = search needs
+
+returns : tie.Need-returns
+returns c = behind-found (c .before .before .before .before .before .before .args .text .now) (c .before .before .before .before .tag-end .result) (c .before .before .before .before .tag-end .ensures .exact) (c .before .before .before .verb-at .ensures) (c .before .at .given .1)
+
+returns-2 : tie.Need-returns-2
+returns-2 c = behind-none (c .before .before .before .before .before .args .text .now) (c .before .before .before .tag-end .result) (c .before .before .before .tag-end .ensures .exact) (c .before .before .verb-at .ensures) (c .enum-told .given .1)
+
+pub behind-word-spec : {M : Type 1} → statement M
+behind-word-spec =
+    tie.close
+    (tie.spec
+    tag-end-requires
+    add-verb-at
+    verb-at-requires
+    enum-known-at
+    enum-told
+    returns
+    returns-2)

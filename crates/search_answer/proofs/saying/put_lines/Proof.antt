@@ -1,0 +1,42 @@
+-- `put_lines`: the lines of the rows, with the line's tag. Assumes nothing.
+use borrow.Author.Needs.{needs}
+use Rattle.search_answer.proofs.saying.put_lines.Statement.{statement}
+use Rattle.search_answer.proofs.saying.put_lines.Tie as tie
+use mathlib.Core.Path.{ap, sym}
+use mathlib.Core.List.{List}
+use Prim.Native.Nat.{ℕ, _≤_}
+use native.Mathlib.Omega.{arith}
+use lib.ListN.{length, take}
+use lib.Seq.{length-take-le}
+use Rattle.line_put.specs.Put.{put-as}
+use Rattle.line_found.specs.Telling.{texts}
+
+tag-length-requires : tie.Need-tag-length-requires
+tag-length-requires c κs = search needs
+
+slice-aggregate-put-rows : tie.Need-slice-aggregate-put-rows
+slice-aggregate-put-rows c = sym (length-take-le _ _ (c .before .before .before .tag-length .ensures .within))
+
+put-rows-requires : tie.Need-put-rows-requires
+put-rows-requires c κs =
+    let t = c .before .before .before .tag-length .ensures in
+    let s = t .short in
+    let l = length-take-le (c .before .before .before .tag-length .result) (c .before .before .before .before .before .before .before .before .before .before .args .text .now) (t .within) in
+    let w : length (take (c .before .before .before .tag-length .result) (c .before .before .before .before .before .before .before .before .before .before .args .text .now)) ≤ 32 = omega arith in
+    let r = c .before .before .before .before .before .before .before .before .before .before .pre .1 in
+    ((c .before .before .before .before .before .before .before .before .before .before .pre .0 .0, (c .before .before .before .before .before .before .before .before .before .before .pre .0 .1, w)), ((r .few, r .in-rows), (r .in-starts, r .in-counts)), (r .room, r .bounded))
+
+same-length : tie.Need-same-length
+same-length c = search needs
+
+returns : tie.Need-returns
+returns c =
+    let a = c .before .before .before .before .before .before .before .before .before .before .before .before .before .args in
+    let n = c .before .before .before .before .before .before .before .before .before .before .before .before .before .pre .1 .few in
+    let w = c .before .before .put-rows .ensures .1 in
+    (put-as (c .before .before .put-rows .ensures .0) (ap (λ (t : List ℕ). texts t (a .lens .now) (a .names .now) (a .validities .now) (a .rows .now) (a .hits .wanted) (a .uids .now) (a .starts .now) (a .counts .now) (a .hits .rows)) (c .before .before .before .before .before .before .tag-length .ensures .exact)), omega arith)
+
+pub put-lines-spec : {M : Type 1} → statement M
+put-lines-spec =
+    tie.close
+    (tie.spec tag-length-requires slice-aggregate-put-rows put-rows-requires same-length returns)

@@ -1,0 +1,200 @@
+use Rattle.search_find.proofs.find_runs.Statement.{statement}
+use Rattle.search_find.proofs.find_runs.Tie as tie
+use Rattle.search_find.proofs.find_runs.Reads as reads
+use Rattle.search_find.proofs.find_runs.Lts as lts
+use Rattle.search_find.proofs.search_row.Reads as search-row-reads
+use Rattle.search_find.proofs.within.Reads as within-reads
+use Rattle.order_messages.proofs.links.link.Reads as link-reads
+use mathlib.Core.Path.{_≡_, refl, _∙_}
+use native.Mathlib.Omega.{arith}
+use Prim.Native.Nat.{_≤_, _-_}
+use lib.ListN.{length, take, drop}
+use Rattle.table_messages.specs.Words.{messages}
+use Rattle.search_find.specs.Runs.{Finding, finding-start, finding-next, finding-end, row-longer, idAt}
+use borrow.Author.Needs.{needs}
+use borrow.Rule.Slice.PartMut.{mid-len}
+
+abbrev Inv-loop : tie.InvT-loop
+Inv-loop words used selected below ids rows n cells filled order₀ view₀ uids₀ starts₀ counts₀ heads next i₀ total₀ order view uids starts counts i total =
+    (i ≤ n) × ((length order ≡ length order₀) × (length view ≡ length view₀)) × (length uids ≡ length uids₀) × ((length starts ≡ length starts₀) × (length counts ≡ length counts₀)) × Finding (take used (messages words)) ids rows n selected (below .0) cells filled uids starts counts i total
+
+abbrev μ-loop : tie.MeasureT-loop
+μ-loop words used selected below ids rows n cells filled order₀ view₀ uids₀ starts₀ counts₀ heads next i₀ total₀ order view uids starts counts i total =
+    i
+
+slice-aggregate-link : tie.Need-slice-aggregate-link Inv-loop μ-loop
+slice-aggregate-link c = search needs
+
+link-requires : tie.Need-link-requires Inv-loop μ-loop
+link-requires c κs = (c .before .before .before .before .before .before .before .before .before .before .pre .0 .0, c .before .before .before .before .before .before .before .before .before .before .pre .0 .1 .0, refl)
+
+loop-holds : tie.Need-loop-holds Inv-loop μ-loop
+loop-holds c =
+    let a = c .before .before .before .before .before .before .before .before .before .before .before .before .args in
+    (omega arith, (refl, refl), refl, (refl, refl), finding-start (take (a .used) (messages (a .words .now))) (a .ids .now) (a .rows .now) (a .n) (a .selected) (a .below .0) (a .cells .now) (a .filled) _ _ _)
+
+sub-i : tie.Need-sub-i Inv-loop μ-loop
+sub-i c = search needs
+
+mul-id : tie.Need-mul-id Inv-loop μ-loop
+mul-id c = search needs
+
+shared-slice-read-id : tie.Need-shared-slice-read-id Inv-loop μ-loop
+shared-slice-read-id c = search needs
+
+mul-id-2 : tie.Need-mul-id-2 Inv-loop μ-loop
+mul-id-2 c = search needs
+
+element-copy-out-id : tie.Need-element-copy-out-id Inv-loop μ-loop
+element-copy-out-id c = search needs
+
+within-requires : tie.Need-within-requires Inv-loop μ-loop
+within-requires c κs = search needs
+
+slice-aggregate-search-row : tie.Need-slice-aggregate-search-row Inv-loop μ-loop
+slice-aggregate-search-row c = search needs
+
+mul-search-row : tie.Need-mul-search-row Inv-loop μ-loop
+mul-search-row c = search needs
+
+sub-search-row : tie.Need-sub-search-row Inv-loop μ-loop
+sub-search-row c = search needs
+
+part-search-row-start : tie.Need-part-search-row-start Inv-loop μ-loop
+part-search-row-start c = search needs
+
+part-search-row-end : tie.Need-part-search-row-end Inv-loop μ-loop
+part-search-row-end c = search needs
+
+search-row-requires : tie.Need-search-row-requires Inv-loop μ-loop
+search-row-requires c κs =
+    let a = c .before .before .before .before .before .before .before .before .before .before .before .before .before .before .before .before .before .before .before .before .before .before .args in
+    let q = c .before .before .before .before .before .before .before .before .before .before .before .before .before .before .before .before .before .before .before .before .before .before .pre in
+    let v = c .before .before .before .before .before .before .before .before .before .loop in
+    let f = c .before .before .before .before .before .within .result in
+    let l = v .inv .2 in
+    let lo = v .inv .1 .0 in
+    let lv = v .inv .1 .1 in
+    let o = q .1 .0 in
+    let e = q .1 .1 in
+    let p = q .1 .2 in
+    let u = q .0 .1 .0 in
+    let w = c .before .before .before .before .before .within .ensures .0 in
+    let m = mid-len f (length (v .uids)) (v .uids) (omega arith) in
+    let y : a .used ≤ length (take (length (v .uids) - f) (drop f (v .uids))) = omega arith in
+    ((q .0 .0, (omega arith, omega arith)), (y, q .0 .1 .1), (omega (arith, c .before .before .before .before .before .before .before .before .before .before .next2 .given), c .before .before .before .before .before .before .before .before .before .before .before .link .ensures))
+
+mul-starts : tie.Need-mul-starts Inv-loop μ-loop
+mul-starts c = omega (arith, c .before .before .before .before .before .before .before .before .before .before .before .before .before .before .before .before .before .before .before .before .before .before .before .before .before .before .before .before .before .pre .3, c .before .before .before .before .before .before .before .before .before .before .before .before .before .before .before .before .loop .inv .0)
+
+slice-write-starts : tie.Need-slice-write-starts Inv-loop μ-loop
+slice-write-starts c =
+    let h = c .before .before .before .before .before .before .before .before .before .before .before .before .before .before .before .loop-test .taken in
+    let i = c .before .before .before .before .before .before .before .before .before .before .before .before .before .before .before .before .loop .inv .0 in
+    let l = c .before .before .before .before .before .before .before .before .before .before .before .before .before .before .before .before .loop .inv .3 in
+    let p = c .before .before .before .before .before .before .before .before .before .before .before .before .before .before .before .before .before .before .before .before .before .before .before .before .before .before .before .before .before .pre .2 in
+    omega arith
+
+mul-counts : tie.Need-mul-counts Inv-loop μ-loop
+mul-counts c = omega (arith, c .before .before .before .before .before .before .before .before .before .before .before .before .before .before .before .before .before .before .before .before .before .before .before .before .before .before .before .before .before .pre .3, c .before .before .before .before .before .before .before .before .before .before .before .before .before .before .before .before .loop .inv .0)
+
+slice-write-counts : tie.Need-slice-write-counts Inv-loop μ-loop
+slice-write-counts c =
+    let h = c .before .before .before .before .before .before .before .before .before .before .before .before .before .before .before .loop-test .taken in
+    let i = c .before .before .before .before .before .before .before .before .before .before .before .before .before .before .before .before .loop .inv .0 in
+    let l = c .before .before .before .before .before .before .before .before .before .before .before .before .before .before .before .before .loop .inv .3 in
+    let p = c .before .before .before .before .before .before .before .before .before .before .before .before .before .before .before .before .before .before .before .before .before .before .before .before .before .before .before .before .before .pre .2 in
+    omega arith
+
+add-total : tie.Need-add-total Inv-loop μ-loop
+add-total c =
+    let w = c .before .before .before .before .before .before .before .before .before .before .before .before .within .ensures .0 in
+    let r = c .before .before .before .before .before .before .search-row .ensures .1 in
+    let u = c .before .before .before .before .before .before .before .before .before .before .before .before .before .before .before .before .before .before .before .before .before .before .before .before .before .before .before .before .before .pre .0 .1 .0 in
+    record { fits = omega arith }
+
+loop-less : tie.Need-loop-less Inv-loop μ-loop
+loop-less c = search needs
+
+loop-again : tie.Need-loop-again Inv-loop μ-loop
+loop-again c =
+    let a = c .before .before .before .before .before .before .before .before .before .before .before .before .before .before .before .before .before .before .before .before .before .before .before .before .before .before .before .before .before .args in
+    let q = c .before .before .before .before .before .before .before .before .before .before .before .before .before .before .before .before .before .before .before .before .before .before .before .before .before .before .before .before .before .pre in
+    let v = c .before .before .before .before .before .before .before .before .before .before .before .before .before .before .before .before .loop in
+    let z = c .before .before .before .before .before .before .before .before .before .before .before .before .within in
+    let s = c .before .before .before .before .before .before .search-row in
+    let es = take (a .used) (messages (a .words .now)) in
+    let l = v .inv .2 in
+    let w = z .ensures .0 in
+    let p = q .1 .2 in
+    let u = q .0 .1 .0 in
+    let f = s .ensures .1 in
+    let i = v .inv .0 in
+    let ls = v .inv .3 .0 in
+    let lc = v .inv .3 .1 in
+    let ns = q .2 .1 in
+    let nc = q .2 .2 in
+    let h = c .before .before .before .before .before .before .before .before .before .before .before .before .before .before .before .loop-test .taken in
+    let m = c .before .uids .given .0 ∙ mid-len (z .result) (length (v .uids)) (v .uids) (omega arith) in (
+      search needs,
+      (search needs, search needs),
+      c .before .uids .given .1 ∙ l,
+      (search needs, search needs),
+      finding-next es (a .ids .now) (a .rows .now) (a .n) (a .selected) (a .below .0) (a .cells .now) (a .filled) (v .uids) (v .starts) (v .counts) (v .i) (v .total) (v .inv .4) h i (omega arith) (omega arith) (z .result) w (omega arith) (z .ensures .1) _ (s .result) (omega arith)
+          (row-longer es (idAt (a .ids .now) (a .rows .now) (v .i - 1)) (a .selected) (a .below .0) (a .cells .now) (a .filled) _ (s .result) (s .ensures .0) (omega arith) _),
+    )
+
+same-length : tie.Need-same-length Inv-loop μ-loop
+same-length c = search needs
+
+same-length-2 : tie.Need-same-length-2 Inv-loop μ-loop
+same-length-2 c = search needs
+
+same-length-3 : tie.Need-same-length-3 Inv-loop μ-loop
+same-length-3 c = search needs
+
+same-length-4 : tie.Need-same-length-4 Inv-loop μ-loop
+same-length-4 c = search needs
+
+same-length-5 : tie.Need-same-length-5 Inv-loop μ-loop
+same-length-5 c = search needs
+
+returns : tie.Need-returns Inv-loop μ-loop
+returns c =
+    let a = c .before .before .before .before .before .before .before .before .before .before .before .before .before .before .args in
+    finding-end (take (a .used) (messages (a .words .now))) (a .ids .now) (a .rows .now) (a .n) (a .selected) (a .below .0) (a .cells .now) (a .filled) _ _ _ (c .before .loop .i) (c .before .loop .total) (omega arith) (c .before .loop .inv .4)
+
+pub find-runs-spec : {M : Type 1} → statement M
+find-runs-spec =
+    tie.close
+    (tie.spec
+    Inv-loop
+    μ-loop
+    slice-aggregate-link
+    link-requires
+    loop-holds
+    sub-i
+    mul-id
+    shared-slice-read-id
+    mul-id-2
+    element-copy-out-id
+    within-requires
+    slice-aggregate-search-row
+    mul-search-row
+    sub-search-row
+    part-search-row-start
+    part-search-row-end
+    search-row-requires
+    mul-starts
+    slice-write-starts
+    mul-counts
+    slice-write-counts
+    add-total
+    loop-less
+    loop-again
+    same-length
+    same-length-2
+    same-length-3
+    same-length-4
+    same-length-5
+    returns)

@@ -1,0 +1,28 @@
+use borrow.Author.Needs.{needs}
+use Rattle.search_find.proofs.push_place.Statement.{statement}
+use Rattle.search_find.proofs.push_place.Tie as tie
+use Rattle.search_find.proofs.push_place.Reads as reads
+use Rattle.search_find.proofs.push_place.Lts as lts
+use Rattle.search_find.specs.Laws.{pushed-on, pushed-off}
+
+mul-list : tie.Need-mul-list
+mul-list c = search needs
+
+slice-write-list : tie.Need-slice-write-list
+slice-write-list c = search needs
+
+add-result : tie.Need-add-result
+add-result c = search needs
+
+same-length : tie.Need-same-length
+same-length c = search needs
+
+returns : tie.Need-returns
+returns c = pushed-on (c .before .args .list .now) (c .before .args .r) (c .before .args .x) (c .before .args .on) (c .if1 .taken)
+
+returns-2 : tie.Need-returns-2
+returns-2 c = pushed-off (c .before .args .list .now) (c .before .args .r) (c .before .args .x) (c .before .args .on) (c .if1 .left)
+
+pub push-place-spec : {M : Type 1} → statement M
+push-place-spec =
+    tie.close (tie.spec mul-list slice-write-list add-result same-length returns returns-2)

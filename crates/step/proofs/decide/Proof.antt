@@ -1,0 +1,67 @@
+-- `decide`: a record on memory whose used rows come by columns. Assumes nothing.
+use borrow.Author.Needs.{needs}
+use borrow.Author.Tests.{not-true, not-false}
+use mathlib.Core.Path.{refl, sym, _∙_}
+use Rattle.record_read.specs.Laws.{read-refused}
+use Rattle.step.specs.Served.{law-ready, steps-unlawful, steps-bad, steps-served}
+use Rattle.step.proofs.decide.Statement.{statement}
+use Rattle.step.proofs.decide.Tie as tie
+
+is-lawful-requires : tie.Need-is-lawful-requires
+is-lawful-requires c κs = search needs
+
+refused-requires : tie.Need-refused-requires
+refused-requires c κs = search needs
+
+same-length : tie.Need-same-length
+same-length c = search needs
+
+returns : tie.Need-returns
+returns c =
+    let a = c .before .before .before .before .before .before .before .args in
+    λ rows seen. steps-unlawful rows (a .lent) (a .words .now) (a .counts) (a .s) (a .queue .now) (a .octets .now) _
+    (λ t w. sym (not-true _ (c .before .if1 .taken)) ∙ c .before .before .is-lawful .ensures t rows (a .queue .now) w (seen .stands .laid) refl)
+    (c .refused .ensures)
+
+read-requires : tie.Need-read-requires
+read-requires c κs = search needs
+
+refused-requires-2 : tie.Need-refused-requires-2
+refused-requires-2 c κs = search needs
+
+same-length-2 : tie.Need-same-length-2
+same-length-2 c = search needs
+
+returns-2 : tie.Need-returns-2
+returns-2 c =
+    let a = c .before .before .before .before .before .before .before .before .before .before .args in
+    λ rows seen. steps-bad rows (a .lent) (a .words .now) (a .counts) (a .s) (a .queue .now) (a .octets .now) _
+    (λ t w. sym (not-false _ (c .before .before .before .before .if1 .left)) ∙ c .before .before .before .before .before .is-lawful .ensures t rows (a .queue .now) w (seen .stands .laid) refl)
+    (read-refused (c .before .before .before .read .ensures) (not-true _ (c .before .if2 .taken)))
+    (c .refused2 .ensures)
+
+serve-requires : tie.Need-serve-requires
+serve-requires c κs =
+    let a = c .before .before .before .before .before .before .before .before .before .before .before .args in
+    let p = c .before .before .before .before .before .before .before .before .before .before .before .pre in
+    let l = law-ready (p .0) (a .lent) (a .words .now) (a .counts) (a .s) (a .queue .now) (p .1 .long)
+    (λ t w. sym (c .before .before .before .before .before .before .is-lawful .ensures t (p .0) (a .queue .now) w (p .1 .stands .laid) refl) ∙ not-false _ (c .before .before .before .before .before .if1 .left)) in
+    (l .0, l .1, c .before .before .before .before .read .ensures, not-false _ (c .before .before .if2 .left))
+
+same-length-3 : tie.Need-same-length-3
+same-length-3 c = search needs
+
+same-length-4 : tie.Need-same-length-4
+same-length-4 c = search needs
+
+returns-3 : tie.Need-returns-3
+returns-3 c =
+    let a = c .before .before .before .before .before .before .before .before .before .before .before .before .before .before .before .before .args in
+    λ rows seen. steps-served rows (a .lent) (a .words .now) (a .counts) (a .s) (a .queue .now) (a .octets .now) _ (seen .stands)
+    (λ t w. sym (not-false _ (c .before .before .before .before .before .before .before .before .before .before .if1 .left)) ∙ c .before .before .before .before .before .before .before .before .before .before .before .is-lawful .ensures t rows (a .queue .now) w (seen .stands .laid) refl)
+    (sym (c .before .before .before .before .before .before .before .before .before .read .ensures .valid) ∙ not-false _ (c .before .before .before .before .before .before .before .if2 .left))
+    (c .before .before .before .before .serve .ensures)
+
+pub decide-spec : {M : Type 1} → statement M
+decide-spec =
+    tie.close (tie.spec is-lawful-requires refused-requires same-length returns read-requires refused-requires-2 same-length-2 returns-2 serve-requires same-length-3 same-length-4 returns-3)

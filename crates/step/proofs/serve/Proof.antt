@@ -1,0 +1,58 @@
+-- `serve`: the mailbox is found, and the record is served. Assumes nothing.
+use borrow.Author.Needs.{needs}
+use borrow.Author.Tests.{leb-true}
+use mathlib.Core.Path.{_≡_, refl, ap, _∙_}
+use lib.ListN.{length}
+use Rattle.model.specs.Memory.{boxes}
+use Rattle.model.specs.declared.Counts.{Counts}
+use Rattle.record_read.specs.Laws.{read-says}
+use Rattle.table_mailboxes.specs.Rows.{boxes-long}
+use Rattle.record_outcome.specs.Coming.{Placed}
+use Rattle.step.specs.Served.{placed}
+use Rattle.step.proofs.serve.Statement.{statement}
+use Rattle.step.proofs.serve.Tie as tie
+
+array-read-sought-id : tie.Need-array-read-sought-id
+array-read-sought-id c = search needs
+
+sought-id-requires : tie.Need-sought-id-requires
+sought-id-requires c κs = search needs
+
+find-requires : tie.Need-find-requires
+find-requires c κs = search needs
+
+row-at-requires : tie.Need-row-at-requires
+row-at-requires c κs = search needs
+
+dispatch-requires : tie.Need-dispatch-requires
+dispatch-requires c κs = let p = c .before .before .before .before .before .before .before .before .before .pre in (p .0, p .1, read-says (p .2) (p .3) _ refl, p .2 .kind)
+
+same-length : tie.Need-same-length
+same-length c = search needs
+
+same-length-2 : tie.Need-same-length-2
+same-length-2 c = search needs
+
+returns : tie.Need-returns
+returns c =
+    let a = c .before .before .before .before .before .before .before .before .before .before .before .before .before .before .args in
+    let id = c .before .before .before .before .before .before .before .before .before .sought-id in
+    let found = c .before .before .before .before .before .before .before .before .find in
+    let x = c .before .before .before .before .before .before .before .row-at in
+    λ m lends law len stands.
+    let long : length (boxes m) ≡ a .counts .mailboxes = boxes-long m (leb-true _ _ (law .used)) ∙ ap (λ (j : Counts). j .mailboxes) (lends .counts) in
+    let w : Placed m (id .result) (found .result) (x .result) = placed m (id .result) (found .result) (x .result) (found .ensures .0 (boxes m) long (stands .laid .id)) (x .ensures (boxes m) long stands) in
+    c .before .before .before .before .dispatch .ensures m lends law len (rw (← id .ensures) w) (stands .laid)
+
+pub serve-spec : {M : Type 1} → statement M
+serve-spec =
+    tie.close
+    (tie.spec
+    array-read-sought-id
+    sought-id-requires
+    find-requires
+    row-at-requires
+    dispatch-requires
+    same-length
+    same-length-2
+    returns)

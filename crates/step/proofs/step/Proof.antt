@@ -1,0 +1,50 @@
+-- `step`: one record on lent memory. The table is an array of rows, so that every number in it is within its type. Assumes nothing.
+use borrow.Author.Needs.{needs}
+use mathlib.Core.List.{List, [], _∷_}
+use Prim.Native.Nat.{ℕ, zero, suc, _<_}
+use native.Mathlib.Omega.{arith}
+use lib.ListN.{length, getD}
+use mir.Val.{Val}
+use denote.Shadow.{shadow}
+use denote.Laws.{Is}
+use denote.Array.{each}
+use denote.Struct.Laws as LL
+use Rattle.model.proofs.Mailbox as T
+use Rattle.model.proofs.Mailbox.Laws as T′
+use Rattle.model.specs.Memory.{noMailbox}
+use Rattle.model.specs.declared.Mailbox.{Mailbox}
+use Rattle.lent_rows.specs.Standing.{Narrow, narrow-take}
+use Rattle.step.proofs.step.Statement.{statement}
+use Rattle.step.proofs.step.Tie as tie
+
+narrow-row : (x : Mailbox) (vs : List Val) → Is T.the-row x vs → Narrow x
+narrow-row x vs is = let o = LL.owed T.the-type T′.the-laws x vs is in record { id = o .0 .1; validity = o .1 .1 .1 .0 .1; next = o .1 .1 .1 .1 .0 .1; low = o .1 .1 .1 .1 .1 .0 .1; high = o .1 .1 .1 .1 .1 .1 .0 .1 }
+
+narrow-rows : (l : List Mailbox) (us : List Val) → shadow (each Mailbox (T.the-row .own) l us) → (k : ℕ) → k < length l → Narrow (getD l k noMailbox)
+narrow-rows [] us s k h = absurd (let z : ⊥ = omega arith in z)
+narrow-rows (x ∷ l) [] s k h = absurd s
+narrow-rows (x ∷ l) (u ∷ us) s zero h = narrow-row x (u ∷ []) (s .0)
+narrow-rows (x ∷ l) (u ∷ us) s (suc k) h = narrow-rows l us (s .1) k (omega arith)
+
+lay-requires : tie.Need-lay-requires
+lay-requires c κs = search needs
+
+decide-requires : tie.Need-decide-requires
+decide-requires c κs =
+    let s = c .before .before .before .before .before .before .before .before .before .before .before .before .before .before .before .before .before .before .before .before in
+    (s .args .table, record { long = s .good .0 .1 .0 .1; stands = record { laid = c .before .before .before .before .before .before .before .before .before .lay .ensures; narrow = narrow-take (s .args .table) (s .args .counts .mailboxes) (narrow-rows (s .args .table) _ (s .good .0 .1 .1)) } })
+
+same-length : tie.Need-same-length
+same-length c = search needs
+
+same-length-2 : tie.Need-same-length-2
+same-length-2 c = search needs
+
+returns : tie.Need-returns
+returns c =
+    let s = c .before .before .before .before .before .before .before .before .before .before .before .before .before .before .before .before .before .before .before .before .before .before .before .before .before in
+    c .before .before .before .before .decide .ensures (s .args .table)
+    (record { long = s .good .0 .1 .0 .1; stands = record { laid = c .before .before .before .before .before .before .before .before .before .before .before .before .before .before .lay .ensures; narrow = narrow-take (s .args .table) (s .args .counts .mailboxes) (narrow-rows (s .args .table) _ (s .good .0 .1 .1)) } })
+
+pub step-spec : {M : Type 1} → statement M
+step-spec = tie.close (tie.spec lay-requires decide-requires same-length same-length-2 returns)

@@ -1,0 +1,51 @@
+-- `put_held`: what the queue holds. Assumes nothing.
+use native.Mathlib.Omega.{arith}
+use mathlib.Core.Path.{sym}
+use lib.Seq.{take-all, length-take-le}
+use Rattle.line_put.specs.Put.{put-as}
+use borrow.Author.Needs.{needs}
+use Rattle.step_stream.proofs.put_held.Statement.{statement}
+use Rattle.step_stream.proofs.put_held.Tie as tie
+
+put-requires : tie.Need-put-requires
+put-requires c κs = search needs
+
+same-length : tie.Need-same-length
+same-length c = search needs
+
+returns : tie.Need-returns
+returns c =
+    let a = c .before .before .before .before .before .before .before .args in
+    let n = c .before .before .put .ensures .next in
+    (put-as (c .before .before .put .ensures) (sym (take-all (a .filled) (a .queue .now) (omega arith))), omega arith)
+
+slice-aggregate-put : tie.Need-slice-aggregate-put
+slice-aggregate-put c = let a = c .before .before .before .before .before .args in sym (length-take-le (a .filled) (a .queue .now) (omega arith))
+
+put-requires-2 : tie.Need-put-requires-2
+put-requires-2 c κs =
+    let a = c .before .before .before .before .before .args in
+    let l = length-take-le (a .filled) (a .queue .now) (omega arith) in
+    (omega arith, omega arith)
+
+same-length-2 : tie.Need-same-length-2
+same-length-2 c = search needs
+
+returns-2 : tie.Need-returns-2
+returns-2 c =
+    let a = c .before .before .before .before .before .before .before .before .args in
+    let l = length-take-le (a .filled) (a .queue .now) (omega arith) in
+    let n = c .before .before .put2 .ensures .next in
+    (c .before .before .put2 .ensures, omega arith)
+
+pub put-held-spec : {M : Type 1} → statement M
+put-held-spec =
+    tie.close
+    (tie.spec
+    put-requires
+    same-length
+    returns
+    slice-aggregate-put
+    put-requires-2
+    same-length-2
+    returns-2)

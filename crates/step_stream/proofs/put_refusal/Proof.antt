@@ -1,0 +1,50 @@
+-- `put_refusal`: `! n` for a refusal. Assumes nothing.
+use native.Mathlib.Omega.{arith}
+use mathlib.Core.Path.{_≡_, ap, sym, _∙_}
+use lib.ListN.{length}
+use Rattle.model.specs.Answers.{numberOf}
+use Rattle.model.specs.Pushrun.{refusalText}
+use Rattle.line_put.specs.Put.{put-none, put-as}
+use Rattle.step_stream.specs.Printing.{refusal-text}
+use borrow.Author.Needs.{needs}
+use Rattle.step_stream.proofs.put_refusal.Statement.{statement}
+use Rattle.step_stream.proofs.put_refusal.Tie as tie
+
+number-of-requires : tie.Need-number-of-requires
+number-of-requires c κs = search needs
+
+returns : tie.Need-returns
+returns c =
+    let a = c .before .before .before .args in
+    (put-as (put-none (a .out .now) (a .at) (length (a .out .now)) (omega arith)) (ap refusalText (sym (c .if1 .taken) ∙ c .before .number-of .ensures .0)), omega arith)
+
+add-t7 : tie.Need-add-t7
+add-t7 c = search needs
+
+slice-aggregate-put : tie.Need-slice-aggregate-put
+slice-aggregate-put c = search needs
+
+put-requires : tie.Need-put-requires
+put-requires c κs = search needs
+
+same-length : tie.Need-same-length
+same-length c = search needs
+
+returns-2 : tie.Need-returns-2
+returns-2 c =
+    let n = c .before .before .put .ensures .next in
+    let e = c .before .before .before .before .before .before .number-of in
+    let t : refusalText (e .result) ≡ refusalText (numberOf (c .before .before .before .before .before .before .before .before .args .answer)) = ap refusalText (e .ensures .0) in
+    (put-as (c .before .before .put .ensures) (refusal-text (e .result) (omega arith) (e .ensures .1) ∙ t), omega arith)
+
+pub put-refusal-spec : {M : Type 1} → statement M
+put-refusal-spec =
+    tie.close
+    (tie.spec
+    number-of-requires
+    returns
+    add-t7
+    slice-aggregate-put
+    put-requires
+    same-length
+    returns-2)

@@ -1,0 +1,44 @@
+-- `record_size`: how long the record from a place on is. Assumes nothing.
+use native.Mathlib.Omega.{arith}
+use mathlib.Core.Path.{sym, _∙_}
+use lib.ListN.{drop, length-drop}
+use Rattle.step_stream.specs.Cutting.{cuts, size-short, size-torn, size-entire, field-at}
+use borrow.Author.Needs.{needs}
+use Rattle.step_stream.proofs.record_size.Statement.{statement}
+use Rattle.step_stream.proofs.record_size.Tie as tie
+
+sub-left : tie.Need-sub-left
+sub-left c = search needs
+
+returns : tie.Need-returns
+returns c =
+    let a = c .before .before .args in
+    let l = length-drop (a .at) (a .stream .now) in
+    cuts (a .stream .now) (a .at) _ (c .before .before .pre .0) (sym l ∙ size-short (drop (a .at) (a .stream .now)) (omega arith))
+
+add-little : tie.Need-add-little
+add-little c = search needs
+
+little-requires : tie.Need-little-requires
+little-requires c κs = search needs
+
+add-size : tie.Need-add-size
+add-size c = search needs
+
+returns-2 : tie.Need-returns-2
+returns-2 c =
+    let a = c .before .before .before .before .args in
+    let l = length-drop (a .at) (a .stream .now) in
+    let f = field-at (a .stream .now) (a .at) (c .before .little .ensures) in
+    cuts (a .stream .now) (a .at) _ (c .before .before .before .before .pre .0) (sym l ∙ size-torn (drop (a .at) (a .stream .now)) (omega arith) (omega arith))
+
+returns-3 : tie.Need-returns-3
+returns-3 c =
+    let a = c .before .before .before .before .args in
+    let l = length-drop (a .at) (a .stream .now) in
+    let f = field-at (a .stream .now) (a .at) (c .before .little .ensures) in
+    cuts (a .stream .now) (a .at) _ (c .before .before .before .before .pre .0) (f ∙ size-entire (drop (a .at) (a .stream .now)) (omega arith) (omega arith))
+
+pub record-size-spec : {M : Type 1} → statement M
+record-size-spec =
+    tie.close (tie.spec sub-left returns add-little little-requires add-size returns-2 returns-3)

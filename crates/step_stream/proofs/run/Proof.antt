@@ -1,0 +1,36 @@
+-- `run`: a whole stream on tables of the run's own. Assumes nothing.
+use native.Mathlib.Omega.{arith}
+use Rattle.line_put.specs.Put.{put-as}
+use Rattle.step_stream.specs.Printing.{start-is}
+use borrow.Author.Needs.{needs}
+use Rattle.step_stream.proofs.run.Statement.{statement}
+use Rattle.step_stream.proofs.run.Tie as tie
+
+returns : tie.Need-returns
+returns c = λ h. absurd (let z : ⊥ = omega arith in z)
+
+slice-aggregate-walk : tie.Need-slice-aggregate-walk
+slice-aggregate-walk c = search needs
+
+slice-aggregate-walk-2 : tie.Need-slice-aggregate-walk-2
+slice-aggregate-walk-2 c = search needs
+
+walk-requires : tie.Need-walk-requires
+walk-requires c κs = search needs
+
+same-length : tie.Need-same-length
+same-length c = search needs
+
+returns-2 : tie.Need-returns-2
+returns-2 c = λ h. put-as (c .before .before .before .before .walk .ensures) (start-is (c .before .before .before .before .before .before .before .before .before .before .before .args .stream .now))
+
+pub run-spec : {M : Type 1} → statement M
+run-spec =
+    tie.close
+    (tie.spec
+    returns
+    slice-aggregate-walk
+    slice-aggregate-walk-2
+    walk-requires
+    same-length
+    returns-2)

@@ -1,0 +1,16 @@
+-- `start`: nothing there yet. Assumes nothing.
+use mathlib.Core.Path.{refl, ap}
+use lib.ListN.{replicate}
+use Rattle.model.specs.declared.Mailbox.{Mailbox}
+use borrow.Author.Needs.{needs}
+use Rattle.step_stream.proofs.start.Statement.{statement}
+use Rattle.step_stream.proofs.start.Tie as tie
+
+vacant-requires : tie.Need-vacant-requires
+vacant-requires c κs = search needs
+
+returns : tie.Need-returns
+returns c = (ap (λ (x : Mailbox). replicate 64 x) (c .vacant .ensures), refl, refl, refl)
+
+pub start-spec : {M : Type 1} → statement M
+start-spec = tie.close (tie.spec vacant-requires returns)

@@ -1,0 +1,57 @@
+-- `turn`: a record of a stream. Assumes nothing.
+use native.Mathlib.Omega.{arith}
+use mathlib.Core.Path.{_≡_}
+use lib.ListN.{length}
+use Rattle.table_mailboxes.specs.Walks.{mapped-length}
+use Rattle.step_stream.specs.Printing.{table-few, turns}
+use borrow.Author.Needs.{needs}
+use Rattle.step_stream.proofs.turn.Statement.{statement}
+use Rattle.step_stream.proofs.turn.Tie as tie
+
+step-requires : tie.Need-step-requires
+step-requires c κs = search needs
+
+put-refusal-requires : tie.Need-put-refusal-requires
+put-refusal-requires c κs = search needs
+
+put-held-requires : tie.Need-put-held-requires
+put-held-requires c κs = search needs
+
+drained-requires : tie.Need-drained-requires
+drained-requires c κs = search needs
+
+same-length : tie.Need-same-length
+same-length c = search needs
+
+same-length-2 : tie.Need-same-length-2
+same-length-2 c = search needs
+
+same-length-3 : tie.Need-same-length-3
+same-length-3 c = search needs
+
+returns : tie.Need-returns
+returns c =
+    let a = c .before .before .before .before .before .before .before .before .before .before .before .before .before .before .before .before .before .before .before .before .before .before .before .before .args in
+    let good = c .before .before .before .before .before .before .before .before .before .before .before .before .before .before .before .before .before .before .before .before .before .before .before .before .good in
+    let w : length (a .s .table) ≡ 64 = mapped-length _ _ _ (a .s .table) 64 (good .0 .1 .1 .0 .1 .0 .1) in
+    let o = c .before .before .before .before .before .before .before .before .before .before .before .before .before .before .step in
+    let z = c .drained .ensures in
+    let p = c .before .before .before .before .before .before .before .before .put-refusal .ensures in
+    let r = c .before .before .before .put-held .ensures in
+    let few = table-few (a .s .table) w (a .words .now) (a .s .counts) (a .s .session) (a .queue .now) (a .octets .now) (o .result) _ _ (o .ensures) in
+    turns (a .s .table) w (a .words .now) (a .s .counts) (a .s .session) (a .queue .now) (a .octets .now) (o .result) _ _ (o .ensures)
+    (c .drained .result .table) (c .drained .result .counts) (c .drained .result .session) (c .drained .result .end)
+    (z .0 few) (z .1) (z .2) (z .3) (p .0) (r .0) (omega arith)
+
+pub turn-spec : {M : Type 1} → statement M
+turn-spec =
+    tie.close
+    (tie.spec
+    step-requires
+    put-refusal-requires
+    put-held-requires
+    drained-requires
+    same-length
+    same-length-2
+    same-length-3
+    returns)

@@ -1,0 +1,93 @@
+-- `walk`: every record of a stream. The invariant: what is still to be written is what the run's memory prints for the rest. Assumes nothing.
+use borrow.Author.Needs.{needs}
+use native.Mathlib.Omega.{arith}
+use mathlib.Core.Path.{_≡_, refl, _∙_}
+use Prim.Native.Nat.{_-_}
+use lib.ListN.{length, replicate}
+use Rattle.model.specs.Memory.{noMailbox}
+use Rattle.model.specs.Hidden.{noCounts, noSession}
+use Rattle.model.specs.Pushrun.{recordsOf, printed}
+use Rattle.step_stream.specs.Printing.{standing, Running, running-start, running-next, running-end}
+use Rattle.step_stream.proofs.walk.Statement.{statement}
+use Rattle.step_stream.proofs.walk.Tie as tie
+
+abbrev Inv-loop : tie.InvT-loop
+Inv-loop stream words₀ queue₀ out₀ s₀ i₀ words queue out s i =
+    (length words ≡ length words₀) × (length queue ≡ length queue₀)
+    × Running stream (printed (standing (replicate 64 noMailbox) noCounts noSession words₀ queue₀) (recordsOf stream)) out₀ out (s .end) (standing (s .table) (s .counts) (s .session) words queue) i
+
+abbrev μ-loop : tie.MeasureT-loop
+μ-loop stream words₀ queue₀ out₀ s₀ i₀ words queue out s i = length stream - i
+
+start-requires : tie.Need-start-requires Inv-loop μ-loop
+start-requires c κs = search needs
+
+loop-holds : tie.Need-loop-holds Inv-loop μ-loop
+loop-holds c =
+    let a = c .before .before .before .before .before .args in
+    let z = c .start .ensures in
+    (refl, refl, running-start (a .stream .now) (a .out .now) (a .words .now) (a .queue .now) (z .0) (z .1) (z .2) (z .3))
+
+record-size-requires : tie.Need-record-size-requires Inv-loop μ-loop
+record-size-requires c κs = (c .loop-test .taken, c .before .before .before .before .before .before .before .pre .0)
+
+add-e : tie.Need-add-e Inv-loop μ-loop
+add-e c = let z = c .record-size .ensures .within in search needs
+
+sub-turn : tie.Need-sub-turn Inv-loop μ-loop
+sub-turn c = search needs
+
+part-turn-start : tie.Need-part-turn-start Inv-loop μ-loop
+part-turn-start c = search needs
+
+part-turn-end : tie.Need-part-turn-end Inv-loop μ-loop
+part-turn-end c = search needs
+
+turn-requires : tie.Need-turn-requires Inv-loop μ-loop
+turn-requires c κs =
+    let v = c .before .before .before .before .before .before .loop .inv in
+    let n = v .2 .near in
+    let w = v .2 .within in
+    let p = c .before .before .before .before .before .before .before .before .before .before .before .before .pre in
+    (omega arith, v .1 ∙ p .1)
+
+loop-less : tie.Need-loop-less Inv-loop μ-loop
+loop-less c = let z = c .before .before .before .before .before .before .before .before .before .before .before .record-size .ensures .some in let y = c .before .before .before .before .before .before .before .before .before .before .before .record-size .ensures .within in omega arith
+
+loop-again : tie.Need-loop-again Inv-loop μ-loop
+loop-again c =
+    let v = c .before .before .before .before .before .before .before .before .before .before .before .before .before .loop .inv in
+    (search needs, search needs, running-next (v .2) (c .before .before .before .before .before .before .before .before .before .before .before .record-size .ensures) (c .before .before .before .before .before .before .turn .ensures))
+
+same-length : tie.Need-same-length Inv-loop μ-loop
+same-length c = search needs
+
+same-length-2 : tie.Need-same-length-2 Inv-loop μ-loop
+same-length-2 c = search needs
+
+same-length-3 : tie.Need-same-length-3 Inv-loop μ-loop
+same-length-3 c = search needs
+
+returns : tie.Need-returns Inv-loop μ-loop
+returns c = running-end (c .before .loop .inv .2) (c .loop-test .left)
+
+pub walk-spec : {M : Type 1} → statement M
+walk-spec =
+    tie.close
+    (tie.spec
+    Inv-loop
+    μ-loop
+    start-requires
+    loop-holds
+    record-size-requires
+    add-e
+    sub-turn
+    part-turn-start
+    part-turn-end
+    turn-requires
+    loop-less
+    loop-again
+    same-length
+    same-length-2
+    same-length-3
+    returns)

@@ -1,0 +1,60 @@
+use Rattle.table_counts.proofs.seek.Statement.{statement}
+use Rattle.table_counts.proofs.seek.Tie as tie
+use mathlib.Core.Path.{_≡_}
+use Prim.Native.Nat.{_≤_, _-_}
+use native.Mathlib.Omega.{arith}
+use Rattle.table_counts.specs.Tally.{Others, others-none, others-next, found, not-found}
+use borrow.Author.Needs.{needs}
+
+abbrev Inv-loop : tie.InvT-loop
+Inv-loop ids n id i₀ i = (i ≤ n) × Others ids i id
+
+abbrev μ-loop : tie.MeasureT-loop
+μ-loop ids n id i₀ i = n - i
+
+loop-holds : tie.Need-loop-holds Inv-loop μ-loop
+loop-holds c = (search needs, others-none (c .args .ids .now) (c .args .id))
+
+mul-if1 : tie.Need-mul-if1 Inv-loop μ-loop
+mul-if1 c = search needs
+
+element-copy-out-if1 : tie.Need-element-copy-out-if1 Inv-loop μ-loop
+element-copy-out-if1 c = search needs
+
+returns : tie.Need-returns Inv-loop μ-loop
+returns c =
+    let args = c .before .before .before .before .args in
+    found (args .ids .now) (args .n) (args .id) (c .before .before .before .loop .i) (omega arith) (c .if1 .taken)
+
+add-i : tie.Need-add-i Inv-loop μ-loop
+add-i c = search needs
+
+loop-less : tie.Need-loop-less Inv-loop μ-loop
+loop-less c = search needs
+
+loop-again : tie.Need-loop-again Inv-loop μ-loop
+loop-again c =
+    let args = c .before .before .before .before .args in
+    let turn = c .before .before .before .loop in
+    (search needs, others-next (args .ids .now) (turn .i) (args .id) (turn .inv .1) (c .if1 .left))
+
+returns-2 : tie.Need-returns-2 Inv-loop μ-loop
+returns-2 c =
+    let args = c .before .before .args in
+    let turn = c .before .loop in
+    let e : turn .i ≡ args .n = omega arith in not-found (args .ids .now) (args .n) (args .id) (rw e at (turn .inv .1))
+
+pub seek-spec : {M : Type 1} → statement M
+seek-spec =
+    tie.close
+    (tie.spec
+    Inv-loop
+    μ-loop
+    loop-holds
+    mul-if1
+    element-copy-out-if1
+    returns
+    add-i
+    loop-less
+    loop-again
+    returns-2)

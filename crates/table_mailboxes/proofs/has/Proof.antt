@@ -1,0 +1,32 @@
+use Rattle.table_mailboxes.proofs.has.Statement.{statement}
+use Rattle.table_mailboxes.proofs.has.Tie as tie
+use mathlib.Core.Path.{_≡_, refl, sym, _∙_, ap}
+use Prim.Native.Nat.{ℕ, _-_}
+use native.Mathlib.Omega.{arith}
+use Rattle.model.specs.Text.{bit}
+use Rattle.table_mailboxes.specs.Bits.{bit-down}
+use borrow.Author.Needs.{needs}
+
+abbrev Inv-loop : tie.InvT-loop
+Inv-loop bits k n₀ i₀ n i = bit k bits ≡ bit i n
+
+abbrev μ-loop : tie.MeasureT-loop
+μ-loop bits k n₀ i₀ n i = i
+
+loop-holds : tie.Need-loop-holds Inv-loop μ-loop
+loop-holds c = refl
+
+sub-i : tie.Need-sub-i Inv-loop μ-loop
+sub-i c = search needs
+
+loop-less : tie.Need-loop-less Inv-loop μ-loop
+loop-less c = search needs
+
+loop-again : tie.Need-loop-again Inv-loop μ-loop
+loop-again c = c .before .loop .inv ∙ bit-down (c .before .loop .i) (c .before .loop .n) (omega arith)
+
+returns : tie.Need-returns Inv-loop μ-loop
+returns c = let z : c .before .loop .i ≡ 0 = omega arith in sym (c .before .loop .inv ∙ ap (λ (j : ℕ). bit j (c .before .loop .n)) z)
+
+pub has-spec : {M : Type 1} → statement M
+has-spec = tie.close (tie.spec Inv-loop μ-loop loop-holds sub-i loop-less loop-again returns)

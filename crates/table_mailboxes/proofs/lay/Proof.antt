@@ -1,0 +1,20 @@
+use mathlib.Core.Path.{_≡_}
+use lib.ListN.{length}
+use Rattle.table_mailboxes.specs.Walks.{mapped-length}
+use borrow.Author.Needs.{needs}
+use Rattle.table_mailboxes.proofs.lay.Statement.{statement}
+use Rattle.table_mailboxes.proofs.lay.Tie as tie
+
+few-requires : tie.Need-few-requires
+few-requires c κs = search needs
+
+fill-requires : tie.Need-fill-requires
+fill-requires c κs = search needs
+
+returns : tie.Need-returns
+returns c =
+    let args = c .before .before .before .before .before .before .before .before .before .args in
+    let long : length (args .rows) ≡ 64 = search (needs, mapped-length) in rw (← c .before .before .before .before .before .before .before .before .few .ensures .1 (args .rows) long) (c .fill .ensures)
+
+pub lay-spec : {M : Type 1} → statement M
+lay-spec = tie.close (tie.spec few-requires fill-requires returns)

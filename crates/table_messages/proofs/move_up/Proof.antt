@@ -1,0 +1,72 @@
+-- `move_up`: the first i words are those from the seventh on. Assumes nothing.
+use Rattle.table_messages.proofs.move_up.Statement.{statement}
+use Rattle.table_messages.proofs.move_up.Tie as tie
+use mathlib.Core.Path.{_≡_, _∙_, ap}
+use Prim.Native.Nat.{_≤_, _-_}
+use native.Mathlib.Omega.{arith}
+use lib.ListN.{length, drop}
+use Rattle.laws.specs.Shift.{over}
+use Rattle.table_messages.specs.Taken.{down-start, down-next}
+use borrow.Author.Needs.{needs}
+
+abbrev Inv-loop : tie.InvT-loop
+Inv-loop words₀ n i₀ words i = (i ≤ n) × (length words ≡ length words₀) × (words ≡ over (drop 6 words₀) words₀ i)
+
+abbrev μ-loop : tie.MeasureT-loop
+μ-loop words₀ n i₀ words i = n - i
+
+loop-holds : tie.Need-loop-holds Inv-loop μ-loop
+loop-holds c = (search needs, search needs, down-start (c .args .words .now))
+
+add-words : tie.Need-add-words Inv-loop μ-loop
+add-words c = search needs
+
+mul-words : tie.Need-mul-words Inv-loop μ-loop
+mul-words c = search needs
+
+slice-read-words : tie.Need-slice-read-words Inv-loop μ-loop
+slice-read-words c = search needs
+
+mul-words-2 : tie.Need-mul-words-2 Inv-loop μ-loop
+mul-words-2 c = search needs
+
+slice-write-words : tie.Need-slice-write-words Inv-loop μ-loop
+slice-write-words c = search needs
+
+add-i : tie.Need-add-i Inv-loop μ-loop
+add-i c = search needs
+
+loop-less : tie.Need-loop-less Inv-loop μ-loop
+loop-less c = search needs
+
+loop-again : tie.Need-loop-again Inv-loop μ-loop
+loop-again c =
+    let o = c .before .before .loop in
+    (search needs, search needs, rw (o .inv .2) (down-next (c .before .before .before .args .words .now) (o .i) (omega arith)))
+
+same-length : tie.Need-same-length Inv-loop μ-loop
+same-length c = search needs
+
+returns : tie.Need-returns Inv-loop μ-loop
+returns c =
+    let o = c .before .loop in
+    let e : o .i ≡ c .before .before .args .n = omega arith in
+    o .inv .2 ∙ ap (over (drop 6 (c .before .before .args .words .now)) (c .before .before .args .words .now)) e
+
+pub move-up-spec : {M : Type 1} → statement M
+move-up-spec =
+    tie.close
+    (tie.spec
+    Inv-loop
+    μ-loop
+    loop-holds
+    add-words
+    mul-words
+    slice-read-words
+    mul-words-2
+    slice-write-words
+    add-i
+    loop-less
+    loop-again
+    same-length
+    returns)

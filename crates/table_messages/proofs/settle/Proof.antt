@@ -1,0 +1,33 @@
+-- `settle`: an idle pass leaves all; else those that stay move up, and what was freed is wiped. Assumes nothing.
+use borrow.Author.Needs.{needs}
+use Rattle.table_messages.proofs.settle.Statement.{statement}
+use Rattle.table_messages.proofs.settle.Tie as tie
+use mathlib.Core.Path.{sym, _∙_}
+use lib.ListN.{take}
+use Rattle.table_messages.specs.Words.{messages}
+use Rattle.table_messages.specs.Swept.{kept, settled, unsettled}
+
+is-idle-requires : tie.Need-is-idle-requires
+is-idle-requires c κs = search needs
+
+returns : tie.Need-returns
+returns c = unsettled (c .before .before .before .args .sweep) (c .before .before .before .args .words .now) (c .before .before .before .args .used) (c .before .before .before .pre) (sym (c .before .is-idle .ensures) ∙ c .if1 .taken)
+
+compact-requires : tie.Need-compact-requires
+compact-requires c κs = search needs
+
+wipe-requires : tie.Need-wipe-requires
+wipe-requires c κs = search needs
+
+same-length : tie.Need-same-length
+same-length c = search needs
+
+returns-2 : tie.Need-returns-2
+returns-2 c = let a = c .before .before .before .before .before .before .before .before .before .before .before .args in
+    let o = c .before .before .before .before .before .before .compact in
+    (settled (a .words .now) _ _ (kept (a .sweep) (take (a .used) (messages (a .words .now)))) (o .result) (a .used) (o .ensures .1) (o .ensures .2) (o .ensures .0) (c .before .before .wipe .ensures), o .ensures .1, o .ensures .2)
+
+pub settle-spec : {M : Type 1} → statement M
+settle-spec =
+    tie.close
+    (tie.spec is-idle-requires returns compact-requires wipe-requires same-length returns-2)

@@ -1,0 +1,57 @@
+use Rattle.table_messages.proofs.sweeping.compact.Statement.{statement}
+use Rattle.table_messages.proofs.sweeping.compact.Tie as tie
+use Rattle.table_messages.proofs.sweeping.compact.Reads as reads
+use Rattle.table_messages.proofs.sweeping.compact.Lts as lts
+use Rattle.table_messages.proofs.sweeping.move_one.Reads as move-one-reads
+use mathlib.Core.Path.{_≡_}
+use Prim.Native.Nat.{_≤_, _-_}
+use native.Mathlib.Omega.{arith}
+use lib.ListN.{length}
+use Rattle.table_messages.specs.Words.{messages-length}
+use Rattle.table_messages.specs.Swept.{Passing, passing-start, passed}
+use borrow.Author.Needs.{needs}
+
+abbrev Inv-loop : tie.InvT-loop
+Inv-loop words₀ used sweep o₀ i₀ words o i = (i ≤ used) × (length words ≡ length words₀) × Passing sweep words₀ words i o
+
+abbrev μ-loop : tie.MeasureT-loop
+μ-loop words₀ used sweep o₀ i₀ words o i = used - i
+
+loop-holds : tie.Need-loop-holds Inv-loop μ-loop
+loop-holds c = (search needs, search needs, passing-start (c .before .args .sweep) (c .before .args .words .now))
+
+move-one-requires : tie.Need-move-one-requires Inv-loop μ-loop
+move-one-requires c κs = (c .before .before .loop .inv .2 .most, search needs)
+
+add-i : tie.Need-add-i Inv-loop μ-loop
+add-i c = search needs
+
+loop-less : tie.Need-loop-less Inv-loop μ-loop
+loop-less c = search needs
+
+loop-again : tie.Need-loop-again Inv-loop μ-loop
+loop-again c = let a = c .before .before .before .before .before .before .before .args in
+    let k = messages-length (a .used) (a .words .now) (c .before .before .before .before .before .before .before .pre) in
+    (search needs, search needs, c .before .before .move-one .ensures .moved (a .words .now) (omega arith) (c .before .before .before .before .before .loop .inv .2))
+
+same-length : tie.Need-same-length Inv-loop μ-loop
+same-length c = search needs
+
+returns : tie.Need-returns Inv-loop μ-loop
+returns c = let a = c .before .before .before .args in
+    let o = c .before .loop in
+    passed (a .sweep) (a .words .now) (o .words) (o .i) (o .o) (a .used) (omega arith) (o .inv .2)
+
+pub compact-spec : {M : Type 1} → statement M
+compact-spec =
+    tie.close
+    (tie.spec
+    Inv-loop
+    μ-loop
+    loop-holds
+    move-one-requires
+    add-i
+    loop-less
+    loop-again
+    same-length
+    returns)

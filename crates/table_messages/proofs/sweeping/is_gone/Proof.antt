@@ -1,0 +1,50 @@
+use borrow.Author.Needs.{needs}
+use Rattle.table_messages.proofs.sweeping.is_gone.Statement.{statement}
+use Rattle.table_messages.proofs.sweeping.is_gone.Tie as tie
+use Rattle.table_messages.proofs.sweeping.is_gone.Reads as reads
+use Rattle.table_messages.proofs.sweeping.is_gone.Lts as lts
+use Rattle.table_messages.proofs.sweeping.both.Reads as both-reads
+use Rattle.table_messages.proofs.sweeping.is_below.Reads as is-below-reads
+use mathlib.Core.Path.{sym, _∙_, ap}
+use mathlib.Core.Bool.{Bool, _&&_}
+use Rattle.model.specs.Memory.{expunged}
+use Rattle.table_messages.specs.Swept.{goes}
+use Rattle.table_messages.specs.declared.Sweep.{Sweep}
+
+enum-told : tie.Need-enum-told
+enum-told c = search needs
+
+enum-known-sweep : tie.Need-enum-known-sweep
+enum-known-sweep c = search needs
+
+is-below-requires : tie.Need-is-below-requires
+is-below-requires c κs = search needs
+
+both-requires : tie.Need-both-requires
+both-requires c κs = search needs
+
+enum-known-sweep-2 : tie.Need-enum-known-sweep-2
+enum-known-sweep-2 c = search needs
+
+returns : tie.Need-returns
+returns c = ap (λ (k : Sweep). goes k (c .before .before .before .args .e)) (sym (c .before .enum-told .given .1))
+
+returns-2 : tie.Need-returns-2
+returns-2 c =
+    c .both .ensures ∙ (ap (λ (b : Bool). expunged (c .before .before .before .before .before .before .args .e) && b) (c .before .before .is-below .ensures) ∙ ap (λ (k : Sweep). goes k (c .before .before .before .before .before .before .args .e)) (sym (c .before .before .before .before .sweep .given .1)))
+
+returns-3 : tie.Need-returns-3
+returns-3 c = ap (λ (k : Sweep). goes k (c .before .before .before .before .args .e)) (sym (c .before .before .sweep2 .given .1))
+
+pub is-gone-spec : {M : Type 1} → statement M
+is-gone-spec =
+    tie.close
+    (tie.spec
+    enum-told
+    enum-known-sweep
+    is-below-requires
+    both-requires
+    enum-known-sweep-2
+    returns
+    returns-2
+    returns-3)

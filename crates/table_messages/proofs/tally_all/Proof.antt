@@ -1,0 +1,72 @@
+-- The number is right where no state was met; it is at most the place, so the sum fits.
+use Rattle.table_messages.proofs.tally_all.Statement.{statement}
+use Rattle.table_messages.proofs.tally_all.Tie as tie
+use mathlib.Core.Path.{_≡_, refl}
+use Prim.Native.Nat.{_≤_, _-_}
+use native.Mathlib.Omega.{arith}
+use lib.ListN.{take}
+use Rattle.table_messages.specs.Words.{messages}
+use Rattle.laws.specs.Counting.{countb}
+use Rattle.table_messages.specs.Counted.{lives, tally-next}
+use borrow.Author.Needs.{needs}
+
+abbrev Inv-loop : tie.InvT-loop
+Inv-loop words used mailbox count₀ states₀ i₀ count states i = (i ≤ used) × (count ≤ i) × (states ≡ 0 → count ≡ countb (lives mailbox) (take i (messages words)))
+
+abbrev μ-loop : tie.MeasureT-loop
+μ-loop words used mailbox count₀ states₀ i₀ count states i = used - i
+
+loop-holds : tie.Need-loop-holds Inv-loop μ-loop
+loop-holds c = (search needs, search needs, λ z. refl)
+
+of-one-requires : tie.Need-of-one-requires Inv-loop μ-loop
+of-one-requires c κs = search needs
+
+add-count : tie.Need-add-count Inv-loop μ-loop
+add-count c = omega (arith, c .of-one .ensures .1)
+
+mul-states : tie.Need-mul-states Inv-loop μ-loop
+mul-states c = search needs
+
+add-states : tie.Need-add-states Inv-loop μ-loop
+add-states c = search needs
+
+mul-states-2 : tie.Need-mul-states-2 Inv-loop μ-loop
+mul-states-2 c = search needs
+
+shared-slice-read-states : tie.Need-shared-slice-read-states Inv-loop μ-loop
+shared-slice-read-states c = search needs
+
+add-i : tie.Need-add-i Inv-loop μ-loop
+add-i c = search needs
+
+loop-less : tie.Need-loop-less Inv-loop μ-loop
+loop-less c = search needs
+
+loop-again : tie.Need-loop-again Inv-loop μ-loop
+loop-again c =
+    let start = c .before .before .before .before .before in
+    let turn = c .before .before .before .loop in
+    let one = c .before .of-one in
+    (search needs, omega (arith, one .ensures .1, turn .inv .1), tally-next (start .args .mailbox) (start .args .words .now) (turn .i) (turn .count) (one .result) (turn .states) (omega arith) (turn .inv .2) (one .ensures .0))
+
+returns : tie.Need-returns Inv-loop μ-loop
+returns c = let e : c .before .loop .i ≡ c .before .before .before .args .used = omega arith in rw e at (c .before .loop .inv .2)
+
+pub tally-all-spec : {M : Type 1} → statement M
+tally-all-spec =
+    tie.close
+    (tie.spec
+    Inv-loop
+    μ-loop
+    loop-holds
+    of-one-requires
+    add-count
+    mul-states
+    add-states
+    mul-states-2
+    shared-slice-read-states
+    add-i
+    loop-less
+    loop-again
+    returns)

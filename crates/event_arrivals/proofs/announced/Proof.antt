@@ -1,15 +1,10 @@
 use borrow.Author.Needs.{needs}
 use Rattle.event_arrivals.proofs.announced.Statement.{statement}
 use Rattle.event_arrivals.proofs.announced.Tie as tie
-use Rattle.event_arrivals.proofs.announced.Reads as reads
-use Rattle.event_arrivals.proofs.announced.Lts as lts
 use mathlib.Core.Path.{sym, _∙_, ap}
 use mathlib.Core.Bool.{Bool, cond}
 use borrow.Author.Tests.{not-true, not-false}
 use Rattle.model.specs.Memory.{withView, silenced}
-
-silence-requires : tie.Need-silence-requires
-silence-requires c κs = search needs
 
 returns : tie.Need-returns
 returns c = c .silence .ensures ∙ sym (ap (λ (b : Bool). cond b (withView (c .before .before .args .s) (c .before .before .args .s .selected) (c .before .before .args .next)) (silenced (c .before .before .args .s))) (not-true (c .before .before .args .fits) (c .before .if1 .taken)))
@@ -21,6 +16,6 @@ pub announced-spec : {M : Type 1} → statement M
 announced-spec =
     tie.close
     (tie.spec
-    silence-requires
+    (λ c κs. search needs)  -- silence-requires
     returns
     returns-2)

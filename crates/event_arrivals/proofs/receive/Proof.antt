@@ -16,43 +16,10 @@ use Rattle.event_message.specs.Shown.{showsOf}
 use Rattle.event_arrivals.proofs.receive.Statement.{statement}
 use Rattle.event_arrivals.proofs.receive.Tie as tie
 
-cast-fresh : tie.Need-cast-fresh
-cast-fresh c = search needs
-
-fresh-requires : tie.Need-fresh-requires
-fresh-requires c κs = search needs
-
-cast-next : tie.Need-cast-next
-cast-next c = search needs
-
-add-next : tie.Need-add-next
-add-next c = search needs
-
-put-requires : tie.Need-put-requires
-put-requires c κs = search needs
-
-add-more : tie.Need-add-more
-add-more c = search needs
-
-with-next-requires : tie.Need-with-next-requires
-with-next-requires c κs = search needs
-
-is-chosen-requires : tie.Need-is-chosen-requires
-is-chosen-requires c κs = search needs
-
-is-soon-requires : tie.Need-is-soon-requires
-is-soon-requires c κs = search needs
-
 announce-requires : tie.Need-announce-requires
 announce-requires c κs = let a = c .before .before .before .before .before .before .before .before .before .before .before .before .before .before .before .args in
     let pre = c .before .before .before .before .before .before .before .before .before .before .before .before .before .before .before .pre in
     (search needs, pre .1, pre .2, pre .3, pre .5 (soon-some (a .s) (c .before .before .before .is-soon .result) (c .before .before .before .before .is-chosen .result) (bothRights (a .x)) (c .before .before .before .is-soon .ensures) (c .before .before .if1 .taken)))
-
-same-length : tie.Need-same-length
-same-length c = search needs
-
-same-length-2 : tie.Need-same-length-2
-same-length-2 c = search needs
 
 returns : tie.Need-returns
 returns c = let a = c .before .before .before .before .before .before .before .before .before .before .before .before .before .before .before .before .before .before .before .args in (
@@ -62,12 +29,6 @@ returns c = let a = c .before .before .before .before .before .before .before .b
       (news-leaves (messages (a .words .now)) (a .used) (a .queue .now) (a .s) (a .filled) (withNext (a .x) (a .uid .0 + 1)) (c .before .before .before .before .before .before .before .before .before .before .before .before .before .before .before .fresh .result) (c .before .before .before .before .before .before .before .is-soon .result) (not (c .before .before .before .before .before .before .before .before .is-chosen .result) && (bothRights (a .x) && askedOf (a .s) (a .x) (asksBit 0))) (showsOf (a .s)) (a .words .now) _ _ _ _ (c .before .before .before .before .before .before .if1 .taken)
       (put-one (a .words .now) _ (a .used) (c .before .before .before .before .before .before .before .before .before .before .before .before .before .before .before .fresh .result) (c .before .before .before .before .before .before .before .before .before .before .before .before .put .ensures) (c .before .before .before .before .before .before .before .before .before .before .before .before .before .before .before .before .before .before .before .pre .0)) (c .before .before .before .announce .ensures)),
 )
-
-is-told-requires : tie.Need-is-told-requires
-is-told-requires c κs = search needs
-
-same-length-3 : tie.Need-same-length-3
-same-length-3 c = search needs
 
 returns-2 : tie.Need-returns-2
 returns-2 c = let a = c .before .before .before .before .before .before .before .before .before .before .before .before .before .before .before .args in (
@@ -84,15 +45,6 @@ say-row-requires c κs = let a = c .before .before .before .before .before .befo
     let pre = c .before .before .before .before .before .before .before .before .before .before .before .before .before .before .before .before .before .pre in
     (search needs, pre .2, pre .3, pre .5 (told-some (a .s) (c .before .before .before .is-told .result) (not (c .before .before .before .before .before .before .is-chosen .result)) (bothRights (a .x)) _ (c .before .before .before .is-told .ensures) (not-false (c .before .before .before .is-told .result) (c .before .before .if2 .left))))
 
-hear-requires : tie.Need-hear-requires
-hear-requires c κs = search needs
-
-same-length-4 : tie.Need-same-length-4
-same-length-4 c = search needs
-
-same-length-5 : tie.Need-same-length-5
-same-length-5 c = search needs
-
 returns-3 : tie.Need-returns-3
 returns-3 c = let a = c .before .before .before .before .before .before .before .before .before .before .before .before .before .before .before .before .before .before .before .before .before .before .args in (
   c .before .before .before .before .before .before .before .before .before .before .before .before .with-next .ensures,
@@ -107,24 +59,24 @@ pub receive-spec : {M : Type 1} → statement M
 receive-spec =
     tie.close
     (tie.spec
-    cast-fresh
-    fresh-requires
-    cast-next
-    add-next
-    put-requires
-    add-more
-    with-next-requires
-    is-chosen-requires
-    is-soon-requires
+    (λ c. search needs)  -- cast-fresh
+    (λ c κs. search needs)  -- fresh-requires
+    (λ c. search needs)  -- cast-next
+    (λ c. search needs)  -- add-next
+    (λ c κs. search needs)  -- put-requires
+    (λ c. search needs)  -- add-more
+    (λ c κs. search needs)  -- with-next-requires
+    (λ c κs. search needs)  -- is-chosen-requires
+    (λ c κs. search needs)  -- is-soon-requires
     announce-requires
-    same-length
-    same-length-2
+    (λ c. search needs)  -- same-length
+    (λ c. search needs)  -- same-length-2
     returns
-    is-told-requires
-    same-length-3
+    (λ c κs. search needs)  -- is-told-requires
+    (λ c. search needs)  -- same-length-3
     returns-2
     say-row-requires
-    hear-requires
-    same-length-4
-    same-length-5
+    (λ c κs. search needs)  -- hear-requires
+    (λ c. search needs)  -- same-length-4
+    (λ c. search needs)  -- same-length-5
     returns-3)

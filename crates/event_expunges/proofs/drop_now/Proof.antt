@@ -1,25 +1,8 @@
 use borrow.Author.Needs.{needs}
 use Rattle.event_expunges.proofs.drop_now.Statement.{statement}
 use Rattle.event_expunges.proofs.drop_now.Tie as tie
-use Rattle.event_expunges.proofs.drop_now.Reads as reads
-use Rattle.event_expunges.proofs.drop_now.Lts as lts
 use Rattle.table_messages.specs.Words.{messages}
 use Rattle.event_message.specs.After.{once-leaves}
-
-say-expunge-requires : tie.Need-say-expunge-requires
-say-expunge-requires c κs = search needs
-
-take-out-requires : tie.Need-take-out-requires
-take-out-requires c κs = search needs
-
-hear-requires : tie.Need-hear-requires
-hear-requires c κs = search needs
-
-same-length : tie.Need-same-length
-same-length c = search needs
-
-same-length-2 : tie.Need-same-length-2
-same-length-2 c = search needs
 
 returns : tie.Need-returns
 returns c = let a = c .before .before .before .before .before .before .before .before .before .before .before .before .args in
@@ -29,9 +12,9 @@ pub drop-now-spec : {M : Type 1} → statement M
 drop-now-spec =
     tie.close
     (tie.spec
-    say-expunge-requires
-    take-out-requires
-    hear-requires
-    same-length
-    same-length-2
+    (λ c κs. search needs)  -- say-expunge-requires
+    (λ c κs. search needs)  -- take-out-requires
+    (λ c κs. search needs)  -- hear-requires
+    (λ c. search needs)  -- same-length
+    (λ c. search needs)  -- same-length-2
     returns)

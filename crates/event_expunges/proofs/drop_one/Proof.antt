@@ -7,30 +7,12 @@ use Rattle.event_message.specs.After.{hears-said, drop-leaves}
 use Rattle.event_expunges.proofs.drop_one.Statement.{statement}
 use Rattle.event_expunges.proofs.drop_one.Tie as tie
 
-remove-requires : tie.Need-remove-requires
-remove-requires c κs = search needs
-
-sub-rest : tie.Need-sub-rest
-sub-rest c = search needs
-
-same-length : tie.Need-same-length
-same-length c = search needs
-
 returns : tie.Need-returns
 returns c = let a = c .before .before .before .before .before .before .before .args in
     drop-leaves (messages (a .words .now)) (a .used) (a .queue .now) (a .s) (a .filled) (a .k) (a .x) (a .on) (a .words .now) _ _ _ _ (c .before .before .before .remove .ensures) (hears-none _ _ _ (a .on) _ (not-true (a .on) (c .if1 .taken)))
 
 say-row-requires : tie.Need-say-row-requires
 say-row-requires c κs = (search needs, search needs, search needs, c .before .before .before .before .before .before .before .before .before .pre .5 (not-false (c .before .before .before .before .before .before .before .before .before .args .on) (c .before .before .if1 .left)))
-
-hear-requires : tie.Need-hear-requires
-hear-requires c κs = search needs
-
-same-length-2 : tie.Need-same-length-2
-same-length-2 c = search needs
-
-same-length-3 : tie.Need-same-length-3
-same-length-3 c = search needs
 
 returns-2 : tie.Need-returns-2
 returns-2 c = let a = c .before .before .before .before .before .before .before .before .before .before .before .before .before .before .args in
@@ -41,12 +23,12 @@ pub drop-one-spec : {M : Type 1} → statement M
 drop-one-spec =
     tie.close
     (tie.spec
-    remove-requires
-    sub-rest
-    same-length
+    (λ c κs. search needs)  -- remove-requires
+    (λ c. search needs)  -- sub-rest
+    (λ c. search needs)  -- same-length
     returns
     say-row-requires
-    hear-requires
-    same-length-2
-    same-length-3
+    (λ c κs. search needs)  -- hear-requires
+    (λ c. search needs)  -- same-length-2
+    (λ c. search needs)  -- same-length-3
     returns-2)

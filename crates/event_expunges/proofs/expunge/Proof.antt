@@ -11,71 +11,23 @@ use Rattle.event_message.specs.Deciding.{asks-some, told-some, expunge-drops, e
 use Rattle.event_expunges.proofs.expunge.Statement.{statement}
 use Rattle.event_expunges.proofs.expunge.Tie as tie
 
-get-requires : tie.Need-get-requires
-get-requires c κs = search needs
-
-cast-t19 : tie.Need-cast-t19
-cast-t19 c = search needs
-
-is-chosen-requires : tie.Need-is-chosen-requires
-is-chosen-requires c κs = search needs
-
-both-requires : tie.Need-both-requires
-both-requires c κs = search needs
-
-is-told-requires : tie.Need-is-told-requires
-is-told-requires c κs = search needs
-
 drop-one-requires : tie.Need-drop-one-requires
 drop-one-requires c κs = let pre = c .before .before .before .before .before .before .before .before .before .before .before .before .before .before .pre in
     (pre .0, pre .1, pre .2, pre .3, pre .4, λ z. pre .5 (told-some (c .before .before .before .before .before .before .before .before .before .before .before .before .before .before .args .s) (c .before .before .is-told .result) (not (c .before .before .before .before .before .before .before .is-chosen .result)) (bothRights (c .before .before .before .before .before .before .before .before .before .before .before .before .before .before .args .x)) _ (c .before .before .is-told .ensures) z))
-
-same-length : tie.Need-same-length
-same-length c = search needs
-
-same-length-2 : tie.Need-same-length-2
-same-length-2 c = search needs
 
 returns : tie.Need-returns
 returns c = let a = c .before .before .before .before .before .before .before .before .before .before .before .before .before .before .before .before .before .before .before .args in
     expunge-drops (messages (a .words .now)) (a .used) (a .queue .now) (a .s) (a .filled) (a .k) (a .x) (c .before .before .before .before .before .before .before .before .before .before .before .before .before .before .before .get .result) (c .before .before .before .before .before .before .before .before .before .before .before .before .before .before .before .get .ensures) (c .before .before .before .before .before .before .before .before .before .before .before .before .is-chosen .result) (c .before .before .before .before .before .before .before .before .before .both .result) (c .before .before .before .before .before .before .before .before .before .before .before .before .is-chosen .ensures) (c .before .before .before .before .before .before .before .before .before .both .ensures) (a .words .now) _ _ _ _ _
     (c .before .before .before .before .before .before .before .is-told .result) (c .before .before .before .before .before .before .before .is-told .ensures) (not-true (c .before .before .before .before .before .before .before .before .before .both .result) (c .before .before .before .before .before .before .before .before .if1 .taken)) (c .before .before .before .before .drop-one .ensures)
 
-both-requires-2 : tie.Need-both-requires-2
-both-requires-2 c κs = search needs
-
-immediate-asks-requires : tie.Need-immediate-asks-requires
-immediate-asks-requires c κs = search needs
-
-both-requires-3 : tie.Need-both-requires-3
-both-requires-3 c κs = search needs
-
-cast-place-of : tie.Need-cast-place-of
-cast-place-of c = search needs
-
-place-of-requires : tie.Need-place-of-requires
-place-of-requires c κs = search needs
-
 drop-now-requires : tie.Need-drop-now-requires
 drop-now-requires c κs = let pre = c .before .before .before .before .before .before .before .before .before .before .before .before .before .before .before .before .before .before .before .before .pre in
     (pre .0, pre .1, pre .2, pre .3, pre .5 (asks-some (c .before .before .before .before .before .before .before .before .before .before .before .before .before .before .before .before .before .before .before .before .args .s) _ (sym (c .before .before .before .before .before .before .before .immediate-asks .ensures) ∙ and-r (c .before .before .before .before .before .before .before .before .both2 .result) (c .before .before .before .before .before .before .before .immediate-asks .result) (sym (c .before .before .before .before .before .before .both3 .ensures) ∙ c .before .before .before .before .before .if2 .taken))))
-
-same-length-3 : tie.Need-same-length-3
-same-length-3 c = search needs
-
-same-length-4 : tie.Need-same-length-4
-same-length-4 c = search needs
 
 returns-2 : tie.Need-returns-2
 returns-2 c = let a = c .before .before .before .before .before .before .before .before .before .before .before .before .before .before .before .before .before .before .before .before .before .before .before .before .before .args in
     expunge-tells (messages (a .words .now)) (a .used) (a .queue .now) (a .s) (a .filled) (a .k) (a .x) (c .before .before .before .before .before .before .before .before .before .before .before .before .before .before .before .before .before .before .before .before .before .get .result) (c .before .before .before .before .before .before .before .before .before .before .before .before .before .before .before .before .before .before .before .before .before .get .ensures) (c .before .before .before .before .before .before .before .before .before .before .before .before .before .before .before .before .before .before .is-chosen .result) (c .before .before .before .before .before .before .before .before .before .before .before .before .before .before .before .both .result) (c .before .before .before .before .before .before .before .before .before .before .before .before .before .before .before .before .before .before .is-chosen .ensures) (c .before .before .before .before .before .before .before .before .before .before .before .before .before .before .before .both .ensures) (a .words .now) _ _ _ _ _
     (c .before .before .before .before .before .before .before .before .before .before .before .both3 .result) (c .before .before .before .before .before .before .before .before .before .before .before .both3 .ensures ∙ ap₂ _&&_ (c .before .before .before .before .before .before .before .before .before .before .before .before .before .both2 .ensures) (c .before .before .before .before .before .before .before .before .before .before .before .before .immediate-asks .ensures)) (not-false (c .before .before .before .before .before .before .before .before .before .before .before .before .before .before .before .both .result) (c .before .before .before .before .before .before .before .before .before .before .before .before .before .before .if1 .left)) (c .before .before .before .before .before .before .before .place-of .result .0) (c .before .before .before .before .before .before .before .place-of .ensures) (c .before .before .before .before .before .before .before .before .before .before .if2 .taken) (c .before .before .before .before .drop-now .ensures)
-
-take-out-requires : tie.Need-take-out-requires
-take-out-requires c κs = search needs
-
-same-length-5 : tie.Need-same-length-5
-same-length-5 c = search needs
 
 returns-3 : tie.Need-returns-3
 returns-3 c = let a = c .before .before .before .before .before .before .before .before .before .before .before .before .before .before .before .before .before .before .before .args in
@@ -87,24 +39,24 @@ pub expunge-spec : {M : Type 1} → statement M
 expunge-spec =
     tie.close
     (tie.spec
-    get-requires
-    cast-t19
-    is-chosen-requires
-    both-requires
-    is-told-requires
+    (λ c κs. search needs)  -- get-requires
+    (λ c. search needs)  -- cast-t19
+    (λ c κs. search needs)  -- is-chosen-requires
+    (λ c κs. search needs)  -- both-requires
+    (λ c κs. search needs)  -- is-told-requires
     drop-one-requires
-    same-length
-    same-length-2
+    (λ c. search needs)  -- same-length
+    (λ c. search needs)  -- same-length-2
     returns
-    both-requires-2
-    immediate-asks-requires
-    both-requires-3
-    cast-place-of
-    place-of-requires
+    (λ c κs. search needs)  -- both-requires-2
+    (λ c κs. search needs)  -- immediate-asks-requires
+    (λ c κs. search needs)  -- both-requires-3
+    (λ c. search needs)  -- cast-place-of
+    (λ c κs. search needs)  -- place-of-requires
     drop-now-requires
-    same-length-3
-    same-length-4
+    (λ c. search needs)  -- same-length-3
+    (λ c. search needs)  -- same-length-4
     returns-2
-    take-out-requires
-    same-length-5
+    (λ c κs. search needs)  -- take-out-requires
+    (λ c. search needs)  -- same-length-5
     returns-3)

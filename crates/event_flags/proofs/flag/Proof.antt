@@ -10,67 +10,19 @@ use Rattle.event_message.specs.Deciding.{told-some, reflag-tells, reflag-keeps}
 use Rattle.event_flags.proofs.flag.Statement.{statement}
 use Rattle.event_flags.proofs.flag.Tie as tie
 
-get-requires : tie.Need-get-requires
-get-requires c κs = search needs
-
-cast-t22 : tie.Need-cast-t22
-cast-t22 c = search needs
-
-is-chosen-requires : tie.Need-is-chosen-requires
-is-chosen-requires c κs = search needs
-
-both-requires : tie.Need-both-requires
-both-requires c κs = search needs
-
-is-soon-requires : tie.Need-is-soon-requires
-is-soon-requires c κs = search needs
-
-cast-place-of : tie.Need-cast-place-of
-cast-place-of c = search needs
-
-place-of-requires : tie.Need-place-of-requires
-place-of-requires c κs = search needs
-
 flag-now-requires : tie.Need-flag-now-requires
 flag-now-requires c κs = let pre = c .before .before .before .before .before .before .before .before .before .before .before .before .before .before .before .before .before .pre in
     (omega (arith, pre .0, pre .1), pre .2, pre .3, pre .5 (told-some (c .before .before .before .before .before .before .before .before .before .before .before .before .before .before .before .before .before .args .s) (c .before .before .before .before .before .before .is-soon .result) (c .before .before .before .before .before .before .before .both .result) (bothRights (c .before .before .before .before .before .before .before .before .before .before .before .before .before .before .before .before .before .args .x)) _ (c .before .before .before .before .before .before .is-soon .ensures) (c .before .before .before .before .before .if1 .taken)))
-
-same-length : tie.Need-same-length
-same-length c = search needs
-
-same-length-2 : tie.Need-same-length-2
-same-length-2 c = search needs
 
 returns : tie.Need-returns
 returns c = let a = c .before .before .before .before .before .before .before .before .before .before .before .before .before .before .before .before .before .before .before .before .before .before .args in
     reflag-tells (messages (a .words .now)) (a .used) (a .queue .now) (a .s) (a .filled) (a .k) (a .x) (c .before .before .before .before .before .before .before .before .before .before .before .before .before .before .before .before .before .before .get .result) (c .before .before .before .before .before .before .before .before .before .before .before .before .before .before .before .before .before .before .get .ensures) (c .before .before .before .before .before .before .before .before .before .before .before .before .before .before .before .is-chosen .result) (c .before .before .before .before .before .before .before .before .before .before .before .before .both .result) (c .before .before .before .before .before .before .before .before .before .before .before .before .before .before .before .is-chosen .ensures) (c .before .before .before .before .before .before .before .before .before .before .before .before .both .ensures) (a .words .now) _ _ _ _ _
     (a .flags) (a .counter) (c .before .before .before .before .before .before .before .before .before .before .before .is-soon .result) (c .before .before .before .before .before .before .before .before .before .before .before .is-soon .ensures) (c .before .before .before .before .before .before .before .place-of .result .0) (c .before .before .before .before .before .before .before .place-of .ensures) (c .before .before .before .before .before .before .before .before .before .before .if1 .taken) (c .before .before .before .before .flag-now .ensures)
 
-both-requires-2 : tie.Need-both-requires-2
-both-requires-2 c κs = search needs
-
-both-requires-3 : tie.Need-both-requires-3
-both-requires-3 c κs = search needs
-
-both-requires-4 : tie.Need-both-requires-4
-both-requires-4 c κs = search needs
-
-pick-requires : tie.Need-pick-requires
-pick-requires c κs = search needs
-
-is-told-requires : tie.Need-is-told-requires
-is-told-requires c κs = search needs
-
 flag-kept-requires : tie.Need-flag-kept-requires
 flag-kept-requires c κs = let a = c .before .before .before .before .before .before .before .before .before .before .before .before .before .before .before .before .before .before .before .before .args in
     let pre = c .before .before .before .before .before .before .before .before .before .before .before .before .before .before .before .before .before .before .before .before .pre in
     (omega (arith, pre .0, pre .1), pre .2, pre .3, pre .4, λ z. pre .5 (told-some (a .s) (c .before .before .is-told .result) (not (c .before .before .before .before .before .before .before .before .before .before .before .before .before .is-chosen .result)) (bothRights (a .x)) _ (c .before .before .is-told .ensures) z))
-
-same-length-3 : tie.Need-same-length-3
-same-length-3 c = search needs
-
-same-length-4 : tie.Need-same-length-4
-same-length-4 c = search needs
 
 returns-2 : tie.Need-returns-2
 returns-2 c = let a = c .before .before .before .before .before .before .before .before .before .before .before .before .before .before .before .before .before .before .before .before .before .before .before .before .before .args in
@@ -83,23 +35,23 @@ pub flag-spec : {M : Type 1} → statement M
 flag-spec =
     tie.close
     (tie.spec
-    get-requires
-    cast-t22
-    is-chosen-requires
-    both-requires
-    is-soon-requires
-    cast-place-of
-    place-of-requires
+    (λ c κs. search needs)  -- get-requires
+    (λ c. search needs)  -- cast-t22
+    (λ c κs. search needs)  -- is-chosen-requires
+    (λ c κs. search needs)  -- both-requires
+    (λ c κs. search needs)  -- is-soon-requires
+    (λ c. search needs)  -- cast-place-of
+    (λ c κs. search needs)  -- place-of-requires
     flag-now-requires
-    same-length
-    same-length-2
+    (λ c. search needs)  -- same-length
+    (λ c. search needs)  -- same-length-2
     returns
-    both-requires-2
-    both-requires-3
-    both-requires-4
-    pick-requires
-    is-told-requires
+    (λ c κs. search needs)  -- both-requires-2
+    (λ c κs. search needs)  -- both-requires-3
+    (λ c κs. search needs)  -- both-requires-4
+    (λ c κs. search needs)  -- pick-requires
+    (λ c κs. search needs)  -- is-told-requires
     flag-kept-requires
-    same-length-3
-    same-length-4
+    (λ c. search needs)  -- same-length-3
+    (λ c. search needs)  -- same-length-4
     returns-2)

@@ -7,33 +7,12 @@ use Rattle.event_message.specs.Flagged.{kept-leaves}
 use Rattle.event_flags.proofs.flag_kept.Statement.{statement}
 use Rattle.event_flags.proofs.flag_kept.Tie as tie
 
-get-requires : tie.Need-get-requires
-get-requires c κs = search needs
-
-changed-requires : tie.Need-changed-requires
-changed-requires c κs = search needs
-
-put-requires : tie.Need-put-requires
-put-requires c κs = search needs
-
-same-length : tie.Need-same-length
-same-length c = search needs
-
 returns : tie.Need-returns
 returns c = let a = c .before .before .before .before .before .before .before .before .before .before .args in
     kept-leaves (a .words .now) _ (a .used) (a .queue .now) (a .s) (a .filled) (a .k) (a .flags) (a .counter) (c .before .before .before .before .before .before .get .result) (c .before .before .before .before .changed .result) (a .states) (c .before .before .before .before .before .before .get .ensures) (c .before .before .before .before .changed .ensures) (c .before .before .before .put .ensures) (c .before .before .before .before .before .before .before .before .before .before .pre .0) (a .x) (a .on) _ _ _ (hears-none _ _ _ (a .on) _ (not-true (a .on) (c .if1 .taken)))
 
 say-change-requires : tie.Need-say-change-requires
 say-change-requires c κs = (search needs, search needs, c .before .before .before .before .before .before .before .before .before .before .before .pre .4 (not-false (c .before .before .before .before .before .before .before .before .before .before .before .args .on) (c .before .if1 .left)))
-
-hear-requires : tie.Need-hear-requires
-hear-requires c κs = search needs
-
-same-length-2 : tie.Need-same-length-2
-same-length-2 c = search needs
-
-same-length-3 : tie.Need-same-length-3
-same-length-3 c = search needs
 
 returns-2 : tie.Need-returns-2
 returns-2 c = let a = c .before .before .before .before .before .before .before .before .before .before .before .before .before .before .before .before .args in
@@ -44,13 +23,13 @@ pub flag-kept-spec : {M : Type 1} → statement M
 flag-kept-spec =
     tie.close
     (tie.spec
-    get-requires
-    changed-requires
-    put-requires
-    same-length
+    (λ c κs. search needs)  -- get-requires
+    (λ c κs. search needs)  -- changed-requires
+    (λ c κs. search needs)  -- put-requires
+    (λ c. search needs)  -- same-length
     returns
     say-change-requires
-    hear-requires
-    same-length-2
-    same-length-3
+    (λ c κs. search needs)  -- hear-requires
+    (λ c. search needs)  -- same-length-2
+    (λ c. search needs)  -- same-length-3
     returns-2)

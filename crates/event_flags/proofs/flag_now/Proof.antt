@@ -1,33 +1,7 @@
 use borrow.Author.Needs.{needs}
 use Rattle.event_flags.proofs.flag_now.Statement.{statement}
 use Rattle.event_flags.proofs.flag_now.Tie as tie
-use Rattle.event_flags.proofs.flag_now.Reads as reads
-use Rattle.event_flags.proofs.flag_now.Lts as lts
 use Rattle.event_message.specs.Flagged.{told-leaves}
-
-get-requires : tie.Need-get-requires
-get-requires c κs = search needs
-
-say-fetch-requires : tie.Need-say-fetch-requires
-say-fetch-requires c κs = search needs
-
-pick-requires : tie.Need-pick-requires
-pick-requires c κs = search needs
-
-changed-requires : tie.Need-changed-requires
-changed-requires c κs = search needs
-
-put-requires : tie.Need-put-requires
-put-requires c κs = search needs
-
-hear-requires : tie.Need-hear-requires
-hear-requires c κs = search needs
-
-same-length : tie.Need-same-length
-same-length c = search needs
-
-same-length-2 : tie.Need-same-length-2
-same-length-2 c = search needs
 
 returns : tie.Need-returns
 returns c = let a = c .before .before .before .before .before .before .before .before .before .before .before .before .before .before .before .before .before .args in
@@ -37,12 +11,12 @@ pub flag-now-spec : {M : Type 1} → statement M
 flag-now-spec =
     tie.close
     (tie.spec
-    get-requires
-    say-fetch-requires
-    pick-requires
-    changed-requires
-    put-requires
-    hear-requires
-    same-length
-    same-length-2
+    (λ c κs. search needs)  -- get-requires
+    (λ c κs. search needs)  -- say-fetch-requires
+    (λ c κs. search needs)  -- pick-requires
+    (λ c κs. search needs)  -- changed-requires
+    (λ c κs. search needs)  -- put-requires
+    (λ c κs. search needs)  -- hear-requires
+    (λ c. search needs)  -- same-length
+    (λ c. search needs)  -- same-length-2
     returns)

@@ -4,9 +4,6 @@ use Rattle.event_mailbox.proofs.mark_of.Statement.{statement}
 use Rattle.event_mailbox.proofs.mark_of.Tie as tie
 use mathlib.Core.Path.{sym, _∙_}
 
-has-requires : tie.Need-has-requires
-has-requires c κs = search needs
-
 returns : tie.Need-returns
 returns c = rw (sym (c .before .has .ensures) ∙ c .if1 .taken)
 
@@ -14,4 +11,9 @@ returns-2 : tie.Need-returns-2
 returns-2 c = rw (sym (c .before .has .ensures) ∙ c .if1 .left)
 
 pub mark-of-spec : {M : Type 1} → statement M
-mark-of-spec = tie.close (tie.spec has-requires returns returns-2)
+mark-of-spec =
+    tie.close
+    (tie.spec
+    (λ c κs. search needs)  -- has-requires
+    returns
+    returns-2)

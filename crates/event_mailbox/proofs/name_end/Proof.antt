@@ -6,11 +6,12 @@ use mathlib.Core.Path.{_≡_}
 use native.Mathlib.Omega.{arith}
 use lib.ListN.{length}
 
-clip-requires : tie.Need-clip-requires
-clip-requires c κs = search needs
-
 returns : tie.Need-returns
 returns c = let lx : length (c .before .args .x .name) ≡ 64 = search needs in (omega arith, lx, c .clip .ensures .1 (c .before .args .x .name) lx)
 
 pub name-end-spec : {M : Type 1} → statement M
-name-end-spec = tie.close (tie.spec clip-requires returns)
+name-end-spec =
+    tie.close
+    (tie.spec
+    (λ c κs. search needs)  -- clip-requires
+    returns)

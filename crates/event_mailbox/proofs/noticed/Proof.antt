@@ -5,17 +5,17 @@ use Rattle.event_mailbox.proofs.noticed.Tie as tie
 use mathlib.Core.Path.{sym, _∙_}
 use borrow.Author.Tests.{not-true, not-false}
 
-both-requires : tie.Need-both-requires
-both-requires c κs = search needs
-
 returns : tie.Need-returns
 returns c = rw (sym (c .before .both .ensures) ∙ not-true _ (c .if1 .taken))
-
-is-asked-of-requires : tie.Need-is-asked-of-requires
-is-asked-of-requires c κs = search needs
 
 returns-2 : tie.Need-returns-2
 returns-2 c = rw (sym (c .before .before .both .ensures) ∙ not-false _ (c .before .if1 .left)) (c .is-asked-of .ensures)
 
 pub noticed-spec : {M : Type 1} → statement M
-noticed-spec = tie.close (tie.spec both-requires returns is-asked-of-requires returns-2)
+noticed-spec =
+    tie.close
+    (tie.spec
+    (λ c κs. search needs)  -- both-requires
+    returns
+    (λ c κs. search needs)  -- is-asked-of-requires
+    returns-2)

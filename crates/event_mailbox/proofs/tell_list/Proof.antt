@@ -15,19 +15,10 @@ returns c = let a = c .before .before .before .args in
 say-list-requires : tie.Need-say-list-requires
 say-list-requires c κs = let f = c .before .before .before .before .pre .3 (not-false _ (c .before .if1 .left)) in omega arith
 
-same-length : tie.Need-same-length
-same-length c = search needs
-
 returns-2 : tie.Need-returns-2
 returns-2 c = let a = c .before .before .before .before .before .before .before .before .args in
     hears-fits (a .queue .now) (a .s) (a .filled) (a .on) (render (list (markOf (a .mark)) (a .name .now))) _ _
     (not-false _ (c .before .before .before .before .before .if1 .left)) (rw (c .if2 .taken) at (c .before .before .before .say-list .ensures))
-
-silence-requires : tie.Need-silence-requires
-silence-requires c κs = search needs
-
-same-length-2 : tie.Need-same-length-2
-same-length-2 c = search needs
 
 returns-3 : tie.Need-returns-3
 returns-3 c = let a = c .before .before .before .before .before .before .before .before .before .args in
@@ -41,8 +32,8 @@ tell-list-spec =
     (tie.spec
     returns
     say-list-requires
-    same-length
+    (λ c. search needs)  -- same-length
     returns-2
-    silence-requires
-    same-length-2
+    (λ c κs. search needs)  -- silence-requires
+    (λ c. search needs)  -- same-length-2
     returns-3)

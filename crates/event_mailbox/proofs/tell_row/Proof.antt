@@ -7,9 +7,6 @@ use native.Mathlib.Omega.{arith}
 use lib.ListN.{length, take}
 use lib.Seq.{length-take-le}
 
-name-end-requires : tie.Need-name-end-requires
-name-end-requires c κs = search needs
-
 array-share-prefix-o : tie.Need-array-share-prefix-o
 array-share-prefix-o c = let lx = c .before .name-end .ensures .1 in omega arith
 
@@ -22,9 +19,6 @@ tell-list-requires c κs = let a = c .before .before .before .before .before .ar
     .name-end .result = length-take-le (c .before .before .name-end .result) (a .x .name) (omega arith) in
     (omega arith, omega arith, omega arith, λ e. c .before .before .before .before .before .pre .3 e, omega arith)
 
-same-length : tie.Need-same-length
-same-length c = search needs
-
 returns : tie.Need-returns
 returns c = rw (← c .before .before .before .before .before .name-end .ensures .2) (c .before .before .tell-list .ensures)
 
@@ -32,9 +26,9 @@ pub tell-row-spec : {M : Type 1} → statement M
 tell-row-spec =
     tie.close
     (tie.spec
-    name-end-requires
+    (λ c κs. search needs)  -- name-end-requires
     array-share-prefix-o
     slice-aggregate-tell-list
     tell-list-requires
-    same-length
+    (λ c. search needs)  -- same-length
     returns)

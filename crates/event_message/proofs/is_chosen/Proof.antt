@@ -1,7 +1,5 @@
 use Rattle.event_message.proofs.is_chosen.Statement.{statement}
 use Rattle.event_message.proofs.is_chosen.Tie as tie
-use Rattle.event_message.proofs.is_chosen.Reads as reads
-use Rattle.event_message.proofs.is_chosen.Lts as lts
 use borrow.Author.Tests.{eq-eqb, ne-eqb}
 
 returns : tie.Need-returns

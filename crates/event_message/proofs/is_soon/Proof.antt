@@ -8,17 +8,18 @@ use Rattle.event_message.proofs.is_soon.Tie as tie
 returns : tie.Need-returns
 returns c = rw (not-true (c .before .args .seen) (c .if1 .taken))
 
-both-requires : tie.Need-both-requires
-both-requires c κs = search needs
-
 returns-2 : tie.Need-returns-2
 returns-2 c = rw (not-false (c .before .before .before .args .seen) (c .before .before .if1 .left), sym (c .before .both .ensures) ∙ not-true (c .before .both .result) (c .if2 .taken))
-
-selected-asks-requires : tie.Need-selected-asks-requires
-selected-asks-requires c κs = search needs
 
 returns-3 : tie.Need-returns-3
 returns-3 c = rw (not-false (c .before .before .before .before .args .seen) (c .before .before .before .if1 .left), sym (c .before .before .both .ensures) ∙ not-false (c .before .before .both .result) (c .before .if2 .left)) (c .selected-asks .ensures)
 
 pub is-soon-spec : {M : Type 1} → statement M
-is-soon-spec = tie.close (tie.spec returns both-requires returns-2 selected-asks-requires returns-3)
+is-soon-spec =
+    tie.close
+    (tie.spec
+    returns
+    (λ c κs. search needs)  -- both-requires
+    returns-2
+    (λ c κs. search needs)  -- selected-asks-requires
+    returns-3)

@@ -7,15 +7,6 @@ use lib.Seq.{length-take-le}
 use Rattle.event_message.proofs.say_change.Statement.{statement}
 use Rattle.event_message.proofs.say_change.Tie as tie
 
-cast-validity : tie.Need-cast-validity
-cast-validity c = search needs
-
-counter-of-requires : tie.Need-counter-of-requires
-counter-of-requires c κs = search needs
-
-name-end-requires : tie.Need-name-end-requires
-name-end-requires c κs = search needs
-
 array-share-prefix-o : tie.Need-array-share-prefix-o
 array-share-prefix-o c = let l = c .before .name-end .ensures .1 in omega arith
 
@@ -28,9 +19,6 @@ say-flag-status-requires c κs = let l = c .before .before .name-end .ensures .1
     let t : length (take (c .before .before .name-end .result) (c .before .before .before .before .before .before .before .args .x .name)) ≡ c .before .before .name-end .result = length-take-le (c .before .before .name-end .result) (c .before .before .before .before .before .before .before .args .x .name) (omega arith) in
     (pre .0, pre .1, pre .2, omega arith)
 
-same-length : tie.Need-same-length
-same-length c = search needs
-
 returns : tie.Need-returns
 returns c = rw (← c .before .before .before .before .before .name-end .ensures .2, ← c .before .before .before .before .before .before .counter-of .ensures) (c .before .before .say-flag-status .ensures)
 
@@ -38,11 +26,11 @@ pub say-change-spec : {M : Type 1} → statement M
 say-change-spec =
     tie.close
     (tie.spec
-    cast-validity
-    counter-of-requires
-    name-end-requires
+    (λ c. search needs)  -- cast-validity
+    (λ c κs. search needs)  -- counter-of-requires
+    (λ c κs. search needs)  -- name-end-requires
     array-share-prefix-o
     slice-aggregate-say-flag-status
     say-flag-status-requires
-    same-length
+    (λ c. search needs)  -- same-length
     returns)

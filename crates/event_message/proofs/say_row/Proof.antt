@@ -7,21 +7,6 @@ use lib.Seq.{length-take-le}
 use Rattle.event_message.proofs.say_row.Statement.{statement}
 use Rattle.event_message.proofs.say_row.Tie as tie
 
-cast-count : tie.Need-cast-count
-cast-count c = search needs
-
-count-requires : tie.Need-count-requires
-count-requires c κs = search needs
-
-cast-next : tie.Need-cast-next
-cast-next c = search needs
-
-counter-of-requires : tie.Need-counter-of-requires
-counter-of-requires c κs = search needs
-
-name-end-requires : tie.Need-name-end-requires
-name-end-requires c κs = search needs
-
 array-share-prefix-o : tie.Need-array-share-prefix-o
 array-share-prefix-o c = let l = c .before .name-end .ensures .1 in omega arith
 
@@ -33,9 +18,6 @@ say-status-requires c κs = let l = c .before .before .name-end .ensures .1 in
     let t : length (take (c .before .before .name-end .result) (c .before .before .before .before .before .before .before .before .before .before .args .x .name)) ≡ c .before .before .name-end .result = length-take-le (c .before .before .name-end .result) (c .before .before .before .before .before .before .before .before .before .before .args .x .name) (omega arith) in
     (c .before .before .before .before .before .before .before .before .before .before .pre .1, c .before .before .before .before .before .before .before .before .before .before .pre .2, c .before .before .before .before .before .before .before .before .before .before .pre .3, omega arith)
 
-same-length : tie.Need-same-length
-same-length c = search needs
-
 returns : tie.Need-returns
 returns c = rw (← c .before .before .before .before .before .name-end .ensures .2, ← c .before .before .before .before .before .before .before .before .before .count .ensures, ← c .before .before .before .before .before .before .counter-of .ensures) (c .before .before .say-status .ensures)
 
@@ -43,13 +25,13 @@ pub say-row-spec : {M : Type 1} → statement M
 say-row-spec =
     tie.close
     (tie.spec
-    cast-count
-    count-requires
-    cast-next
-    counter-of-requires
-    name-end-requires
+    (λ c. search needs)  -- cast-count
+    (λ c κs. search needs)  -- count-requires
+    (λ c. search needs)  -- cast-next
+    (λ c κs. search needs)  -- counter-of-requires
+    (λ c κs. search needs)  -- name-end-requires
     array-share-prefix-o
     slice-aggregate-say-status
     say-status-requires
-    same-length
+    (λ c. search needs)  -- same-length
     returns)

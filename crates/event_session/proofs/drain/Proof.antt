@@ -1,7 +1,5 @@
 use Rattle.event_session.proofs.drain.Statement.{statement}
 use Rattle.event_session.proofs.drain.Tie as tie
-use Rattle.event_session.proofs.drain.Reads as reads
-use Rattle.event_session.proofs.drain.Lts as lts
 use mathlib.Core.Path.{_≡_, refl}
 use Prim.Native.Nat.{_≤_, _-_}
 use native.Mathlib.Omega.{arith}
@@ -16,32 +14,11 @@ Inv-loop queue₀ filled n rest i₀ queue i = (i ≤ rest) × (length queue ≡
 abbrev μ-loop : tie.MeasureT-loop
 μ-loop queue₀ filled n rest i₀ queue i = rest - i
 
-sub-rest : tie.Need-sub-rest Inv-loop μ-loop
-sub-rest c = search needs
-
 loop-holds : tie.Need-loop-holds Inv-loop μ-loop
 loop-holds c = (search needs, refl, wrote-none _ _ (omega arith))
 
-add-queue : tie.Need-add-queue Inv-loop μ-loop
-add-queue c = search needs
-
-slice-read-queue : tie.Need-slice-read-queue Inv-loop μ-loop
-slice-read-queue c = search needs
-
-slice-write-queue : tie.Need-slice-write-queue Inv-loop μ-loop
-slice-write-queue c = search needs
-
-add-i : tie.Need-add-i Inv-loop μ-loop
-add-i c = search needs
-
-loop-less : tie.Need-loop-less Inv-loop μ-loop
-loop-less c = search needs
-
 loop-again : tie.Need-loop-again Inv-loop μ-loop
 loop-again c = (search needs, search needs, shift-next (c .before .before .before .args .queue .now) (c .before .before .before .args .filled) (c .before .before .before .args .n) (c .before .before .before .pre .0) (c .before .before .before .pre .1) (c .before .before .loop .queue) (c .before .before .loop .i) (c .before .loop-test .taken) (c .before .before .loop .inv .2))
-
-same-length : tie.Need-same-length Inv-loop μ-loop
-same-length c = search needs
 
 returns : tie.Need-returns Inv-loop μ-loop
 returns c = (shift-end (c .before .before .args .queue .now) (c .before .before .args .filled) (c .before .before .args .n) (c .before .before .pre .0) (c .before .before .pre .1) (c .before .loop .queue) (c .before .loop .i) (c .loop-test .left) (c .before .loop .inv .0) (c .before .loop .inv .2), refl)
@@ -52,13 +29,13 @@ drain-spec =
     (tie.spec
     Inv-loop
     μ-loop
-    sub-rest
+    (λ c. search needs)  -- sub-rest
     loop-holds
-    add-queue
-    slice-read-queue
-    slice-write-queue
-    add-i
-    loop-less
+    (λ c. search needs)  -- add-queue
+    (λ c. search needs)  -- slice-read-queue
+    (λ c. search needs)  -- slice-write-queue
+    (λ c. search needs)  -- add-i
+    (λ c. search needs)  -- loop-less
     loop-again
-    same-length
+    (λ c. search needs)  -- same-length
     returns)

@@ -22,17 +22,8 @@ abbrev μ-loop : tie.MeasureT-loop
 loop-holds : tie.Need-loop-holds Inv-loop μ-loop
 loop-holds c = (search needs, λ k h. absurd (let z : ⊥ = omega arith in z))
 
-owes-one-requires : tie.Need-owes-one-requires Inv-loop μ-loop
-owes-one-requires c κs = search needs
-
 returns : tie.Need-returns Inv-loop μ-loop
 returns c = λ e. tf true refl e
-
-add-i : tie.Need-add-i Inv-loop μ-loop
-add-i c = search needs
-
-loop-less : tie.Need-loop-less Inv-loop μ-loop
-loop-less c = search needs
 
 loop-again : tie.Need-loop-again Inv-loop μ-loop
 loop-again c = (search needs, below-more _ _ (c .before .before .before .loop .inv .1) (sym (c .before .owes-one .ensures) ∙ c .if1 .left))
@@ -47,9 +38,9 @@ is-owed-spec =
     Inv-loop
     μ-loop
     loop-holds
-    owes-one-requires
+    (λ c κs. search needs)  -- owes-one-requires
     returns
-    add-i
-    loop-less
+    (λ c. search needs)  -- add-i
+    (λ c. search needs)  -- loop-less
     loop-again
     returns-2)

@@ -4,9 +4,6 @@ use Rattle.event_session.specs.Quiet.{other-box, owes-news, owes-states}
 use Rattle.event_session.proofs.owes_one.Statement.{statement}
 use Rattle.event_session.proofs.owes_one.Tie as tie
 
-get-requires : tie.Need-get-requires
-get-requires c κs = search needs
-
 returns : tie.Need-returns
 returns c = let a = c .before .before .before .before .args in other-box (a .id) (a .told .0) (c .before .before .get .result) _ (c .before .before .get .ensures) (c .if1 .taken)
 
@@ -20,7 +17,7 @@ pub owes-one-spec : {M : Type 1} → statement M
 owes-one-spec =
     tie.close
     (tie.spec
-    get-requires
+    (λ c κs. search needs)  -- get-requires
     returns
     returns-2
     returns-3)

@@ -1,10 +1,6 @@
 use borrow.Author.Needs.{needs}
 use Rattle.event_session.proofs.select.Statement.{statement}
 use Rattle.event_session.proofs.select.Tie as tie
-use Rattle.event_session.proofs.select.Reads as reads
-use Rattle.event_session.proofs.select.Lts as lts
-use Rattle.table_messages.proofs.settle.Reads as settle-reads
-use Rattle.event_session.proofs.viewed.Reads as viewed-reads
 use mathlib.Core.Path.{_∙_, ap}
 use mathlib.Core.List.{List}
 use lib.ListN.{take, length}
@@ -15,15 +11,6 @@ use lib.ListN.{length}
 use Rattle.table_messages.specs.Laid.{laid}
 use Rattle.event_session.specs.After.{kept-rests}
 
-settle-requires : tie.Need-settle-requires
-settle-requires c κs = search needs
-
-viewed-requires : tie.Need-viewed-requires
-viewed-requires c κs = search needs
-
-same-length : tie.Need-same-length
-same-length c = search needs
-
 returns : tie.Need-returns
 returns c =
     let a = c .before .before .before .before .before .before .args in
@@ -31,4 +18,10 @@ returns c =
     (c .before .before .before .settle .ensures .0 ∙ ap (λ (l : List Message). laid (a .words .now) (refill noMessage (messages (a .words .now)) (a .used) l)) k, c .before .before .before .settle .ensures .1 ∙ ap length k, c .viewed .ensures)
 
 pub select-spec : {M : Type 1} → statement M
-select-spec = tie.close (tie.spec settle-requires viewed-requires same-length returns)
+select-spec =
+    tie.close
+    (tie.spec
+    (λ c κs. search needs)  -- settle-requires
+    (λ c κs. search needs)  -- viewed-requires
+    (λ c. search needs)  -- same-length
+    returns)

@@ -10,22 +10,10 @@ use borrow.Author.Needs.{needs}
 use Rattle.lawful.proofs.contents_ok.Statement.{statement}
 use Rattle.lawful.proofs.contents_ok.Tie as tie
 
-session-ok-requires : tie.Need-session-ok-requires
-session-ok-requires c κs = search needs
-
 returns : tie.Need-returns
 returns c =
     let args = c .before .before .before .args in
     λ l h w. no-at (contentsOk l (take (args .used) (messages (args .words .now))) (args .s)) 2 (sym (c .before .session-ok .ensures) ∙ not-true _ (c .if1 .taken))
-
-cast-selected : tie.Need-cast-selected
-cast-selected c = search needs
-
-cast-t16 : tie.Need-cast-t16
-cast-t16 c = search needs
-
-view-ok-requires : tie.Need-view-ok-requires
-view-ok-requires c κs = search needs
 
 returns-2 : tie.Need-returns-2
 returns-2 c =
@@ -34,18 +22,12 @@ returns-2 c =
     no-at (contentsOk l (take (args .used) (messages (args .words .now))) (args .s)) 6
     (sym (c .before .view-ok .ensures l h (owners w)) ∙ not-true _ (c .if2 .taken))
 
-rows-ok-requires : tie.Need-rows-ok-requires
-rows-ok-requires c κs = search needs
-
 returns-3 : tie.Need-returns-3
 returns-3 c =
     let args = c .before .before .before .before .before .before .before .before .before .args in
     λ l h w.
     no-at (contentsOk l (take (args .used) (messages (args .words .now))) (args .s)) 0
     (sym (c .before .rows-ok .ensures l h w) ∙ not-true _ (c .if3 .taken))
-
-tables-ok-requires : tie.Need-tables-ok-requires
-tables-ok-requires c κs = search needs
 
 returns-4 : tie.Need-returns-4
 returns-4 c =
@@ -61,13 +43,13 @@ pub contents-ok-spec : {M : Type 1} → statement M
 contents-ok-spec =
     tie.close
     (tie.spec
-    session-ok-requires
+    (λ c κs. search needs)  -- session-ok-requires
     returns
-    cast-selected
-    cast-t16
-    view-ok-requires
+    (λ c. search needs)  -- cast-selected
+    (λ c. search needs)  -- cast-t16
+    (λ c κs. search needs)  -- view-ok-requires
     returns-2
-    rows-ok-requires
+    (λ c κs. search needs)  -- rows-ok-requires
     returns-3
-    tables-ok-requires
+    (λ c κs. search needs)  -- tables-ok-requires
     returns-4)

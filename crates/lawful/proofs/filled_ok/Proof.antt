@@ -10,11 +10,14 @@ returns c = too-full (c .before .args .room) (c .before .args .filled) (c .befor
 returns-2 : tie.Need-returns-2
 returns-2 c = none-stands (c .before .before .args .room) (c .before .before .args .filled) (c .before .before .args .groups) (c .before .if1 .left) (c .if2 .taken)
 
-sub-result : tie.Need-sub-result
-sub-result c = search needs
-
 returns-3 : tie.Need-returns-3
 returns-3 c = one-stands (c .before .before .args .room) (c .before .before .args .filled) (c .before .before .args .groups) (c .before .if1 .left) (c .if2 .left)
 
 pub filled-ok-spec : {M : Type 1} → statement M
-filled-ok-spec = tie.close (tie.spec returns returns-2 sub-result returns-3)
+filled-ok-spec =
+    tie.close
+    (tie.spec
+    returns
+    returns-2
+    (λ c. search needs)  -- sub-result
+    returns-3)

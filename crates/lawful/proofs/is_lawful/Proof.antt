@@ -9,9 +9,6 @@ use borrow.Author.Needs.{needs}
 use Rattle.lawful.proofs.is_lawful.Statement.{statement}
 use Rattle.lawful.proofs.is_lawful.Tie as tie
 
-sizes-ok-requires : tie.Need-sizes-ok-requires
-sizes-ok-requires c κs = search needs
-
 returns : tie.Need-returns
 returns c =
     let args = c .before .before .before .args in
@@ -36,7 +33,7 @@ pub is-lawful-spec : {M : Type 1} → statement M
 is-lawful-spec =
     tie.close
     (tie.spec
-    sizes-ok-requires
+    (λ c κs. search needs)  -- sizes-ok-requires
     returns
     contents-ok-requires
     returns-2)

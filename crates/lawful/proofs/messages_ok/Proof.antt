@@ -10,25 +10,16 @@ use borrow.Author.Needs.{needs}
 use Rattle.lawful.proofs.messages_ok.Statement.{statement}
 use Rattle.lawful.proofs.messages_ok.Tie as tie
 
-all-fit-requires : tie.Need-all-fit-requires
-all-fit-requires c κs = search needs
-
 returns : tie.Need-returns
 returns c =
     let args = c .before .before .before .args in
     λ l h w v ok a. sym (good-decides l (take (args .used) (messages (args .words .now))) (args .selected) (args .told .0) (c .before .all-fit .ensures l h w v ok a (c .if1 .taken)))
-
-mail-ok-requires : tie.Need-mail-ok-requires
-mail-ok-requires c κs = search needs
 
 returns-2 : tie.Need-returns-2
 returns-2 c =
     let args = c .before .before .before .before .before .args in
     λ l h w v ok a.
     let no : allb (entryOk l (args .selected) (args .told .0)) (take (args .used) (messages (args .words .now))) ≡ false = sym (c .before .mail-ok .ensures l h w v) ∙ not-true _ (c .if2 .taken) in rw no
-
-mail-apart-requires : tie.Need-mail-apart-requires
-mail-apart-requires c κs = search needs
 
 returns-3 : tie.Need-returns-3
 returns-3 c =
@@ -39,4 +30,10 @@ returns-3 c =
 pub messages-ok-spec : {M : Type 1} → statement M
 messages-ok-spec =
     tie.close
-    (tie.spec all-fit-requires returns mail-ok-requires returns-2 mail-apart-requires returns-3)
+    (tie.spec
+    (λ c κs. search needs)  -- all-fit-requires
+    returns
+    (λ c κs. search needs)  -- mail-ok-requires
+    returns-2
+    (λ c κs. search needs)  -- mail-apart-requires
+    returns-3)

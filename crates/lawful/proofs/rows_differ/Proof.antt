@@ -10,20 +10,8 @@ use borrow.Author.Needs.{needs}
 use Rattle.lawful.proofs.rows_differ.Statement.{statement}
 use Rattle.lawful.proofs.rows_differ.Tie as tie
 
-differ-requires : tie.Need-differ-requires
-differ-requires c κs = search needs
-
-rows-apart-requires : tie.Need-rows-apart-requires
-rows-apart-requires c κs = search needs
-
 returns : tie.Need-returns
 returns c = (λ l h v ok. c .rows-apart .ensures l h v, c .before .before .differ .ensures .1, c .before .before .differ .ensures .2)
-
-digests-of-requires : tie.Need-digests-of-requires
-digests-of-requires c κs = search needs
-
-differ-requires-2 : tie.Need-differ-requires-2
-differ-requires-2 c κs = search needs
 
 returns-2 : tie.Need-returns-2
 returns-2 c =
@@ -40,9 +28,6 @@ returns-2 c =
       differ .ensures .2,
     )
 
-rows-apart-requires-2 : tie.Need-rows-apart-requires-2
-rows-apart-requires-2 c κs = search needs
-
 returns-3 : tie.Need-returns-3
 returns-3 c = let differ = c .before .before .before .before .before .before .before .before .before .differ in (λ l h v ok. c .rows-apart2 .ensures l h v, differ .ensures .1, differ .ensures .2)
 
@@ -50,11 +35,11 @@ pub rows-differ-spec : {M : Type 1} → statement M
 rows-differ-spec =
     tie.close
     (tie.spec
-    differ-requires
-    rows-apart-requires
+    (λ c κs. search needs)  -- differ-requires
+    (λ c κs. search needs)  -- rows-apart-requires
     returns
-    digests-of-requires
-    differ-requires-2
+    (λ c κs. search needs)  -- digests-of-requires
+    (λ c κs. search needs)  -- differ-requires-2
     returns-2
-    rows-apart-requires-2
+    (λ c κs. search needs)  -- rows-apart-requires-2
     returns-3)

@@ -18,9 +18,6 @@ returns-2 c =
     let args = c .before .before .args in
     no-at (sizesBy (args .room) (args .lent) (args .entries) (args .counts) (args .groups)) 0 (too-large (args .room) (c .before .if1 .left) (c .if2 .taken))
 
-filled-ok-requires : tie.Need-filled-ok-requires
-filled-ok-requires c κs = search needs
-
 returns-3 : tie.Need-returns-3
 returns-3 c =
     let args = c .before .before .before .before .args in
@@ -72,7 +69,7 @@ sizes-ok-spec =
     (tie.spec
     returns
     returns-2
-    filled-ok-requires
+    (λ c κs. search needs)  -- filled-ok-requires
     returns-3
     returns-4
     returns-5

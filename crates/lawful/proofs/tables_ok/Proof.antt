@@ -12,9 +12,6 @@ use borrow.Author.Needs.{needs}
 use Rattle.lawful.proofs.tables_ok.Statement.{statement}
 use Rattle.lawful.proofs.tables_ok.Tie as tie
 
-rows-differ-requires : tie.Need-rows-differ-requires
-rows-differ-requires c κs = search needs
-
 returns : tie.Need-returns
 returns c =
     let args = c .before .before .before .before .before .args in
@@ -22,9 +19,6 @@ returns c =
     λ l h w x v ok.
     rw (slow-order l es (args .selected) (args .told .0))
     (first-no (apart clash l) (allb (entryOk l (args .selected) (args .told .0)) es) (apart twin es) (sym (c .before .rows-differ .ensures .0 l h v ok) ∙ not-true _ (c .if1 .taken)))
-
-messages-ok-requires : tie.Need-messages-ok-requires
-messages-ok-requires c κs = search needs
 
 returns-2 : tie.Need-returns-2
 returns-2 c =
@@ -35,4 +29,10 @@ returns-2 c =
     rw (slow-order l es (args .selected) (args .told .0), yes) (c .messages-ok .ensures l h w x ok yes)
 
 pub tables-ok-spec : {M : Type 1} → statement M
-tables-ok-spec = tie.close (tie.spec rows-differ-requires returns messages-ok-requires returns-2)
+tables-ok-spec =
+    tie.close
+    (tie.spec
+    (λ c κs. search needs)  -- rows-differ-requires
+    returns
+    (λ c κs. search needs)  -- messages-ok-requires
+    returns-2)

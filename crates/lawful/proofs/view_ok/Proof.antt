@@ -9,19 +9,10 @@ use Rattle.lawful.specs.Lent.{view-none, view-unknown, view-known}
 returns : tie.Need-returns
 returns c = λ l h w. view-none l (c .before .before .args .selected) (c .before .before .args .told .0) (place (c .before .before .args .selected) l) 0 refl (c .before .if1 .taken)
 
-find-requires : tie.Need-find-requires
-find-requires c κs = search needs
-
 returns-2 : tie.Need-returns-2
 returns-2 c =
     let args = c .before .before .before .args in
     λ l h w. view-unknown l (args .selected) (args .told .0) (c .before .find .result) 0 (c .before .find .ensures .0 l h (w .id)) (c .before .before .if1 .left) (omega arith)
-
-mul-result : tie.Need-mul-result
-mul-result c = search needs
-
-element-copy-out-result : tie.Need-element-copy-out-result
-element-copy-out-result c = search needs
 
 returns-3 : tie.Need-returns-3
 returns-3 c =
@@ -31,4 +22,10 @@ returns-3 c =
 pub view-ok-spec : {M : Type 1} → statement M
 view-ok-spec =
     tie.close
-    (tie.spec returns find-requires returns-2 mul-result element-copy-out-result returns-3)
+    (tie.spec
+    returns
+    (λ c κs. search needs)  -- find-requires
+    returns-2
+    (λ c. search needs)  -- mul-result
+    (λ c. search needs)  -- element-copy-out-result
+    returns-3)

@@ -8,47 +8,11 @@ use lib.ListN.{getD}
 use Rattle.table_mailboxes.specs.Columns.{block}
 use Rattle.lawful_mailboxes.specs.Fields.{row-by, nameBy, long-enough}
 
-element-copy-out-len : tie.Need-element-copy-out-len
-element-copy-out-len c = search needs
-
-mul-numbers-ok : tie.Need-mul-numbers-ok
-mul-numbers-ok c = search needs
-
-element-copy-out-numbers-ok : tie.Need-element-copy-out-numbers-ok
-element-copy-out-numbers-ok c = search needs
-
-element-copy-out-numbers-ok-2 : tie.Need-element-copy-out-numbers-ok-2
-element-copy-out-numbers-ok-2 c = search needs
-
-mul-numbers-ok-2 : tie.Need-mul-numbers-ok-2
-mul-numbers-ok-2 c = search needs
-
-element-copy-out-numbers-ok-3 : tie.Need-element-copy-out-numbers-ok-3
-element-copy-out-numbers-ok-3 c = search needs
-
-mul-numbers-ok-3 : tie.Need-mul-numbers-ok-3
-mul-numbers-ok-3 c = search needs
-
-element-copy-out-numbers-ok-4 : tie.Need-element-copy-out-numbers-ok-4
-element-copy-out-numbers-ok-4 c = search needs
-
-mul-numbers-ok-4 : tie.Need-mul-numbers-ok-4
-mul-numbers-ok-4 c = search needs
-
-element-copy-out-numbers-ok-5 : tie.Need-element-copy-out-numbers-ok-5
-element-copy-out-numbers-ok-5 c = search needs
-
-numbers-ok-requires : tie.Need-numbers-ok-requires
-numbers-ok-requires c κs = search needs
-
 returns : tie.Need-returns
 returns c =
     let args = c .before .before .before .before .before .before .before .before .args in
     let by = row-by (args .ids .now) (args .attributes .now) (args .lens .now) (args .validities .now) (args .nexts .now) (args .counters .now) (args .names .now) (args .k) in
     sym (by ∙ ap (λ (b : Bool). b && nameBy (getD (args .lens .now) (args .k) 0) (block (args .names .now) (args .k))) (sym (c .before .numbers-ok .ensures) ∙ not-true _ (c .if1 .taken)))
-
-name-seen-requires : tie.Need-name-seen-requires
-name-seen-requires c κs = search needs
 
 returns-2 : tie.Need-returns-2
 returns-2 c =
@@ -71,19 +35,19 @@ pub row-ok-spec : {M : Type 1} → statement M
 row-ok-spec =
     tie.close
     (tie.spec
-    element-copy-out-len
-    mul-numbers-ok
-    element-copy-out-numbers-ok
-    element-copy-out-numbers-ok-2
-    mul-numbers-ok-2
-    element-copy-out-numbers-ok-3
-    mul-numbers-ok-3
-    element-copy-out-numbers-ok-4
-    mul-numbers-ok-4
-    element-copy-out-numbers-ok-5
-    numbers-ok-requires
+    (λ c. search needs)  -- element-copy-out-len
+    (λ c. search needs)  -- mul-numbers-ok
+    (λ c. search needs)  -- element-copy-out-numbers-ok
+    (λ c. search needs)  -- element-copy-out-numbers-ok-2
+    (λ c. search needs)  -- mul-numbers-ok-2
+    (λ c. search needs)  -- element-copy-out-numbers-ok-3
+    (λ c. search needs)  -- mul-numbers-ok-3
+    (λ c. search needs)  -- element-copy-out-numbers-ok-4
+    (λ c. search needs)  -- mul-numbers-ok-4
+    (λ c. search needs)  -- element-copy-out-numbers-ok-5
+    (λ c κs. search needs)  -- numbers-ok-requires
     returns
-    name-seen-requires
+    (λ c κs. search needs)  -- name-seen-requires
     returns-2
     name-ok-requires
     returns-3)

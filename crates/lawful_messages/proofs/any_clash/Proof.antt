@@ -22,9 +22,6 @@ abbrev μ-loop : tie.MeasureT-loop
 loop-holds : tie.Need-loop-holds Inv-loop μ-loop
 loop-holds c = (search needs, search needs, λ l h w. refl)
 
-do-clash-requires : tie.Need-do-clash-requires Inv-loop μ-loop
-do-clash-requires c κs = search needs
-
 returns : tie.Need-returns Inv-loop μ-loop
 returns c =
     let args = c .before .before .before .before .args in
@@ -32,12 +29,6 @@ returns c =
     λ l h w.
     let at = clash-at l (args .ids .now) (args .lens .now) (args .names .now) w (args .j) (turn .i) (omega arith) (omega arith) in
     sym (turn .inv .2 l h w ∙ any-found (clash (getD l (args .j) noMailbox)) l (turn .i) noMailbox (omega arith) (sym (c .before .do-clash .ensures ∙ at) ∙ c .if1 .taken))
-
-add-i : tie.Need-add-i Inv-loop μ-loop
-add-i c = search needs
-
-loop-less : tie.Need-loop-less Inv-loop μ-loop
-loop-less c = search needs
 
 loop-again : tie.Need-loop-again Inv-loop μ-loop
 loop-again c =
@@ -60,9 +51,9 @@ any-clash-spec =
     Inv-loop
     μ-loop
     loop-holds
-    do-clash-requires
+    (λ c κs. search needs)  -- do-clash-requires
     returns
-    add-i
-    loop-less
+    (λ c. search needs)  -- add-i
+    (λ c. search needs)  -- loop-less
     loop-again
     returns-2)

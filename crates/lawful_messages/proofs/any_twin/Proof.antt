@@ -20,23 +20,11 @@ abbrev μ-loop : tie.MeasureT-loop
 loop-holds : tie.Need-loop-holds Inv-loop μ-loop
 loop-holds c = (search needs, search needs, refl)
 
-get-requires : tie.Need-get-requires Inv-loop μ-loop
-get-requires c κs = search needs
-
-are-twins-requires : tie.Need-are-twins-requires Inv-loop μ-loop
-are-twins-requires c κs = search needs
-
 returns : tie.Need-returns Inv-loop μ-loop
 returns c =
     let args = c .before .before .before .before .before .before .args in
     let turn = c .before .before .before .before .loop in
     let k = messages-length (args .n) (args .words .now) (c .before .before .before .before .before .before .pre .0) in sym (turn .inv .2 ∙ any-here (twin (args .d)) (messages (args .words .now)) (args .n) (turn .i) (omega arith) noMessage (omega arith) (ap (twin (args .d)) (sym (c .before .before .get .ensures)) ∙ sym (c .before .are-twins .ensures) ∙ c .if1 .taken))
-
-add-i : tie.Need-add-i Inv-loop μ-loop
-add-i c = search needs
-
-loop-less : tie.Need-loop-less Inv-loop μ-loop
-loop-less c = search needs
 
 loop-again : tie.Need-loop-again Inv-loop μ-loop
 loop-again c =
@@ -57,10 +45,10 @@ any-twin-spec =
     Inv-loop
     μ-loop
     loop-holds
-    get-requires
-    are-twins-requires
+    (λ c κs. search needs)  -- get-requires
+    (λ c κs. search needs)  -- are-twins-requires
     returns
-    add-i
-    loop-less
+    (λ c. search needs)  -- add-i
+    (λ c. search needs)  -- loop-less
     loop-again
     returns-2)

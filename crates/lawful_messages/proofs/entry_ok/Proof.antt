@@ -7,24 +7,15 @@ use Rattle.lawful_quick.specs.Passing.{stateAt}
 use Rattle.table_mailboxes.specs.Walks.{first-no, second-no, third}
 use borrow.Author.Needs.{needs}
 
-message-ok-requires : tie.Need-message-ok-requires
-message-ok-requires c κs = search needs
-
 returns : tie.Need-returns
 returns c =
     let args = c .before .before .args in
     λ l h w v. first-no (messageOk (args .e)) (owned l (args .e)) (stateAt (args .selected) (args .told .0) (args .e)) (sym (c .before .message-ok .ensures) ∙ not-true _ (c .if1 .taken))
 
-is-owned-requires : tie.Need-is-owned-requires
-is-owned-requires c κs = search needs
-
 returns-2 : tie.Need-returns-2
 returns-2 c =
     let args = c .before .before .before .before .args in
     λ l h w v. second-no (messageOk (args .e)) (owned l (args .e)) (stateAt (args .selected) (args .told .0) (args .e)) (sym (c .before .before .before .message-ok .ensures) ∙ not-false _ (c .before .before .if1 .left)) (sym (c .before .is-owned .ensures l h w v) ∙ not-true _ (c .if2 .taken))
-
-state-ok-requires : tie.Need-state-ok-requires
-state-ok-requires c κs = search needs
 
 returns-3 : tie.Need-returns-3
 returns-3 c =
@@ -34,4 +25,10 @@ returns-3 c =
 pub entry-ok-spec : {M : Type 1} → statement M
 entry-ok-spec =
     tie.close
-    (tie.spec message-ok-requires returns is-owned-requires returns-2 state-ok-requires returns-3)
+    (tie.spec
+    (λ c κs. search needs)  -- message-ok-requires
+    returns
+    (λ c κs. search needs)  -- is-owned-requires
+    returns-2
+    (λ c κs. search needs)  -- state-ok-requires
+    returns-3)

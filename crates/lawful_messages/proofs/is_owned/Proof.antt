@@ -4,28 +4,13 @@ use Rattle.lawful_messages.proofs.is_owned.Tie as tie
 use native.Mathlib.Omega.{arith}
 use Rattle.lawful_messages.specs.Owning.{owner-unknown, owner-passed, owner-known}
 
-find-requires : tie.Need-find-requires
-find-requires c κs = search needs
-
 returns : tie.Need-returns
 returns c = λ l h w v. owner-unknown l (c .before .before .args .e) (c .before .find .result) 0 (c .before .find .ensures .0 l h (w .id)) (omega arith)
-
-mul-if2 : tie.Need-mul-if2
-mul-if2 c = search needs
-
-element-copy-out-if2 : tie.Need-element-copy-out-if2
-element-copy-out-if2 c = search needs
 
 returns-2 : tie.Need-returns-2
 returns-2 c =
     let find = c .before .before .before .before .find in
     λ l h w v. owner-passed l (c .before .before .before .before .before .args .e) (find .result) _ (find .ensures .0 l h (w .id)) (omega arith) (w .next (find .result) (omega arith)) (c .if2 .taken)
-
-mul-result : tie.Need-mul-result
-mul-result c = search needs
-
-element-copy-out-result : tie.Need-element-copy-out-result
-element-copy-out-result c = search needs
 
 returns-3 : tie.Need-returns-3
 returns-3 c =
@@ -36,11 +21,11 @@ pub is-owned-spec : {M : Type 1} → statement M
 is-owned-spec =
     tie.close
     (tie.spec
-    find-requires
+    (λ c κs. search needs)  -- find-requires
     returns
-    mul-if2
-    element-copy-out-if2
+    (λ c. search needs)  -- mul-if2
+    (λ c. search needs)  -- element-copy-out-if2
     returns-2
-    mul-result
-    element-copy-out-result
+    (λ c. search needs)  -- mul-result
+    (λ c. search needs)  -- element-copy-out-result
     returns-3)

@@ -21,26 +21,11 @@ abbrev μ-loop : tie.MeasureT-loop
 loop-holds : tie.Need-loop-holds Inv-loop μ-loop
 loop-holds c = (search needs, refl)
 
-add-any-twin : tie.Need-add-any-twin Inv-loop μ-loop
-add-any-twin c = search needs
-
-get-requires : tie.Need-get-requires Inv-loop μ-loop
-get-requires c κs = search needs
-
-any-twin-requires : tie.Need-any-twin-requires Inv-loop μ-loop
-any-twin-requires c κs = search needs
-
 returns : tie.Need-returns Inv-loop μ-loop
 returns c =
     let args = c .before .before .before .before .before .before .args in
     let turn = c .before .before .before .before .loop in
     let k = messages-length (args .n) (args .words .now) (c .before .before .before .before .before .before .pre) in sym (turn .inv .1 ∙ apart-here twin (messages (args .words .now)) (args .n) (turn .i) (omega arith) noMessage (omega arith) (ap (λ (d : Message). anyb (twin d) (drop (turn .i + 1) (take (args .n) (messages (args .words .now))))) (sym (c .before .before .get .ensures)) ∙ sym (c .before .any-twin .ensures) ∙ c .if1 .taken))
-
-add-i : tie.Need-add-i Inv-loop μ-loop
-add-i c = search needs
-
-loop-less : tie.Need-loop-less Inv-loop μ-loop
-loop-less c = search needs
 
 loop-again : tie.Need-loop-again Inv-loop μ-loop
 loop-again c =
@@ -61,11 +46,11 @@ mail-apart-spec =
     Inv-loop
     μ-loop
     loop-holds
-    add-any-twin
-    get-requires
-    any-twin-requires
+    (λ c. search needs)  -- add-any-twin
+    (λ c κs. search needs)  -- get-requires
+    (λ c κs. search needs)  -- any-twin-requires
     returns
-    add-i
-    loop-less
+    (λ c. search needs)  -- add-i
+    (λ c. search needs)  -- loop-less
     loop-again
     returns-2)

@@ -24,12 +24,6 @@ abbrev μ-loop : tie.MeasureT-loop
 loop-holds : tie.Need-loop-holds Inv-loop μ-loop
 loop-holds c = (search needs, λ l h w v. refl)
 
-get-requires : tie.Need-get-requires Inv-loop μ-loop
-get-requires c κs = search needs
-
-entry-ok-requires : tie.Need-entry-ok-requires Inv-loop μ-loop
-entry-ok-requires c κs = search needs
-
 returns : tie.Need-returns Inv-loop μ-loop
 returns c =
     let args = c .before .before .before .before .before .before .args in
@@ -38,12 +32,6 @@ returns c =
     let many = messages-length (args .used) (args .words .now) (c .before .before .before .before .before .before .pre .1) in
     let p = entryOk l (args .selected) (args .told .0) in
     sym (turn .inv .1 l h w v ∙ all-here p (messages (args .words .now)) (args .used) (turn .i) many noMessage (omega arith) (sym (c .before .entry-ok .ensures l h w v ∙ ap p (c .before .before .get .ensures)) ∙ not-true _ (c .if1 .taken)))
-
-add-i : tie.Need-add-i Inv-loop μ-loop
-add-i c = search needs
-
-loop-less : tie.Need-loop-less Inv-loop μ-loop
-loop-less c = search needs
 
 loop-again : tie.Need-loop-again Inv-loop μ-loop
 loop-again c =
@@ -71,10 +59,10 @@ mail-ok-spec =
     Inv-loop
     μ-loop
     loop-holds
-    get-requires
-    entry-ok-requires
+    (λ c κs. search needs)  -- get-requires
+    (λ c κs. search needs)  -- entry-ok-requires
     returns
-    add-i
-    loop-less
+    (λ c. search needs)  -- add-i
+    (λ c. search needs)  -- loop-less
     loop-again
     returns-2)

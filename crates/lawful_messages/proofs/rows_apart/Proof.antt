@@ -23,22 +23,10 @@ abbrev μ-loop : tie.MeasureT-loop
 loop-holds : tie.Need-loop-holds Inv-loop μ-loop
 loop-holds c = (search needs, λ l h w. refl)
 
-add-any-clash : tie.Need-add-any-clash Inv-loop μ-loop
-add-any-clash c = search needs
-
-any-clash-requires : tie.Need-any-clash-requires Inv-loop μ-loop
-any-clash-requires c κs = search needs
-
 returns : tie.Need-returns Inv-loop μ-loop
 returns c =
     let turn = c .before .before .before .loop in
     λ l h w. sym (turn .inv .1 l h w ∙ apart-broken clash l (turn .i) noMailbox (omega arith) (sym (c .before .any-clash .ensures l h w) ∙ c .if1 .taken))
-
-add-i : tie.Need-add-i Inv-loop μ-loop
-add-i c = search needs
-
-loop-less : tie.Need-loop-less Inv-loop μ-loop
-loop-less c = search needs
 
 loop-again : tie.Need-loop-again Inv-loop μ-loop
 loop-again c =
@@ -55,10 +43,10 @@ rows-apart-spec =
     Inv-loop
     μ-loop
     loop-holds
-    add-any-clash
-    any-clash-requires
+    (λ c. search needs)  -- add-any-clash
+    (λ c κs. search needs)  -- any-clash-requires
     returns
-    add-i
-    loop-less
+    (λ c. search needs)  -- add-i
+    (λ c. search needs)  -- loop-less
     loop-again
     returns-2)

@@ -63,9 +63,6 @@ mul-owner c = omega arith
 shared-slice-read-owner : tie.Need-shared-slice-read-owner Inv-loop μ-loop
 shared-slice-read-owner c = omega arith
 
-owner-requires : tie.Need-owner-requires Inv-loop μ-loop
-owner-requires c κs = search needs
-
 mul-entry-fits : tie.Need-mul-entry-fits Inv-loop μ-loop
 mul-entry-fits c = omega arith
 
@@ -83,9 +80,6 @@ mul-entry-fits-3 c = omega arith
 
 element-copy-out-entry-fits-2 : tie.Need-element-copy-out-entry-fits-2 Inv-loop μ-loop
 element-copy-out-entry-fits-2 c = omega arith
-
-entry-fits-requires : tie.Need-entry-fits-requires Inv-loop μ-loop
-entry-fits-requires c κs = search needs
 
 returns-2 : tie.Need-returns-2 Inv-loop μ-loop
 returns-2 c = λ l h w v ok a z. tf false z refl
@@ -180,9 +174,6 @@ returns-3 c = λ l h w v ok a z. tf false z refl
 returns-4 : tie.Need-returns-4 Inv-loop μ-loop
 returns-4 c = λ l h w v ok a z. tf false z refl
 
-below-requires : tie.Need-below-requires Inv-loop μ-loop
-below-requires c κs = search needs
-
 returns-5 : tie.Need-returns-5 Inv-loop μ-loop
 returns-5 c =
     let args = c .before .before .before .before .before .before .before .before .before .before .before .before .before .args in
@@ -204,14 +195,14 @@ all-fit-spec =
     loop-holds
     mul-owner
     shared-slice-read-owner
-    owner-requires
+    (λ c κs. search needs)  -- owner-requires
     mul-entry-fits
     array-read-entry-fits
     mul-entry-fits-2
     element-copy-out-entry-fits
     mul-entry-fits-3
     element-copy-out-entry-fits-2
-    entry-fits-requires
+    (λ c κs. search needs)  -- entry-fits-requires
     returns-2
     add-last
     mul-last
@@ -230,5 +221,5 @@ all-fit-spec =
     loop-again
     returns-3
     returns-4
-    below-requires
+    (λ c κs. search needs)  -- below-requires
     returns-5)

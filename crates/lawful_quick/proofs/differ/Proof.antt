@@ -36,33 +36,6 @@ is-new-requires c κs = (omega arith, c .before .before .loop .inv .7)
 returns : tie.Need-returns Inv-loop μ-loop
 returns c = (λ z. tf false z refl, c .before .before .before .before .loop .inv .5, c .before .before .before .before .loop .inv .6)
 
-mul-slot : tie.Need-mul-slot Inv-loop μ-loop
-mul-slot c = search needs
-
-element-copy-out-slot : tie.Need-element-copy-out-slot Inv-loop μ-loop
-element-copy-out-slot c = search needs
-
-slot-requires : tie.Need-slot-requires Inv-loop μ-loop
-slot-requires c κs = search needs
-
-element-copy-out-chain : tie.Need-element-copy-out-chain Inv-loop μ-loop
-element-copy-out-chain c = search needs
-
-element-write-chain : tie.Need-element-write-chain Inv-loop μ-loop
-element-write-chain c = search needs
-
-octet-requires : tie.Need-octet-requires Inv-loop μ-loop
-octet-requires c κs = search needs
-
-element-write-slots : tie.Need-element-write-slots Inv-loop μ-loop
-element-write-slots c = search needs
-
-add-i : tie.Need-add-i Inv-loop μ-loop
-add-i c = search needs
-
-loop-less : tie.Need-loop-less Inv-loop μ-loop
-loop-less c = search needs
-
 loop-again : tie.Need-loop-again Inv-loop μ-loop
 loop-again c =
     let args = c .before .before .before .before .before .before .before .before .before .args in
@@ -94,14 +67,14 @@ differ-spec =
     loop-holds
     is-new-requires
     returns
-    mul-slot
-    element-copy-out-slot
-    slot-requires
-    element-copy-out-chain
-    element-write-chain
-    octet-requires
-    element-write-slots
-    add-i
-    loop-less
+    (λ c. search needs)  -- mul-slot
+    (λ c. search needs)  -- element-copy-out-slot
+    (λ c κs. search needs)  -- slot-requires
+    (λ c. search needs)  -- element-copy-out-chain
+    (λ c. search needs)  -- element-write-chain
+    (λ c κs. search needs)  -- octet-requires
+    (λ c. search needs)  -- element-write-slots
+    (λ c. search needs)  -- add-i
+    (λ c. search needs)  -- loop-less
     loop-again
     returns-2)

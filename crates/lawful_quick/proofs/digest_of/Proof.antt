@@ -18,35 +18,11 @@ loop-holds : tie.Need-loop-holds Inv-loop μ-loop
 unfolding mixedUp
 loop-holds c = (search needs, refl)
 
-mul-word : tie.Need-mul-word Inv-loop μ-loop
-mul-word c = search needs
-
-mul-word-2 : tie.Need-mul-word-2 Inv-loop μ-loop
-mul-word-2 c = search needs
-
-add-word : tie.Need-add-word Inv-loop μ-loop
-add-word c = search needs
-
-word-requires : tie.Need-word-requires Inv-loop μ-loop
-word-requires c κs = search needs
-
-mix-requires : tie.Need-mix-requires Inv-loop μ-loop
-mix-requires c κs = search needs
-
-add-i : tie.Need-add-i Inv-loop μ-loop
-add-i c = search needs
-
-loop-less : tie.Need-loop-less Inv-loop μ-loop
-loop-less c = search needs
-
 loop-again : tie.Need-loop-again Inv-loop μ-loop
 loop-again c =
     let args = c .before .before .before .before .before .args in
     let turn = c .before .before .before .loop in
     (search needs, mixed-next (args .names .now) (args .k) (turn .i) (turn .d) (c .before .word .result) (c .mix .result) (omega arith) (turn .inv .1) (c .before .word .ensures) (c .mix .ensures))
-
-fold-requires : tie.Need-fold-requires Inv-loop μ-loop
-fold-requires c κs = search needs
 
 returns : tie.Need-returns Inv-loop μ-loop
 returns c =
@@ -60,13 +36,13 @@ digest-of-spec =
     Inv-loop
     μ-loop
     loop-holds
-    mul-word
-    mul-word-2
-    add-word
-    word-requires
-    mix-requires
-    add-i
-    loop-less
+    (λ c. search needs)  -- mul-word
+    (λ c. search needs)  -- mul-word-2
+    (λ c. search needs)  -- add-word
+    (λ c κs. search needs)  -- word-requires
+    (λ c κs. search needs)  -- mix-requires
+    (λ c. search needs)  -- add-i
+    (λ c. search needs)  -- loop-less
     loop-again
-    fold-requires
+    (λ c κs. search needs)  -- fold-requires
     returns)

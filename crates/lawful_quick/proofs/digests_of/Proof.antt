@@ -17,21 +17,6 @@ abbrev μ-loop : tie.MeasureT-loop
 loop-holds : tie.Need-loop-holds Inv-loop μ-loop
 loop-holds c = (search needs, search needs, λ k h. absurd (let z : ⊥ = omega arith in z))
 
-digest-of-requires : tie.Need-digest-of-requires Inv-loop μ-loop
-digest-of-requires c κs = search needs
-
-mul-digests : tie.Need-mul-digests Inv-loop μ-loop
-mul-digests c = search needs
-
-array-write-digests : tie.Need-array-write-digests Inv-loop μ-loop
-array-write-digests c = search needs
-
-add-i : tie.Need-add-i Inv-loop μ-loop
-add-i c = search needs
-
-loop-less : tie.Need-loop-less Inv-loop μ-loop
-loop-less c = search needs
-
 loop-again : tie.Need-loop-again Inv-loop μ-loop
 loop-again c =
     let turn = c .before .before .loop in
@@ -47,10 +32,10 @@ digests-of-spec =
     Inv-loop
     μ-loop
     loop-holds
-    digest-of-requires
-    mul-digests
-    array-write-digests
-    add-i
-    loop-less
+    (λ c κs. search needs)  -- digest-of-requires
+    (λ c. search needs)  -- mul-digests
+    (λ c. search needs)  -- array-write-digests
+    (λ c. search needs)  -- add-i
+    (λ c. search needs)  -- loop-less
     loop-again
     returns)

@@ -3,15 +3,6 @@ use borrow.Author.Needs.{needs}
 use Rattle.lawful_quick.proofs.mix.Statement.{statement}
 use Rattle.lawful_quick.proofs.mix.Tie as tie
 
-wrapping-add-u64-requires : tie.Need-wrapping-add-u64-requires
-wrapping-add-u64-requires c κs = search needs
-
-wrapping-add-u64-requires-2 : tie.Need-wrapping-add-u64-requires-2
-wrapping-add-u64-requires-2 c κs = search needs
-
-wrapping-add-u64-requires-3 : tie.Need-wrapping-add-u64-requires-3
-wrapping-add-u64-requires-3 c κs = search needs
-
 returns : tie.Need-returns
 returns c = c .wrapping-add-u643 .ensures ∙ rw (c .before .wrapping-add-u642 .ensures, c .before .before .wrapping-add-u64 .ensures)
 
@@ -19,7 +10,7 @@ pub mix-spec : {M : Type 1} → statement M
 mix-spec =
     tie.close
     (tie.spec
-    wrapping-add-u64-requires
-    wrapping-add-u64-requires-2
-    wrapping-add-u64-requires-3
+    (λ c κs. search needs)  -- wrapping-add-u64-requires
+    (λ c κs. search needs)  -- wrapping-add-u64-requires-2
+    (λ c κs. search needs)  -- wrapping-add-u64-requires-3
     returns)

@@ -17,21 +17,6 @@ abbrev μ-loop : tie.MeasureT-loop
 loop-holds : tie.Need-loop-holds Inv-loop μ-loop
 loop-holds c = record { on = search needs; inside = search needs; whole = c .before .pre .1; long = c .before .pre .4; kept = λ l nexts w v a o s g. g }
 
-mul-slot : tie.Need-mul-slot Inv-loop μ-loop
-mul-slot c = search needs
-
-shared-slice-read-slot : tie.Need-shared-slice-read-slot Inv-loop μ-loop
-shared-slice-read-slot c = search needs
-
-slot-requires : tie.Need-slot-requires Inv-loop μ-loop
-slot-requires c κs = search needs
-
-element-copy-out-row : tie.Need-element-copy-out-row Inv-loop μ-loop
-element-copy-out-row c = search needs
-
-row-requires : tie.Need-row-requires Inv-loop μ-loop
-row-requires c κs = search needs
-
 mul-entry-fits : tie.Need-mul-entry-fits Inv-loop μ-loop
 mul-entry-fits c = let z = c .before .before .before .before .before .before .before .pre .5 (omega arith) (c .before .before .slot .result) in search needs
 
@@ -50,50 +35,14 @@ mul-entry-fits-3 c = let z = c .before .before .before .before .before .before .
 element-copy-out-entry-fits-3 : tie.Need-element-copy-out-entry-fits-3 Inv-loop μ-loop
 element-copy-out-entry-fits-3 c = let z = c .before .before .before .before .before .before .before .before .before .pre .5 (omega arith) (c .before .before .before .before .slot .result) in search needs
 
-entry-fits-requires : tie.Need-entry-fits-requires Inv-loop μ-loop
-entry-fits-requires c κs = search needs
-
 returns : tie.Need-returns Inv-loop μ-loop
 returns c = c .before .before .before .before .before .before .before .before .before .before .loop .inv
-
-add-last : tie.Need-add-last Inv-loop μ-loop
-add-last c = search needs
-
-mul-last : tie.Need-mul-last Inv-loop μ-loop
-mul-last c = search needs
-
-shared-slice-read-last : tie.Need-shared-slice-read-last Inv-loop μ-loop
-shared-slice-read-last c = search needs
 
 mul-last-2 : tie.Need-mul-last-2 Inv-loop μ-loop
 mul-last-2 c = let z = c .before .before .before .before .before .before .before .before .before .before .before .before .before .pre .5 (omega arith) (c .before .before .before .before .before .before .before .before .slot .result) in search needs
 
 element-write-last : tie.Need-element-write-last Inv-loop μ-loop
 element-write-last c = let z = c .before .before .before .before .before .before .before .before .before .before .before .before .before .pre .5 (omega arith) (c .before .before .before .before .before .before .before .before .slot .result) in search needs
-
-add-flags : tie.Need-add-flags Inv-loop μ-loop
-add-flags c = search needs
-
-mul-flags : tie.Need-mul-flags Inv-loop μ-loop
-mul-flags c = search needs
-
-shared-slice-read-flags : tie.Need-shared-slice-read-flags Inv-loop μ-loop
-shared-slice-read-flags c = search needs
-
-add-size : tie.Need-add-size Inv-loop μ-loop
-add-size c = search needs
-
-mul-size : tie.Need-mul-size Inv-loop μ-loop
-mul-size c = search needs
-
-shared-slice-read-size : tie.Need-shared-slice-read-size Inv-loop μ-loop
-shared-slice-read-size c = search needs
-
-add-b : tie.Need-add-b Inv-loop μ-loop
-add-b c = search needs
-
-loop-less : tie.Need-loop-less Inv-loop μ-loop
-loop-less c = search needs
 
 loop-again : tie.Need-loop-again Inv-loop μ-loop
 loop-again c =
@@ -131,31 +80,31 @@ run-spec =
     Inv-loop
     μ-loop
     loop-holds
-    mul-slot
-    shared-slice-read-slot
-    slot-requires
-    element-copy-out-row
-    row-requires
+    (λ c. search needs)  -- mul-slot
+    (λ c. search needs)  -- shared-slice-read-slot
+    (λ c κs. search needs)  -- slot-requires
+    (λ c. search needs)  -- element-copy-out-row
+    (λ c κs. search needs)  -- row-requires
     mul-entry-fits
     element-copy-out-entry-fits
     mul-entry-fits-2
     element-copy-out-entry-fits-2
     mul-entry-fits-3
     element-copy-out-entry-fits-3
-    entry-fits-requires
+    (λ c κs. search needs)  -- entry-fits-requires
     returns
-    add-last
-    mul-last
-    shared-slice-read-last
+    (λ c. search needs)  -- add-last
+    (λ c. search needs)  -- mul-last
+    (λ c. search needs)  -- shared-slice-read-last
     mul-last-2
     element-write-last
-    add-flags
-    mul-flags
-    shared-slice-read-flags
-    add-size
-    mul-size
-    shared-slice-read-size
-    add-b
-    loop-less
+    (λ c. search needs)  -- add-flags
+    (λ c. search needs)  -- mul-flags
+    (λ c. search needs)  -- shared-slice-read-flags
+    (λ c. search needs)  -- add-size
+    (λ c. search needs)  -- mul-size
+    (λ c. search needs)  -- shared-slice-read-size
+    (λ c. search needs)  -- add-b
+    (λ c. search needs)  -- loop-less
     loop-again
     returns-2)

@@ -5,12 +5,13 @@ use mathlib.Core.Path.{refl}
 use native.Mathlib.Omega.{arith}
 use Rattle.lawful_quick.specs.Distinct.{slotOf}
 
-mul-spread : tie.Need-mul-spread
-mul-spread c = search needs
-
 returns : tie.Need-returns
 unfolding slotOf
 returns c = (refl, omega arith)
 
 pub slot-spec : {M : Type 1} → statement M
-slot-spec = tie.close (tie.spec mul-spread returns)
+slot-spec =
+    tie.close
+    (tie.spec
+    (λ c. search needs)  -- mul-spread
+    returns)

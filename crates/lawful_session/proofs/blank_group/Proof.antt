@@ -6,21 +6,15 @@ use Prim.Native.Nat.{_-_}
 use lib.Dec.{eqb}
 use Rattle.lawful_session.specs.Tests.{blank-is}
 
-both-requires : tie.Need-both-requires
-both-requires c κs = search needs
-
-both-requires-2 : tie.Need-both-requires-2
-both-requires-2 c κs = search needs
-
-both-requires-3 : tie.Need-both-requires-3
-both-requires-3 c κs = search needs
-
-both-requires-4 : tie.Need-both-requires-4
-both-requires-4 c κs = search needs
-
 returns : tie.Need-returns
 returns c = rw (c .both4 .ensures, c .before .both3 .ensures, c .before .before .before .both2 .ensures, c .before .before .before .before .before .before .both .ensures) (sym (blank-is (eqb (c .before .before .before .before .before .before .before .before .before .args .g .selector) 0) (eqb (c .before .before .before .before .before .before .before .before .before .args .g .first) 0) (eqb (c .before .before .before .before .before .before .before .before .before .args .g .count) 0) (eqb (c .before .before .before .before .before .before .before .before .before .args .g .events) 0) (eqb (c .before .before .before .before .before .before .before .before .before .args .g .attributes) 0)))
 
 pub blank-group-spec : {M : Type 1} → statement M
 blank-group-spec =
-    tie.close (tie.spec both-requires both-requires-2 both-requires-3 both-requires-4 returns)
+    tie.close
+    (tie.spec
+    (λ c κs. search needs)  -- both-requires
+    (λ c κs. search needs)  -- both-requires-2
+    (λ c κs. search needs)  -- both-requires-3
+    (λ c κs. search needs)  -- both-requires-4
+    returns)

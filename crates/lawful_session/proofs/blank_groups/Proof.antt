@@ -20,23 +20,8 @@ abbrev μ-loop : tie.MeasureT-loop
 loop-holds : tie.Need-loop-holds Inv-loop μ-loop
 loop-holds c = (search needs, refl)
 
-mul-g : tie.Need-mul-g Inv-loop μ-loop
-mul-g c = search needs
-
-array-copy-out-g : tie.Need-array-copy-out-g Inv-loop μ-loop
-array-copy-out-g c = search needs
-
-blank-group-requires : tie.Need-blank-group-requires Inv-loop μ-loop
-blank-group-requires c κs = search needs
-
 returns : tie.Need-returns Inv-loop μ-loop
 returns c = let long : length (c .before .before .before .before .before .args .t1) ≡ 8 = search (needs, mapped-length) in sym (c .before .before .before .before .loop .inv .1 ∙ all-broken blankGroup (c .before .before .before .before .before .args .t1) (c .before .before .before .before .loop .i) noGroup (omega arith) (sym (c .before .blank-group .ensures) ∙ not-true _ (c .if1 .taken)))
-
-add-i : tie.Need-add-i Inv-loop μ-loop
-add-i c = search needs
-
-loop-less : tie.Need-loop-less Inv-loop μ-loop
-loop-less c = search needs
 
 loop-again : tie.Need-loop-again Inv-loop μ-loop
 loop-again c = let long : length (c .before .before .before .before .before .args .t1) ≡ 8 = search (needs, mapped-length) in (search needs, c .before .before .before .before .loop .inv .1 ∙ all-on blankGroup (c .before .before .before .before .before .args .t1) (c .before .before .before .before .loop .i) noGroup (omega arith) (sym (c .before .blank-group .ensures) ∙ not-false _ (c .if1 .left)))
@@ -51,11 +36,11 @@ blank-groups-spec =
     Inv-loop
     μ-loop
     loop-holds
-    mul-g
-    array-copy-out-g
-    blank-group-requires
+    (λ c. search needs)  -- mul-g
+    (λ c. search needs)  -- array-copy-out-g
+    (λ c κs. search needs)  -- blank-group-requires
     returns
-    add-i
-    loop-less
+    (λ c. search needs)  -- add-i
+    (λ c. search needs)  -- loop-less
     loop-again
     returns-2)

@@ -21,21 +21,6 @@ abbrev μ-loop : tie.MeasureT-loop
 loop-holds : tie.Need-loop-holds Inv-loop μ-loop
 loop-holds c = (search needs, search needs, refl)
 
-shared-slice-read-octet-if : tie.Need-shared-slice-read-octet-if Inv-loop μ-loop
-shared-slice-read-octet-if c = search needs
-
-octet-if-requires : tie.Need-octet-if-requires Inv-loop μ-loop
-octet-if-requires c κs = search needs
-
-add-sum : tie.Need-add-sum Inv-loop μ-loop
-add-sum c = search needs
-
-add-i : tie.Need-add-i Inv-loop μ-loop
-add-i c = search needs
-
-loop-less : tie.Need-loop-less Inv-loop μ-loop
-loop-less c = search needs
-
 loop-again : tie.Need-loop-again Inv-loop μ-loop
 loop-again c =
     let turn = c .before .before .before .loop in
@@ -51,10 +36,10 @@ filled-spec =
     Inv-loop
     μ-loop
     loop-holds
-    shared-slice-read-octet-if
-    octet-if-requires
-    add-sum
-    add-i
-    loop-less
+    (λ c. search needs)  -- shared-slice-read-octet-if
+    (λ c κs. search needs)  -- octet-if-requires
+    (λ c. search needs)  -- add-sum
+    (λ c. search needs)  -- add-i
+    (λ c. search needs)  -- loop-less
     loop-again
     returns)

@@ -20,29 +20,8 @@ abbrev μ-loop : tie.MeasureT-loop
 loop-holds : tie.Need-loop-holds Inv-loop μ-loop
 loop-holds c = (search needs, (search needs, refl))
 
-mul-g : tie.Need-mul-g Inv-loop μ-loop
-mul-g c = search needs
-
-array-copy-out-g : tie.Need-array-copy-out-g Inv-loop μ-loop
-array-copy-out-g c = search needs
-
-group-ok-requires : tie.Need-group-ok-requires Inv-loop μ-loop
-group-ok-requires c κs = search needs
-
 returns : tie.Need-returns Inv-loop μ-loop
 returns c = let long : length (c .before .before .before .before .before .args .t1) ≡ 8 = search (needs, mapped-length) in sym (c .before .before .before .before .loop .inv .1 .1 ∙ groups-here (c .before .before .before .before .before .args .t1) (c .before .before .before .before .before .args .n) (c .before .before .before .before .loop .i) (c .before .before .before .before .loop .first) noGroup (omega arith) (omega arith) (sym (c .before .group-ok .ensures) ∙ not-true _ (c .if1 .taken)))
-
-wide-octet-requires : tie.Need-wide-octet-requires Inv-loop μ-loop
-wide-octet-requires c κs = search needs
-
-add-first : tie.Need-add-first Inv-loop μ-loop
-add-first c = search needs
-
-add-i : tie.Need-add-i Inv-loop μ-loop
-add-i c = search needs
-
-loop-less : tie.Need-loop-less Inv-loop μ-loop
-loop-less c = search needs
 
 loop-again : tie.Need-loop-again Inv-loop μ-loop
 loop-again c = let long : length (c .before .before .before .before .before .before .args .t1) ≡ 8 = search (needs, mapped-length) in (search needs, (search needs, rw (c .wide-octet .ensures .0) (c .before .before .before .before .before .loop .inv .1 .1 ∙ groups-next (c .before .before .before .before .before .before .args .t1) (c .before .before .before .before .before .before .args .n) (c .before .before .before .before .before .loop .i) (c .before .before .before .before .before .loop .first) noGroup (omega arith) (omega arith) (sym (c .before .before .group-ok .ensures) ∙ not-false _ (c .before .if1 .left)))))
@@ -57,13 +36,13 @@ groups-ok-spec =
     Inv-loop
     μ-loop
     loop-holds
-    mul-g
-    array-copy-out-g
-    group-ok-requires
+    (λ c. search needs)  -- mul-g
+    (λ c. search needs)  -- array-copy-out-g
+    (λ c κs. search needs)  -- group-ok-requires
     returns
-    wide-octet-requires
-    add-first
-    add-i
-    loop-less
+    (λ c κs. search needs)  -- wide-octet-requires
+    (λ c. search needs)  -- add-first
+    (λ c. search needs)  -- add-i
+    (λ c. search needs)  -- loop-less
     loop-again
     returns-2)

@@ -9,20 +9,11 @@ use Rattle.lawful_session.specs.Tests.{too-long, name-none, name-kept}
 returns : tie.Need-returns
 returns c = too-long (c .before .before .args .x) (c .if1 .taken)
 
-cast-n : tie.Need-cast-n
-cast-n c = search needs
-
-slice-aggregate-all-zero : tie.Need-slice-aggregate-all-zero
-slice-aggregate-all-zero c = search needs
-
 all-zero-requires : tie.Need-all-zero-requires
 all-zero-requires c κs = let lx : length (c .before .before .before .before .before .before .args .x .octets) ≡ 64 = search needs in omega arith
 
 returns-2 : tie.Need-returns-2
 returns-2 c = c .all-zero .ensures ∙ name-none (c .before .before .before .before .before .before .before .args .x) (c .before .before .if2 .taken)
-
-slice-aggregate-is-kept : tie.Need-slice-aggregate-is-kept
-slice-aggregate-is-kept c = search needs
 
 is-kept-requires : tie.Need-is-kept-requires
 is-kept-requires c κs = let lx : length (c .before .before .before .before .before .before .args .x .octets) ≡ 64 = search needs in (omega arith, omega arith)
@@ -35,10 +26,10 @@ lent-name-ok-spec =
     tie.close
     (tie.spec
     returns
-    cast-n
-    slice-aggregate-all-zero
+    (λ c. search needs)  -- cast-n
+    (λ c. search needs)  -- slice-aggregate-all-zero
     all-zero-requires
     returns-2
-    slice-aggregate-is-kept
+    (λ c. search needs)  -- slice-aggregate-is-kept
     is-kept-requires
     returns-3)

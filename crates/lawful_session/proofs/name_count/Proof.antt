@@ -19,24 +19,6 @@ abbrev μ-loop : tie.MeasureT-loop
 loop-holds : tie.Need-loop-holds Inv-loop μ-loop
 loop-holds c = (search needs, (search needs, omega arith))
 
-mul-g : tie.Need-mul-g Inv-loop μ-loop
-mul-g c = search needs
-
-array-copy-out-g : tie.Need-array-copy-out-g Inv-loop μ-loop
-array-copy-out-g c = search needs
-
-wide-octet-requires : tie.Need-wide-octet-requires Inv-loop μ-loop
-wide-octet-requires c κs = search needs
-
-add-sum : tie.Need-add-sum Inv-loop μ-loop
-add-sum c = search needs
-
-add-i : tie.Need-add-i Inv-loop μ-loop
-add-i c = search needs
-
-loop-less : tie.Need-loop-less Inv-loop μ-loop
-loop-less c = search needs
-
 loop-again : tie.Need-loop-again Inv-loop μ-loop
 loop-again c = let long : length (c .before .before .before .before .args .t1) ≡ 8 = search (needs, mapped-length) in (search needs, (search needs, count-next (c .before .before .before .before .args .t1) (c .before .before .before .before .args .n) (c .before .before .before .loop .i) (c .before .before .before .loop .sum) (c .wide-octet .result) noGroup (omega arith) (omega arith) (c .before .before .before .loop .inv .1 .1) (c .wide-octet .ensures .0)))
 
@@ -50,11 +32,11 @@ name-count-spec =
     Inv-loop
     μ-loop
     loop-holds
-    mul-g
-    array-copy-out-g
-    wide-octet-requires
-    add-sum
-    add-i
-    loop-less
+    (λ c. search needs)  -- mul-g
+    (λ c. search needs)  -- array-copy-out-g
+    (λ c κs. search needs)  -- wide-octet-requires
+    (λ c. search needs)  -- add-sum
+    (λ c. search needs)  -- add-i
+    (λ c. search needs)  -- loop-less
     loop-again
     returns)

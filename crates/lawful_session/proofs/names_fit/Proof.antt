@@ -20,15 +20,6 @@ abbrev μ-loop : tie.MeasureT-loop
 loop-holds : tie.Need-loop-holds Inv-loop μ-loop
 loop-holds c = let z : c .args .used - 0 ≡ c .args .used = omega arith in (search needs, rw z)
 
-mul-x : tie.Need-mul-x Inv-loop μ-loop
-mul-x c = search needs
-
-array-copy-out-x : tie.Need-array-copy-out-x Inv-loop μ-loop
-array-copy-out-x c = search needs
-
-name-fits-requires : tie.Need-name-fits-requires Inv-loop μ-loop
-name-fits-requires c κs = search needs
-
 returns : tie.Need-returns Inv-loop μ-loop
 returns c =
     let turn = c .before .before .before .before in
@@ -36,12 +27,6 @@ returns c =
     let used = turn .before .args .used in
     let long : length names ≡ 16 = search (needs, mapped-length) in
     sym (turn .loop .inv .1 ∙ split-here lentNameOk blankName names used (turn .loop .i) unnamed (omega arith) (sym (c .before .name-fits .ensures) ∙ not-true _ (c .if1 .taken)))
-
-add-i : tie.Need-add-i Inv-loop μ-loop
-add-i c = search needs
-
-loop-less : tie.Need-loop-less Inv-loop μ-loop
-loop-less c = search needs
 
 loop-again : tie.Need-loop-again Inv-loop μ-loop
 loop-again c =
@@ -66,11 +51,11 @@ names-fit-spec =
     Inv-loop
     μ-loop
     loop-holds
-    mul-x
-    array-copy-out-x
-    name-fits-requires
+    (λ c. search needs)  -- mul-x
+    (λ c. search needs)  -- array-copy-out-x
+    (λ c κs. search needs)  -- name-fits-requires
     returns
-    add-i
-    loop-less
+    (λ c. search needs)  -- add-i
+    (λ c. search needs)  -- loop-less
     loop-again
     returns-2)

@@ -4,20 +4,18 @@ use Rattle.lawful_session.proofs.range_ok.Tie as tie
 use Prim.Native.Nat.{_-_}
 use borrow.Author.Tests.{lt-ltb, le-ltb}
 
-both-requires : tie.Need-both-requires
-both-requires c κs = search needs
-
 returns : tie.Need-returns
 returns c = rw (lt-ltb (c .before .before .before .before .before .args .g .selector) 5 (c .before .before .before .if1 .taken)) (c .both .ensures)
-
-wide-octet-requires : tie.Need-wide-octet-requires
-wide-octet-requires c κs = search needs
-
-both-requires-2 : tie.Need-both-requires-2
-both-requires-2 c κs = search needs
 
 returns-2 : tie.Need-returns-2
 returns-2 c = rw (le-ltb (c .before .before .before .before .before .args .g .selector) 5 (c .before .before .before .if1 .left), ← c .before .before .wide-octet .ensures .0) (c .both2 .ensures)
 
 pub range-ok-spec : {M : Type 1} → statement M
-range-ok-spec = tie.close (tie.spec both-requires returns wide-octet-requires both-requires-2 returns-2)
+range-ok-spec =
+    tie.close
+    (tie.spec
+    (λ c κs. search needs)  -- both-requires
+    returns
+    (λ c κs. search needs)  -- wide-octet-requires
+    (λ c κs. search needs)  -- both-requires-2
+    returns-2)

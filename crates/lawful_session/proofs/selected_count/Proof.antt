@@ -18,24 +18,6 @@ abbrev μ-loop : tie.MeasureT-loop
 loop-holds : tie.Need-loop-holds Inv-loop μ-loop
 loop-holds c = (search needs, (search needs, omega arith))
 
-mul-g : tie.Need-mul-g Inv-loop μ-loop
-mul-g c = search needs
-
-array-copy-out-g : tie.Need-array-copy-out-g Inv-loop μ-loop
-array-copy-out-g c = search needs
-
-one-if-requires : tie.Need-one-if-requires Inv-loop μ-loop
-one-if-requires c κs = search needs
-
-add-sum : tie.Need-add-sum Inv-loop μ-loop
-add-sum c = search needs
-
-add-i : tie.Need-add-i Inv-loop μ-loop
-add-i c = search needs
-
-loop-less : tie.Need-loop-less Inv-loop μ-loop
-loop-less c = search needs
-
 loop-again : tie.Need-loop-again Inv-loop μ-loop
 loop-again c = let long : length (c .before .before .before .before .before .args .t1) ≡ 8 = search (needs, mapped-length) in (search needs, (search needs, selected-next (c .before .before .before .before .before .args .t1) (c .before .before .before .before .before .args .n) (c .before .before .before .before .loop .i) (c .before .before .before .before .loop .sum) (c .one-if .result) noGroup (omega arith) (omega arith) (c .before .before .before .before .loop .inv .1 .1) (c .one-if .ensures .0)))
 
@@ -49,11 +31,11 @@ selected-count-spec =
     Inv-loop
     μ-loop
     loop-holds
-    mul-g
-    array-copy-out-g
-    one-if-requires
-    add-sum
-    add-i
-    loop-less
+    (λ c. search needs)  -- mul-g
+    (λ c. search needs)  -- array-copy-out-g
+    (λ c κs. search needs)  -- one-if-requires
+    (λ c. search needs)  -- add-sum
+    (λ c. search needs)  -- add-i
+    (λ c. search needs)  -- loop-less
     loop-again
     returns)

@@ -12,35 +12,17 @@ returns c = no-at (sessionTests (c .before .before .args .s)) 0 (lt-leb (c .befo
 returns-2 : tie.Need-returns-2
 returns-2 c = no-at (sessionTests (c .before .before .before .before .args .s)) 1 (lt-leb (c .before .before .before .before .args .s .groupcount) 8 (c .if2 .taken))
 
-either-requires : tie.Need-either-requires
-either-requires c κs = search needs
-
 returns-3 : tie.Need-returns-3
 returns-3 c = no-at (sessionTests (c .before .before .before .before .before .before .before .before .args .s)) 2 (sym (c .before .either .ensures) ∙ not-true _ (c .if3 .taken))
-
-cast-n : tie.Need-cast-n
-cast-n c = search needs
-
-groups-ok-requires : tie.Need-groups-ok-requires
-groups-ok-requires c κs = search needs
 
 returns-4 : tie.Need-returns-4
 returns-4 c = no-at (sessionTests (c .before .before .before .before .before .before .before .before .before .before .before .before .args .s)) 3 (sym (c .before .groups-ok .ensures) ∙ not-true _ (c .if4 .taken))
 
-selected-count-requires : tie.Need-selected-count-requires
-selected-count-requires c κs = search needs
-
 returns-5 : tie.Need-returns-5
 returns-5 c = no-at (sessionTests (c .before .before .before .before .before .before .before .before .before .before .before .before .before .before .args .s)) 4 (many-selected (c .before .before .before .before .before .before .before .before .before .before .before .before .before .before .args .s) (c .before .selected-count .result) (c .before .selected-count .ensures) (c .if5 .taken))
 
-name-count-requires : tie.Need-name-count-requires
-name-count-requires c κs = search needs
-
 returns-6 : tie.Need-returns-6
 returns-6 c = no-at (sessionTests (c .before .before .before .before .before .before .before .before .before .before .before .before .before .before .before .before .args .s)) 5 (rw (← c .before .name-count .ensures) (lt-leb (c .before .name-count .result) 16 (c .if6 .taken)))
-
-blank-groups-requires : tie.Need-blank-groups-requires
-blank-groups-requires c κs = search needs
 
 returns-7 : tie.Need-returns-7
 returns-7 c =
@@ -48,9 +30,6 @@ returns-7 c =
     let grouped = counted .before .before .before .before in
     let start = grouped .before .before .before .before .before .before .before .before .before .before .before in
     no-at (sessionTests (start .args .s)) 7 (sym (c .before .blank-groups .ensures) ∙ not-true _ (c .if7 .taken))
-
-names-fit-requires : tie.Need-names-fit-requires
-names-fit-requires c κs = search needs
 
 returns-8 : tie.Need-returns-8
 returns-8 c =
@@ -73,16 +52,16 @@ session-ok-spec =
     (tie.spec
     returns
     returns-2
-    either-requires
+    (λ c κs. search needs)  -- either-requires
     returns-3
-    cast-n
-    groups-ok-requires
+    (λ c. search needs)  -- cast-n
+    (λ c κs. search needs)  -- groups-ok-requires
     returns-4
-    selected-count-requires
+    (λ c κs. search needs)  -- selected-count-requires
     returns-5
-    name-count-requires
+    (λ c κs. search needs)  -- name-count-requires
     returns-6
-    blank-groups-requires
+    (λ c κs. search needs)  -- blank-groups-requires
     returns-7
-    names-fit-requires
+    (λ c κs. search needs)  -- names-fit-requires
     returns-8)

@@ -14,11 +14,15 @@ returns-2 c = let a = c .before .before .args in rw (le-ltb 64 (a .lent) (c .bef
 returns-3 : tie.Need-returns-3
 returns-3 c = let a = c .before .before .before .args in rw (le-ltb 64 (a .lent) (c .before .before .if1 .left), le-ltb (a .used) 1 (c .before .if2 .left), lt-ltb (a .lent) (a .used) (c .if3 .taken)) refl
 
-sub-result : tie.Need-sub-result
-sub-result c = search needs
-
 returns-4 : tie.Need-returns-4
 returns-4 c = let a = c .before .before .before .args in rw (le-ltb 64 (a .lent) (c .before .before .if1 .left), le-ltb (a .used) 1 (c .before .if2 .left), le-ltb (a .lent) (a .used) (c .if3 .left)) refl
 
 pub last-row-spec : {M : Type 1} → statement M
-last-row-spec = tie.close (tie.spec returns returns-2 returns-3 sub-result returns-4)
+last-row-spec =
+    tie.close
+    (tie.spec
+    returns
+    returns-2
+    returns-3
+    (λ c. search needs)  -- sub-result
+    returns-4)

@@ -10,15 +10,6 @@ use Rattle.lent_answer.proofs.moved_from.Tie as tie
 returns : tie.Need-returns
 returns c = let a = c .before .args in rw (le-leb (a .lent) (a .k) (c .if1 .taken)) refl
 
-enum-told : tie.Need-enum-told
-enum-told c = search needs
-
-enum-told-2 : tie.Need-enum-told-2
-enum-told-2 c = search needs
-
-enum-told-3 : tie.Need-enum-told-3
-enum-told-3 c = search needs
-
 returns-2 : tie.Need-returns-2
 returns-2 c = let a = c .before .before .before .args in rw (lt-leb (a .lent) (a .k) (c .before .before .if1 .left)) (ap (λ (z : Change). taken z (a .out .at) (a .k)) (sym (c .enum-told .given .1)))
 
@@ -38,4 +29,12 @@ returns-5 c =
 pub moved-from-spec : {M : Type 1} → statement M
 moved-from-spec =
     tie.close
-    (tie.spec returns enum-told enum-told-2 enum-told-3 returns-2 returns-3 returns-4 returns-5)
+    (tie.spec
+    returns
+    (λ c. search needs)  -- enum-told
+    (λ c. search needs)  -- enum-told-2
+    (λ c. search needs)  -- enum-told-3
+    returns-2
+    returns-3
+    returns-4
+    returns-5)

@@ -6,18 +6,6 @@ use mathlib.Core.Path.{sym, _∙_, ap}
 use Prim.Native.Nat.{ℕ}
 use Rattle.lent_answer.specs.Numbers.{numbersOf}
 
-enum-told : tie.Need-enum-told
-enum-told c = search needs
-
-enum-known-answer : tie.Need-enum-known-answer
-enum-known-answer c = search needs
-
-enum-known-answer-2 : tie.Need-enum-known-answer-2
-enum-known-answer-2 c = search needs
-
-number-requires : tie.Need-number-requires
-number-requires c κs = search needs
-
 returns : tie.Need-returns
 returns c = ap numbersOf (sym (c .enum-told .given .1))
 
@@ -31,10 +19,10 @@ pub numbers-spec : {M : Type 1} → statement M
 numbers-spec =
     tie.close
     (tie.spec
-    enum-told
-    enum-known-answer
-    enum-known-answer-2
-    number-requires
+    (λ c. search needs)  -- enum-told
+    (λ c. search needs)  -- enum-known-answer
+    (λ c. search needs)  -- enum-known-answer-2
+    (λ c κs. search needs)  -- number-requires
     returns
     returns-2
     returns-3)

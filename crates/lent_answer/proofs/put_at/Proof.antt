@@ -6,18 +6,6 @@ use Rattle.lent_answer.specs.Places.{placed}
 use Rattle.lent_answer.proofs.put_at.Statement.{statement}
 use Rattle.lent_answer.proofs.put_at.Tie as tie
 
-enum-told : tie.Need-enum-told
-enum-told c = search needs
-
-enum-told-2 : tie.Need-enum-told-2
-enum-told-2 c = search needs
-
-enum-told-3 : tie.Need-enum-told-3
-enum-told-3 c = search needs
-
-last-row-requires : tie.Need-last-row-requires
-last-row-requires c κs = search needs
-
 returns : tie.Need-returns
 returns c = let a = c .before .before .args in ap (λ (k : Change). placed k (a .out .at) (a .used) (a .lent)) (sym (c .enum-told .given .1))
 
@@ -30,4 +18,11 @@ returns-3 c = let a = c .before .before .before .args in c .last-row .ensures �
 pub put-at-spec : {M : Type 1} → statement M
 put-at-spec =
     tie.close
-    (tie.spec enum-told enum-told-2 enum-told-3 last-row-requires returns returns-2 returns-3)
+    (tie.spec
+    (λ c. search needs)  -- enum-told
+    (λ c. search needs)  -- enum-told-2
+    (λ c. search needs)  -- enum-told-3
+    (λ c κs. search needs)  -- last-row-requires
+    returns
+    returns-2
+    returns-3)

@@ -5,11 +5,12 @@ use mathlib.Core.Path.{ap}
 use lib.ListN.{replicate}
 use Rattle.model.specs.declared.Mailbox.{Mailbox}
 
-vacant-requires : tie.Need-vacant-requires
-vacant-requires c κs = search needs
-
 returns : tie.Need-returns
 returns c = ap (λ (x : Mailbox). replicate 64 x) (c .vacant .ensures)
 
 pub blank-spec : {M : Type 1} → statement M
-blank-spec = tie.close (tie.spec vacant-requires returns)
+blank-spec =
+    tie.close
+    (tie.spec
+    (λ c κs. search needs)  -- vacant-requires
+    returns)

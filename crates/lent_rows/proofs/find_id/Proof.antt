@@ -19,12 +19,6 @@ abbrev μ-loop : tie.MeasureT-loop
 loop-holds : tie.Need-loop-holds Inv-loop μ-loop
 loop-holds c = (search needs, (let z : 0 + place (c .args .id) (take (c .args .n) (c .args .t1)) ≡ place (c .args .id) (take (c .args .n) (c .args .t1)) = omega arith in sym z))
 
-mul-if1 : tie.Need-mul-if1 Inv-loop μ-loop
-mul-if1 c = search needs
-
-element-copy-out-if1 : tie.Need-element-copy-out-if1 Inv-loop μ-loop
-element-copy-out-if1 c = search needs
-
 returns : tie.Need-returns Inv-loop μ-loop
 returns c =
     let args = c .before .before .before .args in
@@ -32,12 +26,6 @@ returns c =
     let long : length (args .t1) ≡ 64 = search (needs, mapped-length) in
     let few = length-take-le (args .n) (args .t1) (omega arith) in
     sym (place-found (args .id) (take (args .n) (args .t1)) (turn .i) vacant (omega arith) (ap (λ (x : Mailbox). x .id) (getD-take (args .n) (args .t1) (turn .i) vacant (omega arith)) ∙ c .if1 .taken) (turn .inv .1))
-
-add-i : tie.Need-add-i Inv-loop μ-loop
-add-i c = search needs
-
-loop-less : tie.Need-loop-less Inv-loop μ-loop
-loop-less c = search needs
 
 loop-again : tie.Need-loop-again Inv-loop μ-loop
 loop-again c =
@@ -65,10 +53,10 @@ find-id-spec =
     Inv-loop
     μ-loop
     loop-holds
-    mul-if1
-    element-copy-out-if1
+    (λ c. search needs)  -- mul-if1
+    (λ c. search needs)  -- element-copy-out-if1
     returns
-    add-i
-    loop-less
+    (λ c. search needs)  -- add-i
+    (λ c. search needs)  -- loop-less
     loop-again
     returns-2)

@@ -21,15 +21,6 @@ abbrev μ-loop : tie.MeasureT-loop
 loop-holds : tie.Need-loop-holds Inv-loop μ-loop
 loop-holds c = (search needs, (let z : 0 + placeNamed (c .before .args .name .now) (take (c .before .args .n) (c .before .args .t1)) ≡ placeNamed (c .before .args .name .now) (take (c .before .args .n) (c .before .args .t1)) = omega arith in sym z))
 
-mul-is-named : tie.Need-mul-is-named Inv-loop μ-loop
-mul-is-named c = search needs
-
-array-copy-out-is-named : tie.Need-array-copy-out-is-named Inv-loop μ-loop
-array-copy-out-is-named c = search needs
-
-is-named-requires : tie.Need-is-named-requires Inv-loop μ-loop
-is-named-requires c κs = search needs
-
 returns : tie.Need-returns Inv-loop μ-loop
 returns c =
     let args = c .before .before .before .before .before .before .args in
@@ -37,12 +28,6 @@ returns c =
     let long : length (args .t1) ≡ 64 = search (needs, mapped-length) in
     let few = length-take-le (args .n) (args .t1) (omega arith) in
     sym (named-found (args .name .now) (take (args .n) (args .t1)) (turn .i) vacant (omega arith) (ap (λ (x : Mailbox). same (nameOf x) (args .name .now)) (getD-take (args .n) (args .t1) (turn .i) vacant (omega arith)) ∙ (sym (c .before .is-named .ensures) ∙ c .if1 .taken)) (turn .inv .1))
-
-add-i : tie.Need-add-i Inv-loop μ-loop
-add-i c = search needs
-
-loop-less : tie.Need-loop-less Inv-loop μ-loop
-loop-less c = search needs
 
 loop-again : tie.Need-loop-again Inv-loop μ-loop
 loop-again c =
@@ -70,11 +55,11 @@ find-name-spec =
     Inv-loop
     μ-loop
     loop-holds
-    mul-is-named
-    array-copy-out-is-named
-    is-named-requires
+    (λ c. search needs)  -- mul-is-named
+    (λ c. search needs)  -- array-copy-out-is-named
+    (λ c κs. search needs)  -- is-named-requires
     returns
-    add-i
-    loop-less
+    (λ c. search needs)  -- add-i
+    (λ c. search needs)  -- loop-less
     loop-again
     returns-2)

@@ -9,17 +9,11 @@ use lib.ListN.{length}
 use lib.Seq.{length-take-le}
 use Rattle.model.specs.Lists.{same}
 
-clip-requires : tie.Need-clip-requires
-clip-requires c κs = search needs
-
 array-share-prefix-octets : tie.Need-array-share-prefix-octets
 array-share-prefix-octets c = let long : length (c .before .before .before .args .x .name) ≡ 64 = search needs in omega arith
 
 slice-aggregate-same : tie.Need-slice-aggregate-same
 slice-aggregate-same c = let long : length (c .before .before .before .before .args .x .name) ≡ 64 = search needs in sym (length-take-le _ _ (omega arith))
-
-same-requires : tie.Need-same-requires
-same-requires c κs = search needs
 
 returns : tie.Need-returns
 returns c =
@@ -30,4 +24,9 @@ returns c =
 pub is-named-spec : {M : Type 1} → statement M
 is-named-spec =
     tie.close
-    (tie.spec clip-requires array-share-prefix-octets slice-aggregate-same same-requires returns)
+    (tie.spec
+    (λ c κs. search needs)  -- clip-requires
+    array-share-prefix-octets
+    slice-aggregate-same
+    (λ c κs. search needs)  -- same-requires
+    returns)

@@ -13,18 +13,6 @@ use Rattle.line_put.specs.Put.{put-as}
 use Rattle.read_commands.specs.Judging.{wordOf}
 use Rattle.line_answer.specs.Tagged.{tag-none, tag-some, tag-short}
 
-is-tagged-requires : tie.Need-is-tagged-requires
-is-tagged-requires c κs = search needs
-
-slice-aggregate-put-answer : tie.Need-slice-aggregate-put-answer
-slice-aggregate-put-answer c = search needs
-
-put-answer-requires : tie.Need-put-answer-requires
-put-answer-requires c κs = search needs
-
-same-length : tie.Need-same-length
-same-length c = search needs
-
 returns : tie.Need-returns
 returns c =
     let a = c .before .before .before .before .before .before .before .before .before .args in
@@ -33,9 +21,6 @@ returns c =
     let put-answer = c .before .before .put-answer in
     let e = tag-none (a .text .now) (sym (is-tagged .ensures) ∙ not-true _ (if1 .taken)) in
     (put-as (put-answer .ensures .0) (ap (λ (t : List ℕ). render (answer t (wordOf (a .verb)) (a .reply))) e), put-answer .ensures .1)
-
-tag-end-requires : tie.Need-tag-end-requires
-tag-end-requires c κs = search needs
 
 slice-aggregate-put-answer-2 : tie.Need-slice-aggregate-put-answer-2
 slice-aggregate-put-answer-2 c = sym (length-take-le _ _ (c .before .before .tag-end .ensures .within))
@@ -47,9 +32,6 @@ put-answer-requires-2 c κs = let a = c .before .before .before .before .before 
     let e = w .exact in
     let l = length-take-le (c .before .before .tag-end .result) (a .text .now) (w .within) in
     omega (arith, l, e, s, c .before .before .before .before .before .before .before .pre)
-
-same-length-2 : tie.Need-same-length-2
-same-length-2 c = search needs
 
 returns-2 : tie.Need-returns-2
 returns-2 c =
@@ -65,13 +47,13 @@ pub put-reply-spec : {M : Type 1} → statement M
 put-reply-spec =
     tie.close
     (tie.spec
-    is-tagged-requires
-    slice-aggregate-put-answer
-    put-answer-requires
-    same-length
+    (λ c κs. search needs)  -- is-tagged-requires
+    (λ c. search needs)  -- slice-aggregate-put-answer
+    (λ c κs. search needs)  -- put-answer-requires
+    (λ c. search needs)  -- same-length
     returns
-    tag-end-requires
+    (λ c κs. search needs)  -- tag-end-requires
     slice-aggregate-put-answer-2
     put-answer-requires-2
-    same-length-2
+    (λ c. search needs)  -- same-length-2
     returns-2)

@@ -12,50 +12,17 @@ use Rattle.read_options.specs.declared.Verb.{Verb}
 enum-told : tie.Need-enum-told
 enum-told c = search needs
 
-slice-aggregate-put : tie.Need-slice-aggregate-put
-slice-aggregate-put c = search needs
-
-put-requires : tie.Need-put-requires
-put-requires c κs = search needs
-
-enum-told-2 : tie.Need-enum-told-2
-enum-told-2 c = search needs
-
-slice-aggregate-put-2 : tie.Need-slice-aggregate-put-2
-slice-aggregate-put-2 c = search needs
-
-put-requires-2 : tie.Need-put-requires-2
-put-requires-2 c κs = search needs
-
-enum-told-3 : tie.Need-enum-told-3
-enum-told-3 c = search needs
-
-slice-aggregate-put-3 : tie.Need-slice-aggregate-put-3
-slice-aggregate-put-3 c = search needs
-
-put-requires-3 : tie.Need-put-requires-3
-put-requires-3 c κs = search needs
-
-same-length : tie.Need-same-length
-same-length c = search needs
-
 returns : tie.Need-returns
 returns c =
     let enum-told = c .before .before .before .before .before .enum-told in
     let put = c .before .before .put in
     (put-as (put .ensures) (ap (λ (k : Verb). tooLargeText (wordOf k)) (sym (enum-told .given .1))), omega (arith, put .ensures .next))
 
-same-length-2 : tie.Need-same-length-2
-same-length-2 c = search needs
-
 returns-2 : tie.Need-returns-2
 returns-2 c =
     let enum-told2 = c .before .before .before .before .before .enum-told2 in
     let put2 = c .before .before .put2 in
     (put-as (put2 .ensures) (ap (λ (k : Verb). tooLargeText (wordOf k)) (sym (enum-told2 .given .1))), omega (arith, put2 .ensures .next))
-
-same-length-3 : tie.Need-same-length-3
-same-length-3 c = search needs
 
 returns-3 : tie.Need-returns-3
 returns-3 c =
@@ -68,17 +35,17 @@ put-too-large-spec =
     tie.close
     (tie.spec
     enum-told
-    slice-aggregate-put
-    put-requires
-    enum-told-2
-    slice-aggregate-put-2
-    put-requires-2
-    enum-told-3
-    slice-aggregate-put-3
-    put-requires-3
-    same-length
+    (λ c. search needs)  -- slice-aggregate-put
+    (λ c κs. search needs)  -- put-requires
+    (λ c. search needs)  -- enum-told-2
+    (λ c. search needs)  -- slice-aggregate-put-2
+    (λ c κs. search needs)  -- put-requires-2
+    (λ c. search needs)  -- enum-told-3
+    (λ c. search needs)  -- slice-aggregate-put-3
+    (λ c κs. search needs)  -- put-requires-3
+    (λ c. search needs)  -- same-length
     returns
-    same-length-2
+    (λ c. search needs)  -- same-length-2
     returns-2
-    same-length-3
+    (λ c. search needs)  -- same-length-3
     returns-3)

@@ -11,63 +11,12 @@ use Rattle.read_commands.specs.Judging.{wordOf}
 enum-told : tie.Need-enum-told
 enum-told c = search needs
 
-slice-aggregate-put : tie.Need-slice-aggregate-put
-slice-aggregate-put c = search needs
-
-put-requires : tie.Need-put-requires
-put-requires c κs = search needs
-
-enum-told-2 : tie.Need-enum-told-2
-enum-told-2 c = search needs
-
-slice-aggregate-put-2 : tie.Need-slice-aggregate-put-2
-slice-aggregate-put-2 c = search needs
-
-put-requires-2 : tie.Need-put-requires-2
-put-requires-2 c κs = search needs
-
-enum-told-3 : tie.Need-enum-told-3
-enum-told-3 c = search needs
-
-slice-aggregate-put-3 : tie.Need-slice-aggregate-put-3
-slice-aggregate-put-3 c = search needs
-
-put-requires-3 : tie.Need-put-requires-3
-put-requires-3 c κs = search needs
-
-enum-told-4 : tie.Need-enum-told-4
-enum-told-4 c = search needs
-
-slice-aggregate-put-4 : tie.Need-slice-aggregate-put-4
-slice-aggregate-put-4 c = search needs
-
-put-requires-4 : tie.Need-put-requires-4
-put-requires-4 c κs = search needs
-
-enum-told-5 : tie.Need-enum-told-5
-enum-told-5 c = search needs
-
-put-too-large-requires : tie.Need-put-too-large-requires
-put-too-large-requires c κs = search needs
-
-enum-told-6 : tie.Need-enum-told-6
-enum-told-6 c = search needs
-
-put-done-requires : tie.Need-put-done-requires
-put-done-requires c κs = search needs
-
-same-length : tie.Need-same-length
-same-length c = search needs
-
 returns : tie.Need-returns
 returns c =
     let a = c .before .before .before .before .before .before .before .before .args in
     let enum-told = c .before .before .before .before .before .enum-told in
     let put = c .before .before .put in
     (put-as (put .ensures) (ap (replyText (wordOf (a .verb))) (sym (enum-told .given .1))), omega (arith, put .ensures .next))
-
-same-length-2 : tie.Need-same-length-2
-same-length-2 c = search needs
 
 returns-2 : tie.Need-returns-2
 returns-2 c =
@@ -76,18 +25,12 @@ returns-2 c =
     let put2 = c .before .before .put2 in
     (put-as (put2 .ensures) (ap (replyText (wordOf (a .verb))) (sym (enum-told2 .given .1))), omega (arith, put2 .ensures .next))
 
-same-length-3 : tie.Need-same-length-3
-same-length-3 c = search needs
-
 returns-3 : tie.Need-returns-3
 returns-3 c =
     let a = c .before .before .before .before .before .before .before .before .args in
     let enum-told3 = c .before .before .before .before .before .enum-told3 in
     let put3 = c .before .before .put3 in
     (put-as (put3 .ensures) (ap (replyText (wordOf (a .verb))) (sym (enum-told3 .given .1))), omega (arith, put3 .ensures .next))
-
-same-length-4 : tie.Need-same-length-4
-same-length-4 c = search needs
 
 returns-4 : tie.Need-returns-4
 returns-4 c =
@@ -96,18 +39,12 @@ returns-4 c =
     let put4 = c .before .before .put4 in
     (put-as (put4 .ensures) (ap (replyText (wordOf (a .verb))) (sym (enum-told4 .given .1))), omega (arith, put4 .ensures .next))
 
-same-length-5 : tie.Need-same-length-5
-same-length-5 c = search needs
-
 returns-5 : tie.Need-returns-5
 returns-5 c =
     let a = c .before .before .before .before .before .before .before .args in
     let enum-told5 = c .before .before .before .before .enum-told5 in
     let put-too-large = c .before .before .put-too-large in
     (put-as (put-too-large .ensures .0) (ap (replyText (wordOf (a .verb))) (sym (enum-told5 .given .1))), omega (arith, put-too-large .ensures .1))
-
-same-length-6 : tie.Need-same-length-6
-same-length-6 c = search needs
 
 returns-6 : tie.Need-returns-6
 returns-6 c =
@@ -121,30 +58,30 @@ put-words-spec =
     tie.close
     (tie.spec
     enum-told
-    slice-aggregate-put
-    put-requires
-    enum-told-2
-    slice-aggregate-put-2
-    put-requires-2
-    enum-told-3
-    slice-aggregate-put-3
-    put-requires-3
-    enum-told-4
-    slice-aggregate-put-4
-    put-requires-4
-    enum-told-5
-    put-too-large-requires
-    enum-told-6
-    put-done-requires
-    same-length
+    (λ c. search needs)  -- slice-aggregate-put
+    (λ c κs. search needs)  -- put-requires
+    (λ c. search needs)  -- enum-told-2
+    (λ c. search needs)  -- slice-aggregate-put-2
+    (λ c κs. search needs)  -- put-requires-2
+    (λ c. search needs)  -- enum-told-3
+    (λ c. search needs)  -- slice-aggregate-put-3
+    (λ c κs. search needs)  -- put-requires-3
+    (λ c. search needs)  -- enum-told-4
+    (λ c. search needs)  -- slice-aggregate-put-4
+    (λ c κs. search needs)  -- put-requires-4
+    (λ c. search needs)  -- enum-told-5
+    (λ c κs. search needs)  -- put-too-large-requires
+    (λ c. search needs)  -- enum-told-6
+    (λ c κs. search needs)  -- put-done-requires
+    (λ c. search needs)  -- same-length
     returns
-    same-length-2
+    (λ c. search needs)  -- same-length-2
     returns-2
-    same-length-3
+    (λ c. search needs)  -- same-length-3
     returns-3
-    same-length-4
+    (λ c. search needs)  -- same-length-4
     returns-4
-    same-length-5
+    (λ c. search needs)  -- same-length-5
     returns-5
-    same-length-6
+    (λ c. search needs)  -- same-length-6
     returns-6)

@@ -7,9 +7,6 @@ use native.Mathlib.Omega.{arith}
 use borrow.Author.Tests.{not-true, not-false}
 use Rattle.line_answer.specs.Sizes.{reply-other, reply-small, reply-large}
 
-is-accepted-requires : tie.Need-is-accepted-requires
-is-accepted-requires c κs = search needs
-
 returns : tie.Need-returns
 returns c = let a = c .before .before .args in reply-other (a .first) (a .n) (a .most) (sym (c .before .is-accepted .ensures) ∙ not-true _ (c .if1 .taken))
 
@@ -24,4 +21,10 @@ returns-3 c =
     reply-large (a .first) (a .n) (a .most) (sym (c .before .before .is-accepted .ensures) ∙ not-false _ (c .before .if1 .left)) (omega arith)
 
 pub reply-within-spec : {M : Type 1} → statement M
-reply-within-spec = tie.close (tie.spec is-accepted-requires returns returns-2 returns-3)
+reply-within-spec =
+    tie.close
+    (tie.spec
+    (λ c κs. search needs)  -- is-accepted-requires
+    returns
+    returns-2
+    returns-3)

@@ -10,25 +10,10 @@ use Rattle.line_answer.specs.Sizes.{whole-fits, whole-not}
 use Rattle.line_answer.specs.Tagged.{some-octets}
 use mathlib.Core.Path.{refl}
 
-sub-limit : tie.Need-sub-limit
-sub-limit c = search needs
-
-put-reply-requires : tie.Need-put-reply-requires
-put-reply-requires c κs = search needs
-
-put-reply-requires-2 : tie.Need-put-reply-requires-2
-put-reply-requires-2 c κs = search needs
-
-same-length : tie.Need-same-length
-same-length c = search needs
-
 returns : tie.Need-returns
 returns c =
     let put-reply = c .before .before .before .before .before .before .before .put-reply in
     whole-fits (put-reply .ensures .0) (c .before .before .put-reply2 .ensures .0) (omega arith) (omega arith)
-
-same-length-2 : tie.Need-same-length-2
-same-length-2 c = search needs
 
 returns-2 : tie.Need-returns-2
 returns-2 c = let a = c .before .before .before .before .before .before .before .args in
@@ -38,10 +23,10 @@ pub say-reply-spec : {M : Type 1} → statement M
 say-reply-spec =
     tie.close
     (tie.spec
-    sub-limit
-    put-reply-requires
-    put-reply-requires-2
-    same-length
+    (λ c. search needs)  -- sub-limit
+    (λ c κs. search needs)  -- put-reply-requires
+    (λ c κs. search needs)  -- put-reply-requires-2
+    (λ c. search needs)  -- same-length
     returns
-    same-length-2
+    (λ c. search needs)  -- same-length-2
     returns-2)

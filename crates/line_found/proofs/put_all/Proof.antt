@@ -1,10 +1,6 @@
 use borrow.Author.Needs.{needs}
 use Rattle.line_found.proofs.put_all.Statement.{statement}
 use Rattle.line_found.proofs.put_all.Tie as tie
-use Rattle.line_found.proofs.put_all.Reads as reads
-use Rattle.line_found.proofs.put_all.Lts as lts
-use Rattle.line_found.proofs.put_set.Reads as put-set-reads
-use Rattle.line_put.proofs.put.Reads as put-reads
 use native.Mathlib.Omega.{arith}
 use Rattle.line_put.specs.Put.{_then_, put-as, put-none}
 use borrow.Author.Tests.{not-true, not-false}
@@ -18,22 +14,16 @@ use Rattle.line_found.specs.Writing.{asked-not, asked}
 returns : tie.Need-returns
 returns c = (put-as (put-none (c .before .before .before .args .queue .now) (c .before .before .before .args .at) (c .before .before .before .args .limit) (c .before .before .before .pre .0 .0)) (asked-not (c .before .before .before .args .on) (octets " ALL " ++ setText (uidsOf (take (c .before .before .before .args .n) (c .before .before .before .args .uids .now)))) (not-true _ (c .if1 .taken))), omega arith)
 
-slice-aggregate-put : tie.Need-slice-aggregate-put
-slice-aggregate-put c = search needs
-
-put-requires : tie.Need-put-requires
-put-requires c κs = search needs
-
-put-set-requires : tie.Need-put-set-requires
-put-set-requires c κs = search needs
-
-same-length : tie.Need-same-length
-same-length c = search needs
-
 returns-2 : tie.Need-returns-2
 returns-2 c = (put-as (_then_ (c .before .before .before .before .before .before .put .ensures) (c .before .before .put-set .ensures .0)) (asked (c .before .before .before .before .before .before .before .before .before .before .before .before .args .on) (octets " ALL " ++ setText (uidsOf (take (c .before .before .before .before .before .before .before .before .before .before .before .before .args .n) (c .before .before .before .before .before .before .before .before .before .before .before .before .args .uids .now)))) (not-false _ (c .before .before .before .before .before .before .before .before .before .if1 .left))), omega (arith, c .before .before .before .before .before .before .put .ensures .next, c .before .before .put-set .ensures .1))
 
 pub put-all-spec : {M : Type 1} → statement M
 put-all-spec =
     tie.close
-    (tie.spec returns slice-aggregate-put put-requires put-set-requires same-length returns-2)
+    (tie.spec
+    returns
+    (λ c. search needs)  -- slice-aggregate-put
+    (λ c κs. search needs)  -- put-requires
+    (λ c κs. search needs)  -- put-set-requires
+    (λ c. search needs)  -- same-length
+    returns-2)

@@ -1,10 +1,6 @@
 use borrow.Author.Needs.{needs}
 use Rattle.line_found.proofs.put_labelled.Statement.{statement}
 use Rattle.line_found.proofs.put_labelled.Tie as tie
-use Rattle.line_found.proofs.put_labelled.Reads as reads
-use Rattle.line_found.proofs.put_labelled.Lts as lts
-use Rattle.line_put.proofs.put.Reads as put-reads
-use Rattle.line_put.proofs.put_number.Reads as put-number-reads
 use native.Mathlib.Omega.{arith}
 use Rattle.line_put.specs.Put.{_then_, put-as, put-none}
 use borrow.Author.Tests.{not-true, not-false}
@@ -15,18 +11,15 @@ use Rattle.line_found.specs.Writing.{asked-not, asked}
 returns : tie.Need-returns
 returns c = (put-as (put-none (c .before .before .before .args .queue .now) (c .before .before .before .args .at) (c .before .before .before .args .limit) (c .before .before .before .pre .0)) (asked-not (c .before .before .before .args .on) (c .before .before .before .args .label .now ++ decimal (c .before .before .before .args .n)) (not-true _ (c .if1 .taken))), omega arith)
 
-put-requires : tie.Need-put-requires
-put-requires c κs = search needs
-
-put-number-requires : tie.Need-put-number-requires
-put-number-requires c κs = search needs
-
-same-length : tie.Need-same-length
-same-length c = search needs
-
 returns-2 : tie.Need-returns-2
 returns-2 c = (put-as (_then_ (c .before .before .before .before .before .before .put .ensures) (c .before .before .put-number .ensures .0)) (asked (c .before .before .before .before .before .before .before .before .before .before .before .args .on) (c .before .before .before .before .before .before .before .before .before .before .before .args .label .now ++ decimal (c .before .before .before .before .before .before .before .before .before .before .before .args .n)) (not-false _ (c .before .before .before .before .before .before .before .before .if1 .left))), omega (arith, c .before .before .before .before .before .before .put .ensures .next, c .before .before .put-number .ensures .1))
 
 pub put-labelled-spec : {M : Type 1} → statement M
 put-labelled-spec =
-    tie.close (tie.spec returns put-requires put-number-requires same-length returns-2)
+    tie.close
+    (tie.spec
+    returns
+    (λ c κs. search needs)  -- put-requires
+    (λ c κs. search needs)  -- put-number-requires
+    (λ c. search needs)  -- same-length
+    returns-2)

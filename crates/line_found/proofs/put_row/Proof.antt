@@ -1,10 +1,6 @@
 use borrow.Author.Needs.{needs}
 use Rattle.line_found.proofs.put_row.Statement.{statement}
 use Rattle.line_found.proofs.put_row.Tie as tie
-use Rattle.line_found.proofs.put_row.Reads as reads
-use Rattle.line_found.proofs.put_row.Lts as lts
-use Rattle.table_mailboxes.proofs.clip.Reads as clip-reads
-use Rattle.line_found.proofs.put_found.Reads as put-found-reads
 use mathlib.Core.Path.{_≡_, ap₂}
 use mathlib.Core.List.{List}
 use native.Mathlib.Omega.{arith}
@@ -18,45 +14,6 @@ use Rattle.line_found.specs.Telling.{line-none, run-part}
 
 returns : tie.Need-returns
 returns c = (put-as (put-none (c .before .before .before .before .before .args .queue .now) (c .before .before .before .before .before .args .at) (c .before .before .before .before .before .args .limit) (c .before .before .before .before .before .pre .0 .0)) (line-none (c .before .before .before .before .before .args .tag .now) (nameAt (c .before .before .before .before .before .args .names .now) (c .before .before .before .before .before .args .k) (c .before .before .before .before .before .args .len)) (c .before .before .before .before .before .args .validity) (c .before .before .before .before .before .args .w) (drop (c .before .before .before .before .before .args .from) (c .before .before .before .before .before .args .uids .now)) (c .before .before .before .before .before .args .n) (c .if1 .taken)), omega arith)
-
-mul-a : tie.Need-mul-a
-mul-a c = search needs
-
-clip-requires : tie.Need-clip-requires
-clip-requires c κs = search needs
-
-add-e : tie.Need-add-e
-add-e c = search needs
-
-add-to : tie.Need-add-to
-add-to c = search needs
-
-sub-put-found : tie.Need-sub-put-found
-sub-put-found c = search needs
-
-part-put-found-start : tie.Need-part-put-found-start
-part-put-found-start c = search needs
-
-part-put-found-end : tie.Need-part-put-found-end
-part-put-found-end c = search needs
-
-mul-put-found : tie.Need-mul-put-found
-mul-put-found c = search needs
-
-sub-put-found-2 : tie.Need-sub-put-found-2
-sub-put-found-2 c = search needs
-
-part-put-found-start-2 : tie.Need-part-put-found-start-2
-part-put-found-start-2 c = search needs
-
-part-put-found-end-2 : tie.Need-part-put-found-end-2
-part-put-found-end-2 c = search needs
-
-put-found-requires : tie.Need-put-found-requires
-put-found-requires c κs = search needs
-
-same-length : tie.Need-same-length
-same-length c = search needs
 
 returns-2 : tie.Need-returns-2
 returns-2 c =
@@ -79,17 +36,17 @@ put-row-spec =
     tie.close
     (tie.spec
     returns
-    mul-a
-    clip-requires
-    add-e
-    add-to
-    sub-put-found
-    part-put-found-start
-    part-put-found-end
-    mul-put-found
-    sub-put-found-2
-    part-put-found-start-2
-    part-put-found-end-2
-    put-found-requires
-    same-length
+    (λ c. search needs)  -- mul-a
+    (λ c κs. search needs)  -- clip-requires
+    (λ c. search needs)  -- add-e
+    (λ c. search needs)  -- add-to
+    (λ c. search needs)  -- sub-put-found
+    (λ c. search needs)  -- part-put-found-start
+    (λ c. search needs)  -- part-put-found-end
+    (λ c. search needs)  -- mul-put-found
+    (λ c. search needs)  -- sub-put-found-2
+    (λ c. search needs)  -- part-put-found-start-2
+    (λ c. search needs)  -- part-put-found-end-2
+    (λ c κs. search needs)  -- put-found-requires
+    (λ c. search needs)  -- same-length
     returns-2)

@@ -1,8 +1,5 @@
 use Rattle.line_found.proofs.put_rows.Statement.{statement}
 use Rattle.line_found.proofs.put_rows.Tie as tie
-use Rattle.line_found.proofs.put_rows.Reads as reads
-use Rattle.line_found.proofs.put_rows.Lts as lts
-use Rattle.line_found.proofs.put_row.Reads as put-row-reads
 use mathlib.Core.Path.{_≡_, refl, _∙_}
 use native.Mathlib.Omega.{arith}
 use Prim.Native.Nat.{_+_, _-_, _*_, _≤_, _<_}
@@ -21,36 +18,6 @@ abbrev μ-loop : tie.MeasureT-loop
 loop-holds : tie.Need-loop-holds Inv-loop μ-loop
 loop-holds c = (search needs, refl, omega arith, λ q r p. p)
 
-sub-i : tie.Need-sub-i Inv-loop μ-loop
-sub-i c = search needs
-
-mul-k : tie.Need-mul-k Inv-loop μ-loop
-mul-k c = search needs
-
-shared-slice-read-k : tie.Need-shared-slice-read-k Inv-loop μ-loop
-shared-slice-read-k c = search needs
-
-element-copy-out-put-row : tie.Need-element-copy-out-put-row Inv-loop μ-loop
-element-copy-out-put-row c = search needs
-
-mul-put-row : tie.Need-mul-put-row Inv-loop μ-loop
-mul-put-row c = search needs
-
-element-copy-out-put-row-2 : tie.Need-element-copy-out-put-row-2 Inv-loop μ-loop
-element-copy-out-put-row-2 c = search needs
-
-mul-put-row-2 : tie.Need-mul-put-row-2 Inv-loop μ-loop
-mul-put-row-2 c = search needs
-
-shared-slice-read-put-row : tie.Need-shared-slice-read-put-row Inv-loop μ-loop
-shared-slice-read-put-row c = search needs
-
-mul-put-row-3 : tie.Need-mul-put-row-3 Inv-loop μ-loop
-mul-put-row-3 c = search needs
-
-shared-slice-read-put-row-2 : tie.Need-shared-slice-read-put-row-2 Inv-loop μ-loop
-shared-slice-read-put-row-2 c = search needs
-
 put-row-requires : tie.Need-put-row-requires Inv-loop μ-loop
 put-row-requires c κs =
     let h : 0 < c .before .before .before .before .before .before .before .before .loop .i = search needs in
@@ -64,9 +31,6 @@ put-row-requires c κs =
     let b₁ = b .1 in
     ((search needs, (omega arith, c .before .before .before .before .before .before .before .before .before .before .before .before .before .before .before .pre .0 .1 .1)), ((search needs, search needs), (omega arith, b₁)))
 
-loop-less : tie.Need-loop-less Inv-loop μ-loop
-loop-less c = search needs
-
 loop-again : tie.Need-loop-again Inv-loop μ-loop
 loop-again c =
     let h : 0 < c .before .before .before .before .before .before .before .before .before .before .before .loop .i = search needs in
@@ -78,9 +42,6 @@ loop-again c =
       omega arith,
       goes-next (c .before .before .before .before .before .before .before .before .before .before .before .before .before .before .before .before .before .before .args .tag .now) (c .before .before .before .before .before .before .before .before .before .before .before .before .before .before .before .before .before .before .args .lens .now) (c .before .before .before .before .before .before .before .before .before .before .before .before .before .before .before .before .before .before .args .names .now) (c .before .before .before .before .before .before .before .before .before .before .before .before .before .before .before .before .before .before .args .validities .now) (c .before .before .before .before .before .before .before .before .before .before .before .before .before .before .before .before .before .before .args .rows .now) (c .before .before .before .before .before .before .before .before .before .before .before .before .before .before .before .before .before .before .args .w) (c .before .before .before .before .before .before .before .before .before .before .before .before .before .before .before .before .before .before .args .uids .now) (c .before .before .before .before .before .before .before .before .before .before .before .before .before .before .before .before .before .before .args .starts .now) (c .before .before .before .before .before .before .before .before .before .before .before .before .before .before .before .before .before .before .args .counts .now) (c .before .before .before .before .before .before .before .before .before .before .before .before .before .before .before .before .before .before .args .queue .now) (c .before .before .before .before .before .before .before .before .before .before .before .before .before .before .before .before .before .before .args .at) (c .before .before .before .before .before .before .before .before .before .before .before .before .before .before .before .before .before .before .args .limit) (c .before .before .before .before .before .before .before .before .before .before .before .before .before .before .before .before .before .before .args .n) (c .before .before .before .before .before .before .before .before .before .before .before .loop .queue) (c .before .before .before .before .before .before .before .before .before .before .before .loop .end) (c .before .before .before .before .before .before .before .before .before .before .before .loop .i) _ _ h (c .before .before .before .before .before .before .before .before .before .before .before .loop .inv .3) (c .before .before .put-row .ensures .0),
     )
-
-same-length : tie.Need-same-length Inv-loop μ-loop
-same-length c = search needs
 
 returns : tie.Need-returns Inv-loop μ-loop
 returns c =
@@ -96,18 +57,18 @@ put-rows-spec =
     Inv-loop
     μ-loop
     loop-holds
-    sub-i
-    mul-k
-    shared-slice-read-k
-    element-copy-out-put-row
-    mul-put-row
-    element-copy-out-put-row-2
-    mul-put-row-2
-    shared-slice-read-put-row
-    mul-put-row-3
-    shared-slice-read-put-row-2
+    (λ c. search needs)  -- sub-i
+    (λ c. search needs)  -- mul-k
+    (λ c. search needs)  -- shared-slice-read-k
+    (λ c. search needs)  -- element-copy-out-put-row
+    (λ c. search needs)  -- mul-put-row
+    (λ c. search needs)  -- element-copy-out-put-row-2
+    (λ c. search needs)  -- mul-put-row-2
+    (λ c. search needs)  -- shared-slice-read-put-row
+    (λ c. search needs)  -- mul-put-row-3
+    (λ c. search needs)  -- shared-slice-read-put-row-2
     put-row-requires
-    loop-less
+    (λ c. search needs)  -- loop-less
     loop-again
-    same-length
+    (λ c. search needs)  -- same-length
     returns)

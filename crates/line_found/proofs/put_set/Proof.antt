@@ -13,26 +13,8 @@ Inv-loop queue₀ at limit uids n from₀ upto₀ o₀ i₀ queue from upto o i 
 abbrev μ-loop : tie.MeasureT-loop
 μ-loop queue₀ at limit uids n from₀ upto₀ o₀ i₀ queue from upto o i = n - i
 
-shared-slice-read-t12 : tie.Need-shared-slice-read-t12 Inv-loop μ-loop
-shared-slice-read-t12 c = search needs
-
 loop-holds : tie.Need-loop-holds Inv-loop μ-loop
 loop-holds c = writing-start (c .before .before .before .args .queue .now) (c .before .before .before .args .at) (c .before .before .before .args .limit) (c .before .before .before .args .uids .now) (c .before .before .before .args .n) (c .before .before .before .pre .1 .1 .0) (c .before .before .before .pre .0 .0) (c .before .before .before .pre .1 .0)
-
-mul-t14 : tie.Need-mul-t14 Inv-loop μ-loop
-mul-t14 c = search needs
-
-shared-slice-read-t16 : tie.Need-shared-slice-read-t16 Inv-loop μ-loop
-shared-slice-read-t16 c = search needs
-
-add-i : tie.Need-add-i Inv-loop μ-loop
-add-i c = search needs
-
-follows-requires : tie.Need-follows-requires Inv-loop μ-loop
-follows-requires c κs = search needs
-
-loop-less : tie.Need-loop-less Inv-loop μ-loop
-loop-less c = search needs
 
 loop-again : tie.Need-loop-again Inv-loop μ-loop
 loop-again c =
@@ -42,9 +24,6 @@ loop-again c =
 
 put-part-requires : tie.Need-put-part-requires Inv-loop μ-loop
 put-part-requires c κs = let a = c .before .before .before .before .before .loop .inv .short in let b = c .before .before .before .before .before .loop .inv .put .same in (omega arith, omega arith)
-
-loop-less-2 : tie.Need-loop-less-2 Inv-loop μ-loop
-loop-less-2 c = search needs
 
 loop-again-2 : tie.Need-loop-again-2 Inv-loop μ-loop
 loop-again-2 c =
@@ -70,16 +49,16 @@ put-set-spec =
     (tie.spec
     Inv-loop
     μ-loop
-    shared-slice-read-t12
+    (λ c. search needs)  -- shared-slice-read-t12
     loop-holds
-    mul-t14
-    shared-slice-read-t16
-    add-i
-    follows-requires
-    loop-less
+    (λ c. search needs)  -- mul-t14
+    (λ c. search needs)  -- shared-slice-read-t16
+    (λ c. search needs)  -- add-i
+    (λ c κs. search needs)  -- follows-requires
+    (λ c. search needs)  -- loop-less
     loop-again
     put-part-requires
-    loop-less-2
+    (λ c. search needs)  -- loop-less-2
     loop-again-2
     put-run-requires
     same-length

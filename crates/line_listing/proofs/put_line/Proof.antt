@@ -1,24 +1,10 @@
 use borrow.Author.Needs.{needs}
 use Rattle.line_listing.proofs.put_line.Statement.{statement}
 use Rattle.line_listing.proofs.put_line.Tie as tie
-use Rattle.line_listing.proofs.put_line.Reads as reads
-use Rattle.line_listing.proofs.put_line.Lts as lts
-use Rattle.line_mailbox.proofs.put_list.Reads as put-list-reads
-use Rattle.line_mailbox.proofs.put_status_at_set.Reads as put-status-at-set-reads
-use Rattle.table_mailboxes.proofs.has.Reads as has-reads
 use native.Mathlib.Omega.{arith}
 use borrow.Author.Tests.{not-true, not-false}
 use Rattle.line_put.specs.Put.{put-none, put-as}
 use Rattle.line_listing.specs.Telling.{line-barred, line-none, line-status}
-
-has-requires : tie.Need-has-requires
-has-requires c κs = search needs
-
-put-list-requires : tie.Need-put-list-requires
-put-list-requires c κs = search needs
-
-same-length : tie.Need-same-length
-same-length c = search needs
 
 returns : tie.Need-returns
 returns c =
@@ -36,12 +22,6 @@ returns-2 c =
       omega arith,
     )
 
-put-status-at-set-requires : tie.Need-put-status-at-set-requires
-put-status-at-set-requires c κs = search needs
-
-same-length-2 : tie.Need-same-length-2
-same-length-2 c = search needs
-
 returns-3 : tie.Need-returns-3
 returns-3 c =
     let args = c .before .before .before .before .before .before .before .before .before .args in (
@@ -54,11 +34,11 @@ pub put-line-spec : {M : Type 1} → statement M
 put-line-spec =
     tie.close
     (tie.spec
-    has-requires
-    put-list-requires
-    same-length
+    (λ c κs. search needs)  -- has-requires
+    (λ c κs. search needs)  -- put-list-requires
+    (λ c. search needs)  -- same-length
     returns
     returns-2
-    put-status-at-set-requires
-    same-length-2
+    (λ c κs. search needs)  -- put-status-at-set-requires
+    (λ c. search needs)  -- same-length-2
     returns-3)

@@ -1,8 +1,5 @@
 use Rattle.line_listing.proofs.put_lines.Statement.{statement}
 use Rattle.line_listing.proofs.put_lines.Tie as tie
-use Rattle.line_listing.proofs.put_lines.Reads as reads
-use Rattle.line_listing.proofs.put_lines.Lts as lts
-use Rattle.line_listing.proofs.put_row.Reads as put-row-reads
 use mathlib.Core.Path.{_≡_, refl, _∙_}
 use Prim.Native.Nat.{_≤_, _+_, _*_, _-_}
 use native.Mathlib.Omega.{arith}
@@ -24,29 +21,8 @@ abbrev μ-loop : tie.MeasureT-loop
 loop-holds : tie.Need-loop-holds Inv-loop μ-loop
 loop-holds c = (search needs, refl, omega arith, λ q r p. p)
 
-sub-i : tie.Need-sub-i Inv-loop μ-loop
-sub-i c = search needs
-
-mul-k : tie.Need-mul-k Inv-loop μ-loop
-mul-k c = search needs
-
-shared-slice-read-k : tie.Need-shared-slice-read-k Inv-loop μ-loop
-shared-slice-read-k c = search needs
-
-element-copy-out-on : tie.Need-element-copy-out-on Inv-loop μ-loop
-element-copy-out-on c = search needs
-
-mul-put-row : tie.Need-mul-put-row Inv-loop μ-loop
-mul-put-row c = search needs
-
-element-copy-out-put-row : tie.Need-element-copy-out-put-row Inv-loop μ-loop
-element-copy-out-put-row c = search needs
-
 put-row-requires : tie.Need-put-row-requires Inv-loop μ-loop
 put-row-requires c κs = (omega arith, omega arith, omega arith)
-
-loop-less : tie.Need-loop-less Inv-loop μ-loop
-loop-less c = search needs
 
 loop-again : tie.Need-loop-again Inv-loop μ-loop
 loop-again c =
@@ -57,9 +33,6 @@ loop-again c =
       omega (arith, c .before .before .put-row .ensures .1),
       goes-next (args .attributes .now) (args .lens .now) (args .validities .now) (args .nexts .now) (args .counters .now) (args .names .now) (args .order .now) (args .counts .now) (args .asks .now) (args .queue .now) (args .at) (args .limit) _ (turn .queue) (turn .end) (turn .i) _ _ (omega arith) (turn .inv .3) (c .before .before .put-row .ensures .0),
     )
-
-same-length : tie.Need-same-length Inv-loop μ-loop
-same-length c = search needs
 
 returns : tie.Need-returns Inv-loop μ-loop
 returns c =
@@ -80,14 +53,14 @@ put-lines-spec =
     Inv-loop
     μ-loop
     loop-holds
-    sub-i
-    mul-k
-    shared-slice-read-k
-    element-copy-out-on
-    mul-put-row
-    element-copy-out-put-row
+    (λ c. search needs)  -- sub-i
+    (λ c. search needs)  -- mul-k
+    (λ c. search needs)  -- shared-slice-read-k
+    (λ c. search needs)  -- element-copy-out-on
+    (λ c. search needs)  -- mul-put-row
+    (λ c. search needs)  -- element-copy-out-put-row
     put-row-requires
-    loop-less
+    (λ c. search needs)  -- loop-less
     loop-again
-    same-length
+    (λ c. search needs)  -- same-length
     returns)

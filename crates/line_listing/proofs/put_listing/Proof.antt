@@ -8,12 +8,6 @@ use Rattle.model.specs.Listing.{listingLine}
 use Rattle.line_put.specs.Put.{put-as}
 use Rattle.line_listing.specs.Telling.{listing-is}
 
-put-lines-requires : tie.Need-put-lines-requires
-put-lines-requires c κs = search needs
-
-same-length : tie.Need-same-length
-same-length c = search needs
-
 returns : tie.Need-returns
 returns c = (
   λ m s wanted h v o t. put-as (c .before .before .put-lines .ensures .0 (listingLine m s wanted) (boxes m) h v (o .low) t) (listing-is m s wanted _ (c .before .before .before .before .before .before .args .n) (o .order)),
@@ -21,4 +15,9 @@ returns c = (
 )
 
 pub put-listing-spec : {M : Type 1} → statement M
-put-listing-spec = tie.close (tie.spec put-lines-requires same-length returns)
+put-listing-spec =
+    tie.close
+    (tie.spec
+    (λ c κs. search needs)  -- put-lines-requires
+    (λ c. search needs)  -- same-length
+    returns)

@@ -6,21 +6,6 @@ use native.Mathlib.Omega.{arith}
 use Rattle.line_put.specs.Put.{_then_, put-as}
 use Rattle.line_mailbox.specs.Texts.{flag-text}
 
-put-opening-requires : tie.Need-put-opening-requires
-put-opening-requires c κs = search needs
-
-slice-aggregate-put-counted : tie.Need-slice-aggregate-put-counted
-slice-aggregate-put-counted c = search needs
-
-put-counted-requires : tie.Need-put-counted-requires
-put-counted-requires c κs = search needs
-
-put-highest-requires : tie.Need-put-highest-requires
-put-highest-requires c κs = search needs
-
-same-length : tie.Need-same-length
-same-length c = search needs
-
 returns : tie.Need-returns
 returns c =
     let args = c .before .before .before .before .before .before .before .before .before .before .before .before .before .before .before .args in
@@ -33,9 +18,9 @@ pub put-flag-status-spec : {M : Type 1} → statement M
 put-flag-status-spec =
     tie.close
     (tie.spec
-    put-opening-requires
-    slice-aggregate-put-counted
-    put-counted-requires
-    put-highest-requires
-    same-length
+    (λ c κs. search needs)  -- put-opening-requires
+    (λ c. search needs)  -- slice-aggregate-put-counted
+    (λ c κs. search needs)  -- put-counted-requires
+    (λ c κs. search needs)  -- put-highest-requires
+    (λ c. search needs)  -- same-length
     returns)

@@ -6,21 +6,6 @@ use native.Mathlib.Omega.{arith}
 use Rattle.line_put.specs.Put.{_then_}
 use Rattle.line_mailbox.specs.Texts.{ending}
 
-slice-aggregate-put-counted : tie.Need-slice-aggregate-put-counted
-slice-aggregate-put-counted c = search needs
-
-put-counted-requires : tie.Need-put-counted-requires
-put-counted-requires c κs = search needs
-
-slice-aggregate-put : tie.Need-slice-aggregate-put
-slice-aggregate-put c = search needs
-
-put-requires : tie.Need-put-requires
-put-requires c κs = search needs
-
-same-length : tie.Need-same-length
-same-length c = search needs
-
 returns : tie.Need-returns
 unfolding ending
 returns c =
@@ -32,9 +17,9 @@ pub put-highest-spec : {M : Type 1} → statement M
 put-highest-spec =
     tie.close
     (tie.spec
-    slice-aggregate-put-counted
-    put-counted-requires
-    slice-aggregate-put
-    put-requires
-    same-length
+    (λ c. search needs)  -- slice-aggregate-put-counted
+    (λ c κs. search needs)  -- put-counted-requires
+    (λ c. search needs)  -- slice-aggregate-put
+    (λ c κs. search needs)  -- put-requires
+    (λ c. search needs)  -- same-length
     returns)

@@ -1,35 +1,9 @@
 use borrow.Author.Needs.{needs}
 use Rattle.line_mailbox.proofs.put_listed.Statement.{statement}
 use Rattle.line_mailbox.proofs.put_listed.Tie as tie
-use Rattle.line_mailbox.proofs.put_listed.Reads as reads
-use Rattle.line_mailbox.proofs.put_listed.Lts as lts
-use Rattle.line_mailbox.proofs.put_mark.Reads as put-mark-reads
-use Rattle.line_put.proofs.put.Reads as put-reads
-use Rattle.line_put.proofs.put_quoted.Reads as put-quoted-reads
 use native.Mathlib.Omega.{arith}
 use Rattle.line_put.specs.Put.{_then_}
 use Rattle.line_mailbox.specs.Texts.{listed}
-
-slice-aggregate-put : tie.Need-slice-aggregate-put
-slice-aggregate-put c = search needs
-
-put-requires : tie.Need-put-requires
-put-requires c κs = search needs
-
-put-mark-requires : tie.Need-put-mark-requires
-put-mark-requires c κs = search needs
-
-slice-aggregate-put-2 : tie.Need-slice-aggregate-put-2
-slice-aggregate-put-2 c = search needs
-
-put-requires-2 : tie.Need-put-requires-2
-put-requires-2 c κs = search needs
-
-put-quoted-requires : tie.Need-put-quoted-requires
-put-quoted-requires c κs = search needs
-
-same-length : tie.Need-same-length
-same-length c = search needs
 
 returns : tie.Need-returns
 unfolding listed
@@ -39,11 +13,11 @@ pub put-listed-spec : {M : Type 1} → statement M
 put-listed-spec =
     tie.close
     (tie.spec
-    slice-aggregate-put
-    put-requires
-    put-mark-requires
-    slice-aggregate-put-2
-    put-requires-2
-    put-quoted-requires
-    same-length
+    (λ c. search needs)  -- slice-aggregate-put
+    (λ c κs. search needs)  -- put-requires
+    (λ c κs. search needs)  -- put-mark-requires
+    (λ c. search needs)  -- slice-aggregate-put-2
+    (λ c κs. search needs)  -- put-requires-2
+    (λ c κs. search needs)  -- put-quoted-requires
+    (λ c. search needs)  -- same-length
     returns)

@@ -6,27 +6,6 @@ use native.Mathlib.Omega.{arith}
 use Rattle.line_put.specs.Put.{_then_, put-as}
 use Rattle.line_mailbox.specs.Texts.{mail-text}
 
-put-opening-requires : tie.Need-put-opening-requires
-put-opening-requires c κs = search needs
-
-slice-aggregate-put-counted : tie.Need-slice-aggregate-put-counted
-slice-aggregate-put-counted c = search needs
-
-put-counted-requires : tie.Need-put-counted-requires
-put-counted-requires c κs = search needs
-
-slice-aggregate-put-counted-2 : tie.Need-slice-aggregate-put-counted-2
-slice-aggregate-put-counted-2 c = search needs
-
-put-counted-requires-2 : tie.Need-put-counted-requires-2
-put-counted-requires-2 c κs = search needs
-
-put-highest-requires : tie.Need-put-highest-requires
-put-highest-requires c κs = search needs
-
-same-length : tie.Need-same-length
-same-length c = search needs
-
 returns : tie.Need-returns
 returns c =
     let args = c .before .before .before .before .before .before .before .before .before .before .before .before .before .before .before .before .before .before .before .before .args in
@@ -40,11 +19,11 @@ pub put-status-spec : {M : Type 1} → statement M
 put-status-spec =
     tie.close
     (tie.spec
-    put-opening-requires
-    slice-aggregate-put-counted
-    put-counted-requires
-    slice-aggregate-put-counted-2
-    put-counted-requires-2
-    put-highest-requires
-    same-length
+    (λ c κs. search needs)  -- put-opening-requires
+    (λ c. search needs)  -- slice-aggregate-put-counted
+    (λ c κs. search needs)  -- put-counted-requires
+    (λ c. search needs)  -- slice-aggregate-put-counted-2
+    (λ c κs. search needs)  -- put-counted-requires-2
+    (λ c κs. search needs)  -- put-highest-requires
+    (λ c. search needs)  -- same-length
     returns)

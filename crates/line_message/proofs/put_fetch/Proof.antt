@@ -6,33 +6,6 @@ use native.Mathlib.Omega.{arith}
 use Rattle.line_put.specs.Put.{_then_}
 use Rattle.line_message.specs.Fetch.{fetchText}
 
-slice-aggregate-put : tie.Need-slice-aggregate-put
-slice-aggregate-put c = search needs
-
-put-requires : tie.Need-put-requires
-put-requires c κs = search needs
-
-put-number-requires : tie.Need-put-number-requires
-put-number-requires c κs = search needs
-
-slice-aggregate-put-2 : tie.Need-slice-aggregate-put-2
-slice-aggregate-put-2 c = search needs
-
-put-requires-2 : tie.Need-put-requires-2
-put-requires-2 c κs = search needs
-
-put-number-requires-2 : tie.Need-put-number-requires-2
-put-number-requires-2 c κs = search needs
-
-put-flag-item-requires : tie.Need-put-flag-item-requires
-put-flag-item-requires c κs = search needs
-
-put-modseq-requires : tie.Need-put-modseq-requires
-put-modseq-requires c κs = search needs
-
-slice-aggregate-put-3 : tie.Need-slice-aggregate-put-3
-slice-aggregate-put-3 c = search needs
-
 put-requires-3 : tie.Need-put-requires-3
 put-requires-3 c κs =
     let start = c .before .before .before .before .before .before .before .before .before .before .before .before .before .before .before .before .before .before .before .before .before .before .before .before .before .before .before .before .before in
@@ -43,9 +16,6 @@ put-requires-3 c κs =
     let flags = c .before .before .before .before .before .before .before .before .put-flag-item .ensures in
     let counter = c .before .before .before .before .put-modseq .ensures in
     omega (arith, start .pre, word .next, place .1, fetch .next, uid .1, flags .1, counter .1, word .same, place .0 .same, fetch .same, uid .0 .same, flags .0 .same, counter .0 .same)
-
-same-length : tie.Need-same-length
-same-length c = search needs
 
 returns : tie.Need-returns
 unfolding fetchText
@@ -64,15 +34,15 @@ pub put-fetch-spec : {M : Type 1} → statement M
 put-fetch-spec =
     tie.close
     (tie.spec
-    slice-aggregate-put
-    put-requires
-    put-number-requires
-    slice-aggregate-put-2
-    put-requires-2
-    put-number-requires-2
-    put-flag-item-requires
-    put-modseq-requires
-    slice-aggregate-put-3
+    (λ c. search needs)  -- slice-aggregate-put
+    (λ c κs. search needs)  -- put-requires
+    (λ c κs. search needs)  -- put-number-requires
+    (λ c. search needs)  -- slice-aggregate-put-2
+    (λ c κs. search needs)  -- put-requires-2
+    (λ c κs. search needs)  -- put-number-requires-2
+    (λ c κs. search needs)  -- put-flag-item-requires
+    (λ c κs. search needs)  -- put-modseq-requires
+    (λ c. search needs)  -- slice-aggregate-put-3
     put-requires-3
-    same-length
+    (λ c. search needs)  -- same-length
     returns)

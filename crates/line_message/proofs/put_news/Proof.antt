@@ -1,37 +1,14 @@
 use borrow.Author.Needs.{needs}
 use Rattle.line_message.proofs.put_news.Statement.{statement}
 use Rattle.line_message.proofs.put_news.Tie as tie
-use Rattle.line_message.proofs.put_news.Reads as reads
-use Rattle.line_message.proofs.put_news.Lts as lts
 use Prim.Native.Nat.{_-_}
 use native.Mathlib.Omega.{arith}
 use borrow.Author.Tests.{not-true, not-false}
 use Rattle.line_put.specs.Put.{_then_, put-as}
 use Rattle.line_message.specs.Whole.{news-bare, news-full}
 
-staying-requires : tie.Need-staying-requires
-staying-requires c κs = search needs
-
-unseen-requires : tie.Need-unseen-requires
-unseen-requires c κs = search needs
-
-put-exists-requires : tie.Need-put-exists-requires
-put-exists-requires c κs = search needs
-
-same-length : tie.Need-same-length
-same-length c = search needs
-
 returns : tie.Need-returns
 returns c = let a = c .before .before .before .before .before .before .before .before .before .before .before .args in (put-as (c .before .before .before .before .put-exists .ensures .0) (news-bare (a .told .0) (a .w) _ _ _ (c .before .before .before .before .before .before .before .staying .ensures .0) (c .before .before .before .before .before .before .unseen .ensures .0) (not-true (a .w .any) (c .if1 .taken))), omega (arith, c .before .before .before .before .put-exists .ensures .1))
-
-add-from : tie.Need-add-from
-add-from c = search needs
-
-put-part-requires : tie.Need-put-part-requires
-put-part-requires c κs = search needs
-
-same-length-2 : tie.Need-same-length-2
-same-length-2 c = search needs
 
 returns-2 : tie.Need-returns-2
 returns-2 c = let a = c .before .before .before .before .before .before .before .before .before .before .before .before .before .before .before .args in
@@ -41,12 +18,12 @@ pub put-news-spec : {M : Type 1} → statement M
 put-news-spec =
     tie.close
     (tie.spec
-    staying-requires
-    unseen-requires
-    put-exists-requires
-    same-length
+    (λ c κs. search needs)  -- staying-requires
+    (λ c κs. search needs)  -- unseen-requires
+    (λ c κs. search needs)  -- put-exists-requires
+    (λ c. search needs)  -- same-length
     returns
-    add-from
-    put-part-requires
-    same-length-2
+    (λ c. search needs)  -- add-from
+    (λ c κs. search needs)  -- put-part-requires
+    (λ c. search needs)  -- same-length-2
     returns-2)

@@ -1,30 +1,10 @@
 use borrow.Author.Needs.{needs}
 use Rattle.line_message.proofs.put_owed.Statement.{statement}
 use Rattle.line_message.proofs.put_owed.Tie as tie
-use Rattle.line_message.proofs.put_owed.Reads as reads
-use Rattle.line_message.proofs.put_owed.Lts as lts
 use Prim.Native.Nat.{_-_}
 use native.Mathlib.Omega.{arith}
 use Rattle.line_put.specs.Put.{_then_, put-as}
 use Rattle.line_message.specs.Whole.{owedText, exists-as}
-
-put-part-requires : tie.Need-put-part-requires
-put-part-requires c κs = search needs
-
-staying-requires : tie.Need-staying-requires
-staying-requires c κs = search needs
-
-unseen-requires : tie.Need-unseen-requires
-unseen-requires c κs = search needs
-
-put-exists-requires : tie.Need-put-exists-requires
-put-exists-requires c κs = search needs
-
-put-part-requires-2 : tie.Need-put-part-requires-2
-put-part-requires-2 c κs = search needs
-
-same-length : tie.Need-same-length
-same-length c = search needs
 
 returns : tie.Need-returns
 unfolding owedText
@@ -34,10 +14,10 @@ pub put-owed-spec : {M : Type 1} → statement M
 put-owed-spec =
     tie.close
     (tie.spec
-    put-part-requires
-    staying-requires
-    unseen-requires
-    put-exists-requires
-    put-part-requires-2
-    same-length
+    (λ c κs. search needs)  -- put-part-requires
+    (λ c κs. search needs)  -- staying-requires
+    (λ c κs. search needs)  -- unseen-requires
+    (λ c κs. search needs)  -- put-exists-requires
+    (λ c κs. search needs)  -- put-part-requires-2
+    (λ c. search needs)  -- same-length
     returns)

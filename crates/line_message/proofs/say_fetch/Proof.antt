@@ -1,34 +1,12 @@
 use borrow.Author.Needs.{needs}
 use Rattle.line_message.proofs.say_fetch.Statement.{statement}
 use Rattle.line_message.proofs.say_fetch.Tie as tie
-use Rattle.line_message.proofs.say_fetch.Reads as reads
-use Rattle.line_message.proofs.say_fetch.Lts as lts
-use Rattle.line_message.proofs.put_fetch.Reads as put-fetch-reads
-use Rattle.line_put.proofs.overflow.Reads as overflow-reads
 use mathlib.Core.Path.{refl}
 use native.Mathlib.Omega.{arith}
 use Rattle.line_put.specs.Says.{says-fits, says-over}
 
-sub-limit : tie.Need-sub-limit
-sub-limit c = search needs
-
-put-fetch-requires : tie.Need-put-fetch-requires
-put-fetch-requires c κs = search needs
-
-put-fetch-requires-2 : tie.Need-put-fetch-requires-2
-put-fetch-requires-2 c κs = search needs
-
-same-length : tie.Need-same-length
-same-length c = search needs
-
 returns : tie.Need-returns
 returns c = says-fits _ _ _ _ _ _ _ _ (c .before .before .before .before .before .before .before .put-fetch .ensures .0) (c .before .before .put-fetch2 .ensures .0) refl (omega arith)
-
-overflow-requires : tie.Need-overflow-requires
-overflow-requires c κs = search needs
-
-same-length-2 : tie.Need-same-length-2
-same-length-2 c = search needs
 
 returns-2 : tie.Need-returns-2
 returns-2 c = says-over _ _ _ _ _ _ _ _ (c .before .before .before .before .before .before .before .put-fetch .ensures .0) (c .before .before .overflow .ensures) (omega arith) (omega arith) (omega arith)
@@ -37,11 +15,11 @@ pub say-fetch-spec : {M : Type 1} → statement M
 say-fetch-spec =
     tie.close
     (tie.spec
-    sub-limit
-    put-fetch-requires
-    put-fetch-requires-2
-    same-length
+    (λ c. search needs)  -- sub-limit
+    (λ c κs. search needs)  -- put-fetch-requires
+    (λ c κs. search needs)  -- put-fetch-requires-2
+    (λ c. search needs)  -- same-length
     returns
-    overflow-requires
-    same-length-2
+    (λ c κs. search needs)  -- overflow-requires
+    (λ c. search needs)  -- same-length-2
     returns-2)

@@ -1,7 +1,5 @@
 use Rattle.line_put.proofs.copy.Statement.{statement}
 use Rattle.line_put.proofs.copy.Tie as tie
-use Rattle.line_put.proofs.copy.Reads as reads
-use Rattle.line_put.proofs.copy.Lts as lts
 use mathlib.Core.Path.{_≡_, refl, sym}
 use Prim.Native.Nat.{_≤_, _-_, _<_, _+_}
 use native.Mathlib.Omega.{arith}
@@ -20,21 +18,6 @@ abbrev μ-loop : tie.MeasureT-loop
 loop-holds : tie.Need-loop-holds Inv-loop μ-loop
 loop-holds c = (search needs, search needs, refl, wrote-none _ _ (omega arith))
 
-shared-slice-read-queue : tie.Need-shared-slice-read-queue Inv-loop μ-loop
-shared-slice-read-queue c = search needs
-
-slice-write-queue : tie.Need-slice-write-queue Inv-loop μ-loop
-slice-write-queue c = search needs
-
-add-o : tie.Need-add-o Inv-loop μ-loop
-add-o c = search needs
-
-add-i : tie.Need-add-i Inv-loop μ-loop
-add-i c = search needs
-
-loop-less : tie.Need-loop-less Inv-loop μ-loop
-loop-less c = search needs
-
 loop-again : tie.Need-loop-again Inv-loop μ-loop
 loop-again c = let a = c .before .before .before .args in
     let v = c .before .before .loop in
@@ -46,9 +29,6 @@ loop-again c = let a = c .before .before .before .args in
       wrote-as (_then_ (v .inv .3) (wrote-one (v .queue) (v .o) (getD (a .text .now) (v .i) 0) (v .o + 1) k refl)) (rw add-one (sym (take-suc (a .text .now) (v .i) 0 h))),
     )
 
-same-length : tie.Need-same-length Inv-loop μ-loop
-same-length c = search needs
-
 returns : tie.Need-returns Inv-loop μ-loop
 returns c = wrote-as (c .before .loop .inv .3) (take-all (c .before .loop .i) (c .before .before .args .text .now) (c .loop-test .left))
 
@@ -59,11 +39,11 @@ copy-spec =
     Inv-loop
     μ-loop
     loop-holds
-    shared-slice-read-queue
-    slice-write-queue
-    add-o
-    add-i
-    loop-less
+    (λ c. search needs)  -- shared-slice-read-queue
+    (λ c. search needs)  -- slice-write-queue
+    (λ c. search needs)  -- add-o
+    (λ c. search needs)  -- add-i
+    (λ c. search needs)  -- loop-less
     loop-again
-    same-length
+    (λ c. search needs)  -- same-length
     returns)

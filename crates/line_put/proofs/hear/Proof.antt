@@ -1,21 +1,17 @@
 use borrow.Author.Needs.{needs}
 use Rattle.line_put.proofs.hear.Statement.{statement}
 use Rattle.line_put.proofs.hear.Tie as tie
-use Rattle.line_put.proofs.hear.Reads as reads
-use Rattle.line_put.proofs.hear.Lts as lts
-use Rattle.line_put.proofs.silence.Reads as silence-reads
 use mathlib.Core.Path.{refl, sym, _∙_, ap}
 use mathlib.Core.Bool.{Bool, cond}
 use Rattle.model.specs.Memory.{silenced}
-
-returns : tie.Need-returns
-returns c = search needs
-
-silence-requires : tie.Need-silence-requires
-silence-requires c κs = search needs
 
 returns-2 : tie.Need-returns-2
 returns-2 c = (c .silence .ensures ∙ sym (ap (λ (b : Bool). cond b (c .before .before .args .s) (silenced (c .before .before .args .s))) (c .before .if1 .left)), refl)
 
 pub hear-spec : {M : Type 1} → statement M
-hear-spec = tie.close (tie.spec returns silence-requires returns-2)
+hear-spec =
+    tie.close
+    (tie.spec
+    (λ c. search needs)  -- returns
+    (λ c κs. search needs)  -- silence-requires
+    returns-2)

@@ -17,23 +17,8 @@ Inv-loop name deep s end i₀ i = anyb (hitBy deep name) (drop i₀ (take end (s
 abbrev μ-loop : tie.MeasureT-loop
 μ-loop name deep s end i₀ i = end - i
 
-reach-requires : tie.Need-reach-requires Inv-loop μ-loop
-reach-requires c κs = search needs
-
-wide-requires : tie.Need-wide-requires Inv-loop μ-loop
-wide-requires c κs = search needs
-
 loop-holds : tie.Need-loop-holds Inv-loop μ-loop
 loop-holds c = refl
-
-mul-x : tie.Need-mul-x Inv-loop μ-loop
-mul-x c = search needs
-
-element-copy-out-x : tie.Need-element-copy-out-x Inv-loop μ-loop
-element-copy-out-x c = search needs
-
-hits-requires : tie.Need-hits-requires Inv-loop μ-loop
-hits-requires c κs = search needs
 
 returns : tie.Need-returns Inv-loop μ-loop
 returns c =
@@ -47,12 +32,6 @@ returns c =
     sym (names-run (λ (t : Name). hit (a .deep) t (a .name .now)) (a .t1) (a .range) end (reach .ensures .1 (a .t1 .names) long)
     ∙ (ap (λ (k : ℕ). anyb p (drop k (take end (a .t1 .names)))) (sym (wide .ensures .0))
     ∙ (loop .inv ∙ any-here p (a .t1 .names) end (loop .i) (omega arith) vacantName (omega arith) (sym (c .before .hits .ensures) ∙ c .if1 .taken))))
-
-add-i : tie.Need-add-i Inv-loop μ-loop
-add-i c = search needs
-
-loop-less : tie.Need-loop-less Inv-loop μ-loop
-loop-less c = search needs
 
 loop-again : tie.Need-loop-again Inv-loop μ-loop
 loop-again c =
@@ -78,14 +57,14 @@ any-name-spec =
     (tie.spec
     Inv-loop
     μ-loop
-    reach-requires
-    wide-requires
+    (λ c κs. search needs)  -- reach-requires
+    (λ c κs. search needs)  -- wide-requires
     loop-holds
-    mul-x
-    element-copy-out-x
-    hits-requires
+    (λ c. search needs)  -- mul-x
+    (λ c. search needs)  -- element-copy-out-x
+    (λ c κs. search needs)  -- hits-requires
     returns
-    add-i
-    loop-less
+    (λ c. search needs)  -- add-i
+    (λ c. search needs)  -- loop-less
     loop-again
     returns-2)

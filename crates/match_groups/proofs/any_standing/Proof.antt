@@ -16,23 +16,8 @@ Inv-loop delayed k s n i₀ i = anyb (standsAs delayed k) (take n (s .groups)) �
 abbrev μ-loop : tie.MeasureT-loop
 μ-loop delayed k s n i₀ i = n - i
 
-groups-requires : tie.Need-groups-requires Inv-loop μ-loop
-groups-requires c κs = search needs
-
 loop-holds : tie.Need-loop-holds Inv-loop μ-loop
 loop-holds c = refl
-
-mul-group-of : tie.Need-mul-group-of Inv-loop μ-loop
-mul-group-of c = search needs
-
-element-copy-out-group-of : tie.Need-element-copy-out-group-of Inv-loop μ-loop
-element-copy-out-group-of c = search needs
-
-group-of-requires : tie.Need-group-of-requires Inv-loop μ-loop
-group-of-requires c κs = search needs
-
-stands-requires : tie.Need-stands-requires Inv-loop μ-loop
-stands-requires c κs = search needs
 
 returns : tie.Need-returns Inv-loop μ-loop
 returns c =
@@ -44,12 +29,6 @@ returns c =
     let here = ap (standing (a .delayed) (a .k)) (sym (c .before .before .group-of .ensures)) ∙ (sym (c .before .stands .ensures) ∙ c .if1 .taken) in
     sym (any-groups (a .t1) n (groups .ensures .1 (a .t1 .groups) long) (standing (a .delayed) (a .k))
     ∙ (loop .inv ∙ any-here (standsAs (a .delayed) (a .k)) (a .t1 .groups) n (loop .i) (omega arith) vacantGroup (omega arith) here))
-
-add-i : tie.Need-add-i Inv-loop μ-loop
-add-i c = search needs
-
-loop-less : tie.Need-loop-less Inv-loop μ-loop
-loop-less c = search needs
 
 loop-again : tie.Need-loop-again Inv-loop μ-loop
 loop-again c =
@@ -73,14 +52,14 @@ any-standing-spec =
     (tie.spec
     Inv-loop
     μ-loop
-    groups-requires
+    (λ c κs. search needs)  -- groups-requires
     loop-holds
-    mul-group-of
-    element-copy-out-group-of
-    group-of-requires
-    stands-requires
+    (λ c. search needs)  -- mul-group-of
+    (λ c. search needs)  -- element-copy-out-group-of
+    (λ c κs. search needs)  -- group-of-requires
+    (λ c κs. search needs)  -- stands-requires
     returns
-    add-i
-    loop-less
+    (λ c. search needs)  -- add-i
+    (λ c. search needs)  -- loop-less
     loop-again
     returns-2)

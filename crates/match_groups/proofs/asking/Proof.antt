@@ -15,26 +15,8 @@ Inv-loop name a k s n i₀ i = number (asksAs s name a k) (take n (s .groups)) �
 abbrev μ-loop : tie.MeasureT-loop
 μ-loop name a k s n i₀ i = n - i
 
-groups-requires : tie.Need-groups-requires Inv-loop μ-loop
-groups-requires c κs = search needs
-
 loop-holds : tie.Need-loop-holds Inv-loop μ-loop
 loop-holds c = number-start _ _
-
-mul-group-of : tie.Need-mul-group-of Inv-loop μ-loop
-mul-group-of c = search needs
-
-element-copy-out-group-of : tie.Need-element-copy-out-group-of Inv-loop μ-loop
-element-copy-out-group-of c = search needs
-
-group-of-requires : tie.Need-group-of-requires Inv-loop μ-loop
-group-of-requires c κs = search needs
-
-asks-requires : tie.Need-asks-requires Inv-loop μ-loop
-asks-requires c κs = search needs
-
-add-result : tie.Need-add-result Inv-loop μ-loop
-add-result c = search needs
 
 returns : tie.Need-returns Inv-loop μ-loop
 returns c =
@@ -46,12 +28,6 @@ returns c =
     let here = ap (asksIn (a .t1) (a .name .now) (a .a) (a .k)) (sym (c .before .before .group-of .ensures)) ∙ (sym (c .before .asks .ensures) ∙ c .if1 .taken) in
     sym (number-groups (a .t1) n (groups .ensures .1 (a .t1 .groups) long) (asksIn (a .t1) (a .name .now) (a .a) (a .k))
     ∙ number-here (asksAs (a .t1) (a .name .now) (a .a) (a .k)) (a .t1 .groups) n (loop .i) (omega arith) _ (loop .inv) vacantGroup (omega arith) here)
-
-add-i : tie.Need-add-i Inv-loop μ-loop
-add-i c = search needs
-
-loop-less : tie.Need-loop-less Inv-loop μ-loop
-loop-less c = search needs
 
 loop-again : tie.Need-loop-again Inv-loop μ-loop
 loop-again c =
@@ -75,15 +51,15 @@ asking-spec =
     (tie.spec
     Inv-loop
     μ-loop
-    groups-requires
+    (λ c κs. search needs)  -- groups-requires
     loop-holds
-    mul-group-of
-    element-copy-out-group-of
-    group-of-requires
-    asks-requires
-    add-result
+    (λ c. search needs)  -- mul-group-of
+    (λ c. search needs)  -- element-copy-out-group-of
+    (λ c κs. search needs)  -- group-of-requires
+    (λ c κs. search needs)  -- asks-requires
+    (λ c. search needs)  -- add-result
     returns
-    add-i
-    loop-less
+    (λ c. search needs)  -- add-i
+    (λ c. search needs)  -- loop-less
     loop-again
     returns-2)

@@ -8,9 +8,6 @@ use native.Mathlib.Omega.{arith}
 use lib.ListN.{take}
 use Rattle.match_groups.specs.Asking.{take-within}
 
-wide-requires : tie.Need-wide-requires
-wide-requires c κs = search needs
-
 returns : tie.Need-returns
 returns c = (omega arith, λ l e. ap (λ (n : ℕ). take n l) (c .before .wide .ensures .0))
 
@@ -18,4 +15,9 @@ returns-2 : tie.Need-returns-2
 returns-2 c = (omega arith, λ l e. take-within (c .before .before .args .count) 8 l e (omega arith))
 
 pub groups-spec : {M : Type 1} → statement M
-groups-spec = tie.close (tie.spec wide-requires returns returns-2)
+groups-spec =
+    tie.close
+    (tie.spec
+    (λ c κs. search needs)  -- wide-requires
+    returns
+    returns-2)

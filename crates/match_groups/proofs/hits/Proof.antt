@@ -8,17 +8,11 @@ use lib.ListN.{length}
 use lib.Seq.{length-take-le}
 use Rattle.model.specs.Lists.{same}
 
-clip-requires : tie.Need-clip-requires
-clip-requires c κs = search needs
-
 array-share-prefix-o : tie.Need-array-share-prefix-o
 array-share-prefix-o c = let lx : length (c .before .before .before .before .args .x .octets) ≡ 64 = search needs in omega arith
 
 slice-aggregate-in-subtree : tie.Need-slice-aggregate-in-subtree
 slice-aggregate-in-subtree c = let lx : length (c .before .before .before .before .before .args .x .octets) ≡ 64 = search needs in sym (length-take-le _ _ (omega arith))
-
-in-subtree-requires : tie.Need-in-subtree-requires
-in-subtree-requires c κs = search needs
 
 returns : tie.Need-returns
 returns c =
@@ -32,9 +26,6 @@ array-share-prefix-o-2 c = let lx : length (c .before .before .before .before .a
 slice-aggregate-same : tie.Need-slice-aggregate-same
 slice-aggregate-same c = let lx : length (c .before .before .before .before .before .args .x .octets) ≡ 64 = search needs in sym (length-take-le _ _ (omega arith))
 
-same-requires : tie.Need-same-requires
-same-requires c κs = search needs
-
 returns-2 : tie.Need-returns-2
 returns-2 c =
     let a = c .before .before .before .before .before .before .args in
@@ -45,12 +36,12 @@ pub hits-spec : {M : Type 1} → statement M
 hits-spec =
     tie.close
     (tie.spec
-    clip-requires
+    (λ c κs. search needs)  -- clip-requires
     array-share-prefix-o
     slice-aggregate-in-subtree
-    in-subtree-requires
+    (λ c κs. search needs)  -- in-subtree-requires
     returns
     array-share-prefix-o-2
     slice-aggregate-same
-    same-requires
+    (λ c κs. search needs)  -- same-requires
     returns-2)

@@ -5,11 +5,12 @@ use Rattle.match_groups.proofs.immediate_asks.Tie as tie
 use mathlib.Core.Path.{_∙_}
 use Rattle.match_groups.specs.Asking.{immediate-stands}
 
-any-standing-requires : tie.Need-any-standing-requires
-any-standing-requires c κs = search needs
-
 returns : tie.Need-returns
 returns c = c .any-standing .ensures ∙ immediate-stands (c .before .args .s) (c .before .args .k)
 
 pub immediate-asks-spec : {M : Type 1} → statement M
-immediate-asks-spec = tie.close (tie.spec any-standing-requires returns)
+immediate-asks-spec =
+    tie.close
+    (tie.spec
+    (λ c κs. search needs)  -- any-standing-requires
+    returns)

@@ -10,9 +10,6 @@ use Rattle.match_groups.specs.Asking.{asksBit, number-any}
 use Rattle.model.specs.declared.Group.{Group}
 use lib.Dec.{eqb}
 
-asking-requires : tie.Need-asking-requires
-asking-requires c κs = search needs
-
 returns : tie.Need-returns
 returns c =
     let a = c .before .before .args in
@@ -20,4 +17,8 @@ returns c =
     (groupsOf (a .s))
 
 pub is-asked-spec : {M : Type 1} → statement M
-is-asked-spec = tie.close (tie.spec asking-requires returns)
+is-asked-spec =
+    tie.close
+    (tie.spec
+    (λ c κs. search needs)  -- asking-requires
+    returns)

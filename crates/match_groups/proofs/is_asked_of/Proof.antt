@@ -10,17 +10,11 @@ use Rattle.model.specs.Names.{Name}
 use Rattle.match_groups.specs.Asking.{asksBit}
 use Rattle.model.specs.Groups.{asked}
 
-clip-requires : tie.Need-clip-requires
-clip-requires c κs = search needs
-
 array-share-prefix-o : tie.Need-array-share-prefix-o
 array-share-prefix-o c = let lx : length (c .before .before .args .x .name) ≡ 64 = search needs in omega arith
 
 slice-aggregate-is-asked : tie.Need-slice-aggregate-is-asked
 slice-aggregate-is-asked c = let lx : length (c .before .before .before .args .x .name) ≡ 64 = search needs in sym (length-take-le _ _ (omega arith))
-
-is-asked-requires : tie.Need-is-asked-requires
-is-asked-requires c κs = search needs
 
 returns : tie.Need-returns
 returns c =
@@ -32,8 +26,8 @@ pub is-asked-of-spec : {M : Type 1} → statement M
 is-asked-of-spec =
     tie.close
     (tie.spec
-    clip-requires
+    (λ c κs. search needs)  -- clip-requires
     array-share-prefix-o
     slice-aggregate-is-asked
-    is-asked-requires
+    (λ c κs. search needs)  -- is-asked-requires
     returns)

@@ -5,48 +5,6 @@ use Rattle.match_groups.proofs.is_met.Tie as tie
 use mathlib.Core.Path.{sym, _∙_, ap}
 use Rattle.model.specs.Groups.{meets}
 
-enum-told : tie.Need-enum-told
-enum-told c = search needs
-
-enum-told-2 : tie.Need-enum-told-2
-enum-told-2 c = search needs
-
-enum-told-3 : tie.Need-enum-told-3
-enum-told-3 c = search needs
-
-takes-inboxes-requires : tie.Need-takes-inboxes-requires
-takes-inboxes-requires c κs = search needs
-
-enum-told-4 : tie.Need-enum-told-4
-enum-told-4 c = search needs
-
-takes-personal-requires : tie.Need-takes-personal-requires
-takes-personal-requires c κs = search needs
-
-enum-told-5 : tie.Need-enum-told-5
-enum-told-5 c = search needs
-
-has-requires : tie.Need-has-requires
-has-requires c κs = search needs
-
-enum-known-selector : tie.Need-enum-known-selector
-enum-known-selector c = search needs
-
-takes-subtree-requires : tie.Need-takes-subtree-requires
-takes-subtree-requires c κs = search needs
-
-enum-known-selector-2 : tie.Need-enum-known-selector-2
-enum-known-selector-2 c = search needs
-
-any-name-requires : tie.Need-any-name-requires
-any-name-requires c κs = search needs
-
-returns : tie.Need-returns
-returns c = search needs
-
-returns-2 : tie.Need-returns-2
-returns-2 c = search needs
-
 returns-3 : tie.Need-returns-3
 returns-3 c =
     let a = c .before .before .before .before .args in
@@ -74,20 +32,20 @@ pub is-met-spec : {M : Type 1} → statement M
 is-met-spec =
     tie.close
     (tie.spec
-    enum-told
-    enum-told-2
-    enum-told-3
-    takes-inboxes-requires
-    enum-told-4
-    takes-personal-requires
-    enum-told-5
-    has-requires
-    enum-known-selector
-    takes-subtree-requires
-    enum-known-selector-2
-    any-name-requires
-    returns
-    returns-2
+    (λ c. search needs)  -- enum-told
+    (λ c. search needs)  -- enum-told-2
+    (λ c. search needs)  -- enum-told-3
+    (λ c κs. search needs)  -- takes-inboxes-requires
+    (λ c. search needs)  -- enum-told-4
+    (λ c κs. search needs)  -- takes-personal-requires
+    (λ c. search needs)  -- enum-told-5
+    (λ c κs. search needs)  -- has-requires
+    (λ c. search needs)  -- enum-known-selector
+    (λ c κs. search needs)  -- takes-subtree-requires
+    (λ c. search needs)  -- enum-known-selector-2
+    (λ c κs. search needs)  -- any-name-requires
+    (λ c. search needs)  -- returns
+    (λ c. search needs)  -- returns-2
     returns-3
     returns-4
     returns-5

@@ -8,15 +8,6 @@ use native.Mathlib.Omega.{arith}
 use lib.ListN.{take}
 use Rattle.match_groups.specs.Asking.{take-within}
 
-wide-requires : tie.Need-wide-requires
-wide-requires c κs = search needs
-
-wide-requires-2 : tie.Need-wide-requires-2
-wide-requires-2 c κs = search needs
-
-add-end : tie.Need-add-end
-add-end c = search needs
-
 returns : tie.Need-returns
 returns c =
     let a = c .before .before .before .args in
@@ -26,4 +17,11 @@ returns-2 : tie.Need-returns-2
 returns-2 c = (omega arith, λ l e. take-within (c .before .before .before .args .first + c .before .before .before .args .count) 16 l e (omega arith))
 
 pub reach-spec : {M : Type 1} → statement M
-reach-spec = tie.close (tie.spec wide-requires wide-requires-2 add-end returns returns-2)
+reach-spec =
+    tie.close
+    (tie.spec
+    (λ c κs. search needs)  -- wide-requires
+    (λ c κs. search needs)  -- wide-requires-2
+    (λ c. search needs)  -- add-end
+    returns
+    returns-2)

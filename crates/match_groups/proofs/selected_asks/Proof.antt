@@ -5,11 +5,12 @@ use Rattle.match_groups.proofs.selected_asks.Tie as tie
 use mathlib.Core.Path.{_∙_}
 use Rattle.match_groups.specs.Asking.{selected-stands}
 
-any-standing-requires : tie.Need-any-standing-requires
-any-standing-requires c κs = search needs
-
 returns : tie.Need-returns
 returns c = c .any-standing .ensures ∙ selected-stands (c .before .args .s) (c .before .args .k)
 
 pub selected-asks-spec : {M : Type 1} → statement M
-selected-asks-spec = tie.close (tie.spec any-standing-requires returns)
+selected-asks-spec =
+    tie.close
+    (tie.spec
+    (λ c κs. search needs)  -- any-standing-requires
+    returns)

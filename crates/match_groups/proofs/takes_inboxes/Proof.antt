@@ -6,17 +6,17 @@ use mathlib.Core.Path.{sym, _∙_}
 use borrow.Author.Tests.{not-true, not-false}
 use Rattle.match_groups.specs.Asking.{inboxes-no, inboxes-yes}
 
-takes-personal-requires : tie.Need-takes-personal-requires
-takes-personal-requires c κs = search needs
-
 returns : tie.Need-returns
 returns c = inboxes-no (c .before .before .args .a) (sym (c .before .takes-personal .ensures) ∙ not-true _ (c .if1 .taken))
-
-has-requires : tie.Need-has-requires
-has-requires c κs = search needs
 
 returns-2 : tie.Need-returns-2
 returns-2 c = inboxes-yes (c .before .before .before .args .a) _ (sym (c .before .before .takes-personal .ensures) ∙ not-false _ (c .before .if1 .left)) (c .has .ensures)
 
 pub takes-inboxes-spec : {M : Type 1} → statement M
-takes-inboxes-spec = tie.close (tie.spec takes-personal-requires returns has-requires returns-2)
+takes-inboxes-spec =
+    tie.close
+    (tie.spec
+    (λ c κs. search needs)  -- takes-personal-requires
+    returns
+    (λ c κs. search needs)  -- has-requires
+    returns-2)

@@ -40,76 +40,6 @@ abbrev keys-hold-below : ℕ → In 2 keys-hold-kinds.ps
 keys-hold-below t =
     and 2 keys-hold-kinds.ps (falls 2 keys-hold-kinds.ps _<_ μ-keys-hold t) keys-hold.Pre
 
-key-at-cell-requires : (t : ℕ) → key-at-lts.Need-cell-requires (
-  cell-reads.Asked,
-  cell-reads.Learnt,
-  test-at-reads.Asked,
-  test-at-reads.Learnt,
-  behind-reads.Asked,
-  behind-reads.Learnt,
-  keys-hold-below t,
-  keys-hold.Post,
-  agree-reads.Asked,
-  agree-reads.Learnt,
-) (key-at-at t) key-at.Post
-key-at-cell-requires t c κs = search needs
-
-key-at-test-at-requires : (t : ℕ) → key-at-lts.Need-test-at-requires (
-  cell-reads.Asked,
-  cell-reads.Learnt,
-  test-at-reads.Asked,
-  test-at-reads.Learnt,
-  behind-reads.Asked,
-  behind-reads.Learnt,
-  keys-hold-below t,
-  keys-hold.Post,
-  agree-reads.Asked,
-  agree-reads.Learnt,
-) (key-at-at t) key-at.Post
-key-at-test-at-requires t c κs = search needs
-
-key-at-returns : (t : ℕ) → key-at-lts.Need-returns (
-  cell-reads.Asked,
-  cell-reads.Learnt,
-  test-at-reads.Asked,
-  test-at-reads.Learnt,
-  behind-reads.Asked,
-  behind-reads.Learnt,
-  keys-hold-below t,
-  keys-hold.Post,
-  agree-reads.Asked,
-  agree-reads.Learnt,
-) (key-at-at t) key-at.Post
-key-at-returns t c = search needs
-
-key-at-behind-requires : (t : ℕ) → key-at-lts.Need-behind-requires (
-  cell-reads.Asked,
-  cell-reads.Learnt,
-  test-at-reads.Asked,
-  test-at-reads.Learnt,
-  behind-reads.Asked,
-  behind-reads.Learnt,
-  keys-hold-below t,
-  keys-hold.Post,
-  agree-reads.Asked,
-  agree-reads.Learnt,
-) (key-at-at t) key-at.Post
-key-at-behind-requires t c κs = search needs
-
-key-at-add-keys-hold : (t : ℕ) → key-at-lts.Need-add-keys-hold (
-  cell-reads.Asked,
-  cell-reads.Learnt,
-  test-at-reads.Asked,
-  test-at-reads.Learnt,
-  behind-reads.Asked,
-  behind-reads.Learnt,
-  keys-hold-below t,
-  keys-hold.Post,
-  agree-reads.Asked,
-  agree-reads.Learnt,
-) (key-at-at t) key-at.Post
-key-at-add-keys-hold t c = search needs
-
 key-at-keys-hold-requires : (t : ℕ) → key-at-lts.Need-keys-hold-requires (
   cell-reads.Asked,
   cell-reads.Learnt,
@@ -123,20 +53,6 @@ key-at-keys-hold-requires : (t : ℕ) → key-at-lts.Need-keys-hold-requires (
   agree-reads.Learnt,
 ) (key-at-at t) key-at.Post
 key-at-keys-hold-requires t c κs = let b = c .behind .ensures .inside in (omega arith, omega arith)
-
-key-at-agree-requires : (t : ℕ) → key-at-lts.Need-agree-requires (
-  cell-reads.Asked,
-  cell-reads.Learnt,
-  test-at-reads.Asked,
-  test-at-reads.Learnt,
-  behind-reads.Asked,
-  behind-reads.Learnt,
-  keys-hold-below t,
-  keys-hold.Post,
-  agree-reads.Asked,
-  agree-reads.Learnt,
-) (key-at-at t) key-at.Post
-key-at-agree-requires t c κs = search needs
 
 key-at-returns-2 : (t : ℕ) → key-at-lts.Need-returns-2 (
   cell-reads.Asked,
@@ -172,76 +88,6 @@ keys-hold-loop-holds : (t : ℕ) → keys-hold-lts.Need-loop-holds (
 ) (keys-hold-at t) keys-hold.Post keys-hold-Inv-loop keys-hold-μ-loop
 keys-hold-loop-holds t c = (omega arith, going-start (c .before .args .cells .now) (c .before .args .at) (c .before .args .stop) (c .before .args .any) (c .before .args .facts .now))
 
-keys-hold-last-nest-requires : (t : ℕ) → keys-hold-lts.Need-last-nest-requires (
-  last-nest-reads.Asked,
-  last-nest-reads.Learnt,
-  cell-reads.Asked,
-  cell-reads.Learnt,
-  agree-reads.Asked,
-  agree-reads.Learnt,
-  key-at-below t,
-  key-at.Post,
-  negated-reads.Asked,
-  negated-reads.Learnt,
-) (keys-hold-at t) keys-hold.Post keys-hold-Inv-loop keys-hold-μ-loop
-keys-hold-last-nest-requires t c κs = search needs
-
-keys-hold-cell-requires : (t : ℕ) → keys-hold-lts.Need-cell-requires (
-  last-nest-reads.Asked,
-  last-nest-reads.Learnt,
-  cell-reads.Asked,
-  cell-reads.Learnt,
-  agree-reads.Asked,
-  agree-reads.Learnt,
-  key-at-below t,
-  key-at.Post,
-  negated-reads.Asked,
-  negated-reads.Learnt,
-) (keys-hold-at t) keys-hold.Post keys-hold-Inv-loop keys-hold-μ-loop
-keys-hold-cell-requires t c κs = search needs
-
-keys-hold-agree-requires : (t : ℕ) → keys-hold-lts.Need-agree-requires (
-  last-nest-reads.Asked,
-  last-nest-reads.Learnt,
-  cell-reads.Asked,
-  cell-reads.Learnt,
-  agree-reads.Asked,
-  agree-reads.Learnt,
-  key-at-below t,
-  key-at.Post,
-  negated-reads.Asked,
-  negated-reads.Learnt,
-) (keys-hold-at t) keys-hold.Post keys-hold-Inv-loop keys-hold-μ-loop
-keys-hold-agree-requires t c κs = search needs
-
-keys-hold-add-i : (t : ℕ) → keys-hold-lts.Need-add-i (
-  last-nest-reads.Asked,
-  last-nest-reads.Learnt,
-  cell-reads.Asked,
-  cell-reads.Learnt,
-  agree-reads.Asked,
-  agree-reads.Learnt,
-  key-at-below t,
-  key-at.Post,
-  negated-reads.Asked,
-  negated-reads.Learnt,
-) (keys-hold-at t) keys-hold.Post keys-hold-Inv-loop keys-hold-μ-loop
-keys-hold-add-i t c = search needs
-
-keys-hold-loop-less : (t : ℕ) → keys-hold-lts.Need-loop-less (
-  last-nest-reads.Asked,
-  last-nest-reads.Learnt,
-  cell-reads.Asked,
-  cell-reads.Learnt,
-  agree-reads.Asked,
-  agree-reads.Learnt,
-  key-at-below t,
-  key-at.Post,
-  negated-reads.Asked,
-  negated-reads.Learnt,
-) (keys-hold-at t) keys-hold.Post keys-hold-Inv-loop keys-hold-μ-loop
-keys-hold-loop-less t c = search needs
-
 keys-hold-loop-again : (t : ℕ) → keys-hold-lts.Need-loop-again (
   last-nest-reads.Asked,
   last-nest-reads.Learnt,
@@ -269,34 +115,6 @@ keys-hold-key-at-requires : (t : ℕ) → keys-hold-lts.Need-key-at-requires (
   negated-reads.Learnt,
 ) (keys-hold-at t) keys-hold.Post keys-hold-Inv-loop keys-hold-μ-loop
 keys-hold-key-at-requires t c κs = (omega arith, (omega arith, omega arith))
-
-keys-hold-agree-requires-2 : (t : ℕ) → keys-hold-lts.Need-agree-requires-2 (
-  last-nest-reads.Asked,
-  last-nest-reads.Learnt,
-  cell-reads.Asked,
-  cell-reads.Learnt,
-  agree-reads.Asked,
-  agree-reads.Learnt,
-  key-at-below t,
-  key-at.Post,
-  negated-reads.Asked,
-  negated-reads.Learnt,
-) (keys-hold-at t) keys-hold.Post keys-hold-Inv-loop keys-hold-μ-loop
-keys-hold-agree-requires-2 t c κs = search needs
-
-keys-hold-agree-requires-3 : (t : ℕ) → keys-hold-lts.Need-agree-requires-3 (
-  last-nest-reads.Asked,
-  last-nest-reads.Learnt,
-  cell-reads.Asked,
-  cell-reads.Learnt,
-  agree-reads.Asked,
-  agree-reads.Learnt,
-  key-at-below t,
-  key-at.Post,
-  negated-reads.Asked,
-  negated-reads.Learnt,
-) (keys-hold-at t) keys-hold.Post keys-hold-Inv-loop keys-hold-μ-loop
-keys-hold-agree-requires-3 t c κs = search needs
 
 keys-hold-returns : (t : ℕ) → keys-hold-lts.Need-returns (
   last-nest-reads.Asked,
@@ -340,34 +158,6 @@ keys-hold-loop-again-2 : (t : ℕ) → keys-hold-lts.Need-loop-again-2 (
 ) (keys-hold-at t) keys-hold.Post keys-hold-Inv-loop keys-hold-μ-loop
 keys-hold-loop-again-2 t c = let a = c .before .before .key-at .ensures .after in (omega arith, going-next (c .before .before .before .before .before .before .before .before .args .cells .now) (c .before .before .before .before .before .before .before .before .args .at) (c .before .before .before .before .before .before .before .before .args .stop) (c .before .before .before .before .before .before .before .before .args .any) (c .before .before .before .before .before .before .before .before .args .facts .now) (c .before .before .before .before .before .before .loop .i) (c .before .before .before .before .before .before .loop .some) (c .before .before .before .before .before .before .loop .on) (c .before .before .before .before .before .before .loop .inv .1) (c .before .before .before .before .before .loop-test .taken) (c .before .before .key-at .result) (c .before .before .key-at .ensures) (sym (c .before .agree2 .ensures) ∙ c .if2 .left))
 
-keys-hold-negated-requires : (t : ℕ) → keys-hold-lts.Need-negated-requires (
-  last-nest-reads.Asked,
-  last-nest-reads.Learnt,
-  cell-reads.Asked,
-  cell-reads.Learnt,
-  agree-reads.Asked,
-  agree-reads.Learnt,
-  key-at-below t,
-  key-at.Post,
-  negated-reads.Asked,
-  negated-reads.Learnt,
-) (keys-hold-at t) keys-hold.Post keys-hold-Inv-loop keys-hold-μ-loop
-keys-hold-negated-requires t c κs = search needs
-
-keys-hold-agree-requires-4 : (t : ℕ) → keys-hold-lts.Need-agree-requires-4 (
-  last-nest-reads.Asked,
-  last-nest-reads.Learnt,
-  cell-reads.Asked,
-  cell-reads.Learnt,
-  agree-reads.Asked,
-  agree-reads.Learnt,
-  key-at-below t,
-  key-at.Post,
-  negated-reads.Asked,
-  negated-reads.Learnt,
-) (keys-hold-at t) keys-hold.Post keys-hold-Inv-loop keys-hold-μ-loop
-keys-hold-agree-requires-4 t c κs = search needs
-
 keys-hold-returns-2 : (t : ℕ) → keys-hold-lts.Need-returns-2 (
   last-nest-reads.Asked,
   last-nest-reads.Learnt,
@@ -397,13 +187,13 @@ pub +key-at+keys-hold-spec : {M : Type 1} → statement M
 )
     (key-at-at t)
     key-at.Post
-    (key-at-cell-requires t)
-    (key-at-test-at-requires t)
-    (key-at-returns t)
-    (key-at-behind-requires t)
-    (key-at-add-keys-hold t)
+    (λ c κs. search needs)  -- key-at-cell-requires
+    (λ c κs. search needs)  -- key-at-test-at-requires
+    (λ c. search needs)  -- key-at-returns
+    (λ c κs. search needs)  -- key-at-behind-requires
+    (λ c. search needs)  -- key-at-add-keys-hold
     (key-at-keys-hold-requires t)
-    (key-at-agree-requires t)
+    (λ c κs. search needs)  -- key-at-agree-requires
     (key-at-returns-2 t))
     λ t. keys-hold-lts.spec (
       last-nest-reads.Asked,
@@ -422,18 +212,18 @@ pub +key-at+keys-hold-spec : {M : Type 1} → statement M
     keys-hold-Inv-loop
     keys-hold-μ-loop
     (keys-hold-loop-holds t)
-    (keys-hold-last-nest-requires t)
-    (keys-hold-cell-requires t)
-    (keys-hold-agree-requires t)
-    (keys-hold-add-i t)
-    (keys-hold-loop-less t)
+    (λ c κs. search needs)  -- keys-hold-last-nest-requires
+    (λ c κs. search needs)  -- keys-hold-cell-requires
+    (λ c κs. search needs)  -- keys-hold-agree-requires
+    (λ c. search needs)  -- keys-hold-add-i
+    (λ c. search needs)  -- keys-hold-loop-less
     (keys-hold-loop-again t)
     (keys-hold-key-at-requires t)
-    (keys-hold-agree-requires-2 t)
-    (keys-hold-agree-requires-3 t)
+    (λ c κs. search needs)  -- keys-hold-agree-requires-2
+    (λ c κs. search needs)  -- keys-hold-agree-requires-3
     (keys-hold-returns t)
     (keys-hold-loop-less-2 t)
     (keys-hold-loop-again-2 t)
-    (keys-hold-negated-requires t)
-    (keys-hold-agree-requires-4 t)
+    (λ c κs. search needs)  -- keys-hold-negated-requires
+    (λ c κs. search needs)  -- keys-hold-agree-requires-4
     (keys-hold-returns-2 t)

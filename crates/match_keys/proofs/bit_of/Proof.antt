@@ -1,18 +1,18 @@
 use borrow.Author.Needs.{needs}
 use Rattle.match_keys.proofs.bit_of.Statement.{statement}
 use Rattle.match_keys.proofs.bit_of.Tie as tie
-use Rattle.match_keys.proofs.bit_of.Reads as reads
-use Rattle.match_keys.proofs.bit_of.Lts as lts
 use Rattle.match_keys.specs.Laws.{bit-shifted, bit-none}
 
 returns : tie.Need-returns
 returns c = bit-none (c .before .args .k) (c .before .args .n) (c .if1 .taken) (c .before .fits .n .fits)
 
-shr-result : tie.Need-shr-result
-shr-result c = search needs
-
 returns-2 : tie.Need-returns-2
 returns-2 c = bit-shifted (c .before .args .k) (c .before .args .n)
 
 pub bit-of-spec : {M : Type 1} → statement M
-bit-of-spec = tie.close (tie.spec returns shr-result returns-2)
+bit-of-spec =
+    tie.close
+    (tie.spec
+    returns
+    (λ c. search needs)  -- shr-result
+    returns-2)

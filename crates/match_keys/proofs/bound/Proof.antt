@@ -1,9 +1,6 @@
 use Rattle.match_keys.proofs.bound.Statement.{statement}
 use Rattle.match_keys.proofs.bound.Tie as tie
-use Rattle.match_keys.proofs.bound.Reads as reads
-use Rattle.match_keys.proofs.bound.Lts as lts
 use borrow.Author.Tests.{eq-eqb, ne-eqb}
-use borrow.Author.Needs.{needs}
 
 returns : tie.Need-returns
 returns c = simp (eq-eqb _ _ (c .if1 .taken))

@@ -1,8 +1,5 @@
 use Rattle.match_keys.proofs.in_set.Statement.{statement}
 use Rattle.match_keys.proofs.in_set.Tie as tie
-use Rattle.match_keys.proofs.in_set.Reads as reads
-use Rattle.match_keys.proofs.in_set.Lts as lts
-use Rattle.match_keys.proofs.in_part.Reads as in-part-reads
 use Rattle.match_keys.specs.Laws.{SetGoing, set-start, set-hit, set-next, set-end}
 use Prim.Native.Nat.{_+_, _-_, _≤_}
 use native.Mathlib.Omega.{arith}
@@ -17,35 +14,8 @@ abbrev μ-loop : tie.MeasureT-loop
 loop-holds : tie.Need-loop-holds Inv-loop μ-loop
 loop-holds c = (omega arith, set-start (c .before .args .cells .now) (c .before .args .at) (c .before .args .stop) (c .before .args .last) (c .before .args .n))
 
-add-loop : tie.Need-add-loop Inv-loop μ-loop
-add-loop c = search needs
-
-mul-from : tie.Need-mul-from Inv-loop μ-loop
-mul-from c = search needs
-
-shared-slice-read-from : tie.Need-shared-slice-read-from Inv-loop μ-loop
-shared-slice-read-from c = search needs
-
-add-upto : tie.Need-add-upto Inv-loop μ-loop
-add-upto c = search needs
-
-mul-upto : tie.Need-mul-upto Inv-loop μ-loop
-mul-upto c = search needs
-
-shared-slice-read-upto : tie.Need-shared-slice-read-upto Inv-loop μ-loop
-shared-slice-read-upto c = search needs
-
-in-part-requires : tie.Need-in-part-requires Inv-loop μ-loop
-in-part-requires c κs = search needs
-
 returns : tie.Need-returns Inv-loop μ-loop
 returns c = set-hit (c .before .before .before .before .before .before .before .args .cells .now) (c .before .before .before .before .before .before .before .args .at) (c .before .before .before .before .before .before .before .args .stop) (c .before .before .before .before .before .before .before .args .last) (c .before .before .before .before .before .before .before .args .n) (c .before .before .before .before .before .loop .i) (c .before .in-part .result) (c .before .in-part .ensures) (c .before .before .before .before .loop-test .taken) (c .before .before .before .before .before .loop .inv .1) (c .if1 .taken)
-
-add-i : tie.Need-add-i Inv-loop μ-loop
-add-i c = search needs
-
-loop-less : tie.Need-loop-less Inv-loop μ-loop
-loop-less c = search needs
 
 loop-again : tie.Need-loop-again Inv-loop μ-loop
 loop-again c = (omega arith, set-next (c .before .before .before .before .before .before .before .args .cells .now) (c .before .before .before .before .before .before .before .args .at) (c .before .before .before .before .before .before .before .args .stop) (c .before .before .before .before .before .before .before .args .last) (c .before .before .before .before .before .before .before .args .n) (c .before .before .before .before .before .loop .i) (c .before .in-part .result) (c .before .in-part .ensures) (c .before .before .before .before .loop-test .taken) (c .before .before .before .before .before .loop .inv .1) (c .if1 .left))
@@ -60,15 +30,15 @@ in-set-spec =
     Inv-loop
     μ-loop
     loop-holds
-    add-loop
-    mul-from
-    shared-slice-read-from
-    add-upto
-    mul-upto
-    shared-slice-read-upto
-    in-part-requires
+    (λ c. search needs)  -- add-loop
+    (λ c. search needs)  -- mul-from
+    (λ c. search needs)  -- shared-slice-read-from
+    (λ c. search needs)  -- add-upto
+    (λ c. search needs)  -- mul-upto
+    (λ c. search needs)  -- shared-slice-read-upto
+    (λ c κs. search needs)  -- in-part-requires
     returns
-    add-i
-    loop-less
+    (λ c. search needs)  -- add-i
+    (λ c. search needs)  -- loop-less
     loop-again
     returns-2)

@@ -14,24 +14,6 @@ returns-2 c = simp (ne-eqb _ _ (c .before .if1 .left), eq-eqb _ _ (c .if2 .taken
 returns-3 : tie.Need-returns-3
 returns-3 c = simp (ne-eqb _ _ (c .before .before .if1 .left), ne-eqb _ _ (c .before .if2 .left), eq-eqb _ _ (c .if3 .taken))
 
-has-requires : tie.Need-has-requires
-has-requires c κs = search needs
-
-has-requires-2 : tie.Need-has-requires-2
-has-requires-2 c κs = search needs
-
-has-requires-3 : tie.Need-has-requires-3
-has-requires-3 c κs = search needs
-
-has-requires-4 : tie.Need-has-requires-4
-has-requires-4 c κs = search needs
-
-has-requires-5 : tie.Need-has-requires-5
-has-requires-5 c κs = search needs
-
-by-rights-requires : tie.Need-by-rights-requires
-by-rights-requires c κs = search needs
-
 returns-4 : tie.Need-returns-4
 returns-4 c =
     simp (ne-eqb _ _ (c .before .before .before .before .before .before .before .before .if1 .left), ne-eqb _ _ (c .before .before .before .before .before .before .before .if2 .left), ne-eqb _ _ (c .before .before .before .before .before .before .if3 .left))
@@ -40,4 +22,14 @@ returns-4 c =
 pub admits-spec : {M : Type 1} → statement M
 admits-spec =
     tie.close
-    (tie.spec returns returns-2 returns-3 has-requires has-requires-2 has-requires-3 has-requires-4 has-requires-5 by-rights-requires returns-4)
+    (tie.spec
+    returns
+    returns-2
+    returns-3
+    (λ c κs. search needs)  -- has-requires
+    (λ c κs. search needs)  -- has-requires-2
+    (λ c κs. search needs)  -- has-requires-3
+    (λ c κs. search needs)  -- has-requires-4
+    (λ c κs. search needs)  -- has-requires-5
+    (λ c κs. search needs)  -- by-rights-requires
+    returns-4)

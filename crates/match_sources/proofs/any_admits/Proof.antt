@@ -1,9 +1,5 @@
 use Rattle.match_sources.proofs.any_admits.Statement.{statement}
 use Rattle.match_sources.proofs.any_admits.Tie as tie
-use Rattle.match_sources.proofs.any_admits.Reads as reads
-use Rattle.match_sources.proofs.any_admits.Lts as lts
-use Rattle.match_sources.proofs.is_admitted.Reads as is-admitted-reads
-use Rattle.match_sources.proofs.listed_count.Reads as listed-count-reads
 use mathlib.Core.Path.{_≡_, refl, sym, ap, _∙_}
 use mathlib.Core.List.{List}
 use native.Mathlib.Omega.{arith}
@@ -21,32 +17,14 @@ Inv-loop attributes name selected listed kept n i₀ i = anyb (admitsIn (listed 
 abbrev μ-loop : tie.MeasureT-loop
 μ-loop attributes name selected listed kept n i₀ i = n - i
 
-listed-count-requires : tie.Need-listed-count-requires Inv-loop μ-loop
-listed-count-requires c κs = search needs
-
 loop-holds : tie.Need-loop-holds Inv-loop μ-loop
 loop-holds c = refl
-
-mul-one : tie.Need-mul-one Inv-loop μ-loop
-mul-one c = search needs
-
-element-copy-out-one : tie.Need-element-copy-out-one Inv-loop μ-loop
-element-copy-out-one c = search needs
-
-is-admitted-requires : tie.Need-is-admitted-requires Inv-loop μ-loop
-is-admitted-requires c κs = search needs
 
 returns : tie.Need-returns Inv-loop μ-loop
 returns c = let long : length (c .before .before .before .before .before .before .before .before .args .t1 .sources) ≡ 8 = search (needs, mapped-length) in
     let p = admitsIn (c .before .before .before .before .before .before .before .before .args .t1 .kept .names) (c .before .before .before .before .before .before .before .before .args .attributes) (c .before .before .before .before .before .before .before .before .args .name .now) (c .before .before .before .before .before .before .before .before .args .selected) in
     sym (any-here p (c .before .before .before .before .before .before .before .before .args .t1 .sources) (c .before .before .before .before .before .listed-count .result) (c .before .before .before .before .loop .i) (omega arith) vacantSource (omega arith) (sym (c .before .is-admitted .ensures) ∙ c .if1 .taken))
     ∙ (sym (c .before .before .before .before .loop .inv) ∙ ap (λ (l : List Source). anyb p l) (c .before .before .before .before .before .listed-count .ensures .1 (c .before .before .before .before .before .before .before .before .args .t1 .sources) long))
-
-add-i : tie.Need-add-i Inv-loop μ-loop
-add-i c = search needs
-
-loop-less : tie.Need-loop-less Inv-loop μ-loop
-loop-less c = search needs
 
 loop-again : tie.Need-loop-again Inv-loop μ-loop
 loop-again c = let long : length (c .before .before .before .before .before .before .before .before .args .t1 .sources) ≡ 8 = search (needs, mapped-length) in
@@ -64,13 +42,13 @@ any-admits-spec =
     (tie.spec
     Inv-loop
     μ-loop
-    listed-count-requires
+    (λ c κs. search needs)  -- listed-count-requires
     loop-holds
-    mul-one
-    element-copy-out-one
-    is-admitted-requires
+    (λ c. search needs)  -- mul-one
+    (λ c. search needs)  -- element-copy-out-one
+    (λ c κs. search needs)  -- is-admitted-requires
     returns
-    add-i
-    loop-less
+    (λ c. search needs)  -- add-i
+    (λ c. search needs)  -- loop-less
     loop-again
     returns-2)

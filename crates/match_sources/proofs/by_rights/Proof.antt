@@ -1,7 +1,5 @@
 use Rattle.match_sources.proofs.by_rights.Statement.{statement}
 use Rattle.match_sources.proofs.by_rights.Tie as tie
-use Rattle.match_sources.proofs.by_rights.Reads as reads
-use Rattle.match_sources.proofs.by_rights.Lts as lts
 use borrow.Author.Tests.{eq-eqb, ne-eqb, not-true, not-false}
 
 returns : tie.Need-returns

@@ -1,9 +1,5 @@
 use Rattle.match_sources.proofs.is_named.Statement.{statement}
 use Rattle.match_sources.proofs.is_named.Tie as tie
-use Rattle.match_sources.proofs.is_named.Reads as reads
-use Rattle.match_sources.proofs.is_named.Lts as lts
-use Rattle.match_sources.proofs.is_meant.Reads as is-meant-reads
-use Rattle.match_sources.proofs.run_end.Reads as run-end-reads
 use mathlib.Core.Path.{_≡_, refl, sym, _∙_}
 use native.Mathlib.Omega.{arith}
 use Prim.Native.Nat.{_-_}
@@ -21,31 +17,13 @@ Inv-loop name kept scope end i₀ i = anyb (λ (x : LentName). meant scope (lent
 abbrev μ-loop : tie.MeasureT-loop
 μ-loop name kept scope end i₀ i = end - i
 
-run-end-requires : tie.Need-run-end-requires Inv-loop μ-loop
-run-end-requires c κs = search needs
-
 loop-holds : tie.Need-loop-holds Inv-loop μ-loop
 loop-holds c = refl
-
-mul-x : tie.Need-mul-x Inv-loop μ-loop
-mul-x c = search needs
-
-element-copy-out-x : tie.Need-element-copy-out-x Inv-loop μ-loop
-element-copy-out-x c = search needs
-
-is-meant-requires : tie.Need-is-meant-requires Inv-loop μ-loop
-is-meant-requires c κs = search needs
 
 returns : tie.Need-returns Inv-loop μ-loop
 returns c = let long : length (c .before .before .before .before .before .before .before .args .t1 .names) ≡ 16 = search (needs, mapped-length) in
     sym (any-here (λ (x : LentName). meant (c .before .before .before .before .before .before .before .args .one .scope) (lentName x) (c .before .before .before .before .before .before .before .args .name .now)) (c .before .before .before .before .before .before .before .args .t1 .names) (c .before .before .before .before .before .run-end .result) (c .before .before .before .before .loop .i) (omega arith) vacantName (omega arith) (sym (c .before .is-meant .ensures) ∙ c .if1 .taken))
     ∙ (sym (c .before .before .before .before .loop .inv) ∙ named-run (c .before .before .before .before .before .before .before .args .t1 .names) (c .before .before .before .before .before .before .before .args .name .now) (c .before .before .before .before .before .before .before .args .one) (c .before .before .before .before .before .run-end .result) (c .before .before .before .before .before .run-end .ensures .1 (c .before .before .before .before .before .before .before .args .t1 .names) long))
-
-add-i : tie.Need-add-i Inv-loop μ-loop
-add-i c = search needs
-
-loop-less : tie.Need-loop-less Inv-loop μ-loop
-loop-less c = search needs
 
 loop-again : tie.Need-loop-again Inv-loop μ-loop
 loop-again c = let long : length (c .before .before .before .before .before .before .before .args .t1 .names) ≡ 16 = search (needs, mapped-length) in
@@ -62,13 +40,13 @@ is-named-spec =
     (tie.spec
     Inv-loop
     μ-loop
-    run-end-requires
+    (λ c κs. search needs)  -- run-end-requires
     loop-holds
-    mul-x
-    element-copy-out-x
-    is-meant-requires
+    (λ c. search needs)  -- mul-x
+    (λ c. search needs)  -- element-copy-out-x
+    (λ c κs. search needs)  -- is-meant-requires
     returns
-    add-i
-    loop-less
+    (λ c. search needs)  -- add-i
+    (λ c. search needs)  -- loop-less
     loop-again
     returns-2)

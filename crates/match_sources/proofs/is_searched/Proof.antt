@@ -6,16 +6,10 @@ use mathlib.Core.Path.{sym, _∙_}
 use borrow.Author.Tests.{not-true, not-false}
 use Rattle.match_sources.specs.Admitting.{searched-not, searched-by}
 
-has-requires : tie.Need-has-requires
-has-requires c κs = search needs
-
 returns : tie.Need-returns
 returns c =
     searched-not (c .before .before .before .args .listed) (c .before .before .before .args .attributes) (c .before .before .before .args .name .now)
     (c .before .before .before .args .selected) (sym (c .before .has .ensures) ∙ not-true _ (c .if1 .taken))
-
-any-admits-requires : tie.Need-any-admits-requires
-any-admits-requires c κs = search needs
 
 returns-2 : tie.Need-returns-2
 returns-2 c =
@@ -24,4 +18,10 @@ returns-2 c =
     (c .before .before .before .before .args .selected) (sym (c .before .before .has .ensures) ∙ not-false _ (c .before .if1 .left))
 
 pub is-searched-spec : {M : Type 1} → statement M
-is-searched-spec = tie.close (tie.spec has-requires returns any-admits-requires returns-2)
+is-searched-spec =
+    tie.close
+    (tie.spec
+    (λ c κs. search needs)  -- has-requires
+    returns
+    (λ c κs. search needs)  -- any-admits-requires
+    returns-2)

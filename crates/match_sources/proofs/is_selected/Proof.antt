@@ -1,7 +1,5 @@
 use Rattle.match_sources.proofs.is_selected.Statement.{statement}
 use Rattle.match_sources.proofs.is_selected.Tie as tie
-use Rattle.match_sources.proofs.is_selected.Reads as reads
-use Rattle.match_sources.proofs.is_selected.Lts as lts
 use Rattle.match_sources.specs.Picking.{selected-none, selected-some}
 
 returns : tie.Need-returns

@@ -1,16 +1,15 @@
 use borrow.Author.Needs.{needs}
 use Rattle.match_sources.proofs.listed_count.Statement.{statement}
 use Rattle.match_sources.proofs.listed_count.Tie as tie
-use Rattle.match_sources.proofs.listed_count.Reads as reads
-use Rattle.match_sources.proofs.listed_count.Lts as lts
 use native.Mathlib.Omega.{arith}
 use Rattle.match_sources.specs.Admitting.{take-within}
 
 returns : tie.Need-returns
 returns c = (omega arith, λ l e. take-within (c .before .args .count) 8 l e (omega arith))
 
-returns-2 : tie.Need-returns-2
-returns-2 c = search needs
-
 pub listed-count-spec : {M : Type 1} → statement M
-listed-count-spec = tie.close (tie.spec returns returns-2)
+listed-count-spec =
+    tie.close
+    (tie.spec
+    returns
+    (λ c. search needs))  -- returns-2

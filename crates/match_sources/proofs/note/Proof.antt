@@ -1,10 +1,6 @@
 use borrow.Author.Needs.{needs}
 use Rattle.match_sources.proofs.note.Statement.{statement}
 use Rattle.match_sources.proofs.note.Tie as tie
-use Rattle.match_sources.proofs.note.Reads as reads
-use Rattle.match_sources.proofs.note.Lts as lts
-use Rattle.table_mailboxes.proofs.clip.Reads as clip-reads
-use Rattle.match_sources.proofs.is_searched.Reads as is-searched-reads
 use mathlib.Core.Path.{_≡_, ap, sym, _∙_}
 use native.Mathlib.Omega.{arith}
 use Prim.Native.Nat.{_*_}
@@ -13,27 +9,6 @@ use lib.Seq.{length-take-le}
 use lib.ListN.{length-drop}
 use Rattle.match_sources.specs.Admitting.{searchedBy}
 use Rattle.match_sources.specs.Picking.{name-part}
-
-mul-from : tie.Need-mul-from
-mul-from c = search needs
-
-clip-requires : tie.Need-clip-requires
-clip-requires c κs = search needs
-
-add-end : tie.Need-add-end
-add-end c = search needs
-
-sub-is-searched : tie.Need-sub-is-searched
-sub-is-searched c = search needs
-
-part-is-searched-start : tie.Need-part-is-searched-start
-part-is-searched-start c = search needs
-
-part-is-searched-end : tie.Need-part-is-searched-end
-part-is-searched-end c = search needs
-
-is-searched-requires : tie.Need-is-searched-requires
-is-searched-requires c κs = search needs
 
 returns : tie.Need-returns
 returns c = let d = length-drop (64 * c .before .before .before .before .before .args .k) (c .before .before .before .before .before .args .names .now) in
@@ -49,12 +24,12 @@ pub note-spec : {M : Type 1} → statement M
 note-spec =
     tie.close
     (tie.spec
-    mul-from
-    clip-requires
-    add-end
-    sub-is-searched
-    part-is-searched-start
-    part-is-searched-end
-    is-searched-requires
+    (λ c. search needs)  -- mul-from
+    (λ c κs. search needs)  -- clip-requires
+    (λ c. search needs)  -- add-end
+    (λ c. search needs)  -- sub-is-searched
+    (λ c. search needs)  -- part-is-searched-start
+    (λ c. search needs)  -- part-is-searched-end
+    (λ c κs. search needs)  -- is-searched-requires
     returns
     returns-2)

@@ -1,8 +1,6 @@
 use borrow.Author.Needs.{needs}
 use Rattle.match_sources.proofs.run_end.Statement.{statement}
 use Rattle.match_sources.proofs.run_end.Tie as tie
-use Rattle.match_sources.proofs.run_end.Reads as reads
-use Rattle.match_sources.proofs.run_end.Lts as lts
 use native.Mathlib.Omega.{arith}
 use Rattle.match_sources.specs.Admitting.{take-within}
 use Prim.Native.Nat.{_+_}
@@ -13,11 +11,11 @@ returns c = (omega arith, λ l e. take-within (c .before .args .first + c .befor
 returns-2 : tie.Need-returns-2
 returns-2 c = (omega arith, λ l e. take-within (c .before .before .args .first + c .before .before .args .count) 16 l e (omega arith))
 
-add-result : tie.Need-add-result
-add-result c = search needs
-
-returns-3 : tie.Need-returns-3
-returns-3 c = search needs
-
 pub run-end-spec : {M : Type 1} → statement M
-run-end-spec = tie.close (tie.spec returns returns-2 add-result returns-3)
+run-end-spec =
+    tie.close
+    (tie.spec
+    returns
+    returns-2
+    (λ c. search needs)  -- add-result
+    (λ c. search needs))  -- returns-3

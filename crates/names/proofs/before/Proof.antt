@@ -21,26 +21,8 @@ loop-holds c = (search needs, refl)
 returns : tie.Need-returns Inv-loop μ-loop
 returns c = sym (c .before .before .loop .inv .1 ∙ before-short (c .before .before .before .args .a .now) (c .before .before .before .args .b .now) (c .before .before .loop .i) (omega arith) (omega arith))
 
-shared-slice-read-if2 : tie.Need-shared-slice-read-if2 Inv-loop μ-loop
-shared-slice-read-if2 c = search needs
-
-shared-slice-read-if2-2 : tie.Need-shared-slice-read-if2-2 Inv-loop μ-loop
-shared-slice-read-if2-2 c = search needs
-
-shared-slice-read-result : tie.Need-shared-slice-read-result Inv-loop μ-loop
-shared-slice-read-result c = search needs
-
-shared-slice-read-result-2 : tie.Need-shared-slice-read-result-2 Inv-loop μ-loop
-shared-slice-read-result-2 c = search needs
-
 returns-2 : tie.Need-returns-2 Inv-loop μ-loop
 returns-2 c = sym (c .before .before .before .before .before .before .before .loop .inv .1 ∙ before-differs (c .before .before .before .before .before .before .before .before .args .a .now) (c .before .before .before .before .before .before .before .before .args .b .now) (c .before .before .before .before .before .before .before .loop .i) (omega arith) (omega arith) (c .before .before .if2 .taken))
-
-add-i : tie.Need-add-i Inv-loop μ-loop
-add-i c = search needs
-
-loop-less : tie.Need-loop-less Inv-loop μ-loop
-loop-less c = search needs
 
 loop-again : tie.Need-loop-again Inv-loop μ-loop
 loop-again c = (search needs, c .before .before .before .before .before .loop .inv .1 ∙ before-next (c .before .before .before .before .before .before .args .a .now) (c .before .before .before .before .before .before .args .b .now) (c .before .before .before .before .before .loop .i) (omega arith) (omega arith) (c .if2 .left))
@@ -56,12 +38,12 @@ before-spec =
     μ-loop
     loop-holds
     returns
-    shared-slice-read-if2
-    shared-slice-read-if2-2
-    shared-slice-read-result
-    shared-slice-read-result-2
+    (λ c. search needs)  -- shared-slice-read-if2
+    (λ c. search needs)  -- shared-slice-read-if2-2
+    (λ c. search needs)  -- shared-slice-read-result
+    (λ c. search needs)  -- shared-slice-read-result-2
     returns-2
-    add-i
-    loop-less
+    (λ c. search needs)  -- add-i
+    (λ c. search needs)  -- loop-less
     loop-again
     returns-3)

@@ -8,11 +8,13 @@ use borrow.Author.Needs.{needs}
 returns : tie.Need-returns
 returns c = sym (beneath-empty (c .before .before .before .args .top .now) (c .before .before .before .args .name .now) (c .if1 .taken))
 
-leads-requires : tie.Need-leads-requires
-leads-requires c κs = search needs
-
 returns-2 : tie.Need-returns-2
 returns-2 c = c .leads .ensures ∙ sym (beneath-other (c .before .before .before .before .args .top .now) (c .before .before .before .before .args .name .now) (c .before .if1 .left))
 
 pub beneath-spec : {M : Type 1} → statement M
-beneath-spec = tie.close (tie.spec returns leads-requires returns-2)
+beneath-spec =
+    tie.close
+    (tie.spec
+    returns
+    (λ c κs. search needs)  -- leads-requires
+    returns-2)

@@ -6,20 +6,8 @@ use mathlib.Core.Path.{ap, sym, _∙_}
 use mathlib.Core.Bool.{not}
 use Rattle.names.proofs.Answers.{level-same, level-beneath, level-other}
 
-same-requires : tie.Need-same-requires
-same-requires c κs = search needs
-
 returns : tie.Need-returns
 returns c = sym (level-same (c .before .before .before .before .args .top .now) (c .before .before .before .before .args .name .now) (sym (c .before .same .ensures) ∙ c .if1 .taken))
-
-beneath-requires : tie.Need-beneath-requires
-beneath-requires c κs = search needs
-
-add-slash-from : tie.Need-add-slash-from
-add-slash-from c = search needs
-
-slash-from-requires : tie.Need-slash-from-requires
-slash-from-requires c κs = search needs
 
 returns-2 : tie.Need-returns-2
 returns-2 c = ap not (c .slash-from .ensures) ∙ sym (level-beneath (c .before .before .before .before .before .before .before .args .top .now) (c .before .before .before .before .before .before .before .args .name .now) (sym (c .before .before .before .before .same .ensures) ∙ c .before .before .before .if1 .left) (sym (c .before .before .beneath .ensures) ∙ c .before .if2 .taken))
@@ -31,10 +19,10 @@ pub in-one-level-spec : {M : Type 1} → statement M
 in-one-level-spec =
     tie.close
     (tie.spec
-    same-requires
+    (λ c κs. search needs)  -- same-requires
     returns
-    beneath-requires
-    add-slash-from
-    slash-from-requires
+    (λ c κs. search needs)  -- beneath-requires
+    (λ c. search needs)  -- add-slash-from
+    (λ c κs. search needs)  -- slash-from-requires
     returns-2
     returns-3)

@@ -5,17 +5,17 @@ use Rattle.names.proofs.in_subtree.Tie as tie
 use mathlib.Core.Path.{sym, _∙_}
 use Rattle.names.proofs.Answers.{tree-same, tree-other}
 
-same-requires : tie.Need-same-requires
-same-requires c κs = search needs
-
 returns : tie.Need-returns
 returns c = sym (tree-same (c .before .before .before .before .args .top .now) (c .before .before .before .before .args .name .now) (sym (c .before .same .ensures) ∙ c .if1 .taken))
-
-beneath-requires : tie.Need-beneath-requires
-beneath-requires c κs = search needs
 
 returns-2 : tie.Need-returns-2
 returns-2 c = c .beneath .ensures ∙ sym (tree-other (c .before .before .before .before .before .args .top .now) (c .before .before .before .before .before .args .name .now) (sym (c .before .before .same .ensures) ∙ c .before .if1 .left))
 
 pub in-subtree-spec : {M : Type 1} → statement M
-in-subtree-spec = tie.close (tie.spec same-requires returns beneath-requires returns-2)
+in-subtree-spec =
+    tie.close
+    (tie.spec
+    (λ c κs. search needs)  -- same-requires
+    returns
+    (λ c κs. search needs)  -- beneath-requires
+    returns-2)

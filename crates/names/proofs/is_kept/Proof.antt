@@ -10,9 +10,6 @@ use Rattle.names.proofs.Answers.{by-invalid, by-unfolded, by-rest}
 slice-aggregate-is-valid : tie.Need-slice-aggregate-is-valid
 slice-aggregate-is-valid c = sym (length-take-le _ _ (omega arith))
 
-is-valid-requires : tie.Need-is-valid-requires
-is-valid-requires c κs = search needs
-
 returns : tie.Need-returns
 returns c =
     let start = c .before .before .before .before in
@@ -21,26 +18,11 @@ returns c =
 slice-aggregate-is-folded : tie.Need-slice-aggregate-is-folded
 slice-aggregate-is-folded c = sym (length-take-le _ _ (omega arith))
 
-is-folded-requires : tie.Need-is-folded-requires
-is-folded-requires c κs = search needs
-
 returns-2 : tie.Need-returns-2
 returns-2 c =
     let first = c .before .before .before in
     let start = first .before .before .before .before in
     by-unfolded (start .args .n) (start .args .octets .now) (sym (first .before .is-valid .ensures) ∙ not-false _ (first .if1 .left)) (sym (c .before .is-folded .ensures) ∙ not-true _ (c .if2 .taken))
-
-sub-all-zero : tie.Need-sub-all-zero
-sub-all-zero c = search needs
-
-part-all-zero-start : tie.Need-part-all-zero-start
-part-all-zero-start c = search needs
-
-part-all-zero-end : tie.Need-part-all-zero-end
-part-all-zero-end c = search needs
-
-all-zero-requires : tie.Need-all-zero-requires
-all-zero-requires c κs = search needs
 
 returns-3 : tie.Need-returns-3
 returns-3 c =
@@ -54,13 +36,13 @@ is-kept-spec =
     tie.close
     (tie.spec
     slice-aggregate-is-valid
-    is-valid-requires
+    (λ c κs. search needs)  -- is-valid-requires
     returns
     slice-aggregate-is-folded
-    is-folded-requires
+    (λ c κs. search needs)  -- is-folded-requires
     returns-2
-    sub-all-zero
-    part-all-zero-start
-    part-all-zero-end
-    all-zero-requires
+    (λ c. search needs)  -- sub-all-zero
+    (λ c. search needs)  -- part-all-zero-start
+    (λ c. search needs)  -- part-all-zero-end
+    (λ c κs. search needs)  -- all-zero-requires
     returns-3)

@@ -10,11 +10,14 @@ returns c = no-octet (c .before .before .args .name .now) (c .if1 .taken)
 returns-2 : tie.Need-returns-2
 returns-2 c = many-octets (c .before .before .before .args .name .now) (c .before .if1 .left) (c .if2 .taken)
 
-text-ok-requires : tie.Need-text-ok-requires
-text-ok-requires c κs = search needs
-
 returns-3 : tie.Need-returns-3
 returns-3 c = c .text-ok .ensures ∙ some-octets (c .before .before .before .before .args .name .now) (c .before .before .if1 .left) (c .before .if2 .left)
 
 pub is-valid-spec : {M : Type 1} → statement M
-is-valid-spec = tie.close (tie.spec returns returns-2 text-ok-requires returns-3)
+is-valid-spec =
+    tie.close
+    (tie.spec
+    returns
+    returns-2
+    (λ c κs. search needs)  -- text-ok-requires
+    returns-3)

@@ -18,23 +18,8 @@ abbrev μ-loop : tie.MeasureT-loop
 loop-holds : tie.Need-loop-holds Inv-loop μ-loop
 loop-holds c = (search needs, refl)
 
-shared-slice-read-octets : tie.Need-shared-slice-read-octets Inv-loop μ-loop
-shared-slice-read-octets c = search needs
-
-array-write-octets : tie.Need-array-write-octets Inv-loop μ-loop
-array-write-octets c = search needs
-
-add-i : tie.Need-add-i Inv-loop μ-loop
-add-i c = search needs
-
-loop-less : tie.Need-loop-less Inv-loop μ-loop
-loop-less c = search needs
-
 loop-again : tie.Need-loop-again Inv-loop μ-loop
 loop-again c = (search needs, copied-next (c .before .before .before .args .name .now) (c .before .before .loop .octets) (c .before .before .loop .i) (c .before .before .before .pre) (omega arith) (c .before .before .loop .inv .1))
-
-cast-t10 : tie.Need-cast-t10 Inv-loop μ-loop
-cast-t10 c = search needs
 
 returns : tie.Need-returns Inv-loop μ-loop
 returns c = copied-all (c .before .before .args .name .now) (c .before .loop .octets) (c .before .loop .i) (omega arith) (omega arith) (c .before .loop .inv .1)
@@ -46,10 +31,10 @@ kept-spec =
     Inv-loop
     μ-loop
     loop-holds
-    shared-slice-read-octets
-    array-write-octets
-    add-i
-    loop-less
+    (λ c. search needs)  -- shared-slice-read-octets
+    (λ c. search needs)  -- array-write-octets
+    (λ c. search needs)  -- add-i
+    (λ c. search needs)  -- loop-less
     loop-again
-    cast-t10
+    (λ c. search needs)  -- cast-t10
     returns)

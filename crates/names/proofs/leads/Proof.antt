@@ -21,26 +21,11 @@ returns c = sym (leads-short _ _ (c .if1 .taken))
 loop-holds : tie.Need-loop-holds Inv-loop μ-loop
 loop-holds c = (search needs, search needs, refl)
 
-shared-slice-read-if2 : tie.Need-shared-slice-read-if2 Inv-loop μ-loop
-shared-slice-read-if2 c = search needs
-
-shared-slice-read-if2-2 : tie.Need-shared-slice-read-if2-2 Inv-loop μ-loop
-shared-slice-read-if2-2 c = search needs
-
 returns-2 : tie.Need-returns-2 Inv-loop μ-loop
 returns-2 c = sym (c .before .before .before .before .loop .inv .2 ∙ leads-differs (c .before .before .before .before .before .before .args .top .now) (c .before .before .before .before .before .before .args .name .now) (c .before .before .before .before .loop .i) (omega arith) (omega arith) (c .if2 .taken))
 
-add-i : tie.Need-add-i Inv-loop μ-loop
-add-i c = search needs
-
-loop-less : tie.Need-loop-less Inv-loop μ-loop
-loop-less c = search needs
-
 loop-again : tie.Need-loop-again Inv-loop μ-loop
 loop-again c = (search needs, search needs, c .before .before .before .before .loop .inv .2 ∙ leads-next (c .before .before .before .before .before .before .args .top .now) (c .before .before .before .before .before .before .args .name .now) (c .before .before .before .before .loop .i) (omega arith) (omega arith) (c .if2 .left))
-
-shared-slice-read-result : tie.Need-shared-slice-read-result Inv-loop μ-loop
-shared-slice-read-result c = search needs
 
 returns-3 : tie.Need-returns-3 Inv-loop μ-loop
 returns-3 c = sym (c .before .before .loop .inv .2 ∙ leads-past (c .before .before .before .before .args .top .now) (c .before .before .before .before .args .name .now) (c .before .before .loop .i) (omega arith) (omega arith))
@@ -53,11 +38,11 @@ leads-spec =
     μ-loop
     returns
     loop-holds
-    shared-slice-read-if2
-    shared-slice-read-if2-2
+    (λ c. search needs)  -- shared-slice-read-if2
+    (λ c. search needs)  -- shared-slice-read-if2-2
     returns-2
-    add-i
-    loop-less
+    (λ c. search needs)  -- add-i
+    (λ c. search needs)  -- loop-less
     loop-again
-    shared-slice-read-result
+    (λ c. search needs)  -- shared-slice-read-result
     returns-3)

@@ -21,26 +21,8 @@ returns c = sym (words-lengths (c .before .before .before .args .a .now) (c .bef
 loop-holds : tie.Need-loop-holds Inv-loop μ-loop
 loop-holds c = (search needs, search needs, refl)
 
-shared-slice-read-upper : tie.Need-shared-slice-read-upper Inv-loop μ-loop
-shared-slice-read-upper c = search needs
-
-upper-requires : tie.Need-upper-requires Inv-loop μ-loop
-upper-requires c κs = search needs
-
-shared-slice-read-upper-2 : tie.Need-shared-slice-read-upper-2 Inv-loop μ-loop
-shared-slice-read-upper-2 c = search needs
-
-upper-requires-2 : tie.Need-upper-requires-2 Inv-loop μ-loop
-upper-requires-2 c κs = search needs
-
 returns-2 : tie.Need-returns-2 Inv-loop μ-loop
 returns-2 c = sym (c .before .before .before .before .before .before .loop .inv .2 ∙ words-differ (c .before .before .before .before .before .before .before .before .before .before .args .a .now) (c .before .before .before .before .before .before .before .before .before .before .args .b .now) (c .before .before .before .before .before .before .loop .i) (omega arith) (omega arith) (λ e. c .if2 .taken (c .before .before .before .upper .ensures ∙ e ∙ sym (c .before .upper2 .ensures))))
-
-add-i : tie.Need-add-i Inv-loop μ-loop
-add-i c = search needs
-
-loop-less : tie.Need-loop-less Inv-loop μ-loop
-loop-less c = search needs
 
 loop-again : tie.Need-loop-again Inv-loop μ-loop
 loop-again c = (search needs, search needs, c .before .before .before .before .before .before .loop .inv .2 ∙ words-next (c .before .before .before .before .before .before .before .before .before .before .args .a .now) (c .before .before .before .before .before .before .before .before .before .before .args .b .now) (c .before .before .before .before .before .before .loop .i) (omega arith) (omega arith) (sym (c .before .before .before .upper .ensures) ∙ c .if2 .left ∙ c .before .upper2 .ensures))
@@ -56,12 +38,12 @@ same-word-spec =
     μ-loop
     returns
     loop-holds
-    shared-slice-read-upper
-    upper-requires
-    shared-slice-read-upper-2
-    upper-requires-2
+    (λ c. search needs)  -- shared-slice-read-upper
+    (λ c κs. search needs)  -- upper-requires
+    (λ c. search needs)  -- shared-slice-read-upper-2
+    (λ c κs. search needs)  -- upper-requires-2
     returns-2
-    add-i
-    loop-less
+    (λ c. search needs)  -- add-i
+    (λ c. search needs)  -- loop-less
     loop-again
     returns-3)

@@ -6,26 +6,8 @@ use mathlib.Core.Path.{sym, _∙_}
 use borrow.Author.Tests.{not-true, not-false}
 use Rattle.names.proofs.Answers.{valid-fits, kept-none, kept-inbox, kept-itself}
 
-is-valid-requires : tie.Need-is-valid-requires
-is-valid-requires c κs = search needs
-
-slice-aggregate-kept : tie.Need-slice-aggregate-kept
-slice-aggregate-kept c = search needs
-
-kept-requires : tie.Need-kept-requires
-kept-requires c κs = search needs
-
 returns : tie.Need-returns
 returns c = c .kept .ensures ∙ sym (kept-none (c .before .before .before .before .before .args .name .now) (sym (c .before .before .before .is-valid .ensures) ∙ not-true _ (c .before .before .if1 .taken)))
-
-is-inbox-requires : tie.Need-is-inbox-requires
-is-inbox-requires c κs = search needs
-
-slice-aggregate-kept-2 : tie.Need-slice-aggregate-kept-2
-slice-aggregate-kept-2 c = search needs
-
-kept-requires-2 : tie.Need-kept-requires-2
-kept-requires-2 c κs = search needs
 
 returns-2 : tie.Need-returns-2
 returns-2 c = c .kept2 .ensures ∙ sym (kept-inbox (c .before .before .before .before .before .before .before .args .name .now) (sym (c .before .before .before .before .before .is-valid .ensures) ∙ not-false _ (c .before .before .before .before .if1 .left)) (sym (c .before .before .before .is-inbox .ensures) ∙ c .before .before .if2 .taken))
@@ -40,13 +22,13 @@ pub stored-spec : {M : Type 1} → statement M
 stored-spec =
     tie.close
     (tie.spec
-    is-valid-requires
-    slice-aggregate-kept
-    kept-requires
+    (λ c κs. search needs)  -- is-valid-requires
+    (λ c. search needs)  -- slice-aggregate-kept
+    (λ c κs. search needs)  -- kept-requires
     returns
-    is-inbox-requires
-    slice-aggregate-kept-2
-    kept-requires-2
+    (λ c κs. search needs)  -- is-inbox-requires
+    (λ c. search needs)  -- slice-aggregate-kept-2
+    (λ c κs. search needs)  -- kept-requires-2
     returns-2
     kept-requires-3
     returns-3)

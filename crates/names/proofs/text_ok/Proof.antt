@@ -16,26 +16,14 @@ abbrev μ-loop : tie.MeasureT-loop
 loop-holds : tie.Need-loop-holds Inv-loop μ-loop
 loop-holds c = (search needs, refl)
 
-shared-slice-read-b : tie.Need-shared-slice-read-b Inv-loop μ-loop
-shared-slice-read-b c = search needs
-
 returns : tie.Need-returns Inv-loop μ-loop
 returns c = sym (c .before .before .before .loop .inv .1 ∙ too-low (c .before .before .before .before .before .args .name .now) (c .before .before .before .loop .i) (c .before .before .before .loop .last) (omega arith) (c .if1 .taken))
 
 returns-2 : tie.Need-returns-2 Inv-loop μ-loop
 returns-2 c = sym (c .before .before .before .before .loop .inv .1 ∙ too-high (c .before .before .before .before .before .before .args .name .now) (c .before .before .before .before .loop .i) (c .before .before .before .before .loop .last) (omega arith) (c .before .if1 .left) (c .if2 .taken))
 
-both-slashes-requires : tie.Need-both-slashes-requires Inv-loop μ-loop
-both-slashes-requires c κs = search needs
-
 returns-3 : tie.Need-returns-3 Inv-loop μ-loop
 returns-3 c = sym (c .before .before .before .before .before .before .loop .inv .1 ∙ empty-part (c .before .before .before .before .before .before .before .before .args .name .now) (c .before .before .before .before .before .before .loop .i) (c .before .before .before .before .before .before .loop .last) (omega arith) (sym (c .before .both-slashes .ensures) ∙ c .if3 .taken))
-
-add-i : tie.Need-add-i Inv-loop μ-loop
-add-i c = search needs
-
-loop-less : tie.Need-loop-less Inv-loop μ-loop
-loop-less c = search needs
 
 loop-again : tie.Need-loop-again Inv-loop μ-loop
 loop-again c = (search needs, c .before .before .before .before .before .before .loop .inv .1 ∙ text-next (c .before .before .before .before .before .before .before .before .args .name .now) (c .before .before .before .before .before .before .loop .i) (c .before .before .before .before .before .before .loop .last) (omega arith) (c .before .before .before .if1 .left) (c .before .before .if2 .left) (sym (c .before .both-slashes .ensures) ∙ c .if3 .left))
@@ -50,12 +38,12 @@ text-ok-spec =
     Inv-loop
     μ-loop
     loop-holds
-    shared-slice-read-b
+    (λ c. search needs)  -- shared-slice-read-b
     returns
     returns-2
-    both-slashes-requires
+    (λ c κs. search needs)  -- both-slashes-requires
     returns-3
-    add-i
-    loop-less
+    (λ c. search needs)  -- add-i
+    (λ c. search needs)  -- loop-less
     loop-again
     returns-4)

@@ -10,11 +10,14 @@ returns c = rw (lt-leb _ _ (c .if1 .taken))
 returns-2 : tie.Need-returns-2
 returns-2 c = rw (le-leb _ _ (c .before .if1 .left), lt-leb _ _ (c .if2 .taken))
 
-sub-result : tie.Need-sub-result
-sub-result c = search needs
-
 returns-3 : tie.Need-returns-3
 returns-3 c = rw (le-leb _ _ (c .before .if1 .left), le-leb _ _ (c .if2 .left))
 
 pub upper-spec : {M : Type 1} → statement M
-upper-spec = tie.close (tie.spec returns returns-2 sub-result returns-3)
+upper-spec =
+    tie.close
+    (tie.spec
+    returns
+    returns-2
+    (λ c. search needs)  -- sub-result
+    returns-3)

@@ -8,11 +8,10 @@ use Rattle.pushrun.proofs.print_shown.Tie as tie
 slice-aggregate-print : tie.Need-slice-aggregate-print
 slice-aggregate-print c = sym (length-take-le _ _ (omega arith))
 
-print-requires : tie.Need-print-requires
-print-requires c κs = search needs
-
-returns : tie.Need-returns
-returns c = search needs
-
 pub print-shown-spec : {M : Type 1} → statement M
-print-shown-spec = tie.close (tie.spec slice-aggregate-print print-requires returns)
+print-shown-spec =
+    tie.close
+    (tie.spec
+    slice-aggregate-print
+    (λ c κs. search needs)  -- print-requires
+    (λ c. search needs))  -- returns

@@ -16,62 +16,8 @@ Inv-loop words₀ queue₀ octets₀ out₀ s₀ turns₀ words queue octets out
 abbrev μ-loop : tie.MeasureT-loop
 μ-loop words₀ queue₀ octets₀ out₀ s₀ turns₀ words queue octets out s turns = 18446744073709551615 - turns
 
-start-requires : tie.Need-start-requires Inv-loop μ-loop
-start-requires c κs = search needs
-
-loop-holds : tie.Need-loop-holds Inv-loop μ-loop
-loop-holds c = search needs
-
-next-record-requires : tie.Need-next-record-requires Inv-loop μ-loop
-next-record-requires c κs = search needs
-
-slice-reshare-prefix-serve-one : tie.Need-slice-reshare-prefix-serve-one Inv-loop μ-loop
-slice-reshare-prefix-serve-one c = search needs
-
 slice-aggregate-serve-one : tie.Need-slice-aggregate-serve-one Inv-loop μ-loop
 slice-aggregate-serve-one c = sym (length-take-le _ _ (omega arith))
-
-serve-one-requires : tie.Need-serve-one-requires Inv-loop μ-loop
-serve-one-requires c κs = search needs
-
-add-turns : tie.Need-add-turns Inv-loop μ-loop
-add-turns c = search needs
-
-loop-less : tie.Need-loop-less Inv-loop μ-loop
-loop-less c = search needs
-
-loop-again : tie.Need-loop-again Inv-loop μ-loop
-loop-again c = search needs
-
-same-length : tie.Need-same-length Inv-loop μ-loop
-same-length c = search needs
-
-same-length-2 : tie.Need-same-length-2 Inv-loop μ-loop
-same-length-2 c = search needs
-
-same-length-3 : tie.Need-same-length-3 Inv-loop μ-loop
-same-length-3 c = search needs
-
-same-length-4 : tie.Need-same-length-4 Inv-loop μ-loop
-same-length-4 c = search needs
-
-returns : tie.Need-returns Inv-loop μ-loop
-returns c = search needs
-
-same-length-5 : tie.Need-same-length-5 Inv-loop μ-loop
-same-length-5 c = search needs
-
-same-length-6 : tie.Need-same-length-6 Inv-loop μ-loop
-same-length-6 c = search needs
-
-same-length-7 : tie.Need-same-length-7 Inv-loop μ-loop
-same-length-7 c = search needs
-
-same-length-8 : tie.Need-same-length-8 Inv-loop μ-loop
-same-length-8 c = search needs
-
-returns-2 : tie.Need-returns-2 Inv-loop μ-loop
-returns-2 c = search needs
 
 pub serve-spec : {M : Type 1} → statement M
 serve-spec =
@@ -79,22 +25,22 @@ serve-spec =
     (tie.spec
     Inv-loop
     μ-loop
-    start-requires
-    loop-holds
-    next-record-requires
-    slice-reshare-prefix-serve-one
+    (λ c κs. search needs)  -- start-requires
+    (λ c. search needs)  -- loop-holds
+    (λ c κs. search needs)  -- next-record-requires
+    (λ c. search needs)  -- slice-reshare-prefix-serve-one
     slice-aggregate-serve-one
-    serve-one-requires
-    add-turns
-    loop-less
-    loop-again
-    same-length
-    same-length-2
-    same-length-3
-    same-length-4
-    returns
-    same-length-5
-    same-length-6
-    same-length-7
-    same-length-8
-    returns-2)
+    (λ c κs. search needs)  -- serve-one-requires
+    (λ c. search needs)  -- add-turns
+    (λ c. search needs)  -- loop-less
+    (λ c. search needs)  -- loop-again
+    (λ c. search needs)  -- same-length
+    (λ c. search needs)  -- same-length-2
+    (λ c. search needs)  -- same-length-3
+    (λ c. search needs)  -- same-length-4
+    (λ c. search needs)  -- returns
+    (λ c. search needs)  -- same-length-5
+    (λ c. search needs)  -- same-length-6
+    (λ c. search needs)  -- same-length-7
+    (λ c. search needs)  -- same-length-8
+    (λ c. search needs))  -- returns-2

@@ -49,12 +49,6 @@ attributes-to-close-attribute-at-requires :
     (t : ℕ) → attributes-to-close-lts.Need-attribute-at-requires (attributes-to-close-calls t) (attributes-to-close-at t) attributes-to-close.Post
 attributes-to-close-attribute-at-requires t c κs = search needs
 
-attributes-to-close-enum-known-k : (t : ℕ) → attributes-to-close-lts.Need-enum-known-k (attributes-to-close-calls t) (attributes-to-close-at t) attributes-to-close.Post
-attributes-to-close-enum-known-k t c = search needs
-
-attributes-to-close-octet-at-requires : (t : ℕ) → attributes-to-close-lts.Need-octet-at-requires (attributes-to-close-calls t) (attributes-to-close-at t) attributes-to-close.Post
-attributes-to-close-octet-at-requires t c κs = search needs
-
 attributes-to-close-add-attributes-to-close :
     (t : ℕ) → attributes-to-close-lts.Need-add-attributes-to-close (attributes-to-close-calls t) (attributes-to-close-at t) attributes-to-close.Post
 attributes-to-close-add-attributes-to-close t c = let i = in-text (c .before .before .before .before .before .before .before .args .text .now) (c .before .before .before .k .given .0 .1 .0) (sym (c .before .octet-at .ensures) ∙ c .if1 .taken) (omega arith) in omega arith
@@ -63,21 +57,12 @@ attributes-to-close-attributes-to-close-requires :
     (t : ℕ) → attributes-to-close-lts.Need-attributes-to-close-requires (attributes-to-close-calls t) (attributes-to-close-at t) attributes-to-close.Post
 attributes-to-close-attributes-to-close-requires t c κs = let w = rw (c .before .before .before .k .given .1) at (c .before .before .before .before .before .attribute-at .ensures .within) in let i = in-text (c .before .before .before .before .before .before .before .args .text .now) (c .before .before .before .k .given .0 .1 .0) (sym (c .before .octet-at .ensures) ∙ c .if1 .taken) (omega arith) in omega arith
 
-attributes-to-close-joined-requires : (t : ℕ) → attributes-to-close-lts.Need-joined-requires (attributes-to-close-calls t) (attributes-to-close-at t) attributes-to-close.Post
-attributes-to-close-joined-requires t c κs = search needs
-
 attributes-to-close-no-attributes-requires :
     (t : ℕ) → attributes-to-close-lts.Need-no-attributes-requires (attributes-to-close-calls t) (attributes-to-close-at t) attributes-to-close.Post
 attributes-to-close-no-attributes-requires t c κs = search needs
 
-attributes-to-close-added-requires : (t : ℕ) → attributes-to-close-lts.Need-added-requires (attributes-to-close-calls t) (attributes-to-close-at t) attributes-to-close.Post
-attributes-to-close-added-requires t c κs = search needs
-
 attributes-to-close-add-t16 : (t : ℕ) → attributes-to-close-lts.Need-add-t16 (attributes-to-close-calls t) (attributes-to-close-at t) attributes-to-close.Post
 attributes-to-close-add-t16 t c = let i = in-text (c .before .before .before .before .before .before .before .before .before .before .args .text .now) (c .before .before .before .before .before .before .k .given .0 .1 .0) (sym (c .before .before .before .before .octet-at .ensures) ∙ c .before .before .if2 .taken) (omega arith) in omega arith
-
-attributes-to-close-enum-told : (t : ℕ) → attributes-to-close-lts.Need-enum-told (attributes-to-close-calls t) (attributes-to-close-at t) attributes-to-close.Post
-attributes-to-close-enum-told t c = search needs
 
 attributes-to-close-returns : (t : ℕ) → attributes-to-close-lts.Need-returns (attributes-to-close-calls t) (attributes-to-close-at t) attributes-to-close.Post
 attributes-to-close-returns t c = let w = rw (c .before .before .before .before .before .k .given .1) at (c .before .before .before .before .before .before .before .attribute-at .ensures .within) in record { within = rw (c .joined .ensures) (within-joined (c .before .before .before .before .before .before .before .before .before .args .text .now) (c .before .before .before .before .before .before .before .before .before .args .at) (c .before .before .before .before .before .k .given .0 .1 .0 + 1) (c .before .before .before .before .before .k .given .0 .0) (c .before .attributes-to-close .result) (omega arith) (c .before .attributes-to-close .ensures .within)); exact = λ n h. c .joined .ensures ∙ ap (join (c .before .before .before .before .before .k .given .0 .0)) (c .before .attributes-to-close .ensures .exact (n - 1) (omega arith)) ∙ list-more (c .before .before .before .before .before .before .before .before .before .args .text .now) (c .before .before .before .before .before .before .before .before .before .args .at) n (omega arith) (sym (c .before .before .before .before .before .k .given .1) ∙ c .before .before .before .before .before .before .before .attribute-at .ensures .exact) (sym (c .before .before .before .octet-at .ensures) ∙ c .before .before .if1 .taken) }
@@ -96,15 +81,15 @@ pub +attributes-to-close-spec : {M : Type 1} → statement M
     (attributes-to-close-at t)
     attributes-to-close.Post
     (attributes-to-close-attribute-at-requires t)
-    (attributes-to-close-enum-known-k t)
-    (attributes-to-close-octet-at-requires t)
+    (λ c. search needs)  -- attributes-to-close-enum-known-k
+    (λ c κs. search needs)  -- attributes-to-close-octet-at-requires
     (attributes-to-close-add-attributes-to-close t)
     (attributes-to-close-attributes-to-close-requires t)
-    (attributes-to-close-joined-requires t)
+    (λ c κs. search needs)  -- attributes-to-close-joined-requires
     (attributes-to-close-no-attributes-requires t)
-    (attributes-to-close-added-requires t)
+    (λ c κs. search needs)  -- attributes-to-close-added-requires
     (attributes-to-close-add-t16 t)
-    (attributes-to-close-enum-told t)
+    (λ c. search needs)  -- attributes-to-close-enum-told
     (attributes-to-close-returns t)
     (attributes-to-close-returns-2 t)
     (attributes-to-close-returns-3 t)

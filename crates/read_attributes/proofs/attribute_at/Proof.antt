@@ -7,45 +7,6 @@ use native.Mathlib.Omega.{arith}
 use Rattle.read_attributes.specs.Asked.{sectioned}
 use Rattle.read_attributes.proofs.Asking.{body-section, body-alone, peek-section, attribute-none, attribute-by, within-section}
 
-run-at-requires : tie.Need-run-at-requires
-run-at-requires c κs = search needs
-
-enum-known-end : tie.Need-enum-known-end
-enum-known-end c = search needs
-
-label-of-requires : tie.Need-label-of-requires
-label-of-requires c κs = search needs
-
-enum-known-k : tie.Need-enum-known-k
-enum-known-k c = search needs
-
-enum-told : tie.Need-enum-told
-enum-told c = search needs
-
-octet-at-requires : tie.Need-octet-at-requires
-octet-at-requires c κs = search needs
-
-section-at-requires : tie.Need-section-at-requires
-section-at-requires c κs = search needs
-
-with-section-requires : tie.Need-with-section-requires
-with-section-requires c κs = search needs
-
-enum-told-2 : tie.Need-enum-told-2
-enum-told-2 c = search needs
-
-section-at-requires-2 : tie.Need-section-at-requires-2
-section-at-requires-2 c κs = search needs
-
-with-section-requires-2 : tie.Need-with-section-requires-2
-with-section-requires-2 c κs = search needs
-
-enum-told-3 : tie.Need-enum-told-3
-enum-told-3 c = search needs
-
-enum-told-4 : tie.Need-enum-told-4
-enum-told-4 c = search needs
-
 returns : tie.Need-returns
 returns c = record { exact = attribute-by (c .before .before .before .before .before .before .before .before .before .args .text .now) (c .before .before .before .before .before .before .before .before .before .args .at) (sym (c .before .before .before .before .before .end .given .1) ∙ c .before .before .before .before .before .before .before .run-at .ensures .exact) (c .before .k .given .1) (c .before .before .before .label-of .ensures); within = rw (c .before .before .before .before .before .end .given .1) at (c .before .before .before .before .before .before .before .run-at .ensures .within) }
 
@@ -68,19 +29,19 @@ pub attribute-at-spec : {M : Type 1} → statement M
 attribute-at-spec =
     tie.close
     (tie.spec
-    run-at-requires
-    enum-known-end
-    label-of-requires
-    enum-known-k
-    enum-told
-    octet-at-requires
-    section-at-requires
-    with-section-requires
-    enum-told-2
-    section-at-requires-2
-    with-section-requires-2
-    enum-told-3
-    enum-told-4
+    (λ c κs. search needs)  -- run-at-requires
+    (λ c. search needs)  -- enum-known-end
+    (λ c κs. search needs)  -- label-of-requires
+    (λ c. search needs)  -- enum-known-k
+    (λ c. search needs)  -- enum-told
+    (λ c κs. search needs)  -- octet-at-requires
+    (λ c κs. search needs)  -- section-at-requires
+    (λ c κs. search needs)  -- with-section-requires
+    (λ c. search needs)  -- enum-told-2
+    (λ c κs. search needs)  -- section-at-requires-2
+    (λ c κs. search needs)  -- with-section-requires-2
+    (λ c. search needs)  -- enum-told-3
+    (λ c. search needs)  -- enum-told-4
     returns
     returns-2
     returns-3

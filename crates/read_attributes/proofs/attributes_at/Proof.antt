@@ -9,17 +9,11 @@ use lib.ListN.{length}
 use Rattle.read_attributes.proofs.Asking.{list-blank, list-open, all-within-from}
 use Rattle.octets.specs.Rows.{in-text}
 
-octet-at-requires : tie.Need-octet-at-requires
-octet-at-requires c κs = search needs
-
 returns : tie.Need-returns
 returns c = record { exact = list-blank (c .before .before .before .args .text .now) (c .before .before .before .args .at) (λ e. c .if1 .taken (c .before .octet-at .ensures ∙ e)); within = tt }
 
 add-attributes-to-close : tie.Need-add-attributes-to-close
 add-attributes-to-close c = let i = in-text (c .before .before .before .args .text .now) (c .before .before .before .args .at) (sym (c .before .octet-at .ensures) ∙ c .if1 .left) (omega arith) in omega arith
-
-attributes-to-close-requires : tie.Need-attributes-to-close-requires
-attributes-to-close-requires c κs = search needs
 
 returns-2 : tie.Need-returns-2
 returns-2 c = record { exact = c .attributes-to-close .ensures .exact (length (c .before .before .before .before .args .text .now)) (omega arith) ∙ list-open (c .before .before .before .before .args .text .now) (c .before .before .before .before .args .at) (sym (c .before .before .octet-at .ensures) ∙ c .before .if1 .left); within = all-within-from (c .before .before .before .before .args .text .now) (c .before .before .before .before .args .at) ((c .before .before .before .before .args .at) + 1) (c .attributes-to-close .result) (omega arith) (c .attributes-to-close .ensures .within) }
@@ -28,8 +22,8 @@ pub attributes-at-spec : {M : Type 1} → statement M
 attributes-at-spec =
     tie.close
     (tie.spec
-    octet-at-requires
+    (λ c κs. search needs)  -- octet-at-requires
     returns
     add-attributes-to-close
-    attributes-to-close-requires
+    (λ c κs. search needs)  -- attributes-to-close-requires
     returns-2)

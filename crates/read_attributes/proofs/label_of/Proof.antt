@@ -5,58 +5,25 @@ use Rattle.read_attributes.proofs.label_of.Tie as tie
 use mathlib.Core.Path.{sym, _∙_}
 use Rattle.model.specs.Attributes.{labelOf}
 
-slice-aggregate-is-word : tie.Need-slice-aggregate-is-word
-slice-aggregate-is-word c = search needs
-
-is-word-requires : tie.Need-is-word-requires
-is-word-requires c κs = search needs
-
 returns : tie.Need-returns
 unfolding labelOf
 returns c = simp (sym (c .before .is-word .ensures) ∙ c .if1 .taken)
-
-slice-aggregate-is-word-2 : tie.Need-slice-aggregate-is-word-2
-slice-aggregate-is-word-2 c = search needs
-
-is-word-requires-2 : tie.Need-is-word-requires-2
-is-word-requires-2 c κs = search needs
 
 returns-2 : tie.Need-returns-2
 unfolding labelOf
 returns-2 c = simp (sym (c .before .before .before .before .is-word .ensures) ∙ c .before .before .before .if1 .left, sym (c .before .is-word2 .ensures) ∙ c .if2 .taken)
 
-slice-aggregate-is-word-3 : tie.Need-slice-aggregate-is-word-3
-slice-aggregate-is-word-3 c = search needs
-
-is-word-requires-3 : tie.Need-is-word-requires-3
-is-word-requires-3 c κs = search needs
-
 returns-3 : tie.Need-returns-3
 unfolding labelOf
 returns-3 c = simp (sym (c .before .before .before .before .before .before .before .is-word .ensures) ∙ c .before .before .before .before .before .before .if1 .left, sym (c .before .before .before .before .is-word2 .ensures) ∙ c .before .before .before .if2 .left, sym (c .before .is-word3 .ensures) ∙ c .if3 .taken)
-
-is-other-requires : tie.Need-is-other-requires
-is-other-requires c κs = search needs
 
 returns-4 : tie.Need-returns-4
 unfolding labelOf
 returns-4 c = simp (sym (c .before .before .before .before .before .before .before .before .before .is-word .ensures) ∙ c .before .before .before .before .before .before .before .before .if1 .left, sym (c .before .before .before .before .before .before .is-word2 .ensures) ∙ c .before .before .before .before .before .if2 .left, sym (c .before .before .before .is-word3 .ensures) ∙ c .before .before .if3 .left, sym (c .before .is-other .ensures) ∙ c .if4 .taken)
 
-slice-aggregate-is-word-4 : tie.Need-slice-aggregate-is-word-4
-slice-aggregate-is-word-4 c = search needs
-
-is-word-requires-4 : tie.Need-is-word-requires-4
-is-word-requires-4 c κs = search needs
-
 returns-5 : tie.Need-returns-5
 unfolding labelOf
 returns-5 c = simp (sym (c .before .before .before .before .before .before .before .before .before .before .before .before .is-word .ensures) ∙ c .before .before .before .before .before .before .before .before .before .before .before .if1 .left, sym (c .before .before .before .before .before .before .before .before .before .is-word2 .ensures) ∙ c .before .before .before .before .before .before .before .before .if2 .left, sym (c .before .before .before .before .before .before .is-word3 .ensures) ∙ c .before .before .before .before .before .if3 .left, sym (c .before .before .before .before .is-other .ensures) ∙ c .before .before .before .if4 .left, sym (c .before .is-word4 .ensures) ∙ c .if5 .taken)
-
-slice-aggregate-is-word-5 : tie.Need-slice-aggregate-is-word-5
-slice-aggregate-is-word-5 c = search needs
-
-is-word-requires-5 : tie.Need-is-word-requires-5
-is-word-requires-5 c κs = search needs
 
 returns-6 : tie.Need-returns-6
 unfolding labelOf
@@ -70,21 +37,21 @@ pub label-of-spec : {M : Type 1} → statement M
 label-of-spec =
     tie.close
     (tie.spec
-    slice-aggregate-is-word
-    is-word-requires
+    (λ c. search needs)  -- slice-aggregate-is-word
+    (λ c κs. search needs)  -- is-word-requires
     returns
-    slice-aggregate-is-word-2
-    is-word-requires-2
+    (λ c. search needs)  -- slice-aggregate-is-word-2
+    (λ c κs. search needs)  -- is-word-requires-2
     returns-2
-    slice-aggregate-is-word-3
-    is-word-requires-3
+    (λ c. search needs)  -- slice-aggregate-is-word-3
+    (λ c κs. search needs)  -- is-word-requires-3
     returns-3
-    is-other-requires
+    (λ c κs. search needs)  -- is-other-requires
     returns-4
-    slice-aggregate-is-word-4
-    is-word-requires-4
+    (λ c. search needs)  -- slice-aggregate-is-word-4
+    (λ c κs. search needs)  -- is-word-requires-4
     returns-5
-    slice-aggregate-is-word-5
-    is-word-requires-5
+    (λ c. search needs)  -- slice-aggregate-is-word-5
+    (λ c κs. search needs)  -- is-word-requires-5
     returns-6
     returns-7)

@@ -6,20 +6,8 @@ use Rattle.read_commands.proofs.Wholes.{no-tag, heads-by}
 use Rattle.read_commands.proofs.head.Statement.{statement}
 use Rattle.read_commands.proofs.head.Tie as tie
 
-is-tagged-requires : tie.Need-is-tagged-requires
-is-tagged-requires c κs = search needs
-
 returns : tie.Need-returns
 returns c = no-tag (c .before .before .before .args .text .now) (sym (c .before .is-tagged .ensures) ∙ not-true (c .before .is-tagged .result) (c .if1 .taken))
-
-tag-end-requires : tie.Need-tag-end-requires
-tag-end-requires c κs = search needs
-
-add-verb-at : tie.Need-add-verb-at
-add-verb-at c = search needs
-
-verb-at-requires : tie.Need-verb-at-requires
-verb-at-requires c κs = search needs
 
 returns-2 : tie.Need-returns-2
 returns-2 c = heads-by (c .before .before .before .before .before .args .text .now) (c .before .tag-end .result) (c .before .tag-end .ensures .exact) (sym (c .before .before .before .is-tagged .ensures) ∙ not-false (c .before .before .before .is-tagged .result) (c .before .before .if1 .left)) (c .verb-at .result) (c .verb-at .ensures .exact)
@@ -27,4 +15,10 @@ returns-2 c = heads-by (c .before .before .before .before .before .args .text .n
 pub head-spec : {M : Type 1} → statement M
 head-spec =
     tie.close
-    (tie.spec is-tagged-requires returns tag-end-requires add-verb-at verb-at-requires returns-2)
+    (tie.spec
+    (λ c κs. search needs)  -- is-tagged-requires
+    returns
+    (λ c κs. search needs)  -- tag-end-requires
+    (λ c. search needs)  -- add-verb-at
+    (λ c κs. search needs)  -- verb-at-requires
+    returns-2)

@@ -4,24 +4,6 @@ use Rattle.read_commands.proofs.Wholes.{judges-same, judges-none}
 use Rattle.read_commands.proofs.judge.Statement.{statement}
 use Rattle.read_commands.proofs.judge.Tie as tie
 
-head-requires : tie.Need-head-requires
-head-requires c κs = search needs
-
-enum-known-verb : tie.Need-enum-known-verb
-enum-known-verb c = search needs
-
-judge-by-requires : tie.Need-judge-by-requires
-judge-by-requires c κs = search needs
-
-enum-told : tie.Need-enum-told
-enum-told c = search needs
-
-unread-requires : tie.Need-unread-requires
-unread-requires c κs = search needs
-
-same-length : tie.Need-same-length
-same-length c = search needs
-
 returns : tie.Need-returns
 returns c = judges-same (rw (c .before .before .before .before .before .verb .given .1) at (c .before .before .before .before .before .before .before .head .ensures)) (c .before .before .judge-by .ensures)
 
@@ -32,11 +14,11 @@ pub judge-spec : {M : Type 1} → statement M
 judge-spec =
     tie.close
     (tie.spec
-    head-requires
-    enum-known-verb
-    judge-by-requires
-    enum-told
-    unread-requires
-    same-length
+    (λ c κs. search needs)  -- head-requires
+    (λ c. search needs)  -- enum-known-verb
+    (λ c κs. search needs)  -- judge-by-requires
+    (λ c. search needs)  -- enum-told
+    (λ c κs. search needs)  -- unread-requires
+    (λ c. search needs)  -- same-length
     returns
     returns-2)

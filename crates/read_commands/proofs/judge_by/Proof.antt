@@ -5,29 +5,8 @@ use borrow.Author.Needs.{needs}
 use Rattle.read_commands.proofs.judge_by.Statement.{statement}
 use Rattle.read_commands.proofs.judge_by.Tie as tie
 
-enum-told : tie.Need-enum-told
-enum-told c = search needs
-
-judge-notify-requires : tie.Need-judge-notify-requires
-judge-notify-requires c κs = search needs
-
-enum-told-2 : tie.Need-enum-told-2
-enum-told-2 c = search needs
-
-judge-search-requires : tie.Need-judge-search-requires
-judge-search-requires c κs = search needs
-
-enum-told-3 : tie.Need-enum-told-3
-enum-told-3 c = search needs
-
-unread-requires : tie.Need-unread-requires
-unread-requires c κs = search needs
-
 returns : tie.Need-returns
 returns c = rw (c .before .enum-told .given .1) (judges-notify (c .before .before .before .before .before .args .l) (c .before .before .before .before .before .args .selected) (c .before .before .before .before .before .args .text .now) (c .before .before .before .before .before .args .at) (c .judge-notify .ensures (c .before .before .before .before .before .args .selected)))
-
-same-length : tie.Need-same-length
-same-length c = search needs
 
 returns-2 : tie.Need-returns-2
 returns-2 c = rw (c .before .before .before .before .enum-told2 .given .1) (c .before .before .judge-search .ensures)
@@ -39,13 +18,13 @@ pub judge-by-spec : {M : Type 1} → statement M
 judge-by-spec =
     tie.close
     (tie.spec
-    enum-told
-    judge-notify-requires
-    enum-told-2
-    judge-search-requires
-    enum-told-3
-    unread-requires
+    (λ c. search needs)  -- enum-told
+    (λ c κs. search needs)  -- judge-notify-requires
+    (λ c. search needs)  -- enum-told-2
+    (λ c κs. search needs)  -- judge-search-requires
+    (λ c. search needs)  -- enum-told-3
+    (λ c κs. search needs)  -- unread-requires
     returns
-    same-length
+    (λ c. search needs)  -- same-length
     returns-2
     returns-3)

@@ -6,14 +6,13 @@ use borrow.Author.Needs.{needs}
 use Rattle.read_commands.proofs.judge_notify.Statement.{statement}
 use Rattle.read_commands.proofs.judge_notify.Tie as tie
 
-notify-at-requires : tie.Need-notify-at-requires
-notify-at-requires c κs = search needs
-
-notify-reply-requires : tie.Need-notify-reply-requires
-notify-reply-requires c κs = search needs
-
 returns : tie.Need-returns
 returns c = λ sel. c .notify-reply .ensures ∙ ap (notified (c .before .before .before .args .l)) (c .before .notify-at .ensures) ∙ notify-is (c .before .before .before .args .l) sel (c .before .before .before .args .text .now) (c .before .before .before .args .at)
 
 pub judge-notify-spec : {M : Type 1} → statement M
-judge-notify-spec = tie.close (tie.spec notify-at-requires notify-reply-requires returns)
+judge-notify-spec =
+    tie.close
+    (tie.spec
+    (λ c κs. search needs)  -- notify-at-requires
+    (λ c κs. search needs)  -- notify-reply-requires
+    returns)

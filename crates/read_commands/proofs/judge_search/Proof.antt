@@ -4,18 +4,14 @@ use borrow.Author.Needs.{needs}
 use Rattle.read_commands.proofs.judge_search.Statement.{statement}
 use Rattle.read_commands.proofs.judge_search.Tie as tie
 
-search-at-requires : tie.Need-search-at-requires
-search-at-requires c κs = search needs
-
-search-reply-requires : tie.Need-search-reply-requires
-search-reply-requires c κs = search needs
-
-same-length : tie.Need-same-length
-same-length c = search needs
-
 returns : tie.Need-returns
 returns c = judges-search (c .before .before .before .before .before .before .before .args .l) (c .before .before .before .before .before .before .before .args .selected) (c .before .before .before .before .before .before .before .args .text .now) (c .before .before .before .before .before .before .before .args .at) (c .before .before .before .search-at .ensures) (c .search-reply .ensures)
 
 pub judge-search-spec : {M : Type 1} → statement M
 judge-search-spec =
-    tie.close (tie.spec search-at-requires search-reply-requires same-length returns)
+    tie.close
+    (tie.spec
+    (λ c κs. search needs)  -- search-at-requires
+    (λ c κs. search needs)  -- search-reply-requires
+    (λ c. search needs)  -- same-length
+    returns)

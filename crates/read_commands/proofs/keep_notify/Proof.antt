@@ -7,23 +7,11 @@ use Rattle.octets.specs.Rows.{in-text}
 use Rattle.read_commands.proofs.keep_notify.Statement.{statement}
 use Rattle.read_commands.proofs.keep_notify.Tie as tie
 
-octet-at-requires : tie.Need-octet-at-requires
-octet-at-requires c κs = search needs
-
-unkept-requires : tie.Need-unkept-requires
-unkept-requires c κs = search needs
-
 returns : tie.Need-returns
 returns c = keeps-blank (c .before .before .before .before .args .text .now) (c .before .before .before .before .args .at) (λ e. c .before .if1 .taken (c .before .before .octet-at .ensures ∙ e)) (c .unkept .ensures)
 
 add-keep-at : tie.Need-add-keep-at
 add-keep-at c = let i = in-text (c .before .before .before .args .text .now) (c .before .before .before .args .at) (sym (c .before .octet-at .ensures) ∙ c .if1 .left) (omega arith) in omega arith
-
-keep-at-requires : tie.Need-keep-at-requires
-keep-at-requires c κs = search needs
-
-notify-upto-requires : tie.Need-notify-upto-requires
-notify-upto-requires c κs = search needs
 
 returns-2 : tie.Need-returns-2
 returns-2 c = rw (c .notify-upto .ensures) (keeps-whole (c .before .before .before .before .before .before .before .args .text .now) (c .before .before .before .before .before .before .before .args .at) (sym (c .before .before .before .before .before .octet-at .ensures) ∙ c .before .before .before .before .if1 .left) (c .before .before .before .keep-at .result) (c .before .before .before .keep-at .ensures .is))
@@ -32,10 +20,10 @@ pub keep-notify-spec : {M : Type 1} → statement M
 keep-notify-spec =
     tie.close
     (tie.spec
-    octet-at-requires
-    unkept-requires
+    (λ c κs. search needs)  -- octet-at-requires
+    (λ c κs. search needs)  -- unkept-requires
     returns
     add-keep-at
-    keep-at-requires
-    notify-upto-requires
+    (λ c κs. search needs)  -- keep-at-requires
+    (λ c κs. search needs)  -- notify-upto-requires
     returns-2)

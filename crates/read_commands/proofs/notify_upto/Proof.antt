@@ -4,15 +4,6 @@ use borrow.Author.Needs.{needs}
 use Rattle.read_commands.proofs.notify_upto.Statement.{statement}
 use Rattle.read_commands.proofs.notify_upto.Tie as tie
 
-enum-known-r : tie.Need-enum-known-r
-enum-known-r c = search needs
-
-enum-known-r-2 : tie.Need-enum-known-r-2
-enum-known-r-2 c = search needs
-
-enum-told : tie.Need-enum-told
-enum-told c = search needs
-
 returns : tie.Need-returns
 returns c = rw (c .before .before .r .given .1, eq-eqb _ _ (c .if1 .taken))
 
@@ -25,18 +16,15 @@ returns-3 c = rw (c .before .before .r2 .given .1, eq-eqb _ _ (c .if2 .taken))
 returns-4 : tie.Need-returns-4
 returns-4 c = rw (c .before .before .r2 .given .1, ne-eqb _ _ (c .if2 .left))
 
-returns-5 : tie.Need-returns-5
-returns-5 c = search needs
-
 pub notify-upto-spec : {M : Type 1} → statement M
 notify-upto-spec =
     tie.close
     (tie.spec
-    enum-known-r
-    enum-known-r-2
-    enum-told
+    (λ c. search needs)  -- enum-known-r
+    (λ c. search needs)  -- enum-known-r-2
+    (λ c. search needs)  -- enum-told
     returns
     returns-2
     returns-3
     returns-4
-    returns-5)
+    (λ c. search needs))  -- returns-5

@@ -7,23 +7,11 @@ use Rattle.read_commands.proofs.search_at.Statement.{statement}
 use Rattle.read_commands.proofs.search_at.Tie as tie
 use Rattle.octets.specs.Rows.{in-text}
 
-octet-at-requires : tie.Need-octet-at-requires
-octet-at-requires c κs = search needs
-
 returns : tie.Need-returns
 returns c = search-none (search-blank (c .before .before .before .before .args .text .now) (c .before .before .before .before .args .at) (λ e. c .if1 .taken (c .before .octet-at .ensures ∙ e)))
 
 add-search-at : tie.Need-add-search-at
 add-search-at c = let i = in-text (c .before .before .before .before .args .text .now) (c .before .before .before .before .args .at) (sym (c .before .octet-at .ensures) ∙ c .if1 .left) (omega arith) in omega arith
-
-search-at-requires : tie.Need-search-at-requires
-search-at-requires c κs = search needs
-
-search-upto-requires : tie.Need-search-upto-requires
-search-upto-requires c κs = search needs
-
-same-length : tie.Need-same-length
-same-length c = search needs
 
 returns-2 : tie.Need-returns-2
 returns-2 c = search-whole (c .before .before .before .before .before .before .before .before .before .args .text .now) (c .before .before .before .before .before .before .before .before .before .args .at) (sym (c .before .before .before .before .before .before .octet-at .ensures) ∙ c .before .before .before .before .before .if1 .left) (c .before .before .before .search-at .ensures .exact) (c .before .before .before .search-at .ensures .cells) (c .search-upto .ensures)
@@ -32,10 +20,10 @@ pub search-at-spec : {M : Type 1} → statement M
 search-at-spec =
     tie.close
     (tie.spec
-    octet-at-requires
+    (λ c κs. search needs)  -- octet-at-requires
     returns
     add-search-at
-    search-at-requires
-    search-upto-requires
-    same-length
+    (λ c κs. search needs)  -- search-at-requires
+    (λ c κs. search needs)  -- search-upto-requires
+    (λ c. search needs)  -- same-length
     returns-2)

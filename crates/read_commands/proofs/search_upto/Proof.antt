@@ -4,20 +4,18 @@ use borrow.Author.Needs.{needs}
 use Rattle.read_commands.proofs.search_upto.Statement.{statement}
 use Rattle.read_commands.proofs.search_upto.Tie as tie
 
-enum-known-r : tie.Need-enum-known-r
-enum-known-r c = search needs
-
-enum-told : tie.Need-enum-told
-enum-told c = search needs
-
 returns : tie.Need-returns
 returns c = rw (c .before .before .r .given .1, eq-eqb _ _ (c .if1 .taken))
 
 returns-2 : tie.Need-returns-2
 returns-2 c = rw (c .before .before .r .given .1, ne-eqb _ _ (c .if1 .left))
 
-returns-3 : tie.Need-returns-3
-returns-3 c = search needs
-
 pub search-upto-spec : {M : Type 1} → statement M
-search-upto-spec = tie.close (tie.spec enum-known-r enum-told returns returns-2 returns-3)
+search-upto-spec =
+    tie.close
+    (tie.spec
+    (λ c. search needs)  -- enum-known-r
+    (λ c. search needs)  -- enum-told
+    returns
+    returns-2
+    (λ c. search needs))  -- returns-3

@@ -5,12 +5,6 @@ use borrow.Author.Needs.{needs}
 use Rattle.read_commands.proofs.tag_length.Statement.{statement}
 use Rattle.read_commands.proofs.tag_length.Tie as tie
 
-is-tagged-requires : tie.Need-is-tagged-requires
-is-tagged-requires c κs = search needs
-
-tag-end-requires : tie.Need-tag-end-requires
-tag-end-requires c κs = search needs
-
 returns : tie.Need-returns
 returns c = c .tag-end .ensures .exact ∙ tag-there (c .before .before .before .before .args .text .now) (sym (c .before .before .is-tagged .ensures) ∙ c .before .if1 .taken)
 
@@ -18,4 +12,10 @@ returns-2 : tie.Need-returns-2
 returns-2 c = tag-missing (c .before .before .before .args .text .now) (sym (c .before .is-tagged .ensures) ∙ c .if1 .left)
 
 pub tag-length-spec : {M : Type 1} → statement M
-tag-length-spec = tie.close (tie.spec is-tagged-requires tag-end-requires returns returns-2)
+tag-length-spec =
+    tie.close
+    (tie.spec
+    (λ c κs. search needs)  -- is-tagged-requires
+    (λ c κs. search needs)  -- tag-end-requires
+    returns
+    returns-2)

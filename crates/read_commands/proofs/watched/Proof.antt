@@ -4,18 +4,6 @@ use Rattle.read_commands.proofs.Wholes.{unread-watched, same-watched}
 use Rattle.read_commands.proofs.watched.Statement.{statement}
 use Rattle.read_commands.proofs.watched.Tie as tie
 
-head-requires : tie.Need-head-requires
-head-requires c κs = search needs
-
-enum-known-verb : tie.Need-enum-known-verb
-enum-known-verb c = search needs
-
-watch-by-requires : tie.Need-watch-by-requires
-watch-by-requires c κs = search needs
-
-enum-told : tie.Need-enum-told
-enum-told c = search needs
-
 returns : tie.Need-returns
 returns c = same-watched (c .before .before .before .before .before .before .args .session) (c .watch-by .ensures) (rw (c .before .before .verb .given .1) at (c .before .before .before .before .head .ensures))
 
@@ -25,4 +13,10 @@ returns-2 c = unread-watched (c .before .before .before .before .args .session) 
 pub watched-spec : {M : Type 1} → statement M
 watched-spec =
     tie.close
-    (tie.spec head-requires enum-known-verb watch-by-requires enum-told returns returns-2)
+    (tie.spec
+    (λ c κs. search needs)  -- head-requires
+    (λ c. search needs)  -- enum-known-verb
+    (λ c κs. search needs)  -- watch-by-requires
+    (λ c. search needs)  -- enum-told
+    returns
+    returns-2)

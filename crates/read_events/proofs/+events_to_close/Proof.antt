@@ -45,15 +45,6 @@ events-to-close-below t =
 abbrev events-to-close-calls : ℕ → events-to-close-lts.Claims
 events-to-close-calls t = (event-at-reads.Asked, event-at-reads.Learnt, octet-at-reads.Asked, octet-at-reads.Learnt, events-to-close-below t, events-to-close.Post, joined-reads.Asked, joined-reads.Learnt, no-events-reads.Asked, no-events-reads.Learnt, merged-reads.Asked, merged-reads.Learnt)
 
-events-to-close-event-at-requires : (t : ℕ) → events-to-close-lts.Need-event-at-requires (events-to-close-calls t) (events-to-close-at t) events-to-close.Post
-events-to-close-event-at-requires t c κs = search needs
-
-events-to-close-enum-known-e : (t : ℕ) → events-to-close-lts.Need-enum-known-e (events-to-close-calls t) (events-to-close-at t) events-to-close.Post
-events-to-close-enum-known-e t c = search needs
-
-events-to-close-octet-at-requires : (t : ℕ) → events-to-close-lts.Need-octet-at-requires (events-to-close-calls t) (events-to-close-at t) events-to-close.Post
-events-to-close-octet-at-requires t c κs = search needs
-
 events-to-close-add-events-to-close : (t : ℕ) → events-to-close-lts.Need-add-events-to-close (events-to-close-calls t) (events-to-close-at t) events-to-close.Post
 events-to-close-add-events-to-close t c = let i = in-text (c .before .before .before .before .before .before .before .args .text .now) (c .before .before .before .e .given .0 .1 .0) (sym (c .before .octet-at .ensures) ∙ c .if1 .taken) (omega arith) in omega arith
 
@@ -61,20 +52,8 @@ events-to-close-events-to-close-requires :
     (t : ℕ) → events-to-close-lts.Need-events-to-close-requires (events-to-close-calls t) (events-to-close-at t) events-to-close.Post
 events-to-close-events-to-close-requires t c κs = let w = rw (c .before .before .before .e .given .1) at (c .before .before .before .before .before .event-at .ensures .within) in let i = in-text (c .before .before .before .before .before .before .before .args .text .now) (c .before .before .before .e .given .0 .1 .0) (sym (c .before .octet-at .ensures) ∙ c .if1 .taken) (omega arith) in omega arith
 
-events-to-close-joined-requires : (t : ℕ) → events-to-close-lts.Need-joined-requires (events-to-close-calls t) (events-to-close-at t) events-to-close.Post
-events-to-close-joined-requires t c κs = search needs
-
-events-to-close-no-events-requires : (t : ℕ) → events-to-close-lts.Need-no-events-requires (events-to-close-calls t) (events-to-close-at t) events-to-close.Post
-events-to-close-no-events-requires t c κs = search needs
-
-events-to-close-merged-requires : (t : ℕ) → events-to-close-lts.Need-merged-requires (events-to-close-calls t) (events-to-close-at t) events-to-close.Post
-events-to-close-merged-requires t c κs = search needs
-
 events-to-close-add-t16 : (t : ℕ) → events-to-close-lts.Need-add-t16 (events-to-close-calls t) (events-to-close-at t) events-to-close.Post
 events-to-close-add-t16 t c = let i = in-text (c .before .before .before .before .before .before .before .before .before .before .args .text .now) (c .before .before .before .before .before .before .e .given .0 .1 .0) (sym (c .before .before .before .before .octet-at .ensures) ∙ c .before .before .if2 .taken) (omega arith) in omega arith
-
-events-to-close-enum-told : (t : ℕ) → events-to-close-lts.Need-enum-told (events-to-close-calls t) (events-to-close-at t) events-to-close.Post
-events-to-close-enum-told t c = search needs
 
 events-to-close-returns : (t : ℕ) → events-to-close-lts.Need-returns (events-to-close-calls t) (events-to-close-at t) events-to-close.Post
 events-to-close-returns t c = let w = rw (c .before .before .before .before .before .e .given .1) at (c .before .before .before .before .before .before .before .event-at .ensures .within) in record { within = rw (c .joined .ensures) (within-joined (c .before .before .before .before .before .before .before .before .before .args .text .now) (c .before .before .before .before .before .before .before .before .before .args .at) (c .before .before .before .before .before .e .given .0 .1 .0 + 1) (c .before .before .before .before .before .e .given .0 .0) (c .before .events-to-close .result) (omega arith) (c .before .events-to-close .ensures .within)); exact = λ n h. c .joined .ensures ∙ ap (join (c .before .before .before .before .before .e .given .0 .0)) (c .before .events-to-close .ensures .exact (n - 1) (omega arith)) ∙ list-more (c .before .before .before .before .before .before .before .before .before .args .text .now) (c .before .before .before .before .before .before .before .before .before .args .at) n (omega arith) (sym (c .before .before .before .before .before .e .given .1) ∙ c .before .before .before .before .before .before .before .event-at .ensures .exact) (sym (c .before .before .before .octet-at .ensures) ∙ c .before .before .if1 .taken) }
@@ -92,16 +71,16 @@ pub +events-to-close-spec : {M : Type 1} → statement M
 +events-to-close-spec = close μ-events-to-close λ t. events-to-close-lts.spec (events-to-close-calls t)
     (events-to-close-at t)
     events-to-close.Post
-    (events-to-close-event-at-requires t)
-    (events-to-close-enum-known-e t)
-    (events-to-close-octet-at-requires t)
+    (λ c κs. search needs)  -- events-to-close-event-at-requires
+    (λ c. search needs)  -- events-to-close-enum-known-e
+    (λ c κs. search needs)  -- events-to-close-octet-at-requires
     (events-to-close-add-events-to-close t)
     (events-to-close-events-to-close-requires t)
-    (events-to-close-joined-requires t)
-    (events-to-close-no-events-requires t)
-    (events-to-close-merged-requires t)
+    (λ c κs. search needs)  -- events-to-close-joined-requires
+    (λ c κs. search needs)  -- events-to-close-no-events-requires
+    (λ c κs. search needs)  -- events-to-close-merged-requires
     (events-to-close-add-t16 t)
-    (events-to-close-enum-told t)
+    (λ c. search needs)  -- events-to-close-enum-told
     (events-to-close-returns t)
     (events-to-close-returns-2 t)
     (events-to-close-returns-3 t)

@@ -3,22 +3,15 @@ use borrow.Author.Needs.{needs}
 use Rattle.read_events.proofs.all_attributes.Statement.{statement}
 use Rattle.read_events.proofs.all_attributes.Tie as tie
 
-either-requires : tie.Need-either-requires
-either-requires c κs = search needs
-
-either-requires-2 : tie.Need-either-requires-2
-either-requires-2 c κs = search needs
-
-either-requires-3 : tie.Need-either-requires-3
-either-requires-3 c κs = search needs
-
-either-requires-4 : tie.Need-either-requires-4
-either-requires-4 c κs = search needs
-
 returns : tie.Need-returns
 returns c = rw (c .before .before .before .either .ensures, c .before .before .either2 .ensures, c .before .either3 .ensures, c .either4 .ensures)
 
 pub all-attributes-spec : {M : Type 1} → statement M
 all-attributes-spec =
     tie.close
-    (tie.spec either-requires either-requires-2 either-requires-3 either-requires-4 returns)
+    (tie.spec
+    (λ c κs. search needs)  -- either-requires
+    (λ c κs. search needs)  -- either-requires-2
+    (λ c κs. search needs)  -- either-requires-3
+    (λ c κs. search needs)  -- either-requires-4
+    returns)

@@ -3,11 +3,12 @@ use borrow.Author.Needs.{needs}
 use Rattle.read_events.proofs.bare_new.Statement.{statement}
 use Rattle.read_events.proofs.bare_new.Tie as tie
 
-no-events-requires : tie.Need-no-events-requires
-no-events-requires c κs = search needs
-
 returns : tie.Need-returns
 returns c = rw (c .no-events .ensures)
 
 pub bare-new-spec : {M : Type 1} → statement M
-bare-new-spec = tie.close (tie.spec no-events-requires returns)
+bare-new-spec =
+    tie.close
+    (tie.spec
+    (λ c κs. search needs)  -- no-events-requires
+    returns)

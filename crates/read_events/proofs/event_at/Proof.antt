@@ -8,30 +8,6 @@ use Rattle.read_events.specs.declared.Events.{Events}
 use Rattle.read_events.specs.declared.EventsRead.the-variants.{Is}
 use Rattle.read_events.proofs.Gathering.{event-plain, event-none, event-by, within-behind}
 
-run-at-requires : tie.Need-run-at-requires
-run-at-requires c κs = search needs
-
-enum-known-end : tie.Need-enum-known-end
-enum-known-end c = search needs
-
-named-by-requires : tie.Need-named-by-requires
-named-by-requires c κs = search needs
-
-enum-told : tie.Need-enum-told
-enum-told c = search needs
-
-new-at-requires : tie.Need-new-at-requires
-new-at-requires c κs = search needs
-
-enum-known-k : tie.Need-enum-known-k
-enum-known-k c = search needs
-
-plain-event-requires : tie.Need-plain-event-requires
-plain-event-requires c κs = search needs
-
-enum-told-2 : tie.Need-enum-told-2
-enum-told-2 c = search needs
-
 returns : tie.Need-returns
 returns c = let w = rw (c .before .before .before .before .before .end .given .1) at (c .before .before .before .before .before .before .before .run-at .ensures .within) in record { exact = c .new-at .ensures .exact ∙ event-by (c .before .before .before .before .before .before .before .before .before .args .text .now) (c .before .before .before .before .before .before .before .before .before .args .at) (sym (c .before .before .before .before .before .end .given .1) ∙ c .before .before .before .before .before .before .before .run-at .ensures .exact) (c .before .enum-told .given .1) (c .before .before .before .named-by .ensures); within = within-behind (c .before .before .before .before .before .before .before .before .before .args .text .now) (c .before .before .before .before .before .before .before .before .before .args .at) (c .before .before .before .before .before .end .given .0 .0) (c .new-at .result) (omega arith) (omega arith) (c .new-at .ensures .within) }
 
@@ -45,14 +21,14 @@ pub event-at-spec : {M : Type 1} → statement M
 event-at-spec =
     tie.close
     (tie.spec
-    run-at-requires
-    enum-known-end
-    named-by-requires
-    enum-told
-    new-at-requires
-    enum-known-k
-    plain-event-requires
-    enum-told-2
+    (λ c κs. search needs)  -- run-at-requires
+    (λ c. search needs)  -- enum-known-end
+    (λ c κs. search needs)  -- named-by-requires
+    (λ c. search needs)  -- enum-told
+    (λ c κs. search needs)  -- new-at-requires
+    (λ c. search needs)  -- enum-known-k
+    (λ c κs. search needs)  -- plain-event-requires
+    (λ c. search needs)  -- enum-told-2
     returns
     returns-2
     returns-3)

@@ -3,20 +3,15 @@ use borrow.Author.Needs.{needs}
 use Rattle.read_events.proofs.joined.Statement.{statement}
 use Rattle.read_events.proofs.joined.Tie as tie
 
-enum-known-r : tie.Need-enum-known-r
-enum-known-r c = search needs
-
-merged-requires : tie.Need-merged-requires
-merged-requires c κs = search needs
-
-enum-told : tie.Need-enum-told
-enum-told c = search needs
-
 returns : tie.Need-returns
 returns c = rw (c .merged .ensures, c .before .before .r .given .1)
 
-returns-2 : tie.Need-returns-2
-returns-2 c = search needs
-
 pub joined-spec : {M : Type 1} → statement M
-joined-spec = tie.close (tie.spec enum-known-r merged-requires enum-told returns returns-2)
+joined-spec =
+    tie.close
+    (tie.spec
+    (λ c. search needs)  -- enum-known-r
+    (λ c κs. search needs)  -- merged-requires
+    (λ c. search needs)  -- enum-told
+    returns
+    (λ c. search needs))  -- returns-2

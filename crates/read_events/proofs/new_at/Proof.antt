@@ -11,32 +11,14 @@ use Rattle.read_events.specs.declared.EventsRead.the-variants.{Is}
 use Rattle.octets.specs.Rows.{in-text}
 use Rattle.read_events.proofs.Gathering.{new-blank, new-shut, new-list, onward-list}
 
-octet-at-requires : tie.Need-octet-at-requires
-octet-at-requires c κs = search needs
-
-bare-new-requires : tie.Need-bare-new-requires
-bare-new-requires c κs = search needs
-
 returns : tie.Need-returns
 returns c = record { exact = ap (λ (e : Events). Is e (c .before .before .before .before .args .at)) (c .bare-new .ensures) ∙ new-blank (c .before .before .before .before .args .text .now) (c .before .before .before .before .args .at) (λ e. c .before .if1 .taken (c .before .before .octet-at .ensures ∙ e)); within = (omega arith, omega arith) }
 
 add-next : tie.Need-add-next
 add-next c = let i = in-text (c .before .before .before .args .text .now) (c .before .before .before .args .at) (sym (c .before .octet-at .ensures) ∙ c .if1 .left) (omega arith) in omega arith
 
-octet-at-requires-2 : tie.Need-octet-at-requires-2
-octet-at-requires-2 c κs = search needs
-
-bare-new-requires-2 : tie.Need-bare-new-requires-2
-bare-new-requires-2 c κs = search needs
-
 returns-2 : tie.Need-returns-2
 returns-2 c = record { exact = ap (λ (e : Events). Is e (c .before .before .before .before .before .before .args .at)) (c .bare-new2 .ensures) ∙ new-shut (c .before .before .before .before .before .before .args .text .now) (c .before .before .before .before .before .before .args .at) (sym (c .before .before .before .before .octet-at .ensures) ∙ c .before .before .before .if1 .left) (λ e. c .before .if2 .taken (c .before .before .octet-at2 .ensures ∙ e)); within = (omega arith, omega arith) }
-
-attributes-at-requires : tie.Need-attributes-at-requires
-attributes-at-requires c κs = search needs
-
-new-with-requires : tie.Need-new-with-requires
-new-with-requires c κs = search needs
 
 returns-3 : tie.Need-returns-3
 returns-3 c = record { exact = c .new-with .ensures ∙ ap withAttributes (c .before .attributes-at .ensures .exact) ∙ new-list (c .before .before .before .before .before .before .before .args .text .now) (c .before .before .before .before .before .before .before .args .at) (sym (c .before .before .before .before .before .octet-at .ensures) ∙ c .before .before .before .before .if1 .left) (sym (c .before .before .before .octet-at2 .ensures) ∙ c .before .before .if2 .left); within = rw (c .new-with .ensures) (onward-list (c .before .before .before .before .before .before .before .args .text .now) (c .before .before .before .before .before .before .before .args .at) ((c .before .before .before .before .before .before .before .args .at) + 1) (c .before .attributes-at .result) (omega arith) (c .before .attributes-at .ensures .within)) }
@@ -45,13 +27,13 @@ pub new-at-spec : {M : Type 1} → statement M
 new-at-spec =
     tie.close
     (tie.spec
-    octet-at-requires
-    bare-new-requires
+    (λ c κs. search needs)  -- octet-at-requires
+    (λ c κs. search needs)  -- bare-new-requires
     returns
     add-next
-    octet-at-requires-2
-    bare-new-requires-2
+    (λ c κs. search needs)  -- octet-at-requires-2
+    (λ c κs. search needs)  -- bare-new-requires-2
     returns-2
-    attributes-at-requires
-    new-with-requires
+    (λ c κs. search needs)  -- attributes-at-requires
+    (λ c κs. search needs)  -- new-with-requires
     returns-3)

@@ -3,27 +3,6 @@ use borrow.Author.Needs.{needs}
 use Rattle.read_events.proofs.plain_event.Statement.{statement}
 use Rattle.read_events.proofs.plain_event.Tie as tie
 
-no-events-requires : tie.Need-no-events-requires
-no-events-requires c κs = search needs
-
-enum-told : tie.Need-enum-told
-enum-told c = search needs
-
-enum-told-2 : tie.Need-enum-told-2
-enum-told-2 c = search needs
-
-enum-told-3 : tie.Need-enum-told-3
-enum-told-3 c = search needs
-
-enum-told-4 : tie.Need-enum-told-4
-enum-told-4 c = search needs
-
-enum-told-5 : tie.Need-enum-told-5
-enum-told-5 c = search needs
-
-enum-told-6 : tie.Need-enum-told-6
-enum-told-6 c = search needs
-
 returns : tie.Need-returns
 returns c = rw (c .before .before .no-events .ensures, c .enum-told .given .1)
 
@@ -46,13 +25,13 @@ pub plain-event-spec : {M : Type 1} → statement M
 plain-event-spec =
     tie.close
     (tie.spec
-    no-events-requires
-    enum-told
-    enum-told-2
-    enum-told-3
-    enum-told-4
-    enum-told-5
-    enum-told-6
+    (λ c κs. search needs)  -- no-events-requires
+    (λ c. search needs)  -- enum-told
+    (λ c. search needs)  -- enum-told-2
+    (λ c. search needs)  -- enum-told-3
+    (λ c. search needs)  -- enum-told-4
+    (λ c. search needs)  -- enum-told-5
+    (λ c. search needs)  -- enum-told-6
     returns
     returns-2
     returns-3

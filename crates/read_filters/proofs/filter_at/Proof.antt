@@ -8,20 +8,8 @@ use Rattle.read_filters.proofs.Scoping.{plain, filter-some, filter-none
 use Rattle.read_filters.proofs.filter_at.Statement.{statement}
 use Rattle.read_filters.proofs.filter_at.Tie as tie
 
-run-at-requires : tie.Need-run-at-requires
-run-at-requires c κs = search needs
-
-enum-known-p : tie.Need-enum-known-p
-enum-known-p c = search needs
-
-word-of-requires : tie.Need-word-of-requires
-word-of-requires c κs = search needs
-
 filter-by-requires : tie.Need-filter-by-requires
 filter-by-requires c κs = let w = rw (c .before .before .p .given .1) at (c .before .before .before .before .run-at .ensures .within) in omega arith
-
-enum-told : tie.Need-enum-told
-enum-told c = search needs
 
 returns : tie.Need-returns
 returns c = let w = rw (c .before .before .before .p .given .1) at (c .before .before .before .before .before .run-at .ensures .within) in record { exact = filter-some (c .before .before .before .before .before .before .before .args .text .now) (c .before .before .before .before .before .before .before .args .at) (sym (c .before .before .before .p .given .1) ∙ c .before .before .before .before .before .run-at .ensures .exact) (c .filter-by .ensures .exact (scopeOf (piece (c .before .before .before .before .before .before .before .args .text .now) (c .before .before .before .before .before .before .before .args .at) (c .before .before .before .p .given .0 .0))) (plain (piece (c .before .before .before .before .before .before .before .args .text .now) (c .before .before .before .before .before .before .before .args .at) (c .before .before .before .p .given .0 .0))) (c .before .word-of .ensures)); within = within-behind (c .before .before .before .before .before .before .before .args .text .now) (c .before .before .before .before .before .before .before .args .at) (c .before .before .before .p .given .0 .0) (c .filter-by .result) (omega arith) (c .filter-by .ensures .within) }
@@ -33,10 +21,10 @@ pub filter-at-spec : {M : Type 1} → statement M
 filter-at-spec =
     tie.close
     (tie.spec
-    run-at-requires
-    enum-known-p
-    word-of-requires
+    (λ c κs. search needs)  -- run-at-requires
+    (λ c. search needs)  -- enum-known-p
+    (λ c κs. search needs)  -- word-of-requires
     filter-by-requires
-    enum-told
+    (λ c. search needs)  -- enum-told
     returns
     returns-2)

@@ -6,18 +6,6 @@ use Rattle.read_filters.proofs.Scoping.{by-alone, by-named, by-unknown}
 use Rattle.read_filters.proofs.filter_by.Statement.{statement}
 use Rattle.read_filters.proofs.filter_by.Tie as tie
 
-enum-known-word : tie.Need-enum-known-word
-enum-known-word c = search needs
-
-enum-known-word-2 : tie.Need-enum-known-word-2
-enum-known-word-2 c = search needs
-
-named-at-requires : tie.Need-named-at-requires
-named-at-requires c κs = search needs
-
-enum-told : tie.Need-enum-told
-enum-told c = search needs
-
 returns : tie.Need-returns
 returns c = record { exact = λ x h e. by-alone (c .before .before .before .before .args .text .now) (c .before .before .before .before .args .at) x h (sym (c .before .word .given .1) ∙ e); within = omega arith }
 
@@ -31,10 +19,10 @@ pub filter-by-spec : {M : Type 1} → statement M
 filter-by-spec =
     tie.close
     (tie.spec
-    enum-known-word
-    enum-known-word-2
-    named-at-requires
-    enum-told
+    (λ c. search needs)  -- enum-known-word
+    (λ c. search needs)  -- enum-known-word-2
+    (λ c κs. search needs)  -- named-at-requires
+    (λ c. search needs)  -- enum-told
     returns
     returns-2
     returns-3)

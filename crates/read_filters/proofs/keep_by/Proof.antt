@@ -7,21 +7,6 @@ use Rattle.read_filters.proofs.Selecting.{keeps-alone, keeps-by, keeps-
 use Rattle.read_filters.proofs.keep_by.Statement.{statement}
 use Rattle.read_filters.proofs.keep_by.Tie as tie
 
-enum-told : tie.Need-enum-told
-enum-told c = search needs
-
-enum-told-2 : tie.Need-enum-told-2
-enum-told-2 c = search needs
-
-keep-named-requires : tie.Need-keep-named-requires
-keep-named-requires c κs = search needs
-
-enum-told-3 : tie.Need-enum-told-3
-enum-told-3 c = search needs
-
-unread-requires : tie.Need-unread-requires
-unread-requires c κs = search needs
-
 returns : tie.Need-returns
 returns c = record { exact = λ x h e. keeps-alone (c .before .before .before .args .text .now) (c .before .before .before .args .at) (c .before .before .before .args .kept) x h (sym (c .enum-told .given .1) ∙ e); within = (omega arith, omega arith, omega arith) }
 
@@ -35,11 +20,11 @@ pub keep-by-spec : {M : Type 1} → statement M
 keep-by-spec =
     tie.close
     (tie.spec
-    enum-told
-    enum-told-2
-    keep-named-requires
-    enum-told-3
-    unread-requires
+    (λ c. search needs)  -- enum-told
+    (λ c. search needs)  -- enum-told-2
+    (λ c κs. search needs)  -- keep-named-requires
+    (λ c. search needs)  -- enum-told-3
+    (λ c κs. search needs)  -- unread-requires
     returns
     returns-2
     returns-3)

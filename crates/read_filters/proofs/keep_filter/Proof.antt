@@ -11,23 +11,8 @@ use Rattle.read_filters.proofs.Selecting.{keeps-some, keeps-none}
 use Rattle.read_filters.proofs.keep_filter.Statement.{statement}
 use Rattle.read_filters.proofs.keep_filter.Tie as tie
 
-run-at-requires : tie.Need-run-at-requires
-run-at-requires c κs = search needs
-
-enum-known-p : tie.Need-enum-known-p
-enum-known-p c = search needs
-
-enum-told : tie.Need-enum-told
-enum-told c = search needs
-
-unread-requires : tie.Need-unread-requires
-unread-requires c κs = search needs
-
 returns : tie.Need-returns
 returns c = record { exact = c .unread .ensures ∙ keeps-none (c .before .before .before .before .before .args .text .now) (c .before .before .before .before .before .args .at) (c .before .before .before .before .before .args .kept) (sym (c .before .enum-told .given .1) ∙ c .before .before .before .run-at .ensures .exact); within = rw (c .unread .ensures) tt }
-
-word-of-requires : tie.Need-word-of-requires
-word-of-requires c κs = search needs
 
 keep-by-requires : tie.Need-keep-by-requires
 keep-by-requires c κs = let w = rw (c .before .before .p .given .1) at (c .before .before .before .before .run-at .ensures .within) in (omega arith, omega arith)
@@ -39,11 +24,11 @@ pub keep-filter-spec : {M : Type 1} → statement M
 keep-filter-spec =
     tie.close
     (tie.spec
-    run-at-requires
-    enum-known-p
-    enum-told
-    unread-requires
+    (λ c κs. search needs)  -- run-at-requires
+    (λ c. search needs)  -- enum-known-p
+    (λ c. search needs)  -- enum-told
+    (λ c κs. search needs)  -- unread-requires
     returns
-    word-of-requires
+    (λ c κs. search needs)  -- word-of-requires
     keep-by-requires
     returns-2)

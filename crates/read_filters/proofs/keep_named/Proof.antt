@@ -9,20 +9,11 @@ use Rattle.read_filters.proofs.keep_named.Statement.{statement}
 use Rattle.read_filters.proofs.keep_named.Tie as tie
 use Rattle.octets.specs.Rows.{in-text}
 
-octet-at-requires : tie.Need-octet-at-requires
-octet-at-requires c κs = search needs
-
-unread-requires : tie.Need-unread-requires
-unread-requires c κs = search needs
-
 returns : tie.Need-returns
 returns c = record { exact = λ o f b. c .unread .ensures ∙ keeps-unspaced (c .before .before .before .before .args .text .now) (c .before .before .before .before .args .at) (c .before .before .before .before .args .kept) o f b (λ e. c .before .if1 .taken (c .before .before .octet-at .ensures ∙ e)); within = rw (c .unread .ensures) tt }
 
 add-keep-names : tie.Need-add-keep-names
 add-keep-names c = let i = in-text (c .before .before .before .args .text .now) (c .before .before .before .args .at) (sym (c .before .octet-at .ensures) ∙ c .if1 .left) (omega arith) in omega arith
-
-keep-names-requires : tie.Need-keep-names-requires
-keep-names-requires c κs = search needs
 
 returns-2 : tie.Need-returns-2
 returns-2 c = record { exact = λ o f b. c .keep-names .ensures .exact ∙ keeps-named (c .before .before .before .before .args .text .now) (c .before .before .before .before .args .at) (c .before .before .before .before .args .kept) o f b (sym (c .before .before .octet-at .ensures) ∙ c .before .if1 .left); within = fits-named (c .keep-names .result .ok) (c .before .before .before .before .args .text .now) (c .before .before .before .before .args .at) (c .keep-names .result) (c .keep-names .ensures .within) }
@@ -31,9 +22,9 @@ pub keep-named-spec : {M : Type 1} → statement M
 keep-named-spec =
     tie.close
     (tie.spec
-    octet-at-requires
-    unread-requires
+    (λ c κs. search needs)  -- octet-at-requires
+    (λ c κs. search needs)  -- unread-requires
     returns
     add-keep-names
-    keep-names-requires
+    (λ c κs. search needs)  -- keep-names-requires
     returns-2)

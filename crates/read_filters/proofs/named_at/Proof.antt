@@ -8,23 +8,11 @@ use Rattle.read_filters.proofs.named_at.Statement.{statement}
 use Rattle.read_filters.proofs.named_at.Tie as tie
 use Rattle.octets.specs.Rows.{in-text}
 
-octet-at-requires : tie.Need-octet-at-requires
-octet-at-requires c κs = search needs
-
 returns : tie.Need-returns
 returns c = record { exact = λ f b. named-unspaced (c .before .before .before .args .text .now) (c .before .before .before .args .at) (c .before .before .before .args .scope) f b (λ e. c .if1 .taken (c .before .octet-at .ensures ∙ e)); within = tt }
 
 add-names-at : tie.Need-add-names-at
 add-names-at c = let i = in-text (c .before .before .before .args .text .now) (c .before .before .before .args .at) (sym (c .before .octet-at .ensures) ∙ c .if1 .left) (omega arith) in omega arith
-
-names-at-requires : tie.Need-names-at-requires
-names-at-requires c κs = search needs
-
-enum-known-count : tie.Need-enum-known-count
-enum-known-count c = search needs
-
-enum-told : tie.Need-enum-told
-enum-told c = search needs
 
 returns-2 : tie.Need-returns-2
 returns-2 c = let w = rw (c .before .count .given .1) at (c .before .before .before .names-at .ensures .within) in record { exact = λ f b. named-is (c .before .before .before .before .before .before .before .args .text .now) (c .before .before .before .before .before .before .before .args .at) (c .before .before .before .before .before .before .before .args .scope) f b (sym (c .before .before .before .before .before .octet-at .ensures) ∙ c .before .before .before .before .if1 .left) (sym (c .before .count .given .1) ∙ c .before .before .before .names-at .ensures .exact) (omega arith); within = omega arith }
@@ -36,11 +24,11 @@ pub named-at-spec : {M : Type 1} → statement M
 named-at-spec =
     tie.close
     (tie.spec
-    octet-at-requires
+    (λ c κs. search needs)  -- octet-at-requires
     returns
     add-names-at
-    names-at-requires
-    enum-known-count
-    enum-told
+    (λ c κs. search needs)  -- names-at-requires
+    (λ c. search needs)  -- enum-known-count
+    (λ c. search needs)  -- enum-told
     returns-2
     returns-3)

@@ -35,38 +35,20 @@ row-at-below t = and 1 row-at-kinds.ps (falls 1 row-at-kinds.ps _<_ μ-row-at t)
 abbrev row-at-calls : ℕ → row-at-lts.Claims
 row-at-calls t = (option-at-reads.Asked, option-at-reads.Learnt, octet-at-reads.Asked, octet-at-reads.Learnt, row-at-below t, row-at.Post, put-reads.Asked, put-reads.Learnt, with-reads.Asked, with-reads.Learnt)
 
-row-at-option-at-requires : (t : ℕ) → row-at-lts.Need-option-at-requires (row-at-calls t) (row-at-at t) row-at.Post
-row-at-option-at-requires t c κs = search needs
-
-row-at-enum-known-o : (t : ℕ) → row-at-lts.Need-enum-known-o (row-at-calls t) (row-at-at t) row-at.Post
-row-at-enum-known-o t c = search needs
-
-row-at-octet-at-requires : (t : ℕ) → row-at-lts.Need-octet-at-requires (row-at-calls t) (row-at-at t) row-at.Post
-row-at-octet-at-requires t c κs = search needs
-
 row-at-add-row-at : (t : ℕ) → row-at-lts.Need-add-row-at (row-at-calls t) (row-at-at t) row-at.Post
 row-at-add-row-at t c = let w = rw (c .before .before .before .o .given .1) at (c .before .before .before .before .before .option-at .ensures .within) in omega arith
 
 row-at-row-at-requires : (t : ℕ) → row-at-lts.Need-row-at-requires (row-at-calls t) (row-at-at t) row-at.Post
 row-at-row-at-requires t c κs = let w = rw (c .before .before .before .o .given .1) at (c .before .before .before .before .before .option-at .ensures .within) in omega arith
 
-row-at-put-requires : (t : ℕ) → row-at-lts.Need-put-requires (row-at-calls t) (row-at-at t) row-at.Post
-row-at-put-requires t c κs = search needs
-
 row-at-returns : (t : ℕ) → row-at-lts.Need-returns (row-at-calls t) (row-at-at t) row-at.Post
 row-at-returns t c = let w = rw (c .before .before .before .before .before .o .given .1) at (c .before .before .before .before .before .before .before .option-at .ensures .within) in record { exact = λ n h. c .put .ensures ∙ ap (putOption (c .before .before .before .before .before .o .given .0 .0)) (c .before .row-at .ensures .exact (n - 1) (omega arith)) ∙ row-more (returnAt (c .before .before .before .before .before .before .before .before .before .args .text .now)) (nextAt closing (c .before .before .before .before .before .before .before .before .before .args .text .now)) (c .before .before .before .before .before .before .before .before .before .args .at) n (omega arith) (sym (c .before .before .before .before .before .o .given .1) ∙ c .before .before .before .before .before .before .before .option-at .ensures .exact) (next-space (c .before .before .before .before .before .before .before .before .before .args .text .now) (c .before .before .before .before .before .o .given .0 .1 .0) (sym (c .before .before .before .octet-at .ensures) ∙ c .before .before .if1 .taken)); within = rw (c .put .ensures) (put-within (c .before .before .before .before .before .before .before .before .before .args .text .now) (c .before .before .before .before .before .before .before .before .before .args .at) (c .before .before .before .before .before .o .given .0 .1 .0 + 1) (c .before .before .before .before .before .o .given .0 .0) (c .before .row-at .result) (omega arith) (c .before .row-at .ensures .within)) }
-
-row-at-with-requires : (t : ℕ) → row-at-lts.Need-with-requires (row-at-calls t) (row-at-at t) row-at.Post
-row-at-with-requires t c κs = search needs
 
 row-at-add-t13 : (t : ℕ) → row-at-lts.Need-add-t13 (row-at-calls t) (row-at-at t) row-at.Post
 row-at-add-t13 t c = let w = rw (c .before .before .before .before .before .o .given .1) at (c .before .before .before .before .before .before .before .option-at .ensures .within) in omega arith
 
 row-at-returns-2 : (t : ℕ) → row-at-lts.Need-returns-2 (row-at-calls t) (row-at-at t) row-at.Post
 row-at-returns-2 t c = let w = rw (c .before .before .before .before .before .o .given .1) at (c .before .before .before .before .before .before .before .option-at .ensures .within) in let i = in-text (c .before .before .before .before .before .before .before .before .before .args .text .now) (c .before .before .before .before .before .o .given .0 .1 .0) (sym (c .before .before .before .octet-at .ensures) ∙ c .before .if2 .taken) (omega arith) in record { exact = λ n h. ap (λ (r : Row). Is r (c .before .before .before .before .before .o .given .0 .1 .0 + 1)) (c .with .ensures) ∙ row-last (returnAt (c .before .before .before .before .before .before .before .before .before .args .text .now)) (nextAt closing (c .before .before .before .before .before .before .before .before .before .args .text .now)) (c .before .before .before .before .before .before .before .before .before .args .at) n (omega arith) (sym (c .before .before .before .before .before .o .given .1) ∙ c .before .before .before .before .before .before .before .option-at .ensures .exact) (next-close (c .before .before .before .before .before .before .before .before .before .args .text .now) (c .before .before .before .before .before .o .given .0 .1 .0) (sym (c .before .before .before .octet-at .ensures) ∙ c .before .if2 .taken)); within = (omega arith, omega arith) }
-
-row-at-enum-told : (t : ℕ) → row-at-lts.Need-enum-told (row-at-calls t) (row-at-at t) row-at.Post
-row-at-enum-told t c = search needs
 
 row-at-returns-3 : (t : ℕ) → row-at-lts.Need-returns-3 (row-at-calls t) (row-at-at t) row-at.Post
 row-at-returns-3 t c = record { exact = λ n h. row-neither (returnAt (c .before .before .before .before .before .before .before .before .args .text .now)) (nextAt closing (c .before .before .before .before .before .before .before .before .args .text .now)) (c .before .before .before .before .before .before .before .before .args .at) n (omega arith) (sym (c .before .before .before .before .o .given .1) ∙ c .before .before .before .before .before .before .option-at .ensures .exact) (next-neither (c .before .before .before .before .before .before .before .before .args .text .now) (c .before .before .before .before .o .given .0 .1 .0) (λ e. c .before .if1 .left (c .before .before .octet-at .ensures ∙ e)) (λ e. c .if2 .left (c .before .before .octet-at .ensures ∙ e))); within = tt }
@@ -78,16 +60,16 @@ pub +row-at-spec : {M : Type 1} → statement M
 +row-at-spec = close μ-row-at λ t. row-at-lts.spec (row-at-calls t)
     (row-at-at t)
     row-at.Post
-    (row-at-option-at-requires t)
-    (row-at-enum-known-o t)
-    (row-at-octet-at-requires t)
+    (λ c κs. search needs)  -- row-at-option-at-requires
+    (λ c. search needs)  -- row-at-enum-known-o
+    (λ c κs. search needs)  -- row-at-octet-at-requires
     (row-at-add-row-at t)
     (row-at-row-at-requires t)
-    (row-at-put-requires t)
+    (λ c κs. search needs)  -- row-at-put-requires
     (row-at-returns t)
-    (row-at-with-requires t)
+    (λ c κs. search needs)  -- row-at-with-requires
     (row-at-add-t13 t)
     (row-at-returns-2 t)
-    (row-at-enum-told t)
+    (λ c. search needs)  -- row-at-enum-told
     (row-at-returns-3 t)
     (row-at-returns-4 t)

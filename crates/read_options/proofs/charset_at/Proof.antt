@@ -5,18 +5,6 @@ use borrow.Author.Needs.{needs}
 use Rattle.read_options.proofs.charset_at.Statement.{statement}
 use Rattle.read_options.proofs.charset_at.Tie as tie
 
-text-at-requires : tie.Need-text-at-requires
-text-at-requires c κs = search needs
-
-enum-known-end : tie.Need-enum-known-end
-enum-known-end c = search needs
-
-is-known-requires : tie.Need-is-known-requires
-is-known-requires c κs = search needs
-
-enum-told : tie.Need-enum-told
-enum-told c = search needs
-
 returns : tie.Need-returns
 returns c = record { exact = charset-found (c .before .before .before .before .before .before .args .text .now) (c .before .before .before .before .before .before .args .at) (sym (c .before .before .end .given .1) ∙ c .before .before .before .before .text-at .ensures .exact) (c .is-known .ensures); within = rw (c .before .before .end .given .1) at (c .before .before .before .before .text-at .ensures .within) }
 
@@ -26,4 +14,10 @@ returns-2 c = record { exact = charset-missing (c .before .before .before .befor
 pub charset-at-spec : {M : Type 1} → statement M
 charset-at-spec =
     tie.close
-    (tie.spec text-at-requires enum-known-end is-known-requires enum-told returns returns-2)
+    (tie.spec
+    (λ c κs. search needs)  -- text-at-requires
+    (λ c. search needs)  -- enum-known-end
+    (λ c κs. search needs)  -- is-known-requires
+    (λ c. search needs)  -- enum-told
+    returns
+    returns-2)

@@ -9,20 +9,8 @@ use borrow.Author.Needs.{needs}
 use Rattle.read_options.proofs.is_known.Statement.{statement}
 use Rattle.read_options.proofs.is_known.Tie as tie
 
-slice-aggregate-value-of : tie.Need-slice-aggregate-value-of
-slice-aggregate-value-of c = search needs
-
-value-of-requires : tie.Need-value-of-requires
-value-of-requires c κs = search needs
-
 returns : tie.Need-returns
 returns c = let e = c .before .before .value-of .ensures .long in name-long (valueOf (textAt atomOctet (c .before .before .before .before .before .args .text .now) (c .before .before .before .before .before .args .at))) (omega arith)
-
-slice-aggregate-known-name : tie.Need-slice-aggregate-known-name
-slice-aggregate-known-name c = search needs
-
-known-name-requires : tie.Need-known-name-requires
-known-name-requires c κs = search needs
 
 returns-2 : tie.Need-returns-2
 returns-2 c = name-known (valueOf (textAt atomOctet (c .before .before .before .before .before .before .before .args .text .now) (c .before .before .before .before .before .before .before .args .at))) (replicate 8 0) (c .before .before .before .before .value-of .result) (c .known-name .ensures) (c .before .before .before .before .value-of .ensures .is) (c .before .before .before .before .value-of .ensures .long) (omega arith)
@@ -31,9 +19,9 @@ pub is-known-spec : {M : Type 1} → statement M
 is-known-spec =
     tie.close
     (tie.spec
-    slice-aggregate-value-of
-    value-of-requires
+    (λ c. search needs)  -- slice-aggregate-value-of
+    (λ c κs. search needs)  -- value-of-requires
     returns
-    slice-aggregate-known-name
-    known-name-requires
+    (λ c. search needs)  -- slice-aggregate-known-name
+    (λ c κs. search needs)  -- known-name-requires
     returns-2)

@@ -6,20 +6,8 @@ use borrow.Author.Needs.{needs}
 use Rattle.read_options.proofs.known_name.Statement.{statement}
 use Rattle.read_options.proofs.known_name.Tie as tie
 
-slice-aggregate-is-word : tie.Need-slice-aggregate-is-word
-slice-aggregate-is-word c = search needs
-
-is-word-requires : tie.Need-is-word-requires
-is-word-requires c κs = search needs
-
 returns : tie.Need-returns
 returns c = name-first (piece (c .before .before .before .before .args .name .now) 0 (c .before .before .before .before .args .n)) (sym (c .before .is-word .ensures) ∙ c .if1 .taken)
-
-slice-aggregate-is-word-2 : tie.Need-slice-aggregate-is-word-2
-slice-aggregate-is-word-2 c = search needs
-
-is-word-requires-2 : tie.Need-is-word-requires-2
-is-word-requires-2 c κs = search needs
 
 returns-2 : tie.Need-returns-2
 returns-2 c = c .is-word2 .ensures ∙ name-second (piece (c .before .before .before .before .before .before .args .name .now) 0 (c .before .before .before .before .before .before .args .n)) (sym (c .before .before .before .is-word .ensures) ∙ c .before .before .if1 .left)
@@ -28,9 +16,9 @@ pub known-name-spec : {M : Type 1} → statement M
 known-name-spec =
     tie.close
     (tie.spec
-    slice-aggregate-is-word
-    is-word-requires
+    (λ c. search needs)  -- slice-aggregate-is-word
+    (λ c κs. search needs)  -- is-word-requires
     returns
-    slice-aggregate-is-word-2
-    is-word-requires-2
+    (λ c. search needs)  -- slice-aggregate-is-word-2
+    (λ c κs. search needs)  -- is-word-requires-2
     returns-2)

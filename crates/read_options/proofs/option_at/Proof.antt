@@ -6,18 +6,6 @@ use borrow.Author.Needs.{needs}
 use Rattle.read_options.proofs.option_at.Statement.{statement}
 use Rattle.read_options.proofs.option_at.Tie as tie
 
-run-at-requires : tie.Need-run-at-requires
-run-at-requires c κs = search needs
-
-enum-known-end : tie.Need-enum-known-end
-enum-known-end c = search needs
-
-option-of-requires : tie.Need-option-of-requires
-option-of-requires c κs = search needs
-
-enum-told : tie.Need-enum-told
-enum-told c = search needs
-
 returns : tie.Need-returns
 returns c = let w = rw (c .before .before .end .given .1) at (c .before .before .before .before .run-at .ensures .within) in record { exact = c .option-of .ensures ∙ option-found (c .before .before .before .before .before .before .args .text .now) (c .before .before .before .before .before .before .args .at) (c .before .before .end .given .0 .0) (sym (c .before .before .end .given .1) ∙ c .before .before .before .before .run-at .ensures .exact); within = option-within (c .before .before .before .before .before .before .args .text .now) (c .before .before .before .before .before .before .args .at) (piece (c .before .before .before .before .before .before .args .text .now) (c .before .before .before .before .before .before .args .at) (c .before .before .end .given .0 .0)) (c .before .before .end .given .0 .0) (c .option-of .ensures) (w .0) (w .1) }
 
@@ -27,4 +15,10 @@ returns-2 c = record { exact = option-missing (c .before .before .before .before
 pub option-at-spec : {M : Type 1} → statement M
 option-at-spec =
     tie.close
-    (tie.spec run-at-requires enum-known-end option-of-requires enum-told returns returns-2)
+    (tie.spec
+    (λ c κs. search needs)  -- run-at-requires
+    (λ c. search needs)  -- enum-known-end
+    (λ c κs. search needs)  -- option-of-requires
+    (λ c. search needs)  -- enum-told
+    returns
+    returns-2)

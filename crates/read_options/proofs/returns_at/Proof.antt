@@ -10,17 +10,11 @@ use borrow.Author.Needs.{needs}
 use Rattle.read_options.proofs.returns_at.Statement.{statement}
 use Rattle.read_options.proofs.returns_at.Tie as tie
 
-octet-at-requires : tie.Need-octet-at-requires
-octet-at-requires c κs = search needs
-
 returns : tie.Need-returns
 returns c = record { exact = returns-closed (c .before .before .before .args .text .now) (c .before .before .before .args .at) (λ e. c .if1 .taken (c .before .octet-at .ensures ∙ e)); within = tt }
 
 add-octet-at : tie.Need-add-octet-at
 add-octet-at c = let i = in-text (c .before .before .before .args .text .now) (c .before .before .before .args .at) (sym (c .before .octet-at .ensures) ∙ c .if1 .left) (omega arith) in omega arith
-
-octet-at-requires-2 : tie.Need-octet-at-requires-2
-octet-at-requires-2 c κs = search needs
 
 add-t7 : tie.Need-add-t7
 add-t7 c = let i = in-text (c .before .before .before .before .before .args .text .now) (c .before .before .before .before .before .args .at + 1) (sym (c .before .octet-at2 .ensures) ∙ c .if2 .taken) (omega arith) in omega arith
@@ -31,12 +25,6 @@ returns-2 c = let i = in-text (c .before .before .before .before .before .args .
 add-row-at : tie.Need-add-row-at
 add-row-at c = let i = in-text (c .before .before .before .before .before .args .text .now) (c .before .before .before .before .before .args .at) (sym (c .before .before .before .octet-at .ensures) ∙ c .before .before .if1 .left) (omega arith) in omega arith
 
-row-at-requires : tie.Need-row-at-requires
-row-at-requires c κs = search needs
-
-judged-requires : tie.Need-judged-requires
-judged-requires c κs = search needs
-
 returns-3 : tie.Need-returns-3
 returns-3 c = let i = in-text (c .before .before .before .before .before .before .before .args .text .now) (c .before .before .before .before .before .before .before .args .at) (sym (c .before .before .before .before .before .octet-at .ensures) ∙ c .before .before .before .before .if1 .left) (omega arith) in record { exact = c .judged .ensures ∙ ap judge (c .before .row-at .ensures .exact (length (c .before .before .before .before .before .before .before .args .text .now)) (omega arith)) ∙ returns-row (c .before .before .before .before .before .before .before .args .text .now) (c .before .before .before .before .before .before .before .args .at) (sym (c .before .before .before .before .before .octet-at .ensures) ∙ c .before .before .before .before .if1 .left) (λ e. c .before .before .if2 .left (c .before .before .before .octet-at2 .ensures ∙ e)); within = rw (c .judged .ensures) (judge-within (c .before .before .before .before .before .before .before .args .text .now) (c .before .before .before .before .before .before .before .args .at) (c .before .before .before .before .before .before .before .args .at + 1) (c .before .row-at .result) (omega arith) (c .before .row-at .ensures .within)) }
 
@@ -44,13 +32,13 @@ pub returns-at-spec : {M : Type 1} → statement M
 returns-at-spec =
     tie.close
     (tie.spec
-    octet-at-requires
+    (λ c κs. search needs)  -- octet-at-requires
     returns
     add-octet-at
-    octet-at-requires-2
+    (λ c κs. search needs)  -- octet-at-requires-2
     add-t7
     returns-2
     add-row-at
-    row-at-requires
-    judged-requires
+    (λ c κs. search needs)  -- row-at-requires
+    (λ c κs. search needs)  -- judged-requires
     returns-3)

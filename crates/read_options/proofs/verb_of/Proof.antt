@@ -6,20 +6,8 @@ use borrow.Author.Needs.{needs}
 use Rattle.read_options.proofs.verb_of.Statement.{statement}
 use Rattle.read_options.proofs.verb_of.Tie as tie
 
-slice-aggregate-is-word : tie.Need-slice-aggregate-is-word
-slice-aggregate-is-word c = search needs
-
-is-word-requires : tie.Need-is-word-requires
-is-word-requires c κs = search needs
-
 returns : tie.Need-returns
 returns c = verb-notify (piece (c .before .before .before .before .args .text .now) (c .before .before .before .before .args .from) (c .before .before .before .before .args .upto)) (sym (c .before .is-word .ensures) ∙ c .if1 .taken)
-
-slice-aggregate-is-word-2 : tie.Need-slice-aggregate-is-word-2
-slice-aggregate-is-word-2 c = search needs
-
-is-word-requires-2 : tie.Need-is-word-requires-2
-is-word-requires-2 c κs = search needs
 
 returns-2 : tie.Need-returns-2
 returns-2 c = verb-esearch (piece (c .before .before .before .before .before .before .before .args .text .now) (c .before .before .before .before .before .before .before .args .from) (c .before .before .before .before .before .before .before .args .upto)) (sym (c .before .before .before .before .is-word .ensures) ∙ c .before .before .before .if1 .left) (sym (c .before .is-word2 .ensures) ∙ c .if2 .taken)
@@ -31,10 +19,10 @@ pub verb-of-spec : {M : Type 1} → statement M
 verb-of-spec =
     tie.close
     (tie.spec
-    slice-aggregate-is-word
-    is-word-requires
+    (λ c. search needs)  -- slice-aggregate-is-word
+    (λ c κs. search needs)  -- is-word-requires
     returns
-    slice-aggregate-is-word-2
-    is-word-requires-2
+    (λ c. search needs)  -- slice-aggregate-is-word-2
+    (λ c κs. search needs)  -- is-word-requires-2
     returns-2
     returns-3)

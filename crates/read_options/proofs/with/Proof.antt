@@ -3,30 +3,6 @@ use borrow.Author.Needs.{needs}
 use Rattle.read_options.proofs.with.Statement.{statement}
 use Rattle.read_options.proofs.with.Tie as tie
 
-enum-told : tie.Need-enum-told
-enum-told c = search needs
-
-still-requires : tie.Need-still-requires
-still-requires c κs = search needs
-
-enum-told-2 : tie.Need-enum-told-2
-enum-told-2 c = search needs
-
-still-requires-2 : tie.Need-still-requires-2
-still-requires-2 c κs = search needs
-
-enum-told-3 : tie.Need-enum-told-3
-enum-told-3 c = search needs
-
-still-requires-3 : tie.Need-still-requires-3
-still-requires-3 c κs = search needs
-
-enum-told-4 : tie.Need-enum-told-4
-enum-told-4 c = search needs
-
-still-requires-4 : tie.Need-still-requires-4
-still-requires-4 c κs = search needs
-
 returns : tie.Need-returns
 returns c = rw (c .before .enum-told .given .1, c .still .ensures)
 
@@ -43,14 +19,14 @@ pub with-spec : {M : Type 1} → statement M
 with-spec =
     tie.close
     (tie.spec
-    enum-told
-    still-requires
-    enum-told-2
-    still-requires-2
-    enum-told-3
-    still-requires-3
-    enum-told-4
-    still-requires-4
+    (λ c. search needs)  -- enum-told
+    (λ c κs. search needs)  -- still-requires
+    (λ c. search needs)  -- enum-told-2
+    (λ c κs. search needs)  -- still-requires-2
+    (λ c. search needs)  -- enum-told-3
+    (λ c κs. search needs)  -- still-requires-3
+    (λ c. search needs)  -- enum-told-4
+    (λ c κs. search needs)  -- still-requires-4
     returns
     returns-2
     returns-3

@@ -13,33 +13,12 @@ use Rattle.record_command.specs.Verbs.{verb-judged, reply-judged}
 use Rattle.record_command.proofs.answer.Statement.{statement}
 use Rattle.record_command.proofs.answer.Tie as tie
 
-head-requires : tie.Need-head-requires
-head-requires c κs = search needs
-
-enum-known-verb : tie.Need-enum-known-verb
-enum-known-verb c = search needs
-
-answer-by-requires : tie.Need-answer-by-requires
-answer-by-requires c κs = search needs
-
-enum-told : tie.Need-enum-told
-enum-told c = search needs
-
 refuse-requires : tie.Need-refuse-requires
 refuse-requires c κs = let z = sizes _ _ (c .before .before .before .before .before .before .before .args .s) (c .before .before .before .before .before .before .before .pre .0 .room) in (omega arith, omega arith)
-
-same-length : tie.Need-same-length
-same-length c = search needs
-
-same-length-2 : tie.Need-same-length-2
-same-length-2 c = search needs
 
 returns : tie.Need-returns
 returns c =
     λ m lent law laid sel. c .before .before .before .before .answer-by .ensures m lent law laid sel (rw (c .before .before .before .before .before .before .before .before .verb .given .1) at (c .before .before .before .before .before .before .before .before .before .before .head .ensures))
-
-same-length-3 : tie.Need-same-length-3
-same-length-3 c = search needs
 
 returns-2 : tie.Need-returns-2
 returns-2 c =
@@ -52,13 +31,13 @@ pub answer-spec : {M : Type 1} → statement M
 answer-spec =
     tie.close
     (tie.spec
-    head-requires
-    enum-known-verb
-    answer-by-requires
-    enum-told
+    (λ c κs. search needs)  -- head-requires
+    (λ c. search needs)  -- enum-known-verb
+    (λ c κs. search needs)  -- answer-by-requires
+    (λ c. search needs)  -- enum-told
     refuse-requires
-    same-length
-    same-length-2
+    (λ c. search needs)  -- same-length
+    (λ c. search needs)  -- same-length-2
     returns
-    same-length-3
+    (λ c. search needs)  -- same-length-3
     returns-2)

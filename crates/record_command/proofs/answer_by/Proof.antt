@@ -14,48 +14,18 @@ use Rattle.record_command.specs.Verbs.{verb-judged, reply-judged}
 use Rattle.record_command.proofs.answer_by.Statement.{statement}
 use Rattle.record_command.proofs.answer_by.Tie as tie
 
-enum-told : tie.Need-enum-told
-enum-told c = search needs
-
-notify-requires : tie.Need-notify-requires
-notify-requires c κs = search needs
-
-enum-told-2 : tie.Need-enum-told-2
-enum-told-2 c = search needs
-
-search-requires : tie.Need-search-requires
-search-requires c κs = search needs
-
-enum-told-3 : tie.Need-enum-told-3
-enum-told-3 c = search needs
-
 refuse-requires : tie.Need-refuse-requires
 refuse-requires c κs = let z = sizes _ _ (c .before .before .before .before .before .before .args .s) (c .before .before .before .before .before .before .pre .0 .room) in (omega arith, omega arith)
-
-same-length : tie.Need-same-length
-same-length c = search needs
-
-same-length-2 : tie.Need-same-length-2
-same-length-2 c = search needs
 
 returns : tie.Need-returns
 returns c =
     let a = c .before .before .before .before .before .before .before .before .before .before .before .before .args in
     λ m lent law laid sel head. c .before .before .before .before .notify .ensures m lent law laid sel (rw (c .before .before .before .before .before .before .before .enum-told .given .1) at head)
 
-same-length-3 : tie.Need-same-length-3
-same-length-3 c = search needs
-
-same-length-4 : tie.Need-same-length-4
-same-length-4 c = search needs
-
 returns-2 : tie.Need-returns-2
 returns-2 c =
     let a = c .before .before .before .before .before .before .before .before .before .before .args in
     λ m lent law laid sel head. c .before .before .search .ensures m (a .nexts .now) (a .counters .now) lent law laid (rw (c .before .before .before .before .before .enum-told2 .given .1) at head)
-
-same-length-5 : tie.Need-same-length-5
-same-length-5 c = search needs
 
 returns-3 : tie.Need-returns-3
 returns-3 c =
@@ -68,17 +38,17 @@ pub answer-by-spec : {M : Type 1} → statement M
 answer-by-spec =
     tie.close
     (tie.spec
-    enum-told
-    notify-requires
-    enum-told-2
-    search-requires
-    enum-told-3
+    (λ c. search needs)  -- enum-told
+    (λ c κs. search needs)  -- notify-requires
+    (λ c. search needs)  -- enum-told-2
+    (λ c κs. search needs)  -- search-requires
+    (λ c. search needs)  -- enum-told-3
     refuse-requires
-    same-length
-    same-length-2
+    (λ c. search needs)  -- same-length
+    (λ c. search needs)  -- same-length-2
     returns
-    same-length-3
-    same-length-4
+    (λ c. search needs)  -- same-length-3
+    (λ c. search needs)  -- same-length-4
     returns-2
-    same-length-5
+    (λ c. search needs)  -- same-length-5
     returns-3)

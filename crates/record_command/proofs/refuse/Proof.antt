@@ -8,28 +8,10 @@ use Rattle.model.specs.declared.Answer.the-variants.{Done}
 use Rattle.record_outcome.specs.Coming.{quiet}
 use Rattle.record_command.specs.Left.{line-fits, line-not}
 
-say-reply-requires : tie.Need-say-reply-requires
-say-reply-requires c κs = search needs
-
-ending-at-requires : tie.Need-ending-at-requires
-ending-at-requires c κs = search needs
-
-unmoved-requires : tie.Need-unmoved-requires
-unmoved-requires c κs = search needs
-
-same-length : tie.Need-same-length
-same-length c = search needs
-
 returns : tie.Need-returns
 returns c =
     let a = c .before .before .before .before .before .before .before .before .before .args in
     λ m ws lent is says no. line-fits m ws (a .counts) (a .s) (a .queue .now) (a .text .now) lent (a .verb) (a .reply) is says no (c .before .before .before .before .before .say-reply .ensures) (c .before .before .if1 .taken) _ (c .unmoved .ensures ∙ ap (λ (k : Counts). quiet Done k (a .s)) (c .before .ending-at .ensures))
-
-refused-requires : tie.Need-refused-requires
-refused-requires c κs = search needs
-
-same-length-2 : tie.Need-same-length-2
-same-length-2 c = search needs
 
 returns-2 : tie.Need-returns-2
 returns-2 c =
@@ -40,11 +22,11 @@ pub refuse-spec : {M : Type 1} → statement M
 refuse-spec =
     tie.close
     (tie.spec
-    say-reply-requires
-    ending-at-requires
-    unmoved-requires
-    same-length
+    (λ c κs. search needs)  -- say-reply-requires
+    (λ c κs. search needs)  -- ending-at-requires
+    (λ c κs. search needs)  -- unmoved-requires
+    (λ c. search needs)  -- same-length
     returns
-    refused-requires
-    same-length-2
+    (λ c κs. search needs)  -- refused-requires
+    (λ c. search needs)  -- same-length-2
     returns-2)

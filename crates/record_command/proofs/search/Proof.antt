@@ -15,23 +15,8 @@ use Rattle.record_command.specs.Verbs.{verb-judged, reply-judged, accept
 use Rattle.record_command.proofs.search.Statement.{statement}
 use Rattle.record_command.proofs.search.Tie as tie
 
-limits-requires : tie.Need-limits-requires
-limits-requires c κs = search needs
-
-slice-aggregate-judge-search : tie.Need-slice-aggregate-judge-search
-slice-aggregate-judge-search c = search needs
-
-judge-search-requires : tie.Need-judge-search-requires
-judge-search-requires c κs = search needs
-
-is-accepted-requires : tie.Need-is-accepted-requires
-is-accepted-requires c κs = search needs
-
 refuse-requires : tie.Need-refuse-requires
 refuse-requires c κs = let z = sizes _ _ (c .before .before .before .before .before .before .before .before .before .before .before .args .s) (c .before .before .before .before .before .before .before .before .before .before .before .pre .0 .room) in (omega arith, omega arith)
-
-same-length : tie.Need-same-length
-same-length c = search needs
 
 returns : tie.Need-returns
 returns c =
@@ -40,12 +25,6 @@ returns c =
     c .before .before .before .before .before .before .before .judge-search .ensures .exact ∙ (ap (λ (l : Limits). judgedOf l (not (eqb (a .s .selected) 0)) (wholeBy esearch (a .text .now) (a .at))) (c .before .before .before .before .before .before .before .before .before .limits .ensures) ∙ ap (judgedOf limits (not (eqb (a .s .selected) 0))) h) in
     let no = sym (c .before .before .before .before .before .is-accepted .ensures) ∙ not-true _ (c .before .before .before .before .if1 .taken) in
     λ m nexts counters lent law laid head. c .before .before .refuse .ensures m (a .words .now) lent (verb-judged m (a .words .now) (a .counts) (a .s) (a .queue .now) (a .text .now) lent (c .before .before .before .before .before .before .before .judge-search .result) (e head)) (reply-judged m (a .words .now) (a .counts) (a .s) (a .queue .now) (a .text .now) lent (c .before .before .before .before .before .before .before .judge-search .result) (e head) no) no
-
-answer-requires : tie.Need-answer-requires
-answer-requires c κs = search needs
-
-same-length-2 : tie.Need-same-length-2
-same-length-2 c = search needs
 
 returns-2 : tie.Need-returns-2
 returns-2 c =
@@ -60,13 +39,13 @@ pub search-spec : {M : Type 1} → statement M
 search-spec =
     tie.close
     (tie.spec
-    limits-requires
-    slice-aggregate-judge-search
-    judge-search-requires
-    is-accepted-requires
+    (λ c κs. search needs)  -- limits-requires
+    (λ c. search needs)  -- slice-aggregate-judge-search
+    (λ c κs. search needs)  -- judge-search-requires
+    (λ c κs. search needs)  -- is-accepted-requires
     refuse-requires
-    same-length
+    (λ c. search needs)  -- same-length
     returns
-    answer-requires
-    same-length-2
+    (λ c κs. search needs)  -- answer-requires
+    (λ c. search needs)  -- same-length-2
     returns-2)

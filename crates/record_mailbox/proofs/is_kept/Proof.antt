@@ -11,17 +11,11 @@ use lib.Seq.{length-take-le}
 use Rattle.model.specs.Lists.{anyb}
 use Rattle.table_mailboxes.specs.Rows.{holds}
 
-clip-requires : tie.Need-clip-requires
-clip-requires c κs = search needs
-
 array-share-prefix-octets : tie.Need-array-share-prefix-octets
 array-share-prefix-octets c = let long : length (c .before .before .args .name .octets) ≡ 64 = search needs in omega arith
 
 slice-aggregate-is-held : tie.Need-slice-aggregate-is-held
 slice-aggregate-is-held c = let long : length (c .before .before .before .args .name .octets) ≡ 64 = search needs in sym (length-take-le _ _ (omega arith))
-
-is-held-requires : tie.Need-is-held-requires
-is-held-requires c κs = search needs
 
 returns : tie.Need-returns
 returns c = let a = c .before .before .before .before .args in
@@ -32,8 +26,8 @@ pub is-kept-spec : {M : Type 1} → statement M
 is-kept-spec =
     tie.close
     (tie.spec
-    clip-requires
+    (λ c κs. search needs)  -- clip-requires
     array-share-prefix-octets
     slice-aggregate-is-held
-    is-held-requires
+    (λ c κs. search needs)  -- is-held-requires
     returns)

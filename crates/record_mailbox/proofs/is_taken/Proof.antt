@@ -14,12 +14,6 @@ use Rattle.model.specs.declared.LentName.{LentName}
 use Rattle.table_mailboxes.specs.Rows.{holds}
 use Rattle.event_mailbox.specs.Accepted.{valid-argument}
 
-stored-requires : tie.Need-stored-requires
-stored-requires c κs = search needs
-
-is-kept-requires : tie.Need-is-kept-requires
-is-kept-requires c κs = search needs
-
 returns : tie.Need-returns
 returns c = let a = c .before .before .before .args in
     λ l h p d e v. c .is-kept .ensures l h p d e
@@ -28,4 +22,9 @@ returns c = let a = c .before .before .before .args in
     ∙ (take-at (argument (a .name .now)) (replicate (64 - length (argument (a .name .now))) 0) (length (argument (a .name .now))) refl ∙ valid-argument (a .name .now) v))
 
 pub is-taken-spec : {M : Type 1} → statement M
-is-taken-spec = tie.close (tie.spec stored-requires is-kept-requires returns)
+is-taken-spec =
+    tie.close
+    (tie.spec
+    (λ c κs. search needs)  -- stored-requires
+    (λ c κs. search needs)  -- is-kept-requires
+    returns)

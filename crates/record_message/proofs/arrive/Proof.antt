@@ -9,42 +9,21 @@ use Rattle.record_message.specs.Arrivals.{arrive-unknown, arrive-used, a
 use Rattle.record_message.proofs.arrive.Statement.{statement}
 use Rattle.record_message.proofs.arrive.Tie as tie
 
-refused-requires : tie.Need-refused-requires
-refused-requires c κs = search needs
-
 returns : tie.Need-returns
 returns c = let a = c .before .before .before .before .args in
     λ m lent law w. arrive-unknown m (a .words .now) (a .counts) (a .s) (a .queue .now) lent law (a .id) (a .k) (a .x) w (a .uid .0) (a .flags) (a .size) (a .counter) (c .refused .result) (c .before .if1 .taken) (c .refused .ensures)
-
-cast-if2 : tie.Need-cast-if2
-cast-if2 c = search needs
-
-refused-requires-2 : tie.Need-refused-requires-2
-refused-requires-2 c κs = search needs
 
 returns-2 : tie.Need-returns-2
 returns-2 c = let a = c .before .before .before .before .before .before .before .args in
     λ m lent law w. arrive-used m (a .words .now) (a .counts) (a .s) (a .queue .now) lent law (a .id) (a .k) (a .x) w (a .uid .0) (a .flags) (a .size) (a .counter) (c .refused2 .result) (omega (arith, c .before .before .before .before .if1 .left)) (omega (arith, c .before .if2 .taken)) (c .refused2 .ensures)
 
-is-stale-requires : tie.Need-is-stale-requires
-is-stale-requires c κs = search needs
-
-refused-requires-3 : tie.Need-refused-requires-3
-refused-requires-3 c κs = search needs
-
 returns-3 : tie.Need-returns-3
 returns-3 c = let a = c .before .before .before .before .before .before .before .before .before .args in
     λ m lent law w. arrive-stale m (a .words .now) (a .counts) (a .s) (a .queue .now) lent law (a .id) (a .k) (a .x) w (a .uid .0) (a .flags) (a .size) (a .counter) (c .refused3 .result) (omega (arith, c .before .before .before .before .before .before .if1 .left)) (omega (arith, c .before .before .before .if2 .left)) (sym (c .before .before .is-stale .ensures) ∙ c .before .if3 .taken) (c .refused3 .ensures)
 
-refused-requires-4 : tie.Need-refused-requires-4
-refused-requires-4 c κs = search needs
-
 returns-4 : tie.Need-returns-4
 returns-4 c = let a = c .before .before .before .before .before .before .before .before .before .before .args in
     λ m lent law w. arrive-full m (a .words .now) (a .counts) (a .s) (a .queue .now) lent law (a .id) (a .k) (a .x) w (a .uid .0) (a .flags) (a .size) (a .counter) (c .refused4 .result) (omega (arith, c .before .before .before .before .before .before .before .if1 .left)) (omega (arith, c .before .before .before .before .if2 .left)) (sym (c .before .before .before .is-stale .ensures) ∙ c .before .before .if3 .left) (omega (arith, c .before .if4 .taken)) (c .refused4 .ensures)
-
-with-counter-requires : tie.Need-with-counter-requires
-with-counter-requires c κs = search needs
 
 receive-requires : tie.Need-receive-requires
 receive-requires c κs = let a = c .before .before .before .before .before .before .before .before .before .before .before .before .args in
@@ -54,15 +33,6 @@ receive-requires c κs = let a = c .before .before .before .before .before .befo
     let high = z .high in
     let most = z .filled in
     (omega (arith, c .before .before .before .if4 .left), omega (arith, c .before .before .before .if4 .left, pre .1), omega (arith, low), omega (arith, high), omega (arith, high, most), some-free (length (a .queue .now)) (a .counts .filled) (a .s) (pre .0 .room), pre .2)
-
-put-requires : tie.Need-put-requires
-put-requires c κs = search needs
-
-same-length : tie.Need-same-length
-same-length c = search needs
-
-same-length-2 : tie.Need-same-length-2
-same-length-2 c = search needs
 
 returns-5 : tie.Need-returns-5
 returns-5 c = let a = c .before .before .before .before .before .before .before .before .before .before .before .before .before .before .before .before .before .before .before .before .args in
@@ -74,19 +44,19 @@ pub arrive-spec : {M : Type 1} → statement M
 arrive-spec =
     tie.close
     (tie.spec
-    refused-requires
+    (λ c κs. search needs)  -- refused-requires
     returns
-    cast-if2
-    refused-requires-2
+    (λ c. search needs)  -- cast-if2
+    (λ c κs. search needs)  -- refused-requires-2
     returns-2
-    is-stale-requires
-    refused-requires-3
+    (λ c κs. search needs)  -- is-stale-requires
+    (λ c κs. search needs)  -- refused-requires-3
     returns-3
-    refused-requires-4
+    (λ c κs. search needs)  -- refused-requires-4
     returns-4
-    with-counter-requires
+    (λ c κs. search needs)  -- with-counter-requires
     receive-requires
-    put-requires
-    same-length
-    same-length-2
+    (λ c κs. search needs)  -- put-requires
+    (λ c. search needs)  -- same-length
+    (λ c. search needs)  -- same-length-2
     returns-5)

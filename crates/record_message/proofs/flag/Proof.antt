@@ -11,18 +11,9 @@ use Rattle.record_message.specs.Kinds.{no-mailbox, not-above, no-message
 use Rattle.record_message.proofs.flag.Statement.{statement}
 use Rattle.record_message.proofs.flag.Tie as tie
 
-refused-requires : tie.Need-refused-requires
-refused-requires c κs = search needs
-
 returns : tie.Need-returns
 returns c = let a = c .before .before .before .before .args in
     λ m lent law w. no-mailbox m (a .words .now) (a .counts) (a .s) (a .queue .now) lent law (a .id) (a .k) (a .x) w (a .uid .0) (a .counter) (accepted m (reflag (a .id) (a .uid .0) (a .flags) (a .counter))) (c .refused .result) (c .before .if1 .taken) (c .refused .ensures)
-
-is-stale-requires : tie.Need-is-stale-requires
-is-stale-requires c κs = search needs
-
-refused-requires-2 : tie.Need-refused-requires-2
-refused-requires-2 c κs = search needs
 
 returns-2 : tie.Need-returns-2
 returns-2 c = let a = c .before .before .before .before .before .before .args in
@@ -31,18 +22,9 @@ returns-2 c = let a = c .before .before .before .before .before .before .args in
 find-requires : tie.Need-find-requires
 find-requires c κs = c .before .before .before .before .before .before .pre .words
 
-refused-requires-3 : tie.Need-refused-requires-3
-refused-requires-3 c κs = search needs
-
-same-length : tie.Need-same-length
-same-length c = search needs
-
 returns-3 : tie.Need-returns-3
 returns-3 c = let a = c .before .before .before .before .before .before .before .before .before .args in
     λ m lent law w. no-message m (a .words .now) (a .counts) (a .s) (a .queue .now) lent law (a .id) (a .k) (a .x) w (a .uid .0) (a .counter) (c .refused3 .result) (omega (arith, c .before .before .before .before .before .before .if1 .left)) (c .before .before .find .result) (c .before .before .find .ensures) (accepted m (reflag (a .id) (a .uid .0) (a .flags) (a .counter))) (c .before .if3 .taken) (c .refused3 .ensures)
-
-with-counter-requires : tie.Need-with-counter-requires
-with-counter-requires c κs = search needs
 
 flag-requires : tie.Need-flag-requires
 flag-requires c κs = let a = c .before .before .before .before .before .before .before .before .before .before .before .args in
@@ -52,15 +34,6 @@ flag-requires c κs = let a = c .before .before .before .before .before .before 
     let high = z .high in
     let most = z .filled in
     (omega (arith, c .before .before .before .if3 .left), pre .words, omega (arith, low), omega (arith, high), omega (arith, high, most), some-free (length (a .queue .now)) (a .counts .filled) (a .s) (pre .room))
-
-put-left-requires : tie.Need-put-left-requires
-put-left-requires c κs = search needs
-
-same-length-2 : tie.Need-same-length-2
-same-length-2 c = search needs
-
-same-length-3 : tie.Need-same-length-3
-same-length-3 c = search needs
 
 returns-4 : tie.Need-returns-4
 returns-4 c = let a = c .before .before .before .before .before .before .before .before .before .before .before .before .before .before .before .before .before .args in
@@ -72,18 +45,18 @@ pub flag-spec : {M : Type 1} → statement M
 flag-spec =
     tie.close
     (tie.spec
-    refused-requires
+    (λ c κs. search needs)  -- refused-requires
     returns
-    is-stale-requires
-    refused-requires-2
+    (λ c κs. search needs)  -- is-stale-requires
+    (λ c κs. search needs)  -- refused-requires-2
     returns-2
     find-requires
-    refused-requires-3
-    same-length
+    (λ c κs. search needs)  -- refused-requires-3
+    (λ c. search needs)  -- same-length
     returns-3
-    with-counter-requires
+    (λ c κs. search needs)  -- with-counter-requires
     flag-requires
-    put-left-requires
-    same-length-2
-    same-length-3
+    (λ c κs. search needs)  -- put-left-requires
+    (λ c. search needs)  -- same-length-2
+    (λ c. search needs)  -- same-length-3
     returns-4)

@@ -3,11 +3,12 @@ use borrow.Author.Needs.{needs}
 use Rattle.record_message.proofs.is_stale.Statement.{statement}
 use Rattle.record_message.proofs.is_stale.Tie as tie
 
-counter-of-requires : tie.Need-counter-of-requires
-counter-of-requires c κs = search needs
-
 returns : tie.Need-returns
 returns c = rw (c .counter-of .ensures)
 
 pub is-stale-spec : {M : Type 1} → statement M
-is-stale-spec = tie.close (tie.spec counter-of-requires returns)
+is-stale-spec =
+    tie.close
+    (tie.spec
+    (λ c κs. search needs)  -- counter-of-requires
+    returns)

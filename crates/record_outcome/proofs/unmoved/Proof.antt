@@ -5,11 +5,12 @@ use Rattle.record_outcome.specs.Coming.{calm}
 use Rattle.record_outcome.proofs.unmoved.Statement.{statement}
 use Rattle.record_outcome.proofs.unmoved.Tie as tie
 
-vacant-requires : tie.Need-vacant-requires
-vacant-requires c κs = search needs
-
 returns : tie.Need-returns
 returns c = let a = c .before .args in ap (calm (a .answer) (a .counts) (a .s)) (c .vacant .ensures)
 
 pub unmoved-spec : {M : Type 1} → statement M
-unmoved-spec = tie.close (tie.spec vacant-requires returns)
+unmoved-spec =
+    tie.close
+    (tie.spec
+    (λ c κs. search needs)  -- vacant-requires
+    returns)

@@ -6,12 +6,6 @@ use mathlib.Core.Path.{_∙_}
 use borrow.Author.Tests.{not-true, not-false}
 use Rattle.record_read.proofs.Frames.{starts-as, about-none, about-short, about-id}
 
-kind-of-requires : tie.Need-kind-of-requires
-kind-of-requires c κs = search needs
-
-starts-with-id-requires : tie.Need-starts-with-id-requires
-starts-with-id-requires c κs = search needs
-
 returns : tie.Need-returns
 returns c =
     let o = c .before .before .before .before .args .o .now in
@@ -24,9 +18,6 @@ returns-2 c =
     let starts = starts-as o (c .before .before .before .kind-of .ensures) (c .before .before .starts-with-id .ensures) in
     about-short o (starts ∙ not-false _ (c .before .if1 .left)) (c .if2 .taken)
 
-little-requires : tie.Need-little-requires
-little-requires c κs = search needs
-
 returns-3 : tie.Need-returns-3
 returns-3 c =
     let o = c .before .before .before .before .before .before .args .o .now in
@@ -36,4 +27,10 @@ returns-3 c =
 pub about-spec : {M : Type 1} → statement M
 about-spec =
     tie.close
-    (tie.spec kind-of-requires starts-with-id-requires returns returns-2 little-requires returns-3)
+    (tie.spec
+    (λ c κs. search needs)  -- kind-of-requires
+    (λ c κs. search needs)  -- starts-with-id-requires
+    returns
+    returns-2
+    (λ c κs. search needs)  -- little-requires
+    returns-3)

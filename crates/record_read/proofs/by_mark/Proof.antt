@@ -4,9 +4,6 @@ use Rattle.record_read.proofs.by_mark.Statement.{statement}
 use Rattle.record_read.proofs.by_mark.Tie as tie
 use mathlib.Core.Path.{sym, _∙_}
 
-is-marked-requires : tie.Need-is-marked-requires
-is-marked-requires c κs = search needs
-
 returns : tie.Need-returns
 returns c = rw (sym (c .before .is-marked .ensures) ∙ c .if1 .taken)
 
@@ -14,4 +11,9 @@ returns-2 : tie.Need-returns-2
 returns-2 c = rw (sym (c .before .is-marked .ensures) ∙ c .if1 .left)
 
 pub by-mark-spec : {M : Type 1} → statement M
-by-mark-spec = tie.close (tie.spec is-marked-requires returns returns-2)
+by-mark-spec =
+    tie.close
+    (tie.spec
+    (λ c κs. search needs)  -- is-marked-requires
+    returns
+    returns-2)

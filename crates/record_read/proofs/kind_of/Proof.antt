@@ -3,27 +3,6 @@ use borrow.Author.Needs.{needs}
 use Rattle.record_read.proofs.kind_of.Statement.{statement}
 use Rattle.record_read.proofs.kind_of.Tie as tie
 
-later-kind-requires : tie.Need-later-kind-requires
-later-kind-requires c κs = search needs
-
-by-mark-requires : tie.Need-by-mark-requires
-by-mark-requires c κs = search needs
-
-by-mark-requires-2 : tie.Need-by-mark-requires-2
-by-mark-requires-2 c κs = search needs
-
-by-mark-requires-3 : tie.Need-by-mark-requires-3
-by-mark-requires-3 c κs = search needs
-
-by-mark-requires-4 : tie.Need-by-mark-requires-4
-by-mark-requires-4 c κs = search needs
-
-by-mark-requires-5 : tie.Need-by-mark-requires-5
-by-mark-requires-5 c κs = search needs
-
-by-mark-requires-6 : tie.Need-by-mark-requires-6
-by-mark-requires-6 c κs = search needs
-
 returns : tie.Need-returns
 returns c =
     rw (
@@ -40,11 +19,11 @@ pub kind-of-spec : {M : Type 1} → statement M
 kind-of-spec =
     tie.close
     (tie.spec
-    later-kind-requires
-    by-mark-requires
-    by-mark-requires-2
-    by-mark-requires-3
-    by-mark-requires-4
-    by-mark-requires-5
-    by-mark-requires-6
+    (λ c κs. search needs)  -- later-kind-requires
+    (λ c κs. search needs)  -- by-mark-requires
+    (λ c κs. search needs)  -- by-mark-requires-2
+    (λ c κs. search needs)  -- by-mark-requires-3
+    (λ c κs. search needs)  -- by-mark-requires-4
+    (λ c κs. search needs)  -- by-mark-requires-5
+    (λ c κs. search needs)  -- by-mark-requires-6
     returns)

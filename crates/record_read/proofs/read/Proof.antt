@@ -4,26 +4,8 @@ use Rattle.record_read.proofs.read.Statement.{statement}
 use Rattle.record_read.proofs.read.Tie as tie
 use Rattle.record_read.proofs.Whole.{few-fields, octets-read}
 
-kind-of-requires : tie.Need-kind-of-requires
-kind-of-requires c κs = search needs
-
-layout-of-requires : tie.Need-layout-of-requires
-layout-of-requires c κs = search needs
-
 fields-at-requires : tie.Need-fields-at-requires
 fields-at-requires c κs = few-fields (c .before .before .kind-of .result) (c .before .layout-of .ensures)
-
-is-known-requires : tie.Need-is-known-requires
-is-known-requires c κs = search needs
-
-both-requires : tie.Need-both-requires
-both-requires c κs = search needs
-
-is-whole-requires : tie.Need-is-whole-requires
-is-whole-requires c κs = search needs
-
-both-requires-2 : tie.Need-both-requires-2
-both-requires-2 c κs = search needs
 
 returns : tie.Need-returns
 returns c =
@@ -38,11 +20,11 @@ pub read-spec : {M : Type 1} → statement M
 read-spec =
     tie.close
     (tie.spec
-    kind-of-requires
-    layout-of-requires
+    (λ c κs. search needs)  -- kind-of-requires
+    (λ c κs. search needs)  -- layout-of-requires
     fields-at-requires
-    is-known-requires
-    both-requires
-    is-whole-requires
-    both-requires-2
+    (λ c κs. search needs)  -- is-known-requires
+    (λ c κs. search needs)  -- both-requires
+    (λ c κs. search needs)  -- is-whole-requires
+    (λ c κs. search needs)  -- both-requires-2
     returns)

@@ -4,21 +4,9 @@ use Rattle.record_session.proofs.drain.Statement.{statement}
 use Rattle.record_session.proofs.drain.Tie as tie
 use Rattle.record_session.specs.Leaving.{drain-refused, drain-comes}
 
-refused-requires : tie.Need-refused-requires
-refused-requires c κs = search needs
-
 returns : tie.Need-returns
 returns c = λ m ws lent. let a = c .before .before .before .before .args in
     drain-refused m ws (a .counts) (a .s) (a .queue .now) lent (a .n) _ (c .before .if1 .taken) (c .refused .ensures)
-
-drain-requires : tie.Need-drain-requires
-drain-requires c κs = search needs
-
-unmoved-requires : tie.Need-unmoved-requires
-unmoved-requires c κs = search needs
-
-same-length : tie.Need-same-length
-same-length c = search needs
 
 returns-2 : tie.Need-returns-2
 returns-2 c = λ m ws lent. let a = c .before .before .before .before .before .before .before .before .args in
@@ -27,4 +15,10 @@ returns-2 c = λ m ws lent. let a = c .before .before .before .before .before .b
 pub drain-spec : {M : Type 1} → statement M
 drain-spec =
     tie.close
-    (tie.spec refused-requires returns drain-requires unmoved-requires same-length returns-2)
+    (tie.spec
+    (λ c κs. search needs)  -- refused-requires
+    returns
+    (λ c κs. search needs)  -- drain-requires
+    (λ c κs. search needs)  -- unmoved-requires
+    (λ c. search needs)  -- same-length
+    returns-2)

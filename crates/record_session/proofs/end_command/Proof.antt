@@ -7,43 +7,16 @@ use Rattle.record_session.specs.Leaving.{end-comes, end-unowed}
 use Rattle.record_session.proofs.end_command.Statement.{statement}
 use Rattle.record_session.proofs.end_command.Tie as tie
 
-cast-is-owed : tie.Need-cast-is-owed
-cast-is-owed c = search needs
-
-cast-t16 : tie.Need-cast-t16
-cast-t16 c = search needs
-
 is-owed-requires : tie.Need-is-owed-requires
 is-owed-requires c κs = c .before .before .before .before .before .pre .words
-
-unmoved-requires : tie.Need-unmoved-requires
-unmoved-requires c κs = search needs
-
-same-length : tie.Need-same-length
-same-length c = search needs
 
 returns : tie.Need-returns
 returns c = λ m lent law is. let a = c .before .before .before .before .before .before .before .before .args in
     end-unowed m (a .words .now) (a .counts) (a .s) (a .queue .now) lent law (a .x) is (a .class) _ (c .before .before .before .before .before .before .before .before .pre .words) (c .before .before .is-owed .ensures (not-true (c .before .before .is-owed .result) (c .before .if1 .taken))) (c .unmoved .ensures)
 
-both-requires : tie.Need-both-requires
-both-requires c κs = search needs
-
-slice-aggregate-end-command : tie.Need-slice-aggregate-end-command
-slice-aggregate-end-command c = search needs
-
 end-command-requires : tie.Need-end-command-requires
 end-command-requires c κs = let p = c .before .before .before .before .before .before .before .before .before .before .before .pre in
     let z = sizes _ _ _ (p .room) in (p .words, p .messages, search needs, omega arith, omega arith, omega arith)
-
-unmoved-requires-2 : tie.Need-unmoved-requires-2
-unmoved-requires-2 c κs = search needs
-
-same-length-2 : tie.Need-same-length-2
-same-length-2 c = search needs
-
-same-length-3 : tie.Need-same-length-3
-same-length-3 c = search needs
 
 returns-2 : tie.Need-returns-2
 returns-2 c = λ m lent law is. let a = c .before .before .before .before .before .before .before .before .before .before .before .before .before .before .before .before .before .before .before .args in
@@ -53,16 +26,16 @@ pub end-command-spec : {M : Type 1} → statement M
 end-command-spec =
     tie.close
     (tie.spec
-    cast-is-owed
-    cast-t16
+    (λ c. search needs)  -- cast-is-owed
+    (λ c. search needs)  -- cast-t16
     is-owed-requires
-    unmoved-requires
-    same-length
+    (λ c κs. search needs)  -- unmoved-requires
+    (λ c. search needs)  -- same-length
     returns
-    both-requires
-    slice-aggregate-end-command
+    (λ c κs. search needs)  -- both-requires
+    (λ c. search needs)  -- slice-aggregate-end-command
     end-command-requires
-    unmoved-requires-2
-    same-length-2
-    same-length-3
+    (λ c κs. search needs)  -- unmoved-requires-2
+    (λ c. search needs)  -- same-length-2
+    (λ c. search needs)  -- same-length-3
     returns-2)

@@ -7,11 +7,13 @@ use borrow.Author.Tests.{eq-eqb, ne-eqb}
 returns : tie.Need-returns
 returns c = rw (eq-eqb _ 0 (c .if1 .taken))
 
-is-unfit-requires : tie.Need-is-unfit-requires
-is-unfit-requires c κs = search needs
-
 returns-2 : tie.Need-returns-2
 returns-2 c = rw (ne-eqb _ 0 (c .before .if1 .left)) (c .is-unfit .ensures)
 
 pub is-barred-spec : {M : Type 1} → statement M
-is-barred-spec = tie.close (tie.spec returns is-unfit-requires returns-2)
+is-barred-spec =
+    tie.close
+    (tie.spec
+    returns
+    (λ c κs. search needs)  -- is-unfit-requires
+    returns-2)

@@ -6,17 +6,17 @@ use mathlib.Core.Path.{sym, _∙_, ap}
 use mathlib.Core.Bool.{not}
 use borrow.Author.Tests.{not-true, not-false}
 
-has-requires : tie.Need-has-requires
-has-requires c κs = search needs
-
 returns : tie.Need-returns
 returns c = rw (sym (c .before .has .ensures) ∙ not-true _ (c .if1 .taken))
-
-has-requires-2 : tie.Need-has-requires-2
-has-requires-2 c κs = search needs
 
 returns-2 : tie.Need-returns-2
 returns-2 c = rw (sym (c .before .before .has .ensures) ∙ not-false _ (c .before .if1 .left)) (ap not (c .has2 .ensures))
 
 pub is-unfit-spec : {M : Type 1} → statement M
-is-unfit-spec = tie.close (tie.spec has-requires returns has-requires-2 returns-2)
+is-unfit-spec =
+    tie.close
+    (tie.spec
+    (λ c κs. search needs)  -- has-requires
+    returns
+    (λ c κs. search needs)  -- has-requires-2
+    returns-2)

@@ -12,15 +12,6 @@ abbrev μ-loop : tie.MeasureT-loop
 loop-holds : tie.Need-loop-holds Inv-loop μ-loop
 loop-holds c = tt
 
-step-requires : tie.Need-step-requires Inv-loop μ-loop
-step-requires c κs = search needs
-
-sub-turns : tie.Need-sub-turns Inv-loop μ-loop
-sub-turns c = search needs
-
-loop-less : tie.Need-loop-less Inv-loop μ-loop
-loop-less c = search needs
-
 loop-again : tie.Need-loop-again Inv-loop μ-loop
 loop-again c = tt
 
@@ -37,9 +28,9 @@ main-spec =
     Inv-loop
     μ-loop
     loop-holds
-    step-requires
-    sub-turns
-    loop-less
+    (λ c κs. search needs)  -- step-requires
+    (λ c. search needs)  -- sub-turns
+    (λ c. search needs)  -- loop-less
     loop-again
     returns
     returns-2)

@@ -14,21 +14,6 @@ abbrev μ-loop : tie.MeasureT-loop
 loop-holds : tie.Need-loop-holds Inv-loop μ-loop
 loop-holds c = tt
 
-mul-print-cell : tie.Need-mul-print-cell Inv-loop μ-loop
-mul-print-cell c = search needs
-
-shared-slice-read-print-cell : tie.Need-shared-slice-read-print-cell Inv-loop μ-loop
-shared-slice-read-print-cell c = search needs
-
-print-cell-requires : tie.Need-print-cell-requires Inv-loop μ-loop
-print-cell-requires c κs = search needs
-
-add-i : tie.Need-add-i Inv-loop μ-loop
-add-i c = search needs
-
-loop-less : tie.Need-loop-less Inv-loop μ-loop
-loop-less c = search needs
-
 loop-again : tie.Need-loop-again Inv-loop μ-loop
 loop-again c = tt
 
@@ -42,10 +27,10 @@ print-cells-spec =
     Inv-loop
     μ-loop
     loop-holds
-    mul-print-cell
-    shared-slice-read-print-cell
-    print-cell-requires
-    add-i
-    loop-less
+    (λ c. search needs)  -- mul-print-cell
+    (λ c. search needs)  -- shared-slice-read-print-cell
+    (λ c κs. search needs)  -- print-cell-requires
+    (λ c. search needs)  -- add-i
+    (λ c. search needs)  -- loop-less
     loop-again
     returns)

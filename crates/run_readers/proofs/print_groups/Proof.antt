@@ -10,26 +10,8 @@ Inv-loop groups count i₀ i = Unit {0}
 abbrev μ-loop : tie.MeasureT-loop
 μ-loop groups count i₀ i = 8 - i
 
-wide-requires : tie.Need-wide-requires Inv-loop μ-loop
-wide-requires c κs = search needs
-
 loop-holds : tie.Need-loop-holds Inv-loop μ-loop
 loop-holds c = tt
-
-mul-print-group : tie.Need-mul-print-group Inv-loop μ-loop
-mul-print-group c = search needs
-
-array-copy-out-print-group : tie.Need-array-copy-out-print-group Inv-loop μ-loop
-array-copy-out-print-group c = search needs
-
-print-group-requires : tie.Need-print-group-requires Inv-loop μ-loop
-print-group-requires c κs = search needs
-
-add-i : tie.Need-add-i Inv-loop μ-loop
-add-i c = search needs
-
-loop-less : tie.Need-loop-less Inv-loop μ-loop
-loop-less c = search needs
 
 loop-again : tie.Need-loop-again Inv-loop μ-loop
 loop-again c = tt
@@ -43,12 +25,12 @@ print-groups-spec =
     (tie.spec
     Inv-loop
     μ-loop
-    wide-requires
+    (λ c κs. search needs)  -- wide-requires
     loop-holds
-    mul-print-group
-    array-copy-out-print-group
-    print-group-requires
-    add-i
-    loop-less
+    (λ c. search needs)  -- mul-print-group
+    (λ c. search needs)  -- array-copy-out-print-group
+    (λ c κs. search needs)  -- print-group-requires
+    (λ c. search needs)  -- add-i
+    (λ c. search needs)  -- loop-less
     loop-again
     returns)

@@ -13,21 +13,6 @@ abbrev μ-loop : tie.MeasureT-loop
 loop-holds : tie.Need-loop-holds Inv-loop μ-loop
 loop-holds c = tt
 
-mul-print-source : tie.Need-mul-print-source Inv-loop μ-loop
-mul-print-source c = search needs
-
-array-copy-out-print-source : tie.Need-array-copy-out-print-source Inv-loop μ-loop
-array-copy-out-print-source c = search needs
-
-print-source-requires : tie.Need-print-source-requires Inv-loop μ-loop
-print-source-requires c κs = search needs
-
-add-i : tie.Need-add-i Inv-loop μ-loop
-add-i c = search needs
-
-loop-less : tie.Need-loop-less Inv-loop μ-loop
-loop-less c = search needs
-
 loop-again : tie.Need-loop-again Inv-loop μ-loop
 loop-again c = tt
 
@@ -41,10 +26,10 @@ print-listed-spec =
     Inv-loop
     μ-loop
     loop-holds
-    mul-print-source
-    array-copy-out-print-source
-    print-source-requires
-    add-i
-    loop-less
+    (λ c. search needs)  -- mul-print-source
+    (λ c. search needs)  -- array-copy-out-print-source
+    (λ c κs. search needs)  -- print-source-requires
+    (λ c. search needs)  -- add-i
+    (λ c. search needs)  -- loop-less
     loop-again
     returns)

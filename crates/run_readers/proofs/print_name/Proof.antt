@@ -10,29 +10,8 @@ Inv-loop octets len i₀ i = Unit {0}
 abbrev μ-loop : tie.MeasureT-loop
 μ-loop octets len i₀ i = 64 - i
 
-slice-aggregate-print : tie.Need-slice-aggregate-print Inv-loop μ-loop
-slice-aggregate-print c = search needs
-
-print-requires : tie.Need-print-requires Inv-loop μ-loop
-print-requires c κs = search needs
-
-wide-requires : tie.Need-wide-requires Inv-loop μ-loop
-wide-requires c κs = search needs
-
 loop-holds : tie.Need-loop-holds Inv-loop μ-loop
 loop-holds c = tt
-
-array-read-print-octet : tie.Need-array-read-print-octet Inv-loop μ-loop
-array-read-print-octet c = search needs
-
-print-octet-requires : tie.Need-print-octet-requires Inv-loop μ-loop
-print-octet-requires c κs = search needs
-
-add-i : tie.Need-add-i Inv-loop μ-loop
-add-i c = search needs
-
-loop-less : tie.Need-loop-less Inv-loop μ-loop
-loop-less c = search needs
 
 loop-again : tie.Need-loop-again Inv-loop μ-loop
 loop-again c = tt
@@ -46,13 +25,13 @@ print-name-spec =
     (tie.spec
     Inv-loop
     μ-loop
-    slice-aggregate-print
-    print-requires
-    wide-requires
+    (λ c. search needs)  -- slice-aggregate-print
+    (λ c κs. search needs)  -- print-requires
+    (λ c κs. search needs)  -- wide-requires
     loop-holds
-    array-read-print-octet
-    print-octet-requires
-    add-i
-    loop-less
+    (λ c. search needs)  -- array-read-print-octet
+    (λ c κs. search needs)  -- print-octet-requires
+    (λ c. search needs)  -- add-i
+    (λ c. search needs)  -- loop-less
     loop-again
     returns)

@@ -13,21 +13,6 @@ abbrev μ-loop : tie.MeasureT-loop
 loop-holds : tie.Need-loop-holds Inv-loop μ-loop
 loop-holds c = tt
 
-mul-print-name : tie.Need-mul-print-name Inv-loop μ-loop
-mul-print-name c = search needs
-
-array-copy-out-print-name : tie.Need-array-copy-out-print-name Inv-loop μ-loop
-array-copy-out-print-name c = search needs
-
-print-name-requires : tie.Need-print-name-requires Inv-loop μ-loop
-print-name-requires c κs = search needs
-
-add-i : tie.Need-add-i Inv-loop μ-loop
-add-i c = search needs
-
-loop-less : tie.Need-loop-less Inv-loop μ-loop
-loop-less c = search needs
-
 loop-again : tie.Need-loop-again Inv-loop μ-loop
 loop-again c = tt
 
@@ -41,10 +26,10 @@ print-names-spec =
     Inv-loop
     μ-loop
     loop-holds
-    mul-print-name
-    array-copy-out-print-name
-    print-name-requires
-    add-i
-    loop-less
+    (λ c. search needs)  -- mul-print-name
+    (λ c. search needs)  -- array-copy-out-print-name
+    (λ c κs. search needs)  -- print-name-requires
+    (λ c. search needs)  -- add-i
+    (λ c. search needs)  -- loop-less
     loop-again
     returns)

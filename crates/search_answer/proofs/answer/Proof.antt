@@ -7,12 +7,6 @@ use lib.ListN.{length}
 use Rattle.event_mailbox.specs.Free.{sizes}
 use Rattle.search_answer.specs.Coming.{answer-comes}
 
-wide-id-requires : tie.Need-wide-id-requires
-wide-id-requires c κs = search needs
-
-wide-number-requires : tie.Need-wide-number-requires
-wide-number-requires c κs = search needs
-
 tell-requires : tie.Need-tell-requires
 tell-requires c κs =
     let a = c .before .before .before .before .before .before .args in
@@ -22,12 +16,6 @@ tell-requires c κs =
     let h = z .high in
     let f = z .filled in
     ((omega arith, h, omega arith), (c .before .before .before .before .before .before .pre .1, r .words, r .messages, r .rows))
-
-outcome-requires : tie.Need-outcome-requires
-outcome-requires c κs = search needs
-
-same-length : tie.Need-same-length
-same-length c = search needs
 
 returns : tie.Need-returns
 returns c =
@@ -39,9 +27,9 @@ pub answer-spec : {M : Type 1} → statement M
 answer-spec =
     tie.close
     (tie.spec
-    wide-id-requires
-    wide-number-requires
+    (λ c κs. search needs)  -- wide-id-requires
+    (λ c κs. search needs)  -- wide-number-requires
     tell-requires
-    outcome-requires
-    same-length
+    (λ c κs. search needs)  -- outcome-requires
+    (λ c. search needs)  -- same-length
     returns)

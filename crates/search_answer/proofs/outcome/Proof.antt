@@ -6,17 +6,17 @@ use mathlib.Core.Path.{ap, sym, _∙_}
 use mathlib.Core.Bool.{Bool}
 use Rattle.search_answer.specs.Coming.{cameBy}
 
-unmoved-requires : tie.Need-unmoved-requires
-unmoved-requires c κs = search needs
-
 returns : tie.Need-returns
 returns c = c .unmoved .ensures ∙ sym (ap (λ (b : Bool). cameBy b (c .before .before .args .said .end) (c .before .before .args .counts) (c .before .before .args .s)) (c .before .if1 .taken))
-
-refused-requires : tie.Need-refused-requires
-refused-requires c κs = search needs
 
 returns-2 : tie.Need-returns-2
 returns-2 c = c .refused .ensures ∙ sym (ap (λ (b : Bool). cameBy b (c .before .before .args .said .end) (c .before .before .args .counts) (c .before .before .args .s)) (c .before .if1 .left))
 
 pub outcome-spec : {M : Type 1} → statement M
-outcome-spec = tie.close (tie.spec unmoved-requires returns refused-requires returns-2)
+outcome-spec =
+    tie.close
+    (tie.spec
+    (λ c κs. search needs)  -- unmoved-requires
+    returns
+    (λ c κs. search needs)  -- refused-requires
+    returns-2)

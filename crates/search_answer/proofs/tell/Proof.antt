@@ -5,45 +5,6 @@ use Rattle.search_answer.proofs.tell.Tie as tie
 use native.Mathlib.Omega.{arith}
 use Rattle.search_answer.specs.Coming.{tells}
 
-slice-aggregate-find : tie.Need-slice-aggregate-find
-slice-aggregate-find c = search needs
-
-slice-aggregate-find-2 : tie.Need-slice-aggregate-find-2
-slice-aggregate-find-2 c = search needs
-
-slice-aggregate-find-3 : tie.Need-slice-aggregate-find-3
-slice-aggregate-find-3 c = search needs
-
-slice-aggregate-find-4 : tie.Need-slice-aggregate-find-4
-slice-aggregate-find-4 c = search needs
-
-slice-aggregate-find-5 : tie.Need-slice-aggregate-find-5
-slice-aggregate-find-5 c = search needs
-
-slice-aggregate-find-6 : tie.Need-slice-aggregate-find-6
-slice-aggregate-find-6 c = search needs
-
-slice-aggregate-find-7 : tie.Need-slice-aggregate-find-7
-slice-aggregate-find-7 c = search needs
-
-slice-aggregate-find-8 : tie.Need-slice-aggregate-find-8
-slice-aggregate-find-8 c = search needs
-
-find-requires : tie.Need-find-requires
-find-requires c κs = search needs
-
-slice-aggregate-say : tie.Need-slice-aggregate-say
-slice-aggregate-say c = search needs
-
-slice-aggregate-say-2 : tie.Need-slice-aggregate-say-2
-slice-aggregate-say-2 c = search needs
-
-slice-aggregate-say-3 : tie.Need-slice-aggregate-say-3
-slice-aggregate-say-3 c = search needs
-
-slice-aggregate-say-4 : tie.Need-slice-aggregate-say-4
-slice-aggregate-say-4 c = search needs
-
 say-requires : tie.Need-say-requires
 say-requires c κs =
     let g = c .before .before .before .before .before .before .before .before .before .before .before .before .before .find .ensures in
@@ -56,9 +17,6 @@ say-requires c κs =
     let kc = c .before .before .before .before .before .before .before .before .before .before .before .before .before .find .kept .1 .1 .1 .1 .1 .1 .1 .1 .1 .1 .1 .1 .1 .1 .1 .1 .1 .0 in
     (c .before .before .before .before .before .before .before .before .before .before .before .before .before .before .before .before .before .before .before .before .before .before .before .before .before .pre .0, record { few = omega arith; in-rows = omega arith; in-starts = omega arith; in-counts = omega arith; room = omega arith; bounded = g .bounded })
 
-same-length : tie.Need-same-length
-same-length c = search needs
-
 returns : tie.Need-returns
 returns c =
     let a = c .before .before .before .before .before .before .before .before .before .before .before .before .before .before .before .before .before .before .before .before .before .before .before .before .before .before .before .before .args in
@@ -69,19 +27,19 @@ pub tell-spec : {M : Type 1} → statement M
 tell-spec =
     tie.close
     (tie.spec
-    slice-aggregate-find
-    slice-aggregate-find-2
-    slice-aggregate-find-3
-    slice-aggregate-find-4
-    slice-aggregate-find-5
-    slice-aggregate-find-6
-    slice-aggregate-find-7
-    slice-aggregate-find-8
-    find-requires
-    slice-aggregate-say
-    slice-aggregate-say-2
-    slice-aggregate-say-3
-    slice-aggregate-say-4
+    (λ c. search needs)  -- slice-aggregate-find
+    (λ c. search needs)  -- slice-aggregate-find-2
+    (λ c. search needs)  -- slice-aggregate-find-3
+    (λ c. search needs)  -- slice-aggregate-find-4
+    (λ c. search needs)  -- slice-aggregate-find-5
+    (λ c. search needs)  -- slice-aggregate-find-6
+    (λ c. search needs)  -- slice-aggregate-find-7
+    (λ c. search needs)  -- slice-aggregate-find-8
+    (λ c κs. search needs)  -- find-requires
+    (λ c. search needs)  -- slice-aggregate-say
+    (λ c. search needs)  -- slice-aggregate-say-2
+    (λ c. search needs)  -- slice-aggregate-say-3
+    (λ c. search needs)  -- slice-aggregate-say-4
     say-requires
-    same-length
+    (λ c. search needs)  -- same-length
     returns)

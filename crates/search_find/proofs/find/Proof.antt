@@ -1,9 +1,5 @@
 use Rattle.search_find.proofs.find.Statement.{statement}
 use Rattle.search_find.proofs.find.Tie as tie
-use Rattle.search_find.proofs.find.Reads as reads
-use Rattle.search_find.proofs.find.Lts as lts
-use Rattle.search_find.proofs.is_hit.Reads as is-hit-reads
-use Rattle.search_find.proofs.push.Reads as push-reads
 use Rattle.search_find.specs.Laws.{Sought, find-none, sought-start, sought-next, sought-end}
 use Rattle.table_messages.specs.Words.{messages}
 use Rattle.model.specs.declared.Message.{Message}
@@ -20,17 +16,8 @@ abbrev μ-loop : tie.MeasureT-loop
 returns : tie.Need-returns Inv-loop μ-loop
 returns c = find-none (messages (c .before .before .before .before .before .args .words .now)) (c .before .before .before .before .before .args .order .now) (c .before .before .before .before .before .args .n) (c .before .before .before .before .before .args .cells .now) (c .before .before .before .before .before .args .used) (c .if1 .taken) (c .before .before .before .before .before .args .uids .now)
 
-shared-slice-read-bottom : tie.Need-shared-slice-read-bottom Inv-loop μ-loop
-shared-slice-read-bottom c = search needs
-
-entry-requires : tie.Need-entry-requires Inv-loop μ-loop
-entry-requires c κs = search needs
-
 loop-holds : tie.Need-loop-holds Inv-loop μ-loop
 loop-holds c = sought-start (messages (c .before .before .before .before .before .before .before .before .args .words .now)) (c .before .before .before .before .before .before .before .before .args .order .now) (c .before .before .before .before .before .before .before .before .args .n) (c .before .before .before .before .before .before .before .before .args .cells .now) (c .before .before .before .before .before .before .before .before .args .used) (c .before .entry .result .uid) (c .before .before .before .before .before .before .before .before .args .uids .now)
-
-sub-k : tie.Need-sub-k Inv-loop μ-loop
-sub-k c = search needs
 
 mul-i : tie.Need-mul-i Inv-loop μ-loop
 mul-i c = let f = c .before .loop .inv .few in omega arith
@@ -38,14 +25,8 @@ mul-i c = let f = c .before .loop .inv .few in omega arith
 shared-slice-read-i : tie.Need-shared-slice-read-i Inv-loop μ-loop
 shared-slice-read-i c = let f = c .before .before .loop .inv .few in omega arith
 
-entry-requires-2 : tie.Need-entry-requires-2 Inv-loop μ-loop
-entry-requires-2 c κs = search needs
-
 sub-t20 : tie.Need-sub-t20 Inv-loop μ-loop
 sub-t20 c = let f = c .before .before .before .loop .inv .few in omega arith
-
-is-hit-requires : tie.Need-is-hit-requires Inv-loop μ-loop
-is-hit-requires c κs = search needs
 
 push-requires : tie.Need-push-requires Inv-loop μ-loop
 push-requires c κs = let f = c .before .before .before .before .before .loop .inv .few in let g = c .before .before .before .before .before .loop .inv .long in omega arith
@@ -69,15 +50,15 @@ find-spec =
     Inv-loop
     μ-loop
     returns
-    shared-slice-read-bottom
-    entry-requires
+    (λ c. search needs)  -- shared-slice-read-bottom
+    (λ c κs. search needs)  -- entry-requires
     loop-holds
-    sub-k
+    (λ c. search needs)  -- sub-k
     mul-i
     shared-slice-read-i
-    entry-requires-2
+    (λ c κs. search needs)  -- entry-requires-2
     sub-t20
-    is-hit-requires
+    (λ c κs. search needs)  -- is-hit-requires
     push-requires
     loop-less
     loop-again

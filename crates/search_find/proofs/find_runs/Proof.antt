@@ -1,10 +1,5 @@
 use Rattle.search_find.proofs.find_runs.Statement.{statement}
 use Rattle.search_find.proofs.find_runs.Tie as tie
-use Rattle.search_find.proofs.find_runs.Reads as reads
-use Rattle.search_find.proofs.find_runs.Lts as lts
-use Rattle.search_find.proofs.search_row.Reads as search-row-reads
-use Rattle.search_find.proofs.within.Reads as within-reads
-use Rattle.order_messages.proofs.links.link.Reads as link-reads
 use mathlib.Core.Path.{_≡_, refl, _∙_}
 use native.Mathlib.Omega.{arith}
 use Prim.Native.Nat.{_≤_, _-_}
@@ -22,9 +17,6 @@ abbrev μ-loop : tie.MeasureT-loop
 μ-loop words used selected below ids rows n cells filled order₀ view₀ uids₀ starts₀ counts₀ heads next i₀ total₀ order view uids starts counts i total =
     i
 
-slice-aggregate-link : tie.Need-slice-aggregate-link Inv-loop μ-loop
-slice-aggregate-link c = search needs
-
 link-requires : tie.Need-link-requires Inv-loop μ-loop
 link-requires c κs = (c .before .before .before .before .before .before .before .before .before .before .pre .0 .0, c .before .before .before .before .before .before .before .before .before .before .pre .0 .1 .0, refl)
 
@@ -32,39 +24,6 @@ loop-holds : tie.Need-loop-holds Inv-loop μ-loop
 loop-holds c =
     let a = c .before .before .before .before .before .before .before .before .before .before .before .before .args in
     (omega arith, (refl, refl), refl, (refl, refl), finding-start (take (a .used) (messages (a .words .now))) (a .ids .now) (a .rows .now) (a .n) (a .selected) (a .below .0) (a .cells .now) (a .filled) _ _ _)
-
-sub-i : tie.Need-sub-i Inv-loop μ-loop
-sub-i c = search needs
-
-mul-id : tie.Need-mul-id Inv-loop μ-loop
-mul-id c = search needs
-
-shared-slice-read-id : tie.Need-shared-slice-read-id Inv-loop μ-loop
-shared-slice-read-id c = search needs
-
-mul-id-2 : tie.Need-mul-id-2 Inv-loop μ-loop
-mul-id-2 c = search needs
-
-element-copy-out-id : tie.Need-element-copy-out-id Inv-loop μ-loop
-element-copy-out-id c = search needs
-
-within-requires : tie.Need-within-requires Inv-loop μ-loop
-within-requires c κs = search needs
-
-slice-aggregate-search-row : tie.Need-slice-aggregate-search-row Inv-loop μ-loop
-slice-aggregate-search-row c = search needs
-
-mul-search-row : tie.Need-mul-search-row Inv-loop μ-loop
-mul-search-row c = search needs
-
-sub-search-row : tie.Need-sub-search-row Inv-loop μ-loop
-sub-search-row c = search needs
-
-part-search-row-start : tie.Need-part-search-row-start Inv-loop μ-loop
-part-search-row-start c = search needs
-
-part-search-row-end : tie.Need-part-search-row-end Inv-loop μ-loop
-part-search-row-end c = search needs
 
 search-row-requires : tie.Need-search-row-requires Inv-loop μ-loop
 search-row-requires c κs =
@@ -113,9 +72,6 @@ add-total c =
     let u = c .before .before .before .before .before .before .before .before .before .before .before .before .before .before .before .before .before .before .before .before .before .before .before .before .before .before .before .before .before .pre .0 .1 .0 in
     record { fits = omega arith }
 
-loop-less : tie.Need-loop-less Inv-loop μ-loop
-loop-less c = search needs
-
 loop-again : tie.Need-loop-again Inv-loop μ-loop
 loop-again c =
     let a = c .before .before .before .before .before .before .before .before .before .before .before .before .before .before .before .before .before .before .before .before .before .before .before .before .before .before .before .before .before .args in
@@ -144,21 +100,6 @@ loop-again c =
           (row-longer es (idAt (a .ids .now) (a .rows .now) (v .i - 1)) (a .selected) (a .below .0) (a .cells .now) (a .filled) _ (s .result) (s .ensures .0) (omega arith) _),
     )
 
-same-length : tie.Need-same-length Inv-loop μ-loop
-same-length c = search needs
-
-same-length-2 : tie.Need-same-length-2 Inv-loop μ-loop
-same-length-2 c = search needs
-
-same-length-3 : tie.Need-same-length-3 Inv-loop μ-loop
-same-length-3 c = search needs
-
-same-length-4 : tie.Need-same-length-4 Inv-loop μ-loop
-same-length-4 c = search needs
-
-same-length-5 : tie.Need-same-length-5 Inv-loop μ-loop
-same-length-5 c = search needs
-
 returns : tie.Need-returns Inv-loop μ-loop
 returns c =
     let a = c .before .before .before .before .before .before .before .before .before .before .before .before .before .before .args in
@@ -170,31 +111,31 @@ find-runs-spec =
     (tie.spec
     Inv-loop
     μ-loop
-    slice-aggregate-link
+    (λ c. search needs)  -- slice-aggregate-link
     link-requires
     loop-holds
-    sub-i
-    mul-id
-    shared-slice-read-id
-    mul-id-2
-    element-copy-out-id
-    within-requires
-    slice-aggregate-search-row
-    mul-search-row
-    sub-search-row
-    part-search-row-start
-    part-search-row-end
+    (λ c. search needs)  -- sub-i
+    (λ c. search needs)  -- mul-id
+    (λ c. search needs)  -- shared-slice-read-id
+    (λ c. search needs)  -- mul-id-2
+    (λ c. search needs)  -- element-copy-out-id
+    (λ c κs. search needs)  -- within-requires
+    (λ c. search needs)  -- slice-aggregate-search-row
+    (λ c. search needs)  -- mul-search-row
+    (λ c. search needs)  -- sub-search-row
+    (λ c. search needs)  -- part-search-row-start
+    (λ c. search needs)  -- part-search-row-end
     search-row-requires
     mul-starts
     slice-write-starts
     mul-counts
     slice-write-counts
     add-total
-    loop-less
+    (λ c. search needs)  -- loop-less
     loop-again
-    same-length
-    same-length-2
-    same-length-3
-    same-length-4
-    same-length-5
+    (λ c. search needs)  -- same-length
+    (λ c. search needs)  -- same-length-2
+    (λ c. search needs)  -- same-length-3
+    (λ c. search needs)  -- same-length-4
+    (λ c. search needs)  -- same-length-5
     returns)

@@ -1,20 +1,19 @@
 use borrow.Author.Needs.{needs}
 use Rattle.search_find.proofs.is_hit.Statement.{statement}
 use Rattle.search_find.proofs.is_hit.Tie as tie
-use Rattle.search_find.proofs.is_hit.Reads as reads
-use Rattle.search_find.proofs.is_hit.Lts as lts
-use Rattle.match_keys.proofs.all_hold.Reads as all-hold-reads
 use Rattle.search_find.specs.Laws.{hit-not, hit-by}
 use borrow.Author.Tests.{eq-eqb, ne-eqb}
 
 returns : tie.Need-returns
 returns c = hit-not (c .before .before .args .cells .now) (c .before .before .args .used) (c .before .before .args .p) (eq-eqb _ _ (c .if1 .taken))
 
-all-hold-requires : tie.Need-all-hold-requires
-all-hold-requires c κs = search needs
-
 returns-2 : tie.Need-returns-2
 returns-2 c = hit-by (c .before .before .before .args .cells .now) (c .before .before .before .args .used) (c .before .before .before .args .p) (ne-eqb _ _ (c .before .if1 .left)) (c .all-hold .result) (c .all-hold .ensures)
 
 pub is-hit-spec : {M : Type 1} → statement M
-is-hit-spec = tie.close (tie.spec returns all-hold-requires returns-2)
+is-hit-spec =
+    tie.close
+    (tie.spec
+    returns
+    (λ c κs. search needs)  -- all-hold-requires
+    returns-2)

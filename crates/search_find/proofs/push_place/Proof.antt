@@ -1,21 +1,7 @@
 use borrow.Author.Needs.{needs}
 use Rattle.search_find.proofs.push_place.Statement.{statement}
 use Rattle.search_find.proofs.push_place.Tie as tie
-use Rattle.search_find.proofs.push_place.Reads as reads
-use Rattle.search_find.proofs.push_place.Lts as lts
 use Rattle.search_find.specs.Laws.{pushed-on, pushed-off}
-
-mul-list : tie.Need-mul-list
-mul-list c = search needs
-
-slice-write-list : tie.Need-slice-write-list
-slice-write-list c = search needs
-
-add-result : tie.Need-add-result
-add-result c = search needs
-
-same-length : tie.Need-same-length
-same-length c = search needs
 
 returns : tie.Need-returns
 returns c = pushed-on (c .before .args .list .now) (c .before .args .r) (c .before .args .x) (c .before .args .on) (c .if1 .taken)
@@ -25,4 +11,11 @@ returns-2 c = pushed-off (c .before .args .list .now) (c .before .args .r) (c .b
 
 pub push-place-spec : {M : Type 1} → statement M
 push-place-spec =
-    tie.close (tie.spec mul-list slice-write-list add-result same-length returns returns-2)
+    tie.close
+    (tie.spec
+    (λ c. search needs)  -- mul-list
+    (λ c. search needs)  -- slice-write-list
+    (λ c. search needs)  -- add-result
+    (λ c. search needs)  -- same-length
+    returns
+    returns-2)

@@ -1,28 +1,15 @@
 use borrow.Author.Needs.{needs}
 use Rattle.search_find.proofs.search_box.Statement.{statement}
 use Rattle.search_find.proofs.search_box.Tie as tie
-use Rattle.search_find.proofs.search_box.Reads as reads
-use Rattle.search_find.proofs.search_box.Lts as lts
-use Rattle.search_find.proofs.find.Reads as find-reads
-use Rattle.order_messages.proofs.links.by_uid.Reads as by-uid-reads
 use Rattle.search_find.specs.Searched.{order-few, box-searched}
 use Rattle.table_messages.specs.Words.{messages}
 use native.Mathlib.Omega.{arith}
-
-by-uid-requires : tie.Need-by-uid-requires
-by-uid-requires c κs = search needs
 
 find-requires : tie.Need-find-requires
 find-requires c κs =
     let a = c .before .before .before .before .before .before .before .before .before .before .before .args in
     let f = order-few (messages (a .words .now)) (a .used) (a .id) _ (c .before .before .before .before .by-uid .result) (c .before .before .before .before .by-uid .ensures) in
     (omega arith, omega arith, c .before .before .before .before .before .before .before .before .before .before .before .pre .1 .1)
-
-same-length : tie.Need-same-length
-same-length c = search needs
-
-same-length-2 : tie.Need-same-length-2
-same-length-2 c = search needs
 
 returns : tie.Need-returns
 returns c =
@@ -31,4 +18,10 @@ returns c =
 
 pub search-box-spec : {M : Type 1} → statement M
 search-box-spec =
-    tie.close (tie.spec by-uid-requires find-requires same-length same-length-2 returns)
+    tie.close
+    (tie.spec
+    (λ c κs. search needs)  -- by-uid-requires
+    find-requires
+    (λ c. search needs)  -- same-length
+    (λ c. search needs)  -- same-length-2
+    returns)

@@ -1,17 +1,9 @@
 use borrow.Author.Needs.{needs}
 use Rattle.search_find.proofs.search_view.Statement.{statement}
 use Rattle.search_find.proofs.search_view.Tie as tie
-use Rattle.search_find.proofs.search_view.Reads as reads
-use Rattle.search_find.proofs.search_view.Lts as lts
-use Rattle.search_find.proofs.find.Reads as find-reads
-use Rattle.search_find.proofs.told_of.Reads as told-of-reads
-use Rattle.order_messages.proofs.links.by_uid.Reads as by-uid-reads
 use Rattle.search_find.specs.Searched.{order-few, view-searched}
 use Rattle.table_messages.specs.Words.{messages}
 use native.Mathlib.Omega.{arith}
-
-by-uid-requires : tie.Need-by-uid-requires
-by-uid-requires c κs = search needs
 
 told-of-requires : tie.Need-told-of-requires
 told-of-requires c κs =
@@ -27,15 +19,6 @@ find-requires c κs =
     let d = c .before .before .before .before .told-of .ensures .long in
     (omega arith, omega arith, c .before .before .before .before .before .before .before .before .before .before .before .before .before .before .before .before .before .pre .1 .1)
 
-same-length : tie.Need-same-length
-same-length c = search needs
-
-same-length-2 : tie.Need-same-length-2
-same-length-2 c = search needs
-
-same-length-3 : tie.Need-same-length-3
-same-length-3 c = search needs
-
 returns : tie.Need-returns
 returns c =
     let a = c .before .before .before .before .before .before .before .before .before .before .before .before .before .before .before .before .before .before .before .before .args in
@@ -45,10 +28,10 @@ pub search-view-spec : {M : Type 1} → statement M
 search-view-spec =
     tie.close
     (tie.spec
-    by-uid-requires
+    (λ c κs. search needs)  -- by-uid-requires
     told-of-requires
     find-requires
-    same-length
-    same-length-2
-    same-length-3
+    (λ c. search needs)  -- same-length
+    (λ c. search needs)  -- same-length-2
+    (λ c. search needs)  -- same-length-3
     returns)

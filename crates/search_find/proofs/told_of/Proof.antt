@@ -1,8 +1,5 @@
 use Rattle.search_find.proofs.told_of.Statement.{statement}
 use Rattle.search_find.proofs.told_of.Tie as tie
-use Rattle.search_find.proofs.told_of.Reads as reads
-use Rattle.search_find.proofs.told_of.Lts as lts
-use Rattle.search_find.proofs.push_place.Reads as push-place-reads
 use Rattle.search_find.specs.Laws.{Keeping, keeping-start, keeping-next, keeping-end}
 use Rattle.table_messages.specs.Words.{messages}
 use native.Mathlib.Omega.{arith}
@@ -19,23 +16,8 @@ abbrev μ-loop : tie.MeasureT-loop
 loop-holds : tie.Need-loop-holds Inv-loop μ-loop
 loop-holds c = keeping-start (messages (c .before .before .before .args .words .now)) (c .before .before .before .args .order .now) (c .before .before .before .args .n) (c .before .before .before .args .told .0) (c .before .before .before .args .view .now)
 
-mul-place : tie.Need-mul-place Inv-loop μ-loop
-mul-place c = search needs
-
-shared-slice-read-place : tie.Need-shared-slice-read-place Inv-loop μ-loop
-shared-slice-read-place c = search needs
-
-entry-requires : tie.Need-entry-requires Inv-loop μ-loop
-entry-requires c κs = search needs
-
 push-place-requires : tie.Need-push-place-requires Inv-loop μ-loop
 push-place-requires c κs = let f = c .before .before .before .before .before .before .loop .inv .few in let g = c .before .before .before .before .before .before .loop .inv .long in omega arith
-
-add-i : tie.Need-add-i Inv-loop μ-loop
-add-i c = search needs
-
-loop-less : tie.Need-loop-less Inv-loop μ-loop
-loop-less c = search needs
 
 loop-again : tie.Need-loop-again Inv-loop μ-loop
 loop-again c =
@@ -57,12 +39,12 @@ told-of-spec =
     Inv-loop
     μ-loop
     loop-holds
-    mul-place
-    shared-slice-read-place
-    entry-requires
+    (λ c. search needs)  -- mul-place
+    (λ c. search needs)  -- shared-slice-read-place
+    (λ c κs. search needs)  -- entry-requires
     push-place-requires
-    add-i
-    loop-less
+    (λ c. search needs)  -- add-i
+    (λ c. search needs)  -- loop-less
     loop-again
     same-length
     returns)

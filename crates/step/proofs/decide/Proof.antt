@@ -7,30 +7,12 @@ use Rattle.step.specs.Served.{law-ready, steps-unlawful, steps-bad, step
 use Rattle.step.proofs.decide.Statement.{statement}
 use Rattle.step.proofs.decide.Tie as tie
 
-is-lawful-requires : tie.Need-is-lawful-requires
-is-lawful-requires c κs = search needs
-
-refused-requires : tie.Need-refused-requires
-refused-requires c κs = search needs
-
-same-length : tie.Need-same-length
-same-length c = search needs
-
 returns : tie.Need-returns
 returns c =
     let a = c .before .before .before .before .before .before .before .args in
     λ rows seen. steps-unlawful rows (a .lent) (a .words .now) (a .counts) (a .s) (a .queue .now) (a .octets .now) _
     (λ t w. sym (not-true _ (c .before .if1 .taken)) ∙ c .before .before .is-lawful .ensures t rows (a .queue .now) w (seen .stands .laid) refl)
     (c .refused .ensures)
-
-read-requires : tie.Need-read-requires
-read-requires c κs = search needs
-
-refused-requires-2 : tie.Need-refused-requires-2
-refused-requires-2 c κs = search needs
-
-same-length-2 : tie.Need-same-length-2
-same-length-2 c = search needs
 
 returns-2 : tie.Need-returns-2
 returns-2 c =
@@ -48,12 +30,6 @@ serve-requires c κs =
     (λ t w. sym (c .before .before .before .before .before .before .is-lawful .ensures t (p .0) (a .queue .now) w (p .1 .stands .laid) refl) ∙ not-false _ (c .before .before .before .before .before .if1 .left)) in
     (l .0, l .1, c .before .before .before .before .read .ensures, not-false _ (c .before .before .if2 .left))
 
-same-length-3 : tie.Need-same-length-3
-same-length-3 c = search needs
-
-same-length-4 : tie.Need-same-length-4
-same-length-4 c = search needs
-
 returns-3 : tie.Need-returns-3
 returns-3 c =
     let a = c .before .before .before .before .before .before .before .before .before .before .before .before .before .before .before .before .args in
@@ -64,4 +40,17 @@ returns-3 c =
 
 pub decide-spec : {M : Type 1} → statement M
 decide-spec =
-    tie.close (tie.spec is-lawful-requires refused-requires same-length returns read-requires refused-requires-2 same-length-2 returns-2 serve-requires same-length-3 same-length-4 returns-3)
+    tie.close
+    (tie.spec
+    (λ c κs. search needs)  -- is-lawful-requires
+    (λ c κs. search needs)  -- refused-requires
+    (λ c. search needs)  -- same-length
+    returns
+    (λ c κs. search needs)  -- read-requires
+    (λ c κs. search needs)  -- refused-requires-2
+    (λ c. search needs)  -- same-length-2
+    returns-2
+    serve-requires
+    (λ c. search needs)  -- same-length-3
+    (λ c. search needs)  -- same-length-4
+    returns-3)

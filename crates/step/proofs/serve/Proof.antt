@@ -12,26 +12,8 @@ use Rattle.step.specs.Served.{placed}
 use Rattle.step.proofs.serve.Statement.{statement}
 use Rattle.step.proofs.serve.Tie as tie
 
-array-read-sought-id : tie.Need-array-read-sought-id
-array-read-sought-id c = search needs
-
-sought-id-requires : tie.Need-sought-id-requires
-sought-id-requires c κs = search needs
-
-find-requires : tie.Need-find-requires
-find-requires c κs = search needs
-
-row-at-requires : tie.Need-row-at-requires
-row-at-requires c κs = search needs
-
 dispatch-requires : tie.Need-dispatch-requires
 dispatch-requires c κs = let p = c .before .before .before .before .before .before .before .before .before .pre in (p .0, p .1, read-says (p .2) (p .3) _ refl, p .2 .kind)
-
-same-length : tie.Need-same-length
-same-length c = search needs
-
-same-length-2 : tie.Need-same-length-2
-same-length-2 c = search needs
 
 returns : tie.Need-returns
 returns c =
@@ -48,11 +30,11 @@ pub serve-spec : {M : Type 1} → statement M
 serve-spec =
     tie.close
     (tie.spec
-    array-read-sought-id
-    sought-id-requires
-    find-requires
-    row-at-requires
+    (λ c. search needs)  -- array-read-sought-id
+    (λ c κs. search needs)  -- sought-id-requires
+    (λ c κs. search needs)  -- find-requires
+    (λ c κs. search needs)  -- row-at-requires
     dispatch-requires
-    same-length
-    same-length-2
+    (λ c. search needs)  -- same-length
+    (λ c. search needs)  -- same-length-2
     returns)

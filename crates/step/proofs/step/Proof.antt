@@ -26,19 +26,10 @@ narrow-rows (x ∷ l) [] s k h = absurd s
 narrow-rows (x ∷ l) (u ∷ us) s zero h = narrow-row x (u ∷ []) (s .0)
 narrow-rows (x ∷ l) (u ∷ us) s (suc k) h = narrow-rows l us (s .1) k (omega arith)
 
-lay-requires : tie.Need-lay-requires
-lay-requires c κs = search needs
-
 decide-requires : tie.Need-decide-requires
 decide-requires c κs =
     let s = c .before .before .before .before .before .before .before .before .before .before .before .before .before .before .before .before .before .before .before .before in
     (s .args .table, record { long = s .good .0 .1 .0 .1; stands = record { laid = c .before .before .before .before .before .before .before .before .before .lay .ensures; narrow = narrow-take (s .args .table) (s .args .counts .mailboxes) (narrow-rows (s .args .table) _ (s .good .0 .1 .1)) } })
-
-same-length : tie.Need-same-length
-same-length c = search needs
-
-same-length-2 : tie.Need-same-length-2
-same-length-2 c = search needs
 
 returns : tie.Need-returns
 returns c =
@@ -47,4 +38,11 @@ returns c =
     (record { long = s .good .0 .1 .0 .1; stands = record { laid = c .before .before .before .before .before .before .before .before .before .before .before .before .before .before .lay .ensures; narrow = narrow-take (s .args .table) (s .args .counts .mailboxes) (narrow-rows (s .args .table) _ (s .good .0 .1 .1)) } })
 
 pub step-spec : {M : Type 1} → statement M
-step-spec = tie.close (tie.spec lay-requires decide-requires same-length same-length-2 returns)
+step-spec =
+    tie.close
+    (tie.spec
+    (λ c κs. search needs)  -- lay-requires
+    decide-requires
+    (λ c. search needs)  -- same-length
+    (λ c. search needs)  -- same-length-2
+    returns)

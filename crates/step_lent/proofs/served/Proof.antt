@@ -54,7 +54,6 @@ use Rattle.lent_rows.specs.Rows.{within, loaded, loaded-length}
 use Rattle.lent_rows.specs.Standing.{Lays, stands-loaded}
 use denote.Struct.Laws as LL
 use Rattle.model.proofs.Mailbox as T
-use Rattle.model.proofs.Mailbox.Laws as T′
 use Rattle.model.proofs.Counts as N
 use Rattle.model.proofs.Counts.Laws as N′
 use Rattle.model.proofs.Session as S

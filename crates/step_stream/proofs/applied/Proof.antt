@@ -5,21 +5,6 @@ use borrow.Author.Needs.{needs}
 use Rattle.step_stream.proofs.applied.Statement.{statement}
 use Rattle.step_stream.proofs.applied.Tie as tie
 
-enum-told : tie.Need-enum-told
-enum-told c = search needs
-
-enum-told-2 : tie.Need-enum-told-2
-enum-told-2 c = search needs
-
-put-row-requires : tie.Need-put-row-requires
-put-row-requires c κs = search needs
-
-enum-told-3 : tie.Need-enum-told-3
-enum-told-3 c = search needs
-
-take-out-requires : tie.Need-take-out-requires
-take-out-requires c κs = search needs
-
 returns : tie.Need-returns
 returns c = λ h. changed-nothing _ _ _ _ _ (c .enum-told .given .1)
 
@@ -33,11 +18,11 @@ pub applied-spec : {M : Type 1} → statement M
 applied-spec =
     tie.close
     (tie.spec
-    enum-told
-    enum-told-2
-    put-row-requires
-    enum-told-3
-    take-out-requires
+    (λ c. search needs)  -- enum-told
+    (λ c. search needs)  -- enum-told-2
+    (λ c κs. search needs)  -- put-row-requires
+    (λ c. search needs)  -- enum-told-3
+    (λ c κs. search needs)  -- take-out-requires
     returns
     returns-2
     returns-3)

@@ -7,26 +7,8 @@ use borrow.Author.Needs.{needs}
 use Rattle.step_stream.proofs.put.Statement.{statement}
 use Rattle.step_stream.proofs.put.Tie as tie
 
-add-end : tie.Need-add-end
-add-end c = search needs
-
 returns : tie.Need-returns
 returns c = put-past _ _ _ _ _ (omega arith) refl (omega arith)
-
-sub-put : tie.Need-sub-put
-sub-put c = search needs
-
-part-put-start : tie.Need-part-put-start
-part-put-start c = search needs
-
-part-put-end : tie.Need-part-put-end
-part-put-end c = search needs
-
-put-requires : tie.Need-put-requires
-put-requires c κs = search needs
-
-same-length : tie.Need-same-length
-same-length c = search needs
 
 returns-2 : tie.Need-returns-2
 returns-2 c =
@@ -37,11 +19,11 @@ pub put-spec : {M : Type 1} → statement M
 put-spec =
     tie.close
     (tie.spec
-    add-end
+    (λ c. search needs)  -- add-end
     returns
-    sub-put
-    part-put-start
-    part-put-end
-    put-requires
-    same-length
+    (λ c. search needs)  -- sub-put
+    (λ c. search needs)  -- part-put-start
+    (λ c. search needs)  -- part-put-end
+    (λ c κs. search needs)  -- put-requires
+    (λ c. search needs)  -- same-length
     returns-2)

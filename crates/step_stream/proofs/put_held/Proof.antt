@@ -7,12 +7,6 @@ use borrow.Author.Needs.{needs}
 use Rattle.step_stream.proofs.put_held.Statement.{statement}
 use Rattle.step_stream.proofs.put_held.Tie as tie
 
-put-requires : tie.Need-put-requires
-put-requires c κs = search needs
-
-same-length : tie.Need-same-length
-same-length c = search needs
-
 returns : tie.Need-returns
 returns c =
     let a = c .before .before .before .before .before .before .before .args in
@@ -28,9 +22,6 @@ put-requires-2 c κs =
     let l = length-take-le (a .filled) (a .queue .now) (omega arith) in
     (omega arith, omega arith)
 
-same-length-2 : tie.Need-same-length-2
-same-length-2 c = search needs
-
 returns-2 : tie.Need-returns-2
 returns-2 c =
     let a = c .before .before .before .before .before .before .before .before .args in
@@ -42,10 +33,10 @@ pub put-held-spec : {M : Type 1} → statement M
 put-held-spec =
     tie.close
     (tie.spec
-    put-requires
-    same-length
+    (λ c κs. search needs)  -- put-requires
+    (λ c. search needs)  -- same-length
     returns
     slice-aggregate-put
     put-requires-2
-    same-length-2
+    (λ c. search needs)  -- same-length-2
     returns-2)

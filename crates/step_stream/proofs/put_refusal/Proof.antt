@@ -10,25 +10,10 @@ use borrow.Author.Needs.{needs}
 use Rattle.step_stream.proofs.put_refusal.Statement.{statement}
 use Rattle.step_stream.proofs.put_refusal.Tie as tie
 
-number-of-requires : tie.Need-number-of-requires
-number-of-requires c κs = search needs
-
 returns : tie.Need-returns
 returns c =
     let a = c .before .before .before .args in
     (put-as (put-none (a .out .now) (a .at) (length (a .out .now)) (omega arith)) (ap refusalText (sym (c .if1 .taken) ∙ c .before .number-of .ensures .0)), omega arith)
-
-add-t7 : tie.Need-add-t7
-add-t7 c = search needs
-
-slice-aggregate-put : tie.Need-slice-aggregate-put
-slice-aggregate-put c = search needs
-
-put-requires : tie.Need-put-requires
-put-requires c κs = search needs
-
-same-length : tie.Need-same-length
-same-length c = search needs
 
 returns-2 : tie.Need-returns-2
 returns-2 c =
@@ -41,10 +26,10 @@ pub put-refusal-spec : {M : Type 1} → statement M
 put-refusal-spec =
     tie.close
     (tie.spec
-    number-of-requires
+    (λ c κs. search needs)  -- number-of-requires
     returns
-    add-t7
-    slice-aggregate-put
-    put-requires
-    same-length
+    (λ c. search needs)  -- add-t7
+    (λ c. search needs)  -- slice-aggregate-put
+    (λ c κs. search needs)  -- put-requires
+    (λ c. search needs)  -- same-length
     returns-2)

@@ -6,14 +6,13 @@ use borrow.Author.Needs.{needs}
 use Rattle.step_stream.proofs.put_row.Statement.{statement}
 use Rattle.step_stream.proofs.put_row.Tie as tie
 
-put-row-requires : tie.Need-put-row-requires
-put-row-requires c κs = search needs
-
-returns : tie.Need-returns
-returns c = search needs
-
 returns-2 : tie.Need-returns-2
 returns-2 c = sym (set-out _ _ _ (omega arith))
 
 pub put-row-spec : {M : Type 1} → statement M
-put-row-spec = tie.close (tie.spec put-row-requires returns returns-2)
+put-row-spec =
+    tie.close
+    (tie.spec
+    (λ c κs. search needs)  -- put-row-requires
+    (λ c. search needs)  -- returns
+    returns-2)

@@ -7,23 +7,11 @@ use borrow.Author.Needs.{needs}
 use Rattle.step_stream.proofs.record_size.Statement.{statement}
 use Rattle.step_stream.proofs.record_size.Tie as tie
 
-sub-left : tie.Need-sub-left
-sub-left c = search needs
-
 returns : tie.Need-returns
 returns c =
     let a = c .before .before .args in
     let l = length-drop (a .at) (a .stream .now) in
     cuts (a .stream .now) (a .at) _ (c .before .before .pre .0) (sym l ∙ size-short (drop (a .at) (a .stream .now)) (omega arith))
-
-add-little : tie.Need-add-little
-add-little c = search needs
-
-little-requires : tie.Need-little-requires
-little-requires c κs = search needs
-
-add-size : tie.Need-add-size
-add-size c = search needs
 
 returns-2 : tie.Need-returns-2
 returns-2 c =
@@ -41,4 +29,12 @@ returns-3 c =
 
 pub record-size-spec : {M : Type 1} → statement M
 record-size-spec =
-    tie.close (tie.spec sub-left returns add-little little-requires add-size returns-2 returns-3)
+    tie.close
+    (tie.spec
+    (λ c. search needs)  -- sub-left
+    returns
+    (λ c. search needs)  -- add-little
+    (λ c κs. search needs)  -- little-requires
+    (λ c. search needs)  -- add-size
+    returns-2
+    returns-3)

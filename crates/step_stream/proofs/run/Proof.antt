@@ -9,18 +9,6 @@ use Rattle.step_stream.proofs.run.Tie as tie
 returns : tie.Need-returns
 returns c = λ h. absurd (let z : ⊥ = omega arith in z)
 
-slice-aggregate-walk : tie.Need-slice-aggregate-walk
-slice-aggregate-walk c = search needs
-
-slice-aggregate-walk-2 : tie.Need-slice-aggregate-walk-2
-slice-aggregate-walk-2 c = search needs
-
-walk-requires : tie.Need-walk-requires
-walk-requires c κs = search needs
-
-same-length : tie.Need-same-length
-same-length c = search needs
-
 returns-2 : tie.Need-returns-2
 returns-2 c = λ h. put-as (c .before .before .before .before .walk .ensures) (start-is (c .before .before .before .before .before .before .before .before .before .before .before .args .stream .now))
 
@@ -29,8 +17,8 @@ run-spec =
     tie.close
     (tie.spec
     returns
-    slice-aggregate-walk
-    slice-aggregate-walk-2
-    walk-requires
-    same-length
+    (λ c. search needs)  -- slice-aggregate-walk
+    (λ c. search needs)  -- slice-aggregate-walk-2
+    (λ c κs. search needs)  -- walk-requires
+    (λ c. search needs)  -- same-length
     returns-2)

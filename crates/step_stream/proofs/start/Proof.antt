@@ -6,11 +6,12 @@ use borrow.Author.Needs.{needs}
 use Rattle.step_stream.proofs.start.Statement.{statement}
 use Rattle.step_stream.proofs.start.Tie as tie
 
-vacant-requires : tie.Need-vacant-requires
-vacant-requires c κs = search needs
-
 returns : tie.Need-returns
 returns c = (ap (λ (x : Mailbox). replicate 64 x) (c .vacant .ensures), refl, refl, refl)
 
 pub start-spec : {M : Type 1} → statement M
-start-spec = tie.close (tie.spec vacant-requires returns)
+start-spec =
+    tie.close
+    (tie.spec
+    (λ c κs. search needs)  -- vacant-requires
+    returns)

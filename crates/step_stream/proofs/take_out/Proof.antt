@@ -6,23 +6,11 @@ use borrow.Author.Needs.{needs}
 use Rattle.step_stream.proofs.take_out.Statement.{statement}
 use Rattle.step_stream.proofs.take_out.Tie as tie
 
-few-requires : tie.Need-few-requires
-few-requires c κs = search needs
-
 returns : tie.Need-returns
 returns c = λ h. let a = c .before .before .args in absurd (taken-none (a .table) (omega arith) (a .at) _ (a .used) (c .before .few .ensures) (c .if1 .taken) h)
 
-close-up-requires : tie.Need-close-up-requires
-close-up-requires c κs = search needs
-
 returns-2 : tie.Need-returns-2
 returns-2 c = λ h. let a = c .before .before .before .before .args in c .close-up .ensures ∙ taken-early (a .table) (omega arith) (a .at) _ (a .used) (c .before .before .before .few .ensures) (c .before .if2 .taken)
-
-sub-close-up : tie.Need-sub-close-up
-sub-close-up c = search needs
-
-close-up-requires-2 : tie.Need-close-up-requires-2
-close-up-requires-2 c κs = search needs
 
 returns-3 : tie.Need-returns-3
 returns-3 c = λ h. let a = c .before .before .before .before .args in c .close-up2 .ensures ∙ taken-late (a .table) (omega arith) (a .at) _ (a .used) (c .before .before .before .few .ensures) (c .before .if2 .left) h
@@ -31,10 +19,10 @@ pub take-out-spec : {M : Type 1} → statement M
 take-out-spec =
     tie.close
     (tie.spec
-    few-requires
+    (λ c κs. search needs)  -- few-requires
     returns
-    close-up-requires
+    (λ c κs. search needs)  -- close-up-requires
     returns-2
-    sub-close-up
-    close-up-requires-2
+    (λ c. search needs)  -- sub-close-up
+    (λ c κs. search needs)  -- close-up-requires-2
     returns-3)

@@ -8,27 +8,6 @@ use borrow.Author.Needs.{needs}
 use Rattle.step_stream.proofs.turn.Statement.{statement}
 use Rattle.step_stream.proofs.turn.Tie as tie
 
-step-requires : tie.Need-step-requires
-step-requires c κs = search needs
-
-put-refusal-requires : tie.Need-put-refusal-requires
-put-refusal-requires c κs = search needs
-
-put-held-requires : tie.Need-put-held-requires
-put-held-requires c κs = search needs
-
-drained-requires : tie.Need-drained-requires
-drained-requires c κs = search needs
-
-same-length : tie.Need-same-length
-same-length c = search needs
-
-same-length-2 : tie.Need-same-length-2
-same-length-2 c = search needs
-
-same-length-3 : tie.Need-same-length-3
-same-length-3 c = search needs
-
 returns : tie.Need-returns
 returns c =
     let a = c .before .before .before .before .before .before .before .before .before .before .before .before .before .before .before .before .before .before .before .before .before .before .before .before .args in
@@ -47,11 +26,11 @@ pub turn-spec : {M : Type 1} → statement M
 turn-spec =
     tie.close
     (tie.spec
-    step-requires
-    put-refusal-requires
-    put-held-requires
-    drained-requires
-    same-length
-    same-length-2
-    same-length-3
+    (λ c κs. search needs)  -- step-requires
+    (λ c κs. search needs)  -- put-refusal-requires
+    (λ c κs. search needs)  -- put-held-requires
+    (λ c κs. search needs)  -- drained-requires
+    (λ c. search needs)  -- same-length
+    (λ c. search needs)  -- same-length-2
+    (λ c. search needs)  -- same-length-3
     returns)

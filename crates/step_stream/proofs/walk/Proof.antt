@@ -19,9 +19,6 @@ Inv-loop stream words₀ queue₀ out₀ s₀ i₀ words queue out s i =
 abbrev μ-loop : tie.MeasureT-loop
 μ-loop stream words₀ queue₀ out₀ s₀ i₀ words queue out s i = length stream - i
 
-start-requires : tie.Need-start-requires Inv-loop μ-loop
-start-requires c κs = search needs
-
 loop-holds : tie.Need-loop-holds Inv-loop μ-loop
 loop-holds c =
     let a = c .before .before .before .before .before .args in
@@ -33,15 +30,6 @@ record-size-requires c κs = (c .loop-test .taken, c .before .before .before .be
 
 add-e : tie.Need-add-e Inv-loop μ-loop
 add-e c = let z = c .record-size .ensures .within in search needs
-
-sub-turn : tie.Need-sub-turn Inv-loop μ-loop
-sub-turn c = search needs
-
-part-turn-start : tie.Need-part-turn-start Inv-loop μ-loop
-part-turn-start c = search needs
-
-part-turn-end : tie.Need-part-turn-end Inv-loop μ-loop
-part-turn-end c = search needs
 
 turn-requires : tie.Need-turn-requires Inv-loop μ-loop
 turn-requires c κs =
@@ -59,15 +47,6 @@ loop-again c =
     let v = c .before .before .before .before .before .before .before .before .before .before .before .before .before .loop .inv in
     (search needs, search needs, running-next (v .2) (c .before .before .before .before .before .before .before .before .before .before .before .record-size .ensures) (c .before .before .before .before .before .before .turn .ensures))
 
-same-length : tie.Need-same-length Inv-loop μ-loop
-same-length c = search needs
-
-same-length-2 : tie.Need-same-length-2 Inv-loop μ-loop
-same-length-2 c = search needs
-
-same-length-3 : tie.Need-same-length-3 Inv-loop μ-loop
-same-length-3 c = search needs
-
 returns : tie.Need-returns Inv-loop μ-loop
 returns c = running-end (c .before .loop .inv .2) (c .loop-test .left)
 
@@ -77,17 +56,17 @@ walk-spec =
     (tie.spec
     Inv-loop
     μ-loop
-    start-requires
+    (λ c κs. search needs)  -- start-requires
     loop-holds
     record-size-requires
     add-e
-    sub-turn
-    part-turn-start
-    part-turn-end
+    (λ c. search needs)  -- sub-turn
+    (λ c. search needs)  -- part-turn-start
+    (λ c. search needs)  -- part-turn-end
     turn-requires
     loop-less
     loop-again
-    same-length
-    same-length-2
-    same-length-3
+    (λ c. search needs)  -- same-length
+    (λ c. search needs)  -- same-length-2
+    (λ c. search needs)  -- same-length-3
     returns)

@@ -10,12 +10,6 @@ use Rattle.table_messages.specs.Words.{messages}
 use Rattle.table_mailboxes.specs.Columns.{zero-at}
 use Rattle.table_counts.specs.Tally.{apart-ids, Apart}
 
-guesses-requires : tie.Need-guesses-requires
-guesses-requires c κs = search needs
-
-slice-aggregate-tally-all : tie.Need-slice-aggregate-tally-all
-slice-aggregate-tally-all c = search needs
-
 tally-all-requires : tie.Need-tally-all-requires
 tally-all-requires c κs = (c .before .before .before .before .pre .0, c .before .before .before .before .pre .1, c .before .before .before .before .pre .2, c .before .before .before .before .pre .2, λ k. zero-at 64 k)
 
@@ -28,4 +22,9 @@ returns c =
 
 pub count-spec : {M : Type 1} → statement M
 count-spec =
-    tie.close (tie.spec guesses-requires slice-aggregate-tally-all tally-all-requires returns)
+    tie.close
+    (tie.spec
+    (λ c κs. search needs)  -- guesses-requires
+    (λ c. search needs)  -- slice-aggregate-tally-all
+    tally-all-requires
+    returns)

@@ -5,39 +5,18 @@ use Prim.Native.Nat.{_-_}
 use native.Mathlib.Omega.{arith}
 use Rattle.table_counts.specs.Tally.{tally-gone, tally-none, tally-one}
 
-get-requires : tie.Need-get-requires
-get-requires c κs = search needs
-
 returns : tie.Need-returns
 returns c =
     let args = c .before .before .before .before .before .args in
     rw (← c .before .before .get .ensures) (tally-gone (args .ids .now) (args .n) (c .before .before .get .result) (args .i) (args .counts .now) (c .before .before .before .before .before .pre .4) (c .if1 .taken))
-
-row-of-requires : tie.Need-row-of-requires
-row-of-requires c κs = search needs
 
 returns-2 : tie.Need-returns-2
 returns-2 c =
     let args = c .before .before .before .before .before .before .before .args in
     rw (← c .before .before .before .before .get .ensures) (tally-none (args .ids .now) (args .n) (c .before .before .before .before .get .result) (args .i) (args .counts .now) (c .before .before .before .before .before .before .before .pre .4) (c .before .row-of .result) (c .before .row-of .ensures) (c .if2 .taken))
 
-mul-c : tie.Need-mul-c
-mul-c c = search needs
-
-slice-read-c : tie.Need-slice-read-c
-slice-read-c c = search needs
-
 add-counts : tie.Need-add-counts
 add-counts c = let z = c .before .before .before .before .before .before .before .before .pre .4 (c .before .before .row-of .result) in omega arith
-
-mul-counts : tie.Need-mul-counts
-mul-counts c = search needs
-
-slice-write-counts : tie.Need-slice-write-counts
-slice-write-counts c = search needs
-
-same-length : tie.Need-same-length
-same-length c = search needs
 
 returns-3 : tie.Need-returns-3
 returns-3 c =
@@ -48,14 +27,14 @@ pub tally-spec : {M : Type 1} → statement M
 tally-spec =
     tie.close
     (tie.spec
-    get-requires
+    (λ c κs. search needs)  -- get-requires
     returns
-    row-of-requires
+    (λ c κs. search needs)  -- row-of-requires
     returns-2
-    mul-c
-    slice-read-c
+    (λ c. search needs)  -- mul-c
+    (λ c. search needs)  -- slice-read-c
     add-counts
-    mul-counts
-    slice-write-counts
-    same-length
+    (λ c. search needs)  -- mul-counts
+    (λ c. search needs)  -- slice-write-counts
+    (λ c. search needs)  -- same-length
     returns-3)

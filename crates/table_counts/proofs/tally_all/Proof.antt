@@ -20,20 +20,11 @@ loop-holds c = (search needs, refl, λ k. (let z = c .before .before .pre .4 k i
 tally-requires : tie.Need-tally-requires Inv-loop μ-loop
 tally-requires c κs = (omega arith, c .before .before .before .before .before .pre .2, omega arith, omega arith, c .before .before .loop .inv .2)
 
-add-i : tie.Need-add-i Inv-loop μ-loop
-add-i c = search needs
-
-loop-less : tie.Need-loop-less Inv-loop μ-loop
-loop-less c = search needs
-
 loop-again : tie.Need-loop-again Inv-loop μ-loop
 loop-again c =
     let args = c .before .before .before .before .before .before .before .before .args in
     let turn = c .before .before .before .before .before .loop in
     (search needs, c .before .before .tally .ensures .long ∙ turn .inv .1, c .before .before .tally .ensures .below, λ a. (let z = messages-length (args .used) (args .words .now) (c .before .before .before .before .before .before .before .before .pre .0) in counted-next (args .ids .now) (args .n) (messages (args .words .now)) (turn .i) (turn .counts) _ (omega arith) (c .before .before .tally .ensures) a (turn .inv .3 a)))
-
-same-length : tie.Need-same-length Inv-loop μ-loop
-same-length c = search needs
 
 returns : tie.Need-returns Inv-loop μ-loop
 returns c =
@@ -49,8 +40,8 @@ tally-all-spec =
     μ-loop
     loop-holds
     tally-requires
-    add-i
-    loop-less
+    (λ c. search needs)  -- add-i
+    (λ c. search needs)  -- loop-less
     loop-again
-    same-length
+    (λ c. search needs)  -- same-length
     returns)

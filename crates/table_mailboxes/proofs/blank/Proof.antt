@@ -16,18 +16,6 @@ abbrev μ-loop : tie.MeasureT-loop
 loop-holds : tie.Need-loop-holds Inv-loop μ-loop
 loop-holds c = (search needs, refl, λ k h. absurd (let z : ⊥ = omega arith in z))
 
-mul-column : tie.Need-mul-column Inv-loop μ-loop
-mul-column c = search needs
-
-slice-write-column : tie.Need-slice-write-column Inv-loop μ-loop
-slice-write-column c = search needs
-
-add-i : tie.Need-add-i Inv-loop μ-loop
-add-i c = search needs
-
-loop-less : tie.Need-loop-less Inv-loop μ-loop
-loop-less c = search needs
-
 loop-again : tie.Need-loop-again Inv-loop μ-loop
 loop-again c = (search needs, simp length-set (c .before .loop .inv .1), zeros-next (c .before .loop .column) (c .before .loop .i) (omega arith) (c .before .loop .inv .2))
 
@@ -44,10 +32,10 @@ blank-spec =
     Inv-loop
     μ-loop
     loop-holds
-    mul-column
-    slice-write-column
-    add-i
-    loop-less
+    (λ c. search needs)  -- mul-column
+    (λ c. search needs)  -- slice-write-column
+    (λ c. search needs)  -- add-i
+    (λ c. search needs)  -- loop-less
     loop-again
     same-length
     returns)

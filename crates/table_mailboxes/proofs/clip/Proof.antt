@@ -5,11 +5,12 @@ use native.Mathlib.Omega.{arith}
 use mathlib.Core.Path.{sym, _∙_}
 use lib.Seq.{take-all}
 
-returns : tie.Need-returns
-returns c = search needs
-
 returns-2 : tie.Need-returns-2
 returns-2 c = (omega arith, λ l h. take-all 64 l (omega arith) ∙ sym (take-all (c .before .args .long) l (omega arith)))
 
 pub clip-spec : {M : Type 1} → statement M
-clip-spec = tie.close (tie.spec returns returns-2)
+clip-spec =
+    tie.close
+    (tie.spec
+    (λ c. search needs)  -- returns
+    returns-2)

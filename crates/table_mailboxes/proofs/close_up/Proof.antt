@@ -21,44 +21,11 @@ abbrev μ-loop : tie.MeasureT-loop
 loop-holds : tie.Need-loop-holds Inv-loop μ-loop
 loop-holds c = let long : length (c .args .rows) ≡ 64 = search (needs, mapped-length) in (search needs, search needs, over-start (c .args .k) (c .args .rows) (omega arith))
 
-add-loop : tie.Need-add-loop Inv-loop μ-loop
-add-loop c = search needs
-
-add-x : tie.Need-add-x Inv-loop μ-loop
-add-x c = search needs
-
-mul-x : tie.Need-mul-x Inv-loop μ-loop
-mul-x c = search needs
-
-array-copy-out-x : tie.Need-array-copy-out-x Inv-loop μ-loop
-array-copy-out-x c = search needs
-
-mul-t : tie.Need-mul-t Inv-loop μ-loop
-mul-t c = search needs
-
-array-set-from-t : tie.Need-array-set-from-t Inv-loop μ-loop
-array-set-from-t c = search needs
-
-add-i : tie.Need-add-i Inv-loop μ-loop
-add-i c = search needs
-
-loop-less : tie.Need-loop-less Inv-loop μ-loop
-loop-less c = search needs
-
 loop-again : tie.Need-loop-again Inv-loop μ-loop
 loop-again c =
     let args = c .before .before .before .args in
     let turn = c .before .before .loop in
     let long : length (args .rows) ≡ 64 = search (needs, mapped-length) in (search needs, search needs, ap (λ (l : List Mailbox). set l (turn .i) (getD l (turn .i + 1) vacant)) (turn .inv .2) ∙ shift-step (args .k) (args .rows) (turn .i) vacant (omega arith) (omega arith))
-
-vacant-requires : tie.Need-vacant-requires Inv-loop μ-loop
-vacant-requires c κs = search needs
-
-mul-t-2 : tie.Need-mul-t-2 Inv-loop μ-loop
-mul-t-2 c = search needs
-
-array-set-from-t-2 : tie.Need-array-set-from-t-2 Inv-loop μ-loop
-array-set-from-t-2 c = search needs
 
 returns : tie.Need-returns Inv-loop μ-loop
 returns c =
@@ -73,16 +40,16 @@ close-up-spec =
     Inv-loop
     μ-loop
     loop-holds
-    add-loop
-    add-x
-    mul-x
-    array-copy-out-x
-    mul-t
-    array-set-from-t
-    add-i
-    loop-less
+    (λ c. search needs)  -- add-loop
+    (λ c. search needs)  -- add-x
+    (λ c. search needs)  -- mul-x
+    (λ c. search needs)  -- array-copy-out-x
+    (λ c. search needs)  -- mul-t
+    (λ c. search needs)  -- array-set-from-t
+    (λ c. search needs)  -- add-i
+    (λ c. search needs)  -- loop-less
     loop-again
-    vacant-requires
-    mul-t-2
-    array-set-from-t-2
+    (λ c κs. search needs)  -- vacant-requires
+    (λ c. search needs)  -- mul-t-2
+    (λ c. search needs)  -- array-set-from-t-2
     returns)

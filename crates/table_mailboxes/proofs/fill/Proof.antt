@@ -15,70 +15,10 @@ Inv-loop n ids₀ attributes₀ lens₀ validities₀ nexts₀ counters₀ names
 abbrev μ-loop : tie.MeasureT-loop
 μ-loop n ids₀ attributes₀ lens₀ validities₀ nexts₀ counters₀ names₀ rows i₀ ids attributes lens validities nexts counters names i = n - i
 
-blank-requires : tie.Need-blank-requires Inv-loop μ-loop
-blank-requires c κs = search needs
-
 loop-holds : tie.Need-loop-holds Inv-loop μ-loop
 loop-holds c =
     let start = c .before .before .before .before .before .before .before .before .before .before .before in
     (search needs, filling-start (start .args .t1) _ _ _ _ _ _ _ (start .pre .1) (start .pre .2) (start .pre .3) (start .pre .4) (c .before .before .blank .ensures .1 ∙ start .pre .5) (start .pre .6) (start .pre .7) (c .before .before .blank .ensures .0))
-
-mul-x : tie.Need-mul-x Inv-loop μ-loop
-mul-x c = search needs
-
-array-copy-out-x : tie.Need-array-copy-out-x Inv-loop μ-loop
-array-copy-out-x c = search needs
-
-wide-id-requires : tie.Need-wide-id-requires Inv-loop μ-loop
-wide-id-requires c κs = search needs
-
-mul-ids : tie.Need-mul-ids Inv-loop μ-loop
-mul-ids c = search needs
-
-slice-write-ids : tie.Need-slice-write-ids Inv-loop μ-loop
-slice-write-ids c = search needs
-
-slice-write-attributes : tie.Need-slice-write-attributes Inv-loop μ-loop
-slice-write-attributes c = search needs
-
-slice-write-lens : tie.Need-slice-write-lens Inv-loop μ-loop
-slice-write-lens c = search needs
-
-wide-number-requires : tie.Need-wide-number-requires Inv-loop μ-loop
-wide-number-requires c κs = search needs
-
-mul-validities : tie.Need-mul-validities Inv-loop μ-loop
-mul-validities c = search needs
-
-slice-write-validities : tie.Need-slice-write-validities Inv-loop μ-loop
-slice-write-validities c = search needs
-
-wide-number-requires-2 : tie.Need-wide-number-requires-2 Inv-loop μ-loop
-wide-number-requires-2 c κs = search needs
-
-mul-nexts : tie.Need-mul-nexts Inv-loop μ-loop
-mul-nexts c = search needs
-
-slice-write-nexts : tie.Need-slice-write-nexts Inv-loop μ-loop
-slice-write-nexts c = search needs
-
-joined-requires : tie.Need-joined-requires Inv-loop μ-loop
-joined-requires c κs = search needs
-
-mul-counters : tie.Need-mul-counters Inv-loop μ-loop
-mul-counters c = search needs
-
-slice-write-counters : tie.Need-slice-write-counters Inv-loop μ-loop
-slice-write-counters c = search needs
-
-keep-name-requires : tie.Need-keep-name-requires Inv-loop μ-loop
-keep-name-requires c κs = search needs
-
-add-i : tie.Need-add-i Inv-loop μ-loop
-add-i c = search needs
-
-loop-less : tie.Need-loop-less Inv-loop μ-loop
-loop-less c = search needs
 
 loop-again : tie.Need-loop-again Inv-loop μ-loop
 loop-again c =
@@ -123,27 +63,27 @@ fill-spec =
     (tie.spec
     Inv-loop
     μ-loop
-    blank-requires
+    (λ c κs. search needs)  -- blank-requires
     loop-holds
-    mul-x
-    array-copy-out-x
-    wide-id-requires
-    mul-ids
-    slice-write-ids
-    slice-write-attributes
-    slice-write-lens
-    wide-number-requires
-    mul-validities
-    slice-write-validities
-    wide-number-requires-2
-    mul-nexts
-    slice-write-nexts
-    joined-requires
-    mul-counters
-    slice-write-counters
-    keep-name-requires
-    add-i
-    loop-less
+    (λ c. search needs)  -- mul-x
+    (λ c. search needs)  -- array-copy-out-x
+    (λ c κs. search needs)  -- wide-id-requires
+    (λ c. search needs)  -- mul-ids
+    (λ c. search needs)  -- slice-write-ids
+    (λ c. search needs)  -- slice-write-attributes
+    (λ c. search needs)  -- slice-write-lens
+    (λ c κs. search needs)  -- wide-number-requires
+    (λ c. search needs)  -- mul-validities
+    (λ c. search needs)  -- slice-write-validities
+    (λ c κs. search needs)  -- wide-number-requires-2
+    (λ c. search needs)  -- mul-nexts
+    (λ c. search needs)  -- slice-write-nexts
+    (λ c κs. search needs)  -- joined-requires
+    (λ c. search needs)  -- mul-counters
+    (λ c. search needs)  -- slice-write-counters
+    (λ c κs. search needs)  -- keep-name-requires
+    (λ c. search needs)  -- add-i
+    (λ c. search needs)  -- loop-less
     loop-again
     same-length
     same-length-2

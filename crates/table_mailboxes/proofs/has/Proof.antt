@@ -16,12 +16,6 @@ abbrev μ-loop : tie.MeasureT-loop
 loop-holds : tie.Need-loop-holds Inv-loop μ-loop
 loop-holds c = refl
 
-sub-i : tie.Need-sub-i Inv-loop μ-loop
-sub-i c = search needs
-
-loop-less : tie.Need-loop-less Inv-loop μ-loop
-loop-less c = search needs
-
 loop-again : tie.Need-loop-again Inv-loop μ-loop
 loop-again c = c .before .loop .inv ∙ bit-down (c .before .loop .i) (c .before .loop .n) (omega arith)
 
@@ -29,4 +23,13 @@ returns : tie.Need-returns Inv-loop μ-loop
 returns c = let z : c .before .loop .i ≡ 0 = omega arith in sym (c .before .loop .inv ∙ ap (λ (j : ℕ). bit j (c .before .loop .n)) z)
 
 pub has-spec : {M : Type 1} → statement M
-has-spec = tie.close (tie.spec Inv-loop μ-loop loop-holds sub-i loop-less loop-again returns)
+has-spec =
+    tie.close
+    (tie.spec
+    Inv-loop
+    μ-loop
+    loop-holds
+    (λ c. search needs)  -- sub-i
+    (λ c. search needs)  -- loop-less
+    loop-again
+    returns)

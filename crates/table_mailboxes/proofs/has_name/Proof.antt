@@ -4,24 +4,6 @@ use Rattle.table_mailboxes.proofs.has_name.Tie as tie
 use mathlib.Core.Path.{_≡_}
 use lib.ListN.{length}
 
-mul-from : tie.Need-mul-from
-mul-from c = search needs
-
-name-end-requires : tie.Need-name-end-requires
-name-end-requires c κs = search needs
-
-sub-same : tie.Need-sub-same
-sub-same c = search needs
-
-part-same-start : tie.Need-part-same-start
-part-same-start c = search needs
-
-part-same-end : tie.Need-part-same-end
-part-same-end c = search needs
-
-same-requires : tie.Need-same-requires
-same-requires c κs = search needs
-
 returns : tie.Need-returns
 returns c =
     let args = c .before .before .before .before .before .args in
@@ -31,10 +13,10 @@ pub has-name-spec : {M : Type 1} → statement M
 has-name-spec =
     tie.close
     (tie.spec
-    mul-from
-    name-end-requires
-    sub-same
-    part-same-start
-    part-same-end
-    same-requires
+    (λ c. search needs)  -- mul-from
+    (λ c κs. search needs)  -- name-end-requires
+    (λ c. search needs)  -- sub-same
+    (λ c. search needs)  -- part-same-start
+    (λ c. search needs)  -- part-same-end
+    (λ c κs. search needs)  -- same-requires
     returns)

@@ -22,9 +22,6 @@ abbrev μ-loop : tie.MeasureT-loop
 loop-holds : tie.Need-loop-holds Inv-loop μ-loop
 loop-holds c = (search needs, λ l h p q r. refl)
 
-is-another-requires : tie.Need-is-another-requires Inv-loop μ-loop
-is-another-requires c κs = search needs
-
 returns : tie.Need-returns Inv-loop μ-loop
 returns c =
     let args = c .before .before .before .before .before .args in
@@ -32,12 +29,6 @@ returns c =
     λ l h p q r.
     let at = holds-at l (args .ids .now) (args .lens .now) (args .names .now) (turn .i) (args .id) (args .name .now) p q r (omega arith) in
     sym (turn .inv .1 l h p q r ∙ any-found (holds (args .id) (args .name .now)) l (turn .i) noMailbox (omega arith) (sym (c .before .is-another .ensures ∙ at) ∙ c .if1 .taken))
-
-add-i : tie.Need-add-i Inv-loop μ-loop
-add-i c = search needs
-
-loop-less : tie.Need-loop-less Inv-loop μ-loop
-loop-less c = search needs
 
 loop-again : tie.Need-loop-again Inv-loop μ-loop
 loop-again c =
@@ -62,9 +53,9 @@ is-held-spec =
     Inv-loop
     μ-loop
     loop-holds
-    is-another-requires
+    (λ c κs. search needs)  -- is-another-requires
     returns
-    add-i
-    loop-less
+    (λ c. search needs)  -- add-i
+    (λ c. search needs)  -- loop-less
     loop-again
     returns-2)

@@ -14,26 +14,8 @@ Inv-loop names₀ k name at j₀ names j = (j ≤ 64) × (length names ≡ 4096)
 abbrev μ-loop : tie.MeasureT-loop
 μ-loop names₀ k name at j₀ names j = 64 - j
 
-mul-at : tie.Need-mul-at Inv-loop μ-loop
-mul-at c = search needs
-
 loop-holds : tie.Need-loop-holds Inv-loop μ-loop
 loop-holds c = (search needs, search needs, refl, paste-zero (c .args .names .now) (64 * c .args .k) (c .args .t3))
-
-array-read-names : tie.Need-array-read-names Inv-loop μ-loop
-array-read-names c = search needs
-
-add-names : tie.Need-add-names Inv-loop μ-loop
-add-names c = search needs
-
-slice-write-names : tie.Need-slice-write-names Inv-loop μ-loop
-slice-write-names c = search needs
-
-add-j : tie.Need-add-j Inv-loop μ-loop
-add-j c = search needs
-
-loop-less : tie.Need-loop-less Inv-loop μ-loop
-loop-less c = search needs
 
 loop-again : tie.Need-loop-again Inv-loop μ-loop
 loop-again c =
@@ -59,13 +41,13 @@ keep-name-spec =
     (tie.spec
     Inv-loop
     μ-loop
-    mul-at
+    (λ c. search needs)  -- mul-at
     loop-holds
-    array-read-names
-    add-names
-    slice-write-names
-    add-j
-    loop-less
+    (λ c. search needs)  -- array-read-names
+    (λ c. search needs)  -- add-names
+    (λ c. search needs)  -- slice-write-names
+    (λ c. search needs)  -- add-j
+    (λ c. search needs)  -- loop-less
     loop-again
     same-length
     returns)

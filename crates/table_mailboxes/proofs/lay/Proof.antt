@@ -5,16 +5,15 @@ use borrow.Author.Needs.{needs}
 use Rattle.table_mailboxes.proofs.lay.Statement.{statement}
 use Rattle.table_mailboxes.proofs.lay.Tie as tie
 
-few-requires : tie.Need-few-requires
-few-requires c κs = search needs
-
-fill-requires : tie.Need-fill-requires
-fill-requires c κs = search needs
-
 returns : tie.Need-returns
 returns c =
     let args = c .before .before .before .before .before .before .before .before .before .args in
     let long : length (args .rows) ≡ 64 = search (needs, mapped-length) in rw (← c .before .before .before .before .before .before .before .before .few .ensures .1 (args .rows) long) (c .fill .ensures)
 
 pub lay-spec : {M : Type 1} → statement M
-lay-spec = tie.close (tie.spec few-requires fill-requires returns)
+lay-spec =
+    tie.close
+    (tie.spec
+    (λ c κs. search needs)  -- few-requires
+    (λ c κs. search needs)  -- fill-requires
+    returns)

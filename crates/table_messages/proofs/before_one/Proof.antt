@@ -1,14 +1,8 @@
 use borrow.Author.Needs.{needs}
 use Rattle.table_messages.proofs.before_one.Statement.{statement}
 use Rattle.table_messages.proofs.before_one.Tie as tie
-use Rattle.table_messages.proofs.before_one.Reads as reads
-use Rattle.table_messages.proofs.before_one.Lts as lts
-use Rattle.table_messages.proofs.get.Reads as get-reads
 use native.Mathlib.Omega.{arith}
 use Rattle.table_messages.specs.Counted.{before, off-other, off-new, off-late, on-before}
-
-get-requires : tie.Need-get-requires
-get-requires c κs = search needs
 
 returns : tie.Need-returns
 returns c = let a = c .before .before .before .before .args in (off-other (a .mailbox) (a .told .0) (a .uid .0) (c .before .before .get .result) _ (c .before .before .get .ensures) (c .if1 .taken), omega arith)
@@ -23,4 +17,11 @@ returns-4 : tie.Need-returns-4
 returns-4 c = let a = c .before .before .before .before .before .before .before .before .before .before .args in (on-before (a .mailbox) (a .told .0) (a .uid .0) (c .before .before .before .before .before .before .before .before .get .result) _ (c .before .before .before .before .before .before .before .before .get .ensures) (c .before .before .before .before .before .before .if1 .left) (c .before .before .before .if2 .left) (c .if3 .left), omega arith)
 
 pub before-one-spec : {M : Type 1} → statement M
-before-one-spec = tie.close (tie.spec get-requires returns returns-2 returns-3 returns-4)
+before-one-spec =
+    tie.close
+    (tie.spec
+    (λ c κs. search needs)  -- get-requires
+    returns
+    returns-2
+    returns-3
+    returns-4)

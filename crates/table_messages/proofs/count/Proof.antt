@@ -8,17 +8,14 @@ use lib.ListN.{take}
 use Rattle.table_messages.specs.Words.{messages}
 use Rattle.table_messages.specs.Counted.{existing-count}
 
-tally-all-requires : tie.Need-tally-all-requires
-tally-all-requires c κs = search needs
-
 returns : tie.Need-returns
 returns c = let a = c .before .before .before .before .args in c .before .before .tally-all .ensures (omega arith) ∙ sym (existing-count (a .mailbox) (take (a .used) (messages (a .words .now))))
 
-count-each-requires : tie.Need-count-each-requires
-count-each-requires c κs = search needs
-
-returns-2 : tie.Need-returns-2
-returns-2 c = search needs
-
 pub count-spec : {M : Type 1} → statement M
-count-spec = tie.close (tie.spec tally-all-requires returns count-each-requires returns-2)
+count-spec =
+    tie.close
+    (tie.spec
+    (λ c κs. search needs)  -- tally-all-requires
+    returns
+    (λ c κs. search needs)  -- count-each-requires
+    (λ c. search needs))  -- returns-2

@@ -1,8 +1,5 @@
 use Rattle.table_messages.proofs.count_each.Statement.{statement}
 use Rattle.table_messages.proofs.count_each.Tie as tie
-use Rattle.table_messages.proofs.count_each.Reads as reads
-use Rattle.table_messages.proofs.count_each.Lts as lts
-use Rattle.table_messages.proofs.count_one.Reads as count-one-reads
 use mathlib.Core.Path.{_≡_, refl}
 use Prim.Native.Nat.{_≤_, _-_}
 use native.Mathlib.Omega.{arith}
@@ -21,17 +18,8 @@ abbrev μ-loop : tie.MeasureT-loop
 loop-holds : tie.Need-loop-holds Inv-loop μ-loop
 loop-holds c = (search needs, search needs, refl)
 
-count-one-requires : tie.Need-count-one-requires Inv-loop μ-loop
-count-one-requires c κs = search needs
-
 add-n : tie.Need-add-n Inv-loop μ-loop
 add-n c = omega (arith, c .count-one .ensures .1)
-
-add-i : tie.Need-add-i Inv-loop μ-loop
-add-i c = search needs
-
-loop-less : tie.Need-loop-less Inv-loop μ-loop
-loop-less c = search needs
 
 loop-again : tie.Need-loop-again Inv-loop μ-loop
 loop-again c = (search needs, omega (arith, c .count-one .ensures .1, c .before .before .loop .inv .1), let k = messages-length (c .before .before .before .before .args .used) (c .before .before .before .before .args .words .now) (c .before .before .before .before .pre) in count-next (lives (c .before .before .before .before .args .mailbox)) (messages (c .before .before .before .before .args .words .now)) (c .before .before .loop .i) (c .before .before .loop .n) (c .count-one .result) (omega arith) (c .before .before .loop .inv .2) (c .count-one .ensures .0))
@@ -46,9 +34,9 @@ count-each-spec =
     Inv-loop
     μ-loop
     loop-holds
-    count-one-requires
+    (λ c κs. search needs)  -- count-one-requires
     add-n
-    add-i
-    loop-less
+    (λ c. search needs)  -- add-i
+    (λ c. search needs)  -- loop-less
     loop-again
     returns)

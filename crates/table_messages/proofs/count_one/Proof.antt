@@ -1,14 +1,8 @@
 use borrow.Author.Needs.{needs}
 use Rattle.table_messages.proofs.count_one.Statement.{statement}
 use Rattle.table_messages.proofs.count_one.Tie as tie
-use Rattle.table_messages.proofs.count_one.Reads as reads
-use Rattle.table_messages.proofs.count_one.Lts as lts
-use Rattle.table_messages.proofs.get.Reads as get-reads
 use native.Mathlib.Omega.{arith}
 use Rattle.table_messages.specs.Counted.{one-other, one-gone, one-here}
-
-get-requires : tie.Need-get-requires
-get-requires c κs = search needs
 
 returns : tie.Need-returns
 returns c = (one-other (c .before .before .before .before .args .mailbox) (c .before .before .get .result) _ (c .before .before .get .ensures) (c .if1 .taken), omega arith)
@@ -20,4 +14,10 @@ returns-3 : tie.Need-returns-3
 returns-3 c = (one-here (c .before .before .before .before .before .before .args .mailbox) (c .before .before .before .before .get .result) _ (c .before .before .before .before .get .ensures) (c .before .before .if1 .left) (c .if2 .left), omega arith)
 
 pub count-one-spec : {M : Type 1} → statement M
-count-one-spec = tie.close (tie.spec get-requires returns returns-2 returns-3)
+count-one-spec =
+    tie.close
+    (tie.spec
+    (λ c κs. search needs)  -- get-requires
+    returns
+    returns-2
+    returns-3)

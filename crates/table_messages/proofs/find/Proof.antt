@@ -1,8 +1,5 @@
 use Rattle.table_messages.proofs.find.Statement.{statement}
 use Rattle.table_messages.proofs.find.Tie as tie
-use Rattle.table_messages.proofs.find.Reads as reads
-use Rattle.table_messages.proofs.find.Lts as lts
-use Rattle.table_messages.proofs.is_message.Reads as is-message-reads
 use mathlib.Core.Path.{_≡_, sym, _∙_, ap}
 use Prim.Native.Nat.{_≤_, _+_, _-_}
 use native.Mathlib.Omega.{arith}
@@ -22,9 +19,6 @@ abbrev μ-loop : tie.MeasureT-loop
 loop-holds : tie.Need-loop-holds Inv-loop μ-loop
 loop-holds c = let a = c .before .args in (search needs, first-start (stands (a .mailbox) (a .uid .0)) (take (a .used) (messages (a .words .now))))
 
-is-message-requires : tie.Need-is-message-requires Inv-loop μ-loop
-is-message-requires c κs = search needs
-
 returns : tie.Need-returns Inv-loop μ-loop
 returns c = let a = c .before .before .before .before .before .args in
     let o = c .before .before .before .loop in
@@ -32,12 +26,6 @@ returns c = let a = c .before .before .before .before .before .args in
     let l = length-take-le (a .used) (messages (a .words .now)) k in
     let d = getD-take (a .used) (messages (a .words .now)) (o .i) noMessage (omega arith) in
     first-here (stands (a .mailbox) (a .uid .0)) (take (a .used) (messages (a .words .now))) (o .i) (omega arith) (ap (stands (a .mailbox) (a .uid .0)) d ∙ (sym (c .before .is-message .ensures) ∙ c .if1 .taken)) (o .inv .1)
-
-add-i : tie.Need-add-i Inv-loop μ-loop
-add-i c = search needs
-
-loop-less : tie.Need-loop-less Inv-loop μ-loop
-loop-less c = search needs
 
 loop-again : tie.Need-loop-again Inv-loop μ-loop
 loop-again c = let a = c .before .before .before .before .before .args in
@@ -61,9 +49,9 @@ find-spec =
     Inv-loop
     μ-loop
     loop-holds
-    is-message-requires
+    (λ c κs. search needs)  -- is-message-requires
     returns
-    add-i
-    loop-less
+    (λ c. search needs)  -- add-i
+    (λ c. search needs)  -- loop-less
     loop-again
     returns-2)

@@ -1,13 +1,7 @@
 use borrow.Author.Needs.{needs}
 use Rattle.table_messages.proofs.is_message.Statement.{statement}
 use Rattle.table_messages.proofs.is_message.Tie as tie
-use Rattle.table_messages.proofs.is_message.Reads as reads
-use Rattle.table_messages.proofs.is_message.Lts as lts
-use Rattle.table_messages.proofs.get.Reads as get-reads
 use Rattle.table_messages.specs.Found.{other-box, other-uid, that-one}
-
-get-requires : tie.Need-get-requires
-get-requires c κs = search needs
 
 returns : tie.Need-returns
 returns c = let a = c .before .before .before .before .args in other-box (a .mailbox) (a .uid .0) (c .before .before .get .result) _ (c .before .before .get .ensures) (c .if1 .taken)
@@ -19,4 +13,10 @@ returns-3 : tie.Need-returns-3
 returns-3 c = let a = c .before .before .before .before .before .before .before .before .args in that-one (a .mailbox) (a .uid .0) (c .before .before .before .before .before .before .get .result) _ (c .before .before .before .before .before .before .get .ensures) (c .before .before .before .before .if1 .left) (c .before .if2 .left)
 
 pub is-message-spec : {M : Type 1} → statement M
-is-message-spec = tie.close (tie.spec get-requires returns returns-2 returns-3)
+is-message-spec =
+    tie.close
+    (tie.spec
+    (λ c κs. search needs)  -- get-requires
+    returns
+    returns-2
+    returns-3)

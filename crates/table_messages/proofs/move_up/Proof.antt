@@ -18,34 +18,10 @@ abbrev μ-loop : tie.MeasureT-loop
 loop-holds : tie.Need-loop-holds Inv-loop μ-loop
 loop-holds c = (search needs, search needs, down-start (c .args .words .now))
 
-add-words : tie.Need-add-words Inv-loop μ-loop
-add-words c = search needs
-
-mul-words : tie.Need-mul-words Inv-loop μ-loop
-mul-words c = search needs
-
-slice-read-words : tie.Need-slice-read-words Inv-loop μ-loop
-slice-read-words c = search needs
-
-mul-words-2 : tie.Need-mul-words-2 Inv-loop μ-loop
-mul-words-2 c = search needs
-
-slice-write-words : tie.Need-slice-write-words Inv-loop μ-loop
-slice-write-words c = search needs
-
-add-i : tie.Need-add-i Inv-loop μ-loop
-add-i c = search needs
-
-loop-less : tie.Need-loop-less Inv-loop μ-loop
-loop-less c = search needs
-
 loop-again : tie.Need-loop-again Inv-loop μ-loop
 loop-again c =
     let o = c .before .before .loop in
     (search needs, search needs, rw (o .inv .2) (down-next (c .before .before .before .args .words .now) (o .i) (omega arith)))
-
-same-length : tie.Need-same-length Inv-loop μ-loop
-same-length c = search needs
 
 returns : tie.Need-returns Inv-loop μ-loop
 returns c =
@@ -60,13 +36,13 @@ move-up-spec =
     Inv-loop
     μ-loop
     loop-holds
-    add-words
-    mul-words
-    slice-read-words
-    mul-words-2
-    slice-write-words
-    add-i
-    loop-less
+    (λ c. search needs)  -- add-words
+    (λ c. search needs)  -- mul-words
+    (λ c. search needs)  -- slice-read-words
+    (λ c. search needs)  -- mul-words-2
+    (λ c. search needs)  -- slice-write-words
+    (λ c. search needs)  -- add-i
+    (λ c. search needs)  -- loop-less
     loop-again
-    same-length
+    (λ c. search needs)  -- same-length
     returns)

@@ -1,8 +1,5 @@
 use Rattle.table_messages.proofs.place_of.Statement.{statement}
 use Rattle.table_messages.proofs.place_of.Tie as tie
-use Rattle.table_messages.proofs.place_of.Reads as reads
-use Rattle.table_messages.proofs.place_of.Lts as lts
-use Rattle.table_messages.proofs.before_one.Reads as before-one-reads
 use mathlib.Core.Path.{_≡_, refl}
 use Prim.Native.Nat.{_≤_, _-_}
 use native.Mathlib.Omega.{arith}
@@ -21,23 +18,11 @@ abbrev μ-loop : tie.MeasureT-loop
 loop-holds : tie.Need-loop-holds Inv-loop μ-loop
 loop-holds c = (search needs, search needs, refl)
 
-before-one-requires : tie.Need-before-one-requires Inv-loop μ-loop
-before-one-requires c κs = search needs
-
 add-n : tie.Need-add-n Inv-loop μ-loop
 add-n c = omega (arith, c .before-one .ensures .1)
 
-add-i : tie.Need-add-i Inv-loop μ-loop
-add-i c = search needs
-
-loop-less : tie.Need-loop-less Inv-loop μ-loop
-loop-less c = search needs
-
 loop-again : tie.Need-loop-again Inv-loop μ-loop
 loop-again c = (search needs, omega (arith, c .before-one .ensures .1, c .before .before .loop .inv .1), let k = messages-length (c .before .before .before .before .args .used) (c .before .before .before .before .args .words .now) (c .before .before .before .before .pre) in count-next (before (c .before .before .before .before .args .mailbox) (c .before .before .before .before .args .told .0) (c .before .before .before .before .args .uid .0)) (messages (c .before .before .before .before .args .words .now)) (c .before .before .loop .i) (c .before .before .loop .n) (c .before-one .result) (omega arith) (c .before .before .loop .inv .2) (c .before-one .ensures .0))
-
-add-place : tie.Need-add-place Inv-loop μ-loop
-add-place c = search needs
 
 returns : tie.Need-returns Inv-loop μ-loop
 returns c = place-end (before (c .before .before .before .args .mailbox) (c .before .before .before .args .told .0) (c .before .before .before .args .uid .0)) (messages (c .before .before .before .args .words .now)) (c .before .loop .i) (c .before .before .before .args .used) (c .before .loop .n) (omega arith) (c .before .loop .inv .2)
@@ -49,10 +34,10 @@ place-of-spec =
     Inv-loop
     μ-loop
     loop-holds
-    before-one-requires
+    (λ c κs. search needs)  -- before-one-requires
     add-n
-    add-i
-    loop-less
+    (λ c. search needs)  -- add-i
+    (λ c. search needs)  -- loop-less
     loop-again
-    add-place
+    (λ c. search needs)  -- add-place
     returns)

@@ -7,20 +7,8 @@ use lib.ListN.{take}
 use Rattle.table_messages.specs.Words.{messages}
 use Rattle.table_messages.specs.Swept.{kept, settled, unsettled}
 
-is-idle-requires : tie.Need-is-idle-requires
-is-idle-requires c κs = search needs
-
 returns : tie.Need-returns
 returns c = unsettled (c .before .before .before .args .sweep) (c .before .before .before .args .words .now) (c .before .before .before .args .used) (c .before .before .before .pre) (sym (c .before .is-idle .ensures) ∙ c .if1 .taken)
-
-compact-requires : tie.Need-compact-requires
-compact-requires c κs = search needs
-
-wipe-requires : tie.Need-wipe-requires
-wipe-requires c κs = search needs
-
-same-length : tie.Need-same-length
-same-length c = search needs
 
 returns-2 : tie.Need-returns-2
 returns-2 c = let a = c .before .before .before .before .before .before .before .before .before .before .before .args in
@@ -30,4 +18,10 @@ returns-2 c = let a = c .before .before .before .before .before .before .before 
 pub settle-spec : {M : Type 1} → statement M
 settle-spec =
     tie.close
-    (tie.spec is-idle-requires returns compact-requires wipe-requires same-length returns-2)
+    (tie.spec
+    (λ c κs. search needs)  -- is-idle-requires
+    returns
+    (λ c κs. search needs)  -- compact-requires
+    (λ c κs. search needs)  -- wipe-requires
+    (λ c. search needs)  -- same-length
+    returns-2)

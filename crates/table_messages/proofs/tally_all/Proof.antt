@@ -19,29 +19,8 @@ abbrev μ-loop : tie.MeasureT-loop
 loop-holds : tie.Need-loop-holds Inv-loop μ-loop
 loop-holds c = (search needs, search needs, λ z. refl)
 
-of-one-requires : tie.Need-of-one-requires Inv-loop μ-loop
-of-one-requires c κs = search needs
-
 add-count : tie.Need-add-count Inv-loop μ-loop
 add-count c = omega (arith, c .of-one .ensures .1)
-
-mul-states : tie.Need-mul-states Inv-loop μ-loop
-mul-states c = search needs
-
-add-states : tie.Need-add-states Inv-loop μ-loop
-add-states c = search needs
-
-mul-states-2 : tie.Need-mul-states-2 Inv-loop μ-loop
-mul-states-2 c = search needs
-
-shared-slice-read-states : tie.Need-shared-slice-read-states Inv-loop μ-loop
-shared-slice-read-states c = search needs
-
-add-i : tie.Need-add-i Inv-loop μ-loop
-add-i c = search needs
-
-loop-less : tie.Need-loop-less Inv-loop μ-loop
-loop-less c = search needs
 
 loop-again : tie.Need-loop-again Inv-loop μ-loop
 loop-again c =
@@ -60,13 +39,13 @@ tally-all-spec =
     Inv-loop
     μ-loop
     loop-holds
-    of-one-requires
+    (λ c κs. search needs)  -- of-one-requires
     add-count
-    mul-states
-    add-states
-    mul-states-2
-    shared-slice-read-states
-    add-i
-    loop-less
+    (λ c. search needs)  -- mul-states
+    (λ c. search needs)  -- add-states
+    (λ c. search needs)  -- mul-states-2
+    (λ c. search needs)  -- shared-slice-read-states
+    (λ c. search needs)  -- add-i
+    (λ c. search needs)  -- loop-less
     loop-again
     returns)

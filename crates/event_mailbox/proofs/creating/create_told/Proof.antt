@@ -7,11 +7,13 @@ use borrow.Author.Tests.{eq-eqb, ne-eqb}
 returns : tie.Need-returns
 returns c = rw (ne-eqb _ 0 (c .if1 .taken))
 
-noticed-requires : tie.Need-noticed-requires
-noticed-requires c κs = search needs
-
 returns-2 : tie.Need-returns-2
 returns-2 c = rw (eq-eqb _ 0 (c .before .if1 .left)) (c .noticed .ensures)
 
 pub create-told-spec : {M : Type 1} → statement M
-create-told-spec = tie.close (tie.spec returns noticed-requires returns-2)
+create-told-spec =
+    tie.close
+    (tie.spec
+    returns
+    (λ c κs. search needs)  -- noticed-requires
+    returns-2)

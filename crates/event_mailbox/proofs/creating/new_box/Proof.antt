@@ -11,18 +11,15 @@ use Prim.Native.Nat.{ℕ, _/_, _%_}
 abbrev made : ℕ → ℕ → ℕ → ℕ → LentName → Mailbox
 made i a v k n = record { id = i; attributes = a; namelen = n .len; uidvalidity = v; uidnext = 1; counterlow = k % 4294967296; counterhigh = k / 4294967296; name = n .octets }
 
-stored-requires : tie.Need-stored-requires
-stored-requires c κs = search needs
-
-low-half-requires : tie.Need-low-half-requires
-low-half-requires c κs = search needs
-
-high-half-requires : tie.Need-high-half-requires
-high-half-requires c κs = search needs
-
 returns : tie.Need-returns
 returns c = let a = c .before .before .before .before .before .args in
     rw (c .before .low-half .ensures, c .high-half .ensures) (ap (made (a .id) (a .a) (a .validity) (a .counter)) (c .before .before .before .stored .ensures))
 
 pub new-box-spec : {M : Type 1} → statement M
-new-box-spec = tie.close (tie.spec stored-requires low-half-requires high-half-requires returns)
+new-box-spec =
+    tie.close
+    (tie.spec
+    (λ c κs. search needs)  -- stored-requires
+    (λ c κs. search needs)  -- low-half-requires
+    (λ c κs. search needs)  -- high-half-requires
+    returns)

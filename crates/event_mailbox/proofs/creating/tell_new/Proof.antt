@@ -7,12 +7,6 @@ use native.Mathlib.Omega.{arith}
 use Rattle.event_mailbox.specs.Free.{sizes, create-free}
 use Rattle.event_mailbox.specs.Creating.{create-leaves}
 
-create-told-requires : tie.Need-create-told-requires
-create-told-requires c κs = search needs
-
-mark-of-requires : tie.Need-mark-of-requires
-mark-of-requires c κs = search needs
-
 tell-row-requires : tie.Need-tell-row-requires
 tell-row-requires c κs = let a = c .before .before .before .before .args in
     let z = sizes _ _ _ (c .before .before .before .before .pre) in (
@@ -23,9 +17,6 @@ tell-row-requires c κs = let a = c .before .before .before .before .args in
           (sym (c .before .before .create-told .ensures) ∙ e),
     )
 
-same-length : tie.Need-same-length
-same-length c = search needs
-
 returns : tie.Need-returns
 returns c = let a = c .before .before .before .before .before .before .before .before .args in
     create-leaves (a .queue .now) (a .s) (a .filled) (a .x) (a .quiet) (c .before .before .before .before .before .before .create-told .ensures)
@@ -34,4 +25,9 @@ returns c = let a = c .before .before .before .before .before .before .before .b
 pub tell-new-spec : {M : Type 1} → statement M
 tell-new-spec =
     tie.close
-    (tie.spec create-told-requires mark-of-requires tell-row-requires same-length returns)
+    (tie.spec
+    (λ c κs. search needs)  -- create-told-requires
+    (λ c κs. search needs)  -- mark-of-requires
+    tell-row-requires
+    (λ c. search needs)  -- same-length
+    returns)

@@ -6,19 +6,19 @@ use mathlib.Core.Path.{sym, _∙_}
 use native.Mathlib.Omega.{arith}
 use Rattle.event_mailbox.specs.Free.{sizes, create-free}
 
-create-told-requires : tie.Need-create-told-requires
-create-told-requires c κs = search needs
-
 tell-row-requires : tie.Need-tell-row-requires
 tell-row-requires c κs = let a = c .before .before .before .args in
     let z = sizes _ _ _ (c .before .before .before .pre) in
     (omega arith, omega arith, omega arith, λ e. create-free _ _ _ (c .before .before .before .pre) (a .x) (a .quiet) (sym (c .before .create-told .ensures) ∙ e))
 
-same-length : tie.Need-same-length
-same-length c = search needs
-
 returns : tie.Need-returns
 returns c = rw (← c .before .before .before .before .create-told .ensures) (c .before .before .tell-row .ensures)
 
 pub delete-spec : {M : Type 1} → statement M
-delete-spec = tie.close (tie.spec create-told-requires tell-row-requires same-length returns)
+delete-spec =
+    tie.close
+    (tie.spec
+    (λ c κs. search needs)  -- create-told-requires
+    tell-row-requires
+    (λ c. search needs)  -- same-length
+    returns)

@@ -8,15 +8,6 @@ use Rattle.model.specs.Names.{argument}
 use Rattle.event_mailbox.specs.Free.{sizes, rename-free}
 use Rattle.event_mailbox.specs.Renaming.{rename-leaves}
 
-with-name-requires : tie.Need-with-name-requires
-with-name-requires c κs = search needs
-
-rename-told-requires : tie.Need-rename-told-requires
-rename-told-requires c κs = search needs
-
-mark-of-requires : tie.Need-mark-of-requires
-mark-of-requires c κs = search needs
-
 tell-rows-requires : tie.Need-tell-rows-requires
 tell-rows-requires c κs = let a = c .before .before .before .before .before .before .args in
     let z = sizes _ _ _ (c .before .before .before .before .before .before .pre) in (
@@ -26,9 +17,6 @@ tell-rows-requires c κs = let a = c .before .before .before .before .before .be
       λ e. rename-free _ _ _ (c .before .before .before .before .before .before .pre) (a .x)
           (c .before .before .before .with-name .result) (a .quiet) (sym (c .before .before .rename-told .ensures) ∙ e),
     )
-
-same-length : tie.Need-same-length
-same-length c = search needs
 
 returns : tie.Need-returns
 returns c = let a = c .before .before .before .before .before .before .before .before .before .before .args in
@@ -40,9 +28,9 @@ pub rename-spec : {M : Type 1} → statement M
 rename-spec =
     tie.close
     (tie.spec
-    with-name-requires
-    rename-told-requires
-    mark-of-requires
+    (λ c κs. search needs)  -- with-name-requires
+    (λ c κs. search needs)  -- rename-told-requires
+    (λ c κs. search needs)  -- mark-of-requires
     tell-rows-requires
-    same-length
+    (λ c. search needs)  -- same-length
     returns)

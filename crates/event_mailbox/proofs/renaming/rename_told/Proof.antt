@@ -13,16 +13,10 @@ returns : tie.Need-returns
 returns c = let a = c .before .args in
     told-loud (eqb (a .quiet) 0) (bothRights (a .x)) (askedOf (a .s) (a .x) asksName) (askedOf (a .s) (a .y) asksName) (ne-eqb _ 0 (c .if1 .taken))
 
-both-requires : tie.Need-both-requires
-both-requires c κs = search needs
-
 returns-2 : tie.Need-returns-2
 returns-2 c = let a = c .before .before .before .args in
     told-rights (eqb (a .quiet) 0) (bothRights (a .x)) (askedOf (a .s) (a .x) asksName) (askedOf (a .s) (a .y) asksName)
     (eq-eqb _ 0 (c .before .before .if1 .left)) (sym (c .before .both .ensures) ∙ not-true _ (c .if2 .taken))
-
-is-asked-of-requires : tie.Need-is-asked-of-requires
-is-asked-of-requires c κs = search needs
 
 returns-3 : tie.Need-returns-3
 returns-3 c = let a = c .before .before .before .before .before .args in
@@ -30,9 +24,6 @@ returns-3 c = let a = c .before .before .before .before .before .args in
     (eq-eqb _ 0 (c .before .before .before .before .if1 .left))
     (sym (c .before .before .before .both .ensures) ∙ not-false _ (c .before .before .if2 .left))
     (sym (c .before .is-asked-of .ensures) ∙ c .if3 .taken)
-
-is-asked-of-requires-2 : tie.Need-is-asked-of-requires-2
-is-asked-of-requires-2 c κs = search needs
 
 returns-4 : tie.Need-returns-4
 returns-4 c = let a = c .before .before .before .before .before .before .args in
@@ -46,9 +37,9 @@ rename-told-spec =
     tie.close
     (tie.spec
     returns
-    both-requires
+    (λ c κs. search needs)  -- both-requires
     returns-2
-    is-asked-of-requires
+    (λ c κs. search needs)  -- is-asked-of-requires
     returns-3
-    is-asked-of-requires-2
+    (λ c κs. search needs)  -- is-asked-of-requires-2
     returns-4)

@@ -6,20 +6,8 @@ use mathlib.Core.Path.{sym}
 use native.Mathlib.Omega.{arith}
 use lib.Seq.{length-take-le}
 
-name-end-requires : tie.Need-name-end-requires
-name-end-requires c κs = search needs
-
-name-end-requires-2 : tie.Need-name-end-requires-2
-name-end-requires-2 c κs = search needs
-
-array-share-prefix-new : tie.Need-array-share-prefix-new
-array-share-prefix-new c = search needs
-
 slice-aggregate-say-renamed : tie.Need-slice-aggregate-say-renamed
 slice-aggregate-say-renamed c = let lx = c .before .before .before .name-end .ensures .1 in sym (length-take-le _ _ (omega arith))
-
-array-share-prefix-old : tie.Need-array-share-prefix-old
-array-share-prefix-old c = search needs
 
 slice-aggregate-say-renamed-2 : tie.Need-slice-aggregate-say-renamed-2
 slice-aggregate-say-renamed-2 c = let lx = c .before .before .before .name-end2 .ensures .1 in sym (length-take-le _ _ (omega arith))
@@ -33,9 +21,6 @@ say-renamed-requires c κs =
     let q = length-take-le (x .result) (a .x .name) (omega (arith, x .ensures .0, x .ensures .1)) in
     omega (arith, p, q, y .ensures .0, x .ensures .0, c .before .before .before .before .before .before .before .before .pre)
 
-same-length : tie.Need-same-length
-same-length c = search needs
-
 returns : tie.Need-returns
 returns c =
     rw (
@@ -48,12 +33,12 @@ pub say-rows-spec : {M : Type 1} → statement M
 say-rows-spec =
     tie.close
     (tie.spec
-    name-end-requires
-    name-end-requires-2
-    array-share-prefix-new
+    (λ c κs. search needs)  -- name-end-requires
+    (λ c κs. search needs)  -- name-end-requires-2
+    (λ c. search needs)  -- array-share-prefix-new
     slice-aggregate-say-renamed
-    array-share-prefix-old
+    (λ c. search needs)  -- array-share-prefix-old
     slice-aggregate-say-renamed-2
     say-renamed-requires
-    same-length
+    (λ c. search needs)  -- same-length
     returns)

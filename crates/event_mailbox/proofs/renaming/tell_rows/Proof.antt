@@ -17,19 +17,10 @@ returns c = let a = c .before .before .args in
 say-rows-requires : tie.Need-say-rows-requires
 say-rows-requires c κs = let f = c .before .before .before .pre .3 (not-false _ (c .before .if1 .left)) in omega arith
 
-same-length : tie.Need-same-length
-same-length c = search needs
-
 returns-2 : tie.Need-returns-2
 returns-2 c = let a = c .before .before .before .before .before .before .before .args in
     hears-fits (a .queue .now) (a .s) (a .filled) (a .on) (render (renamed (markOf (a .mark)) (nameOf (a .y)) (nameOf (a .x)))) _ _
     (not-false _ (c .before .before .before .before .before .if1 .left)) (rw (c .if2 .taken) at (c .before .before .before .say-rows .ensures))
-
-silence-requires : tie.Need-silence-requires
-silence-requires c κs = search needs
-
-same-length-2 : tie.Need-same-length-2
-same-length-2 c = search needs
 
 returns-3 : tie.Need-returns-3
 returns-3 c = let a = c .before .before .before .before .before .before .before .before .args in
@@ -43,8 +34,8 @@ tell-rows-spec =
     (tie.spec
     returns
     say-rows-requires
-    same-length
+    (λ c. search needs)  -- same-length
     returns-2
-    silence-requires
-    same-length-2
+    (λ c κs. search needs)  -- silence-requires
+    (λ c. search needs)  -- same-length-2
     returns-3)

@@ -10,11 +10,12 @@ use Rattle.model.specs.declared.Mailbox.{Mailbox}
 abbrev named : Mailbox → LentName → Mailbox
 named x n = record { id = x .id; attributes = x .attributes; namelen = n .len; uidvalidity = x .uidvalidity; uidnext = x .uidnext; counterlow = x .counterlow; counterhigh = x .counterhigh; name = n .octets }
 
-stored-requires : tie.Need-stored-requires
-stored-requires c κs = search needs
-
 returns : tie.Need-returns
 returns c = ap (named (c .before .before .before .args .x)) (c .before .stored .ensures)
 
 pub with-name-spec : {M : Type 1} → statement M
-with-name-spec = tie.close (tie.spec stored-requires returns)
+with-name-spec =
+    tie.close
+    (tie.spec
+    (λ c κs. search needs)  -- stored-requires
+    returns)

@@ -7,15 +7,6 @@ use native.Mathlib.Omega.{arith}
 use Rattle.event_mailbox.specs.Free.{sizes, grant-free}
 use Rattle.event_mailbox.specs.Rights.{grant-leaves}
 
-with-rights-requires : tie.Need-with-rights-requires
-with-rights-requires c κs = search needs
-
-grant-told-requires : tie.Need-grant-told-requires
-grant-told-requires c κs = search needs
-
-grant-mark-requires : tie.Need-grant-mark-requires
-grant-mark-requires c κs = search needs
-
 tell-row-requires : tie.Need-tell-row-requires
 tell-row-requires c κs = let a = c .before .before .before .before .before .args in
     let z = sizes _ _ _ (c .before .before .before .before .before .pre .0) in (
@@ -25,9 +16,6 @@ tell-row-requires c κs = let a = c .before .before .before .before .before .arg
       λ e. grant-free _ _ _ (c .before .before .before .before .before .pre .0) (a .x)
           (c .before .before .before .with-rights .result) (sym (c .before .before .grant-told .ensures) ∙ e),
     )
-
-same-length : tie.Need-same-length
-same-length c = search needs
 
 returns : tie.Need-returns
 returns c = let a = c .before .before .before .before .before .before .before .before .before .args in
@@ -39,9 +27,9 @@ pub grant-spec : {M : Type 1} → statement M
 grant-spec =
     tie.close
     (tie.spec
-    with-rights-requires
-    grant-told-requires
-    grant-mark-requires
+    (λ c κs. search needs)  -- with-rights-requires
+    (λ c κs. search needs)  -- grant-told-requires
+    (λ c κs. search needs)  -- grant-mark-requires
     tell-row-requires
-    same-length
+    (λ c. search needs)  -- same-length
     returns)

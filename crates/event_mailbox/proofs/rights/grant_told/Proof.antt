@@ -5,31 +5,16 @@ use Rattle.event_mailbox.proofs.rights.grant_told.Tie as tie
 use mathlib.Core.Path.{sym, _∙_}
 use Rattle.event_mailbox.specs.Rights.{grant-kept, grant-lost, grant-gained, grant-none}
 
-has-requires : tie.Need-has-requires
-has-requires c κs = search needs
-
-has-requires-2 : tie.Need-has-requires-2
-has-requires-2 c κs = search needs
-
 returns : tie.Need-returns
 returns c = let a = c .before .before .before .before .args in
     grant-kept (a .s) (a .x) (a .y) (sym (c .before .before .before .has .ensures) ∙ c .before .before .if1 .taken)
     (sym (c .before .has2 .ensures) ∙ c .if2 .taken)
-
-noticed-requires : tie.Need-noticed-requires
-noticed-requires c κs = search needs
 
 returns-2 : tie.Need-returns-2
 returns-2 c = let a = c .before .before .before .before .before .args in
     c .noticed .ensures ∙ grant-lost (a .s) (a .x) (a .y)
     (sym (c .before .before .before .before .has .ensures) ∙ c .before .before .before .if1 .taken)
     (sym (c .before .before .has2 .ensures) ∙ c .before .if2 .left)
-
-has-requires-3 : tie.Need-has-requires-3
-has-requires-3 c κs = search needs
-
-noticed-requires-2 : tie.Need-noticed-requires-2
-noticed-requires-2 c κs = search needs
 
 returns-3 : tie.Need-returns-3
 returns-3 c = let a = c .before .before .before .before .before .args in
@@ -46,12 +31,12 @@ pub grant-told-spec : {M : Type 1} → statement M
 grant-told-spec =
     tie.close
     (tie.spec
-    has-requires
-    has-requires-2
+    (λ c κs. search needs)  -- has-requires
+    (λ c κs. search needs)  -- has-requires-2
     returns
-    noticed-requires
+    (λ c κs. search needs)  -- noticed-requires
     returns-2
-    has-requires-3
-    noticed-requires-2
+    (λ c κs. search needs)  -- has-requires-3
+    (λ c κs. search needs)  -- noticed-requires-2
     returns-3
     returns-4)

@@ -4,9 +4,6 @@ use Rattle.event_mailbox.proofs.subscriptions.does_differ.Statement.{st
 use Rattle.event_mailbox.proofs.subscriptions.does_differ.Tie as tie
 use mathlib.Core.Path.{sym, _∙_}
 
-has-requires : tie.Need-has-requires
-has-requires c κs = search needs
-
 returns : tie.Need-returns
 returns c = rw (sym (c .before .has .ensures) ∙ c .if1 .taken)
 
@@ -14,4 +11,9 @@ returns-2 : tie.Need-returns-2
 returns-2 c = rw (sym (c .before .has .ensures) ∙ c .if1 .left)
 
 pub does-differ-spec : {M : Type 1} → statement M
-does-differ-spec = tie.close (tie.spec has-requires returns returns-2)
+does-differ-spec =
+    tie.close
+    (tie.spec
+    (λ c κs. search needs)  -- has-requires
+    returns
+    returns-2)

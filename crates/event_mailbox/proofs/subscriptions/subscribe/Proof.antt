@@ -7,18 +7,6 @@ use native.Mathlib.Omega.{arith}
 use Rattle.event_mailbox.specs.Free.{sizes, subscribe-free}
 use Rattle.event_mailbox.specs.Subscriptions.{subscribe-leaves}
 
-with-subscribed-requires : tie.Need-with-subscribed-requires
-with-subscribed-requires c κs = search needs
-
-with-attributes-requires : tie.Need-with-attributes-requires
-with-attributes-requires c κs = search needs
-
-subscribe-told-requires : tie.Need-subscribe-told-requires
-subscribe-told-requires c κs = search needs
-
-subscribe-mark-requires : tie.Need-subscribe-mark-requires
-subscribe-mark-requires c κs = search needs
-
 tell-row-requires : tie.Need-tell-row-requires
 tell-row-requires c κs = let a = c .before .before .before .before .before .before .args in
     let z = sizes _ _ _ (c .before .before .before .before .before .before .pre .0) in (
@@ -28,9 +16,6 @@ tell-row-requires c κs = let a = c .before .before .before .before .before .bef
       λ e. subscribe-free _ _ _ (c .before .before .before .before .before .before .pre .0) (a .x) (a .b) (a .quiet)
           (sym (c .before .before .subscribe-told .ensures) ∙ e),
     )
-
-same-length : tie.Need-same-length
-same-length c = search needs
 
 returns : tie.Need-returns
 returns c = let a = c .before .before .before .before .before .before .before .before .before .before .args in
@@ -44,10 +29,10 @@ pub subscribe-spec : {M : Type 1} → statement M
 subscribe-spec =
     tie.close
     (tie.spec
-    with-subscribed-requires
-    with-attributes-requires
-    subscribe-told-requires
-    subscribe-mark-requires
+    (λ c κs. search needs)  -- with-subscribed-requires
+    (λ c κs. search needs)  -- with-attributes-requires
+    (λ c κs. search needs)  -- subscribe-told-requires
+    (λ c κs. search needs)  -- subscribe-mark-requires
     tell-row-requires
-    same-length
+    (λ c. search needs)  -- same-length
     returns)

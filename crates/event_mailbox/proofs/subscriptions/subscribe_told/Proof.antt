@@ -17,17 +17,11 @@ returns c = let a = c .before .args in
     rung-one (eqb (a .quiet) 0) (differs (a .x .attributes) (a .b)) (bothRights (a .x))
     (asked (a .s) (nameOf (a .x)) (withSubscribed (a .x .attributes) 1) asksSubscription) (ne-eqb _ 0 (c .if1 .taken))
 
-does-differ-requires : tie.Need-does-differ-requires
-does-differ-requires c κs = search needs
-
 returns-2 : tie.Need-returns-2
 returns-2 c = let a = c .before .before .before .args in
     rung-two (eqb (a .quiet) 0) (differs (a .x .attributes) (a .b)) (bothRights (a .x))
     (asked (a .s) (nameOf (a .x)) (withSubscribed (a .x .attributes) 1) asksSubscription) (eq-eqb _ 0 (c .before .before .if1 .left))
     (sym (c .before .does-differ .ensures) ∙ not-true _ (c .if2 .taken))
-
-both-requires : tie.Need-both-requires
-both-requires c κs = search needs
 
 returns-3 : tie.Need-returns-3
 returns-3 c = let a = c .before .before .before .before .before .args in
@@ -35,15 +29,6 @@ returns-3 c = let a = c .before .before .before .before .before .args in
     (asked (a .s) (nameOf (a .x)) (withSubscribed (a .x .attributes) 1) asksSubscription) (eq-eqb _ 0 (c .before .before .before .before .if1 .left))
     (sym (c .before .before .before .does-differ .ensures) ∙ not-false _ (c .before .before .if2 .left))
     (sym (c .before .both .ensures) ∙ not-true _ (c .if3 .taken))
-
-with-subscribed-requires : tie.Need-with-subscribed-requires
-with-subscribed-requires c κs = search needs
-
-with-attributes-requires : tie.Need-with-attributes-requires
-with-attributes-requires c κs = search needs
-
-is-asked-of-requires : tie.Need-is-asked-of-requires
-is-asked-of-requires c κs = search needs
 
 returns-4 : tie.Need-returns-4
 returns-4 c = let a = c .before .before .before .before .before .before .before .before .args in
@@ -60,11 +45,11 @@ subscribe-told-spec =
     tie.close
     (tie.spec
     returns
-    does-differ-requires
+    (λ c κs. search needs)  -- does-differ-requires
     returns-2
-    both-requires
+    (λ c κs. search needs)  -- both-requires
     returns-3
-    with-subscribed-requires
-    with-attributes-requires
-    is-asked-of-requires
+    (λ c κs. search needs)  -- with-subscribed-requires
+    (λ c κs. search needs)  -- with-attributes-requires
+    (λ c κs. search needs)  -- is-asked-of-requires
     returns-4)

@@ -17,20 +17,8 @@ Inv-loop k s n i₀ i = anyb (partAs k) (take n (s .groups)) ≡ anyb (partAs k)
 abbrev μ-loop : tie.MeasureT-loop
 μ-loop k s n i₀ i = n - i
 
-standing-requires : tie.Need-standing-requires Inv-loop μ-loop
-standing-requires c κs = search needs
-
 loop-holds : tie.Need-loop-holds Inv-loop μ-loop
 loop-holds c = refl
-
-mul-g : tie.Need-mul-g Inv-loop μ-loop
-mul-g c = search needs
-
-element-copy-out-g : tie.Need-element-copy-out-g Inv-loop μ-loop
-element-copy-out-g c = search needs
-
-has-part-requires : tie.Need-has-part-requires Inv-loop μ-loop
-has-part-requires c κs = search needs
 
 returns : tie.Need-returns Inv-loop μ-loop
 returns c =
@@ -42,12 +30,6 @@ returns c =
     let here = sym (c .before .has-part .ensures) ∙ c .if1 .taken in
     sym (any-groups (a .t1) n (groups .ensures .1 (a .t1 .groups) long) (partOf (a .k))
     ∙ (loop .inv ∙ any-here (partAs (a .k)) (a .t1 .groups) n (loop .i) (omega arith) vacantGroup (omega arith) here))
-
-add-i : tie.Need-add-i Inv-loop μ-loop
-add-i c = search needs
-
-loop-less : tie.Need-loop-less Inv-loop μ-loop
-loop-less c = search needs
 
 loop-again : tie.Need-loop-again Inv-loop μ-loop
 loop-again c =
@@ -71,13 +53,13 @@ any-part-spec =
     (tie.spec
     Inv-loop
     μ-loop
-    standing-requires
+    (λ c κs. search needs)  -- standing-requires
     loop-holds
-    mul-g
-    element-copy-out-g
-    has-part-requires
+    (λ c. search needs)  -- mul-g
+    (λ c. search needs)  -- element-copy-out-g
+    (λ c κs. search needs)  -- has-part-requires
     returns
-    add-i
-    loop-less
+    (λ c. search needs)  -- add-i
+    (λ c. search needs)  -- loop-less
     loop-again
     returns-2)

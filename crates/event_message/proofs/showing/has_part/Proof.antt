@@ -8,11 +8,13 @@ use Rattle.event_message.proofs.showing.has_part.Tie as tie
 returns : tie.Need-returns
 returns c = part-elsewhere (c .before .before .args .k) (c .before .before .args .g) (omega (arith, c .if1 .taken))
 
-holds-requires : tie.Need-holds-requires
-holds-requires c κs = search needs
-
 returns-2 : tie.Need-returns-2
 returns-2 c = part-here (c .before .before .before .args .k) (c .before .before .before .args .g) (c .holds .result) (omega (arith, c .before .if1 .left)) (c .holds .ensures)
 
 pub has-part-spec : {M : Type 1} → statement M
-has-part-spec = tie.close (tie.spec returns holds-requires returns-2)
+has-part-spec =
+    tie.close
+    (tie.spec
+    returns
+    (λ c κs. search needs)  -- holds-requires
+    returns-2)

@@ -7,14 +7,14 @@ use Rattle.event_message.proofs.showing.holds.Tie as tie
 returns : tie.Need-returns
 returns c = part-any (c .before .args .k) (c .before .args .attributes) (c .if1 .taken)
 
-sub-has : tie.Need-sub-has
-sub-has c = search needs
-
-has-requires : tie.Need-has-requires
-has-requires c κs = search needs
-
 returns-2 : tie.Need-returns-2
 returns-2 c = part-one (c .before .before .args .k) (c .before .before .args .attributes) (c .has .result) (c .before .if1 .left) (c .has .ensures)
 
 pub holds-spec : {M : Type 1} → statement M
-holds-spec = tie.close (tie.spec returns sub-has has-requires returns-2)
+holds-spec =
+    tie.close
+    (tie.spec
+    returns
+    (λ c. search needs)  -- sub-has
+    (λ c κs. search needs)  -- has-requires
+    returns-2)

@@ -1,10 +1,6 @@
 use borrow.Author.Needs.{needs}
 use Rattle.event_session.proofs.lines.say_count.Statement.{statement}
 use Rattle.event_session.proofs.lines.say_count.Tie as tie
-use Rattle.event_session.proofs.lines.say_count.Reads as reads
-use Rattle.event_session.proofs.lines.say_count.Lts as lts
-use Rattle.line_message.proofs.put_count.Reads as put-count-reads
-use Rattle.event_session.proofs.lines.refused.Reads as refused-reads
 use mathlib.Core.Path.{refl, _∙_, ap}
 use native.Mathlib.Omega.{arith}
 use borrow.Author.Tests.{not-true, not-false}
@@ -13,32 +9,11 @@ use Rattle.line_message.specs.Counts.{countText}
 use Rattle.event_session.specs.Saying.{say-shut, say-over, say-fits}
 use Rattle.event_session.specs.Coded.{stateOf}
 
-refused-requires : tie.Need-refused-requires
-refused-requires c κs = search needs
-
 returns : tie.Need-returns
 returns c = (ap (stateOf (c .before .before .before .before .before .args .queue .now)) (c .refused .ensures) ∙ say-shut (c .before .before .before .before .before .args .limit) (c .before .before .before .before .before .args .uid .0) (countText (c .before .before .before .before .before .args .n .0) (c .before .before .before .before .before .args .word .now)) (stateOf (c .before .before .before .before .before .args .queue .now) (c .before .before .before .before .before .args .g)) (not-true _ (c .before .if1 .taken)), omega (arith, ap (λ (x : Going). x .end) (c .refused .ensures)), omega (arith, ap (λ (x : Going). x .rest) (c .refused .ensures)), ap (λ (x : Going). x .next .0) (c .refused .ensures))
 
-put-count-requires : tie.Need-put-count-requires
-put-count-requires c κs = search needs
-
-refused-requires-2 : tie.Need-refused-requires-2
-refused-requires-2 c κs = search needs
-
-same-length : tie.Need-same-length
-same-length c = search needs
-
 returns-2 : tie.Need-returns-2
 returns-2 c = (ap (stateOf _) (c .refused2 .ensures) ∙ say-over (c .before .before .before .before .before .before .before .before .before .before .args .queue .now) _ (c .before .before .before .before .before .before .before .before .before .before .args .limit) (c .before .before .before .before .before .before .before .before .before .before .args .uid .0) (countText (c .before .before .before .before .before .before .before .before .before .before .args .n .0) (c .before .before .before .before .before .before .before .before .before .before .args .word .now)) (stateOf (c .before .before .before .before .before .before .before .before .before .before .args .queue .now) (c .before .before .before .before .before .before .before .before .before .before .args .g)) (c .before .before .before .before .put-count .result) refl (c .before .before .before .before .put-count .ensures .0) (c .before .if2 .taken), omega (arith, ap (λ (x : Going). x .end) (c .refused2 .ensures)), omega (arith, ap (λ (x : Going). x .rest) (c .refused2 .ensures)), ap (λ (x : Going). x .next .0) (c .refused2 .ensures))
-
-put-count-requires-2 : tie.Need-put-count-requires-2
-put-count-requires-2 c κs = search needs
-
-add-bound : tie.Need-add-bound
-add-bound c = search needs
-
-same-length-2 : tie.Need-same-length-2
-same-length-2 c = search needs
 
 returns-3 : tie.Need-returns-3
 returns-3 c = (say-fits (c .before .before .before .before .before .before .before .before .before .before .before .before .before .before .before .args .queue .now) _ (c .before .before .before .before .before .before .before .before .before .before .before .before .before .before .before .args .limit) (c .before .before .before .before .before .before .before .before .before .before .before .before .before .before .before .args .uid .0) (countText (c .before .before .before .before .before .before .before .before .before .before .before .before .before .before .before .args .n .0) (c .before .before .before .before .before .before .before .before .before .before .before .before .before .before .before .args .word .now)) (stateOf (c .before .before .before .before .before .before .before .before .before .before .before .before .before .before .before .args .queue .now) (c .before .before .before .before .before .before .before .before .before .before .before .before .before .before .before .args .g)) (c .before .before .before .before .before .before .before .before .before .put-count .result) refl (c .before .before .before .before .before .before .before .before .before .put-count .ensures .0) _ (c .before .before .before .before .put-count2 .result) (not-false _ (c .before .before .before .before .before .before .before .before .before .before .before .if1 .left)) (c .before .before .before .before .put-count2 .ensures .0) (c .before .before .before .before .before .before .if2 .left), omega (arith, c .before .before .before .before .before .before .before .before .before .put-count .ensures .0 .next, c .before .before .before .before .put-count2 .ensures .0 .next), omega arith, refl)
@@ -47,13 +22,13 @@ pub say-count-spec : {M : Type 1} → statement M
 say-count-spec =
     tie.close
     (tie.spec
-    refused-requires
+    (λ c κs. search needs)  -- refused-requires
     returns
-    put-count-requires
-    refused-requires-2
-    same-length
+    (λ c κs. search needs)  -- put-count-requires
+    (λ c κs. search needs)  -- refused-requires-2
+    (λ c. search needs)  -- same-length
     returns-2
-    put-count-requires-2
-    add-bound
-    same-length-2
+    (λ c κs. search needs)  -- put-count-requires-2
+    (λ c. search needs)  -- add-bound
+    (λ c. search needs)  -- same-length-2
     returns-3)

@@ -1,8 +1,5 @@
 use Rattle.event_session.proofs.view.expunges.Statement.{statement}
 use Rattle.event_session.proofs.view.expunges.Tie as tie
-use Rattle.event_session.proofs.view.expunges.Reads as reads
-use Rattle.event_session.proofs.view.expunges.Lts as lts
-use Rattle.event_session.proofs.view.expunge_one.Reads as expunge-one-reads
 use mathlib.Core.Path.{_≡_, refl}
 use Prim.Native.Nat.{_≤_, _+_, _-_}
 use native.Mathlib.Omega.{arith}
@@ -22,26 +19,8 @@ abbrev μ-loop : tie.MeasureT-loop
 loop-holds : tie.Need-loop-holds Inv-loop μ-loop
 loop-holds c = (search needs, search needs, search needs, search needs, search needs, refl)
 
-sub-j : tie.Need-sub-j Inv-loop μ-loop
-sub-j c = search needs
-
-mul-expunge-one : tie.Need-mul-expunge-one Inv-loop μ-loop
-mul-expunge-one c = search needs
-
-shared-slice-read-expunge-one : tie.Need-shared-slice-read-expunge-one Inv-loop μ-loop
-shared-slice-read-expunge-one c = search needs
-
-expunge-one-requires : tie.Need-expunge-one-requires Inv-loop μ-loop
-expunge-one-requires c κs = search needs
-
-loop-less : tie.Need-loop-less Inv-loop μ-loop
-loop-less c = search needs
-
 loop-again : tie.Need-loop-again Inv-loop μ-loop
 loop-again c = (search needs, search needs, c .before .before .expunge-one .ensures .1, omega (arith, c .before .before .expunge-one .ensures .2, c .before .before .before .before .before .before .loop .inv .3), omega (arith, c .before .before .expunge-one .ensures .3, c .before .before .before .before .before .before .loop .inv .4), runE-next (messages (c .before .before .before .before .before .before .before .before .before .before .args .words .now)) (c .before .before .before .before .before .before .before .before .before .before .args .order .now) (c .before .before .before .before .before .before .before .before .before .before .args .told .0) (c .before .before .before .before .before .before .before .before .before .before .args .limit) (c .before .before .before .before .before .before .loop .j) (stateOf (c .before .before .before .before .before .before .loop .queue) (c .before .before .before .before .before .before .loop .s)) _ _ (c .before .before .before .before .before .loop-test .taken) (c .before .before .before .before .before .before .loop .inv .5) (c .before .before .expunge-one .ensures .0))
-
-same-length : tie.Need-same-length Inv-loop μ-loop
-same-length c = search needs
 
 returns : tie.Need-returns Inv-loop μ-loop
 returns c = (runE-end (messages (c .before .before .before .before .before .args .words .now)) (c .before .before .before .before .before .args .order .now) (c .before .before .before .before .before .args .told .0) (c .before .before .before .before .before .args .limit) (c .before .loop .j) (stateOf (c .before .loop .queue) (c .before .loop .s)) _ (omega arith) (c .before .loop .inv .5), c .before .loop .inv .2, omega (arith, c .before .loop .inv .3))
@@ -53,11 +32,11 @@ expunges-spec =
     Inv-loop
     μ-loop
     loop-holds
-    sub-j
-    mul-expunge-one
-    shared-slice-read-expunge-one
-    expunge-one-requires
-    loop-less
+    (λ c. search needs)  -- sub-j
+    (λ c. search needs)  -- mul-expunge-one
+    (λ c. search needs)  -- shared-slice-read-expunge-one
+    (λ c κs. search needs)  -- expunge-one-requires
+    (λ c. search needs)  -- loop-less
     loop-again
-    same-length
+    (λ c. search needs)  -- same-length
     returns)

@@ -1,12 +1,6 @@
 use borrow.Author.Needs.{needs}
 use Rattle.event_session.proofs.view.mark_one.Statement.{statement}
 use Rattle.event_session.proofs.view.mark_one.Tie as tie
-use Rattle.event_session.proofs.view.mark_one.Reads as reads
-use Rattle.event_session.proofs.view.mark_one.Lts as lts
-use Rattle.event_session.proofs.lines.advanced.Reads as advanced-reads
-use Rattle.event_session.proofs.view.both.Reads as both-reads
-use Rattle.table_messages.proofs.entry.Reads as entry-reads
-use Rattle.event_session.proofs.lines.say_fetch.Reads as say-fetch-reads
 use mathlib.Core.Path.{sym, _∙_, ap}
 use Prim.Native.Nat.{_-_}
 use native.Mathlib.Omega.{arith}
@@ -16,32 +10,17 @@ use Rattle.table_messages.specs.Words.{messages}
 use Rattle.event_session.specs.declared.Going.{Going}
 use Rattle.event_session.specs.Coded.{stateOf, m-off, m-skip, m-mark, m-plain, more-as, more-is}
 
-entry-requires : tie.Need-entry-requires
-entry-requires c κs = search needs
-
 returns : tie.Need-returns
 returns c = (m-off (c .before .before .before .before .before .before .args .told .0) (c .before .before .before .before .before .before .args .limit) (c .before .before .before .entry .result) (getD (messages (c .before .before .before .before .before .before .args .words .now)) (c .before .before .before .before .before .before .args .p) noMessage) (c .before .before .before .entry .ensures) (stateOf (c .before .before .before .before .before .before .args .queue .now) (c .before .before .before .before .before .before .args .g)) (c .before .before .before .before .before .before .args .skip) (c .if1 .taken), omega arith, omega arith, omega arith)
-
-both-requires : tie.Need-both-requires
-both-requires c κs = search needs
 
 returns-2 : tie.Need-returns-2
 returns-2 c = (m-skip (c .before .before .before .before .before .before .before .before .before .args .told .0) (c .before .before .before .before .before .before .before .before .before .args .limit) (c .before .before .before .before .before .before .entry .result) (getD (messages (c .before .before .before .before .before .before .before .before .before .args .words .now)) (c .before .before .before .before .before .before .before .before .before .args .p) noMessage) (c .before .before .before .before .before .before .entry .ensures) (stateOf (c .before .before .before .before .before .before .before .before .before .args .queue .now) (c .before .before .before .before .before .before .before .before .before .args .g)) (c .before .before .before .before .before .before .before .before .before .args .skip) (c .before .before .before .if1 .left) (sym (c .before .both .ensures) ∙ c .if2 .taken), omega arith, omega arith, omega arith)
 
-say-fetch-requires : tie.Need-say-fetch-requires
-say-fetch-requires c κs = search needs
-
 advanced-requires : tie.Need-advanced-requires
 advanced-requires c κs = omega (arith, c .before .before .say-fetch .ensures .3, c .before .before .before .before .before .before .before .before .before .before .before .before .before .before .before .before .before .pre .4)
 
-same-length : tie.Need-same-length
-same-length c = search needs
-
 returns-3 : tie.Need-returns-3
 returns-3 c = (ap (stateOf _) (c .advanced .ensures) ∙ (more-is (stateOf _ (c .before .before .before .say-fetch .result)) ∙ (more-as _ _ (c .before .before .before .say-fetch .ensures .0) ∙ m-mark (c .before .before .before .before .before .before .before .before .before .before .before .before .before .before .before .before .before .before .args .told .0) (c .before .before .before .before .before .before .before .before .before .before .before .before .before .before .before .before .before .before .args .limit) (c .before .before .before .before .before .before .before .before .before .before .before .before .before .before .before .entry .result) (getD (messages (c .before .before .before .before .before .before .before .before .before .before .before .before .before .before .before .before .before .before .args .words .now)) (c .before .before .before .before .before .before .before .before .before .before .before .before .before .before .before .before .before .before .args .p) noMessage) (c .before .before .before .before .before .before .before .before .before .before .before .before .before .before .before .entry .ensures) (stateOf (c .before .before .before .before .before .before .before .before .before .before .before .before .before .before .before .before .before .before .args .queue .now) (c .before .before .before .before .before .before .before .before .before .before .before .before .before .before .before .before .before .before .args .g)) (c .before .before .before .before .before .before .before .before .before .before .before .before .before .before .before .before .before .before .args .skip) (c .before .before .before .before .before .before .before .before .before .before .before .before .if1 .left) (sym (c .before .before .before .before .before .before .before .before .before .before .both .ensures) ∙ c .before .before .before .before .before .before .before .before .before .if2 .left) (c .before .before .before .before .before .before .before .if3 .taken))), omega (arith, ap (λ (x : Going). x .end) (c .advanced .ensures), c .before .before .before .say-fetch .ensures .1), omega (arith, ap (λ (x : Going). x .rest) (c .advanced .ensures), c .before .before .before .say-fetch .ensures .2), omega (arith, ap (λ (x : Going). x .next .0) (c .advanced .ensures), c .before .before .before .say-fetch .ensures .3))
-
-advanced-requires-2 : tie.Need-advanced-requires-2
-advanced-requires-2 c κs = search needs
 
 returns-4 : tie.Need-returns-4
 returns-4 c = (ap (stateOf (c .before .before .before .before .before .before .before .before .before .before .before .before .args .queue .now)) (c .advanced2 .ensures) ∙ (more-is (stateOf (c .before .before .before .before .before .before .before .before .before .before .before .before .args .queue .now) (c .before .before .before .before .before .before .before .before .before .before .before .before .args .g)) ∙ m-plain (c .before .before .before .before .before .before .before .before .before .before .before .before .args .told .0) (c .before .before .before .before .before .before .before .before .before .before .before .before .args .limit) (c .before .before .before .before .before .before .before .before .before .entry .result) (getD (messages (c .before .before .before .before .before .before .before .before .before .before .before .before .args .words .now)) (c .before .before .before .before .before .before .before .before .before .before .before .before .args .p) noMessage) (c .before .before .before .before .before .before .before .before .before .entry .ensures) (stateOf (c .before .before .before .before .before .before .before .before .before .before .before .before .args .queue .now) (c .before .before .before .before .before .before .before .before .before .before .before .before .args .g)) (c .before .before .before .before .before .before .before .before .before .before .before .before .args .skip) (c .before .before .before .before .before .before .if1 .left) (sym (c .before .before .before .before .both .ensures) ∙ c .before .before .before .if2 .left) (c .before .if3 .left)), omega (arith, ap (λ (x : Going). x .end) (c .advanced2 .ensures)), omega (arith, ap (λ (x : Going). x .rest) (c .advanced2 .ensures)), omega (arith, ap (λ (x : Going). x .next .0) (c .advanced2 .ensures)))
@@ -50,13 +29,13 @@ pub mark-one-spec : {M : Type 1} → statement M
 mark-one-spec =
     tie.close
     (tie.spec
-    entry-requires
+    (λ c κs. search needs)  -- entry-requires
     returns
-    both-requires
+    (λ c κs. search needs)  -- both-requires
     returns-2
-    say-fetch-requires
+    (λ c κs. search needs)  -- say-fetch-requires
     advanced-requires
-    same-length
+    (λ c. search needs)  -- same-length
     returns-3
-    advanced-requires-2
+    (λ c κs. search needs)  -- advanced-requires-2
     returns-4)

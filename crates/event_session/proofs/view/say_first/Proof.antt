@@ -1,9 +1,6 @@
 use borrow.Author.Needs.{needs}
 use Rattle.event_session.proofs.view.say_first.Statement.{statement}
 use Rattle.event_session.proofs.view.say_first.Tie as tie
-use Rattle.event_session.proofs.view.say_first.Reads as reads
-use Rattle.event_session.proofs.view.say_first.Lts as lts
-use Rattle.event_session.proofs.view.expunges.Reads as expunges-reads
 use mathlib.Core.Path.{refl, sym, _∙_, ap}
 use mathlib.Core.Bool.{Bool}
 use Prim.Native.Nat.{_-_}
@@ -13,12 +10,6 @@ use Rattle.order_messages.specs.Chosen.{chosen}
 use Rattle.event_session.specs.Saying.{firstPart}
 use Rattle.event_session.specs.Coded.{stateOf}
 
-expunges-requires : tie.Need-expunges-requires
-expunges-requires c κs = search needs
-
-same-length : tie.Need-same-length
-same-length c = search needs
-
 returns : tie.Need-returns
 returns c = (c .before .before .expunges .ensures .0 ∙ sym (ap (λ (b : Bool). firstPart (c .before .before .before .before .before .before .before .before .args .told .0) b (c .before .before .before .before .before .before .before .before .args .limit) (chosen (messages (c .before .before .before .before .before .before .before .before .args .words .now)) (c .before .before .before .before .before .before .before .before .args .order .now) (c .before .before .before .before .before .before .before .before .args .n)) (stateOf (c .before .before .before .before .before .before .before .before .args .queue .now) (c .before .before .before .before .before .before .before .before .args .g))) (c .before .before .before .before .if1 .taken)), c .before .before .expunges .ensures .1, c .before .before .expunges .ensures .2, omega (arith, c .before .before .expunges .ok))
 
@@ -26,4 +17,10 @@ returns-2 : tie.Need-returns-2
 returns-2 c = (sym (ap (λ (b : Bool). firstPart (c .before .before .before .before .args .told .0) b (c .before .before .before .before .args .limit) (chosen (messages (c .before .before .before .before .args .words .now)) (c .before .before .before .before .args .order .now) (c .before .before .before .before .args .n)) (stateOf (c .before .before .before .before .args .queue .now) (c .before .before .before .before .args .g))) (c .if1 .left)), omega arith, omega arith, refl)
 
 pub say-first-spec : {M : Type 1} → statement M
-say-first-spec = tie.close (tie.spec expunges-requires same-length returns returns-2)
+say-first-spec =
+    tie.close
+    (tie.spec
+    (λ c κs. search needs)  -- expunges-requires
+    (λ c. search needs)  -- same-length
+    returns
+    returns-2)

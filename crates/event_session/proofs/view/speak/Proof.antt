@@ -1,14 +1,6 @@
 use borrow.Author.Needs.{needs}
 use Rattle.event_session.proofs.view.speak.Statement.{statement}
 use Rattle.event_session.proofs.view.speak.Tie as tie
-use Rattle.event_session.proofs.view.speak.Reads as reads
-use Rattle.event_session.proofs.view.speak.Lts as lts
-use Rattle.event_session.proofs.lines.begun.Reads as begun-reads
-use Rattle.event_session.proofs.view.marks.Reads as marks-reads
-use Rattle.event_session.proofs.lines.say_exists.Reads as say-exists-reads
-use Rattle.event_session.proofs.view.say_first.Reads as say-first-reads
-use Rattle.order_messages.proofs.staying.Reads as staying-reads
-use Rattle.order_messages.proofs.unseen.Reads as unseen-reads
 use mathlib.Core.Path.{ap}
 use Prim.Native.Nat.{_-_}
 use native.Mathlib.Omega.{arith}
@@ -17,23 +9,8 @@ use Rattle.order_messages.specs.Chosen.{chosen}
 use Rattle.event_session.specs.declared.Going.{Going}
 use Rattle.event_session.specs.Ending.{speaks}
 
-say-first-requires : tie.Need-say-first-requires
-say-first-requires c κs = search needs
-
-staying-requires : tie.Need-staying-requires
-staying-requires c κs = search needs
-
-unseen-requires : tie.Need-unseen-requires
-unseen-requires c κs = search needs
-
-begun-requires : tie.Need-begun-requires
-begun-requires c κs = search needs
-
 say-exists-requires : tie.Need-say-exists-requires
 say-exists-requires c κs = (omega arith, omega arith, omega (arith, ap (λ (x : Going). x .end) (c .begun .ensures), c .before .before .before .before .before .before .say-first .ensures .1), omega (arith, ap (λ (x : Going). x .rest) (c .begun .ensures), c .before .before .before .before .before .before .say-first .ensures .2), c .before .before .before .staying .ensures .1, c .before .before .unseen .ensures .1)
-
-begun-requires-2 : tie.Need-begun-requires-2
-begun-requires-2 c κs = search needs
 
 marks-requires : tie.Need-marks-requires
 marks-requires c κs = (c .before .before .before .before .before .before .before .before .before .before .before .before .before .before .before .before .pre .0, c .before .before .before .before .before .before .before .before .before .before .before .before .before .before .before .before .pre .1, omega (arith, c .before .before .before .before .before .before .before .before .before .before .before .before .before .before .before .before .pre .2, c .before .before .before .before .before .before .before .before .before .before .before .say-first .ok, c .before .before .before .before .say-exists .ok), c .before .before .before .before .before .before .before .before .before .before .before .before .before .before .before .before .pre .3, omega (arith, ap (λ (x : Going). x .end) (c .begun2 .ensures), c .before .before .before .before .say-exists .ensures .1), omega (arith, c .before .before .before .before .before .before .before .before .before .before .before .before .before .before .before .before .pre .1, ap (λ (x : Going). x .rest) (c .begun2 .ensures), ap (λ (x : Going). x .rest) (c .before .before .before .before .before .begun .ensures), c .before .before .before .before .say-exists .ensures .2, c .before .before .before .before .before .before .before .before .before .before .before .say-first .ensures .2), omega (arith, ap (λ (x : Going). x .next .0) (c .begun2 .ensures)), c .before .before .before .before .before .before .before .before .before .before .before .before .before .before .before .before .pre .5)
@@ -48,12 +25,12 @@ pub speak-spec : {M : Type 1} → statement M
 speak-spec =
     tie.close
     (tie.spec
-    say-first-requires
-    staying-requires
-    unseen-requires
-    begun-requires
+    (λ c κs. search needs)  -- say-first-requires
+    (λ c κs. search needs)  -- staying-requires
+    (λ c κs. search needs)  -- unseen-requires
+    (λ c κs. search needs)  -- begun-requires
     say-exists-requires
-    begun-requires-2
+    (λ c κs. search needs)  -- begun-requires-2
     marks-requires
     same-length
     returns)

@@ -16,29 +16,14 @@ returns-2 c = λ z. tf false z refl
 returns-3 : tie.Need-returns-3
 returns-3 c = λ z. tf false z refl
 
-shared-slice-read-if4 : tie.Need-shared-slice-read-if4
-shared-slice-read-if4 c = search needs
-
 returns-4 : tie.Need-returns-4
 returns-4 c = λ z. tf false z refl
-
-add-end : tie.Need-add-end
-add-end c = search needs
-
-sub-last : tie.Need-sub-last
-sub-last c = search needs
-
-shared-slice-read-last : tie.Need-shared-slice-read-last
-shared-slice-read-last c = search needs
 
 returns-5 : tie.Need-returns-5
 returns-5 c = λ z. tf false z refl
 
 returns-6 : tie.Need-returns-6
 returns-6 c = λ z. tf false z refl
-
-shared-slice-read-result : tie.Need-shared-slice-read-result
-shared-slice-read-result c = search needs
 
 returns-7 : tie.Need-returns-7
 returns-7 c =
@@ -60,12 +45,12 @@ ends-ok-spec =
     returns
     returns-2
     returns-3
-    shared-slice-read-if4
+    (λ c. search needs)  -- shared-slice-read-if4
     returns-4
-    add-end
-    sub-last
-    shared-slice-read-last
+    (λ c. search needs)  -- add-end
+    (λ c. search needs)  -- sub-last
+    (λ c. search needs)  -- shared-slice-read-last
     returns-5
     returns-6
-    shared-slice-read-result
+    (λ c. search needs)  -- shared-slice-read-result
     returns-7)

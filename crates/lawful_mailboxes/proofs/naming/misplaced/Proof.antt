@@ -5,9 +5,6 @@ use Rattle.lawful_mailboxes.specs.Neighbours.{misplaced}
 use Rattle.lawful_mailboxes.proofs.naming.misplaced.Statement.{statement}
 use Rattle.lawful_mailboxes.proofs.naming.misplaced.Tie as tie
 
-is-placed-requires : tie.Need-is-placed-requires
-is-placed-requires c κs = search needs
-
 returns : tie.Need-returns
 unfolding misplaced
 returns c = (rw (sym (c .before .is-placed .ensures) ∙ c .if1 .taken), omega arith)
@@ -17,4 +14,9 @@ unfolding misplaced
 returns-2 c = (rw (sym (c .before .is-placed .ensures) ∙ c .if1 .left), omega arith)
 
 pub misplaced-spec : {M : Type 1} → statement M
-misplaced-spec = tie.close (tie.spec is-placed-requires returns returns-2)
+misplaced-spec =
+    tie.close
+    (tie.spec
+    (λ c κs. search needs)  -- is-placed-requires
+    returns
+    returns-2)

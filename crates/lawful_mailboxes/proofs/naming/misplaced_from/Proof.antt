@@ -16,33 +16,6 @@ loop-holds : tie.Need-loop-holds Inv-loop μ-loop
 unfolding misplacedUp
 loop-holds c = (search needs, search needs, refl)
 
-add-misplaced : tie.Need-add-misplaced Inv-loop μ-loop
-add-misplaced c = search needs
-
-shared-slice-read-misplaced : tie.Need-shared-slice-read-misplaced Inv-loop μ-loop
-shared-slice-read-misplaced c = search needs
-
-add-misplaced-2 : tie.Need-add-misplaced-2 Inv-loop μ-loop
-add-misplaced-2 c = search needs
-
-add-misplaced-3 : tie.Need-add-misplaced-3 Inv-loop μ-loop
-add-misplaced-3 c = search needs
-
-shared-slice-read-misplaced-2 : tie.Need-shared-slice-read-misplaced-2 Inv-loop μ-loop
-shared-slice-read-misplaced-2 c = search needs
-
-misplaced-requires : tie.Need-misplaced-requires Inv-loop μ-loop
-misplaced-requires c κs = search needs
-
-add-sum : tie.Need-add-sum Inv-loop μ-loop
-add-sum c = search needs
-
-add-i : tie.Need-add-i Inv-loop μ-loop
-add-i c = search needs
-
-loop-less : tie.Need-loop-less Inv-loop μ-loop
-loop-less c = search needs
-
 loop-again : tie.Need-loop-again Inv-loop μ-loop
 loop-again c =
     let args = c .before .before .before .before .before .before .args in
@@ -59,14 +32,14 @@ misplaced-from-spec =
     Inv-loop
     μ-loop
     loop-holds
-    add-misplaced
-    shared-slice-read-misplaced
-    add-misplaced-2
-    add-misplaced-3
-    shared-slice-read-misplaced-2
-    misplaced-requires
-    add-sum
-    add-i
-    loop-less
+    (λ c. search needs)  -- add-misplaced
+    (λ c. search needs)  -- shared-slice-read-misplaced
+    (λ c. search needs)  -- add-misplaced-2
+    (λ c. search needs)  -- add-misplaced-3
+    (λ c. search needs)  -- shared-slice-read-misplaced-2
+    (λ c κs. search needs)  -- misplaced-requires
+    (λ c. search needs)  -- add-sum
+    (λ c. search needs)  -- add-i
+    (λ c. search needs)  -- loop-less
     loop-again
     returns)

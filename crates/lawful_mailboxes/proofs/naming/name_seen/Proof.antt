@@ -10,17 +10,8 @@ use borrow.Author.Needs.{needs}
 use Rattle.lawful_mailboxes.proofs.naming.name_seen.Statement.{statement}
 use Rattle.lawful_mailboxes.proofs.naming.name_seen.Tie as tie
 
-mul-from : tie.Need-mul-from
-mul-from c = search needs
-
-ends-ok-requires : tie.Need-ends-ok-requires
-ends-ok-requires c κs = search needs
-
 returns : tie.Need-returns
 returns c = λ z. tf false z refl
-
-misplaced-from-requires : tie.Need-misplaced-from-requires
-misplaced-from-requires c κs = search needs
 
 returns-2 : tie.Need-returns-2
 returns-2 c =
@@ -30,9 +21,6 @@ returns-2 c =
     let long : length names ≡ 4096 = search needs in
     let ended = c .before .before .before .ends-ok .ensures (not-false _ (c .before .before .if1 .left)) in
     λ z. name-placed names k (start .args .len) long (start .pre) ended (all-placed names (64 * k) 63 (sym (c .misplaced-from .ensures) ∙ eqb-true _ _ z))
-
-short-seen-requires : tie.Need-short-seen-requires
-short-seen-requires c κs = search needs
 
 returns-3 : tie.Need-returns-3
 returns-3 c =
@@ -46,10 +34,10 @@ pub name-seen-spec : {M : Type 1} → statement M
 name-seen-spec =
     tie.close
     (tie.spec
-    mul-from
-    ends-ok-requires
+    (λ c. search needs)  -- mul-from
+    (λ c κs. search needs)  -- ends-ok-requires
     returns
-    misplaced-from-requires
+    (λ c κs. search needs)  -- misplaced-from-requires
     returns-2
-    short-seen-requires
+    (λ c κs. search needs)  -- short-seen-requires
     returns-3)

@@ -8,26 +8,11 @@ use borrow.Author.Needs.{needs}
 use Rattle.lawful_mailboxes.proofs.naming.short_seen.Statement.{statement}
 use Rattle.lawful_mailboxes.proofs.naming.short_seen.Tie as tie
 
-misplaced-from-requires : tie.Need-misplaced-from-requires
-misplaced-from-requires c κs = search needs
-
 returns : tie.Need-returns
 returns c = λ z. tf false z refl
 
-add-word : tie.Need-add-word
-add-word c = search needs
-
-word-requires : tie.Need-word-requires
-word-requires c κs = search needs
-
 returns-2 : tie.Need-returns-2
 returns-2 c = λ z. tf false z refl
-
-add-word-2 : tie.Need-add-word-2
-add-word-2 c = search needs
-
-word-requires-2 : tie.Need-word-requires-2
-word-requires-2 c κs = search needs
 
 returns-3 : tie.Need-returns-3
 returns-3 c =
@@ -44,11 +29,11 @@ pub short-seen-spec : {M : Type 1} → statement M
 short-seen-spec =
     tie.close
     (tie.spec
-    misplaced-from-requires
+    (λ c κs. search needs)  -- misplaced-from-requires
     returns
-    add-word
-    word-requires
+    (λ c. search needs)  -- add-word
+    (λ c κs. search needs)  -- word-requires
     returns-2
-    add-word-2
-    word-requires-2
+    (λ c. search needs)  -- add-word-2
+    (λ c κs. search needs)  -- word-requires-2
     returns-3)

@@ -7,44 +7,14 @@ use borrow.Author.Needs.{needs}
 use Rattle.lawful_quick.proofs.passing.entry_fits.Statement.{statement}
 use Rattle.lawful_quick.proofs.passing.entry_fits.Tie as tie
 
-mul-if1 : tie.Need-mul-if1
-mul-if1 c = search needs
-
-shared-slice-read-if1 : tie.Need-shared-slice-read-if1
-shared-slice-read-if1 c = search needs
-
 returns : tie.Need-returns
 returns c = λ z. tf false z refl
-
-add-if2 : tie.Need-add-if2
-add-if2 c = search needs
-
-mul-if2 : tie.Need-mul-if2
-mul-if2 c = search needs
-
-shared-slice-read-if2 : tie.Need-shared-slice-read-if2
-shared-slice-read-if2 c = search needs
 
 returns-2 : tie.Need-returns-2
 returns-2 c = λ z. tf false z refl
 
-add-is-counted : tie.Need-add-is-counted
-add-is-counted c = search needs
-
-mul-is-counted : tie.Need-mul-is-counted
-mul-is-counted c = search needs
-
-shared-slice-read-is-counted : tie.Need-shared-slice-read-is-counted
-shared-slice-read-is-counted c = search needs
-
-is-counted-requires : tie.Need-is-counted-requires
-is-counted-requires c κs = search needs
-
 returns-3 : tie.Need-returns-3
 returns-3 c = λ z. tf false z refl
-
-in-view-requires : tie.Need-in-view-requires
-in-view-requires c κs = search needs
 
 returns-4 : tie.Need-returns-4
 returns-4 c =
@@ -55,17 +25,17 @@ pub entry-fits-spec : {M : Type 1} → statement M
 entry-fits-spec =
     tie.close
     (tie.spec
-    mul-if1
-    shared-slice-read-if1
+    (λ c. search needs)  -- mul-if1
+    (λ c. search needs)  -- shared-slice-read-if1
     returns
-    add-if2
-    mul-if2
-    shared-slice-read-if2
+    (λ c. search needs)  -- add-if2
+    (λ c. search needs)  -- mul-if2
+    (λ c. search needs)  -- shared-slice-read-if2
     returns-2
-    add-is-counted
-    mul-is-counted
-    shared-slice-read-is-counted
-    is-counted-requires
+    (λ c. search needs)  -- add-is-counted
+    (λ c. search needs)  -- mul-is-counted
+    (λ c. search needs)  -- shared-slice-read-is-counted
+    (λ c κs. search needs)  -- is-counted-requires
     returns-3
-    in-view-requires
+    (λ c κs. search needs)  -- in-view-requires
     returns-4)

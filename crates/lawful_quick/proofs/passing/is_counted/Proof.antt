@@ -5,9 +5,6 @@ use borrow.Author.Needs.{needs}
 use Rattle.lawful_quick.proofs.passing.is_counted.Statement.{statement}
 use Rattle.lawful_quick.proofs.passing.is_counted.Tie as tie
 
-wrapping-sub-u64-requires : tie.Need-wrapping-sub-u64-requires
-wrapping-sub-u64-requires c κs = search needs
-
 returns : tie.Need-returns
 returns c = λ z.
     let below = ltb-true (c .wrapping-sub-u64 .result) (c .before .args .highest) z in
@@ -15,4 +12,8 @@ returns c = λ z.
     (omega arith, omega arith)
 
 pub is-counted-spec : {M : Type 1} → statement M
-is-counted-spec = tie.close (tie.spec wrapping-sub-u64-requires returns)
+is-counted-spec =
+    tie.close
+    (tie.spec
+    (λ c κs. search needs)  -- wrapping-sub-u64-requires
+    returns)

@@ -17,26 +17,8 @@ Inv-loop names k name₀ all at j₀ name j = (j ≤ 64) × (name ≡ paste name
 abbrev μ-loop : tie.MeasureT-loop
 μ-loop names k name₀ all at j₀ name j = 64 - j
 
-mul-at : tie.Need-mul-at Inv-loop μ-loop
-mul-at c = search needs
-
 loop-holds : tie.Need-loop-holds Inv-loop μ-loop
 loop-holds c = (search needs, refl)
-
-add-name : tie.Need-add-name Inv-loop μ-loop
-add-name c = search needs
-
-shared-slice-read-name : tie.Need-shared-slice-read-name Inv-loop μ-loop
-shared-slice-read-name c = search needs
-
-array-write-name : tie.Need-array-write-name Inv-loop μ-loop
-array-write-name c = search needs
-
-add-j : tie.Need-add-j Inv-loop μ-loop
-add-j c = search needs
-
-loop-less : tie.Need-loop-less Inv-loop μ-loop
-loop-less c = search needs
 
 loop-again : tie.Need-loop-again Inv-loop μ-loop
 loop-again c =
@@ -58,12 +40,12 @@ octets-of-spec =
     (tie.spec
     Inv-loop
     μ-loop
-    mul-at
+    (λ c. search needs)  -- mul-at
     loop-holds
-    add-name
-    shared-slice-read-name
-    array-write-name
-    add-j
-    loop-less
+    (λ c. search needs)  -- add-name
+    (λ c. search needs)  -- shared-slice-read-name
+    (λ c. search needs)  -- array-write-name
+    (λ c. search needs)  -- add-j
+    (λ c. search needs)  -- loop-less
     loop-again
     returns)

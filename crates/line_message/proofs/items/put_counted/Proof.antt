@@ -1,11 +1,6 @@
 use borrow.Author.Needs.{needs}
 use Rattle.line_message.proofs.items.put_counted.Statement.{statement}
 use Rattle.line_message.proofs.items.put_counted.Tie as tie
-use Rattle.line_message.proofs.items.put_counted.Reads as reads
-use Rattle.line_message.proofs.items.put_counted.Lts as lts
-use Rattle.line_message.proofs.items.put_gap.Reads as put-gap-reads
-use Rattle.line_put.proofs.put.Reads as put-reads
-use Rattle.line_put.proofs.put_number.Reads as put-number-reads
 use mathlib.Core.List.{_++_}
 use Prim.Native.Nat.{_+_, _-_}
 use native.Mathlib.Omega.{arith}
@@ -18,18 +13,6 @@ use Rattle.line_message.specs.Items.{piece-gap}
 returns : tie.Need-returns
 returns c = let a = c .before .before .before .args in (put-as (put-none _ _ _ (c .before .before .before .pre .0)) (piece-off (a .on) (a .began) (a .word .now ++ decimal (a .n)) (not-true (a .on) (c .if1 .taken))), omega arith)
 
-put-gap-requires : tie.Need-put-gap-requires
-put-gap-requires c κs = search needs
-
-put-requires : tie.Need-put-requires
-put-requires c κs = search needs
-
-put-number-requires : tie.Need-put-number-requires
-put-number-requires c κs = search needs
-
-same-length : tie.Need-same-length
-same-length c = search needs
-
 returns-2 : tie.Need-returns-2
 returns-2 c = let a = c .before .before .before .before .before .before .before .before .before .before .before .before .before .before .before .args in
     (put-as (_then_ (c .before .before .before .before .before .before .before .before .before .before .put-gap .ensures .0) (_then_ (c .before .before .before .before .before .before .put .ensures) (c .before .before .put-number .ensures .0))) (piece-gap (a .on) (a .began) (a .word .now ++ decimal (a .n)) (not-false (a .on) (c .before .before .before .before .before .before .before .before .before .before .before .before .if1 .left))), omega (arith, c .before .before .before .before .before .before .before .before .before .before .before .before .before .before .before .pre .2, c .before .before .before .before .before .before .before .before .before .before .put-gap .ensures .1, c .before .before .before .before .before .before .put .ensures .next, c .before .before .put-number .ensures .1))
@@ -37,4 +20,10 @@ returns-2 c = let a = c .before .before .before .before .before .before .before 
 pub put-counted-spec : {M : Type 1} → statement M
 put-counted-spec =
     tie.close
-    (tie.spec returns put-gap-requires put-requires put-number-requires same-length returns-2)
+    (tie.spec
+    returns
+    (λ c κs. search needs)  -- put-gap-requires
+    (λ c κs. search needs)  -- put-requires
+    (λ c κs. search needs)  -- put-number-requires
+    (λ c. search needs)  -- same-length
+    returns-2)

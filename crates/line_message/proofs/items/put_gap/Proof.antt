@@ -1,9 +1,6 @@
 use borrow.Author.Needs.{needs}
 use Rattle.line_message.proofs.items.put_gap.Statement.{statement}
 use Rattle.line_message.proofs.items.put_gap.Tie as tie
-use Rattle.line_message.proofs.items.put_gap.Reads as reads
-use Rattle.line_message.proofs.items.put_gap.Lts as lts
-use Rattle.line_put.proofs.put_byte.Reads as put-byte-reads
 use Prim.Native.Nat.{_-_}
 use native.Mathlib.Omega.{arith}
 use borrow.Author.Tests.{not-true, not-false}
@@ -13,14 +10,14 @@ use Rattle.line_message.specs.Items.{gap-off, gap-on}
 returns : tie.Need-returns
 returns c = (put-as (put-none _ _ _ (c .before .before .pre .0)) (gap-off (c .before .before .args .began) (not-true (c .before .before .args .began) (c .if1 .taken))), omega arith)
 
-put-byte-requires : tie.Need-put-byte-requires
-put-byte-requires c κs = search needs
-
-same-length : tie.Need-same-length
-same-length c = search needs
-
 returns-2 : tie.Need-returns-2
 returns-2 c = (put-as (c .before .before .put-byte .ensures) (gap-on (c .before .before .before .before .before .before .args .began) (not-false (c .before .before .before .before .before .before .args .began) (c .before .before .before .before .if1 .left))), omega (arith, c .before .before .put-byte .ensures .next))
 
 pub put-gap-spec : {M : Type 1} → statement M
-put-gap-spec = tie.close (tie.spec returns put-byte-requires same-length returns-2)
+put-gap-spec =
+    tie.close
+    (tie.spec
+    returns
+    (λ c κs. search needs)  -- put-byte-requires
+    (λ c. search needs)  -- same-length
+    returns-2)

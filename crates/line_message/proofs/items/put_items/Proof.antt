@@ -10,33 +10,6 @@ use Rattle.line_put.specs.Put.{_then_, put-as}
 use Rattle.line_message.specs.Fetch.{piece}
 use Rattle.line_message.specs.Items.{sizeText}
 
-slice-aggregate-put-counted : tie.Need-slice-aggregate-put-counted
-slice-aggregate-put-counted c = search needs
-
-put-counted-requires : tie.Need-put-counted-requires
-put-counted-requires c κs = search needs
-
-put-flag-item-requires : tie.Need-put-flag-item-requires
-put-flag-item-requires c κs = search needs
-
-either-requires : tie.Need-either-requires
-either-requires c κs = search needs
-
-slice-aggregate-put-counted-2 : tie.Need-slice-aggregate-put-counted-2
-slice-aggregate-put-counted-2 c = search needs
-
-put-counted-requires-2 : tie.Need-put-counted-requires-2
-put-counted-requires-2 c κs = search needs
-
-either-requires-2 : tie.Need-either-requires-2
-either-requires-2 c κs = search needs
-
-put-modseq-requires : tie.Need-put-modseq-requires
-put-modseq-requires c κs = search needs
-
-same-length : tie.Need-same-length
-same-length c = search needs
-
 returns : tie.Need-returns
 returns c =
     let args = c .before .before .before .before .before .before .before .before .before .before .before .before .before .before .before .before .before .before .before .before .before .args in
@@ -56,13 +29,13 @@ pub put-items-spec : {M : Type 1} → statement M
 put-items-spec =
     tie.close
     (tie.spec
-    slice-aggregate-put-counted
-    put-counted-requires
-    put-flag-item-requires
-    either-requires
-    slice-aggregate-put-counted-2
-    put-counted-requires-2
-    either-requires-2
-    put-modseq-requires
-    same-length
+    (λ c. search needs)  -- slice-aggregate-put-counted
+    (λ c κs. search needs)  -- put-counted-requires
+    (λ c κs. search needs)  -- put-flag-item-requires
+    (λ c κs. search needs)  -- either-requires
+    (λ c. search needs)  -- slice-aggregate-put-counted-2
+    (λ c κs. search needs)  -- put-counted-requires-2
+    (λ c κs. search needs)  -- either-requires-2
+    (λ c κs. search needs)  -- put-modseq-requires
+    (λ c. search needs)  -- same-length
     returns)

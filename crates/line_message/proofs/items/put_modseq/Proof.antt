@@ -9,27 +9,6 @@ use Rattle.model.specs.Lines.{modseq, itemText}
 use Rattle.line_put.specs.Put.{_then_, put-as}
 use Rattle.line_message.specs.Items.{piece-gap}
 
-put-gap-requires : tie.Need-put-gap-requires
-put-gap-requires c κs = search needs
-
-slice-aggregate-put : tie.Need-slice-aggregate-put
-slice-aggregate-put c = search needs
-
-put-requires : tie.Need-put-requires
-put-requires c κs = search needs
-
-put-number-requires : tie.Need-put-number-requires
-put-number-requires c κs = search needs
-
-slice-aggregate-put-2 : tie.Need-slice-aggregate-put-2
-slice-aggregate-put-2 c = search needs
-
-put-requires-2 : tie.Need-put-requires-2
-put-requires-2 c κs = search needs
-
-same-length : tie.Need-same-length
-same-length c = search needs
-
 returns : tie.Need-returns
 returns c =
     let args = c .before .before .before .before .before .before .before .before .before .before .before .before .before .before .before .before .before .before .before .args in
@@ -43,11 +22,11 @@ pub put-modseq-spec : {M : Type 1} → statement M
 put-modseq-spec =
     tie.close
     (tie.spec
-    put-gap-requires
-    slice-aggregate-put
-    put-requires
-    put-number-requires
-    slice-aggregate-put-2
-    put-requires-2
-    same-length
+    (λ c κs. search needs)  -- put-gap-requires
+    (λ c. search needs)  -- slice-aggregate-put
+    (λ c κs. search needs)  -- put-requires
+    (λ c κs. search needs)  -- put-number-requires
+    (λ c. search needs)  -- slice-aggregate-put-2
+    (λ c κs. search needs)  -- put-requires-2
+    (λ c. search needs)  -- same-length
     returns)

@@ -1,9 +1,6 @@
 use borrow.Author.Needs.{needs}
 use Rattle.line_message.proofs.parts.put_fresh.Statement.{statement}
 use Rattle.line_message.proofs.parts.put_fresh.Tie as tie
-use Rattle.line_message.proofs.parts.put_fresh.Reads as reads
-use Rattle.line_message.proofs.parts.put_fresh.Lts as lts
-use Rattle.line_message.proofs.items.put_new.Reads as put-new-reads
 use mathlib.Core.Path.{refl}
 use Prim.Native.Nat.{_-_}
 use native.Mathlib.Omega.{arith}
@@ -13,18 +10,16 @@ returns : tie.Need-returns
 returns c = let a = c .before .before .before .before .args in
     puts-none _ _ _ _ _ _ (c .before .before .before .before .pre .0) refl (not-new (a .told .0) (a .n .0) (a .e) (a .w) (c .if1 .taken)) (not-new-next (a .told .0) (a .n .0) (a .e) (a .w) (c .if1 .taken))
 
-add-more : tie.Need-add-more
-add-more c = search needs
-
-put-new-requires : tie.Need-put-new-requires
-put-new-requires c κs = search needs
-
-same-length : tie.Need-same-length
-same-length c = search needs
-
 returns-2 : tie.Need-returns-2
 returns-2 c = let a = c .before .before .before .before .before .before .before .before .before .args in
     puts-some _ _ _ _ _ _ _ _ (c .before .before .put-new .ensures .0) (omega (arith, c .before .before .put-new .ensures .1)) (is-new (a .told .0) (a .n .0) (a .e) (a .w) (c .before .before .before .before .before .if1 .left)) (is-new-next (a .told .0) (a .n .0) (a .e) (a .w) (c .before .before .before .before .before .if1 .left))
 
 pub put-fresh-spec : {M : Type 1} → statement M
-put-fresh-spec = tie.close (tie.spec returns add-more put-new-requires same-length returns-2)
+put-fresh-spec =
+    tie.close
+    (tie.spec
+    returns
+    (λ c. search needs)  -- add-more
+    (λ c κs. search needs)  -- put-new-requires
+    (λ c. search needs)  -- same-length
+    returns-2)

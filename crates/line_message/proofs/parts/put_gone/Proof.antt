@@ -1,9 +1,6 @@
 use borrow.Author.Needs.{needs}
 use Rattle.line_message.proofs.parts.put_gone.Statement.{statement}
 use Rattle.line_message.proofs.parts.put_gone.Tie as tie
-use Rattle.line_message.proofs.parts.put_gone.Reads as reads
-use Rattle.line_message.proofs.parts.put_gone.Lts as lts
-use Rattle.line_message.proofs.put_expunge.Reads as put-expunge-reads
 use mathlib.Core.Path.{refl}
 use Prim.Native.Nat.{_-_}
 use native.Mathlib.Omega.{arith}
@@ -13,18 +10,9 @@ returns : tie.Need-returns
 returns c = let a = c .before .before .before .before .args in
     puts-none _ _ _ _ _ _ (c .before .before .before .before .pre .0) refl (off-gone (a .told .0) (a .n .0) (a .e) (c .if1 .taken)) (off-gone-next (a .told .0) (a .n .0) (a .e) (c .if1 .taken))
 
-put-expunge-requires : tie.Need-put-expunge-requires
-put-expunge-requires c κs = search needs
-
-same-length : tie.Need-same-length
-same-length c = search needs
-
 returns-2 : tie.Need-returns-2
 returns-2 c = let a = c .before .before .before .before .before .before .before .before .before .before .args in
     puts-some _ _ _ _ _ _ _ _ (c .before .before .put-expunge .ensures .0) (omega (arith, c .before .before .put-expunge .ensures .1)) (is-gone (a .told .0) (a .n .0) (a .e) (c .before .before .before .before .before .before .if1 .left) (c .before .before .before .before .if2 .taken)) (is-gone-next (a .told .0) (a .n .0) (a .e) (c .before .before .before .before .before .before .if1 .left) (c .before .before .before .before .if2 .taken))
-
-add-more : tie.Need-add-more
-add-more c = search needs
 
 returns-3 : tie.Need-returns-3
 returns-3 c = let a = c .before .before .before .before .before .before .before .args in
@@ -32,4 +20,11 @@ returns-3 c = let a = c .before .before .before .before .before .before .before 
 
 pub put-gone-spec : {M : Type 1} → statement M
 put-gone-spec =
-    tie.close (tie.spec returns put-expunge-requires same-length returns-2 add-more returns-3)
+    tie.close
+    (tie.spec
+    returns
+    (λ c κs. search needs)  -- put-expunge-requires
+    (λ c. search needs)  -- same-length
+    returns-2
+    (λ c. search needs)  -- add-more
+    returns-3)

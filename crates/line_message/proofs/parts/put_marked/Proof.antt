@@ -1,9 +1,6 @@
 use borrow.Author.Needs.{needs}
 use Rattle.line_message.proofs.parts.put_marked.Statement.{statement}
 use Rattle.line_message.proofs.parts.put_marked.Tie as tie
-use Rattle.line_message.proofs.parts.put_marked.Reads as reads
-use Rattle.line_message.proofs.parts.put_marked.Lts as lts
-use Rattle.line_message.proofs.put_fetch.Reads as put-fetch-reads
 use mathlib.Core.Path.{refl}
 use Prim.Native.Nat.{_-_}
 use native.Mathlib.Omega.{arith}
@@ -17,15 +14,6 @@ returns-2 : tie.Need-returns-2
 returns-2 c = let a = c .before .before .before .before .before .before .args in
     puts-none _ _ _ _ _ _ (c .before .before .before .before .before .before .pre .0) refl (gone-marked (a .told .0) (a .n .0) (a .e) (c .before .before .if1 .left) (c .if2 .taken)) (gone-marked-next (a .told .0) (a .n .0) (a .e) (c .before .before .if1 .left) (c .if2 .taken))
 
-add-more : tie.Need-add-more
-add-more c = search needs
-
-put-fetch-requires : tie.Need-put-fetch-requires
-put-fetch-requires c κs = search needs
-
-same-length : tie.Need-same-length
-same-length c = search needs
-
 returns-3 : tie.Need-returns-3
 returns-3 c = let a = c .before .before .before .before .before .before .before .before .before .before .before .before .before .before .args in
     puts-some _ _ _ _ _ _ _ _ (c .before .before .put-fetch .ensures .0) (omega (arith, c .before .before .put-fetch .ensures .1)) (is-marked (a .told .0) (a .n .0) (a .e) (c .before .before .before .before .before .before .before .before .before .before .if1 .left) (c .before .before .before .before .before .before .before .before .if2 .left) (c .before .before .before .before .before .if3 .taken)) (live-marked-next (a .told .0) (a .n .0) (a .e) (c .before .before .before .before .before .before .before .before .before .before .if1 .left) (c .before .before .before .before .before .before .before .before .if2 .left))
@@ -37,4 +25,11 @@ returns-4 c = let a = c .before .before .before .before .before .before .before 
 pub put-marked-spec : {M : Type 1} → statement M
 put-marked-spec =
     tie.close
-    (tie.spec returns returns-2 add-more put-fetch-requires same-length returns-3 returns-4)
+    (tie.spec
+    returns
+    returns-2
+    (λ c. search needs)  -- add-more
+    (λ c κs. search needs)  -- put-fetch-requires
+    (λ c. search needs)  -- same-length
+    returns-3
+    returns-4)

@@ -1,9 +1,5 @@
 use Rattle.line_message.proofs.parts.put_part.Statement.{statement}
 use Rattle.line_message.proofs.parts.put_part.Tie as tie
-use Rattle.line_message.proofs.parts.put_part.Reads as reads
-use Rattle.line_message.proofs.parts.put_part.Lts as lts
-use Rattle.table_messages.proofs.entry.Reads as entry-reads
-use Rattle.line_message.proofs.parts.put_one.Reads as put-one-reads
 use mathlib.Core.Path.{_≡_, refl, _∙_}
 use Prim.Native.Nat.{_≤_, _+_, _-_, _*_}
 use native.Mathlib.Omega.{arith}
@@ -23,23 +19,8 @@ abbrev μ-loop : tie.MeasureT-loop
 loop-holds : tie.Need-loop-holds Inv-loop μ-loop
 loop-holds c = (omega arith, refl, omega arith, omega arith, λ q r p. p)
 
-sub-j : tie.Need-sub-j Inv-loop μ-loop
-sub-j c = search needs
-
-mul-entry : tie.Need-mul-entry Inv-loop μ-loop
-mul-entry c = search needs
-
-shared-slice-read-entry : tie.Need-shared-slice-read-entry Inv-loop μ-loop
-shared-slice-read-entry c = search needs
-
-entry-requires : tie.Need-entry-requires Inv-loop μ-loop
-entry-requires c κs = search needs
-
 put-one-requires : tie.Need-put-one-requires Inv-loop μ-loop
 put-one-requires c κs = let o = c .before .before .before .before .loop in (omega arith, omega arith, omega arith)
-
-loop-less : tie.Need-loop-less Inv-loop μ-loop
-loop-less c = search needs
 
 loop-again : tie.Need-loop-again Inv-loop μ-loop
 loop-again c = let a = c .before .before .before .before .before .before .before .before .before .before .before .before .args in
@@ -47,9 +28,6 @@ loop-again c = let a = c .before .before .before .before .before .before .before
     let p = c .before .before .before .put-one .ensures in
     let m = next-most (a .told .0) (o .next .0) (c .before .before .before .before .before .entry .result) (a .part) in
     (omega arith, p .put .same ∙ o .inv .1, omega (arith, p .short), omega (arith, p .next), part-next (a .part) (a .told .0) (messages (a .words .now)) (a .order .now) (a .queue .now) (a .at) (a .limit) _ (o .queue) (o .end) (o .j) (o .next .0) (c .before .before .before .before .before .entry .result) _ _ _ (c .before .before .before .before .before .before .before .loop-test .taken) (o .inv .4) (c .before .before .before .before .before .entry .ensures) (p .put) (p .next))
-
-same-length : tie.Need-same-length Inv-loop μ-loop
-same-length c = search needs
 
 returns : tie.Need-returns Inv-loop μ-loop
 returns c = let a = c .before .before .before .before .before .args in
@@ -63,12 +41,12 @@ put-part-spec =
     Inv-loop
     μ-loop
     loop-holds
-    sub-j
-    mul-entry
-    shared-slice-read-entry
-    entry-requires
+    (λ c. search needs)  -- sub-j
+    (λ c. search needs)  -- mul-entry
+    (λ c. search needs)  -- shared-slice-read-entry
+    (λ c κs. search needs)  -- entry-requires
     put-one-requires
-    loop-less
+    (λ c. search needs)  -- loop-less
     loop-again
-    same-length
+    (λ c. search needs)  -- same-length
     returns)

@@ -5,32 +5,17 @@ use borrow.Author.Tests.{not-true, not-false}
 use Rattle.match_groups.proofs.marking.asks_of.Statement.{statement}
 use Rattle.match_groups.proofs.marking.asks_of.Tie as tie
 
-has-requires : tie.Need-has-requires
-has-requires c κs = search needs
-
 returns : tie.Need-returns
 returns c = rw (not-true (c .before .before .before .args .messages) (c .before .before .if1 .taken), sym (c .before .has .ensures) ∙ c .if2 .taken)
-
-has-requires-2 : tie.Need-has-requires-2
-has-requires-2 c κs = search needs
 
 returns-2 : tie.Need-returns-2
 returns-2 c = rw (not-true (c .before .before .before .before .args .messages) (c .before .before .before .if1 .taken), sym (c .before .before .has .ensures) ∙ c .before .if2 .left) (c .has2 .ensures)
 
-has-requires-3 : tie.Need-has-requires-3
-has-requires-3 c κs = search needs
-
 returns-3 : tie.Need-returns-3
 returns-3 c = rw (not-false (c .before .before .before .args .messages) (c .before .before .if1 .left), sym (c .before .has3 .ensures) ∙ c .if3 .taken)
 
-has-requires-4 : tie.Need-has-requires-4
-has-requires-4 c κs = search needs
-
 returns-4 : tie.Need-returns-4
 returns-4 c = rw (not-false (c .before .before .before .before .before .args .messages) (c .before .before .before .before .if1 .left), sym (c .before .before .before .has3 .ensures) ∙ c .before .before .if3 .left, sym (c .before .has4 .ensures) ∙ c .if4 .taken)
-
-has-requires-5 : tie.Need-has-requires-5
-has-requires-5 c κs = search needs
 
 returns-5 : tie.Need-returns-5
 returns-5 c = rw (not-false (c .before .before .before .before .before .before .args .messages) (c .before .before .before .before .before .if1 .left), sym (c .before .before .before .before .has3 .ensures) ∙ c .before .before .before .if3 .left, sym (c .before .before .has4 .ensures) ∙ c .before .if4 .left) (c .has5 .ensures)
@@ -39,13 +24,13 @@ pub asks-of-spec : {M : Type 1} → statement M
 asks-of-spec =
     tie.close
     (tie.spec
-    has-requires
+    (λ c κs. search needs)  -- has-requires
     returns
-    has-requires-2
+    (λ c κs. search needs)  -- has-requires-2
     returns-2
-    has-requires-3
+    (λ c κs. search needs)  -- has-requires-3
     returns-3
-    has-requires-4
+    (λ c κs. search needs)  -- has-requires-4
     returns-4
-    has-requires-5
+    (λ c κs. search needs)  -- has-requires-5
     returns-5)

@@ -32,29 +32,11 @@ Inv-loop messages attributes lens names n marks₀ s end i₀ marks i = (length 
 abbrev μ-loop : tie.MeasureT-loop
 μ-loop messages attributes lens names n marks₀ s end i₀ marks i = end - i
 
-groups-requires : tie.Need-groups-requires Inv-loop μ-loop
-groups-requires c κs = search needs
-
 loop-holds : tie.Need-loop-holds Inv-loop μ-loop
 loop-holds c = (refl, λ k h. refl)
 
-mul-group-of : tie.Need-mul-group-of Inv-loop μ-loop
-mul-group-of c = search needs
-
-element-copy-out-group-of : tie.Need-element-copy-out-group-of Inv-loop μ-loop
-element-copy-out-group-of c = search needs
-
-group-of-requires : tie.Need-group-of-requires Inv-loop μ-loop
-group-of-requires c κs = search needs
-
 mark-group-requires : tie.Need-mark-group-requires Inv-loop μ-loop
 mark-group-requires c κs = (omega arith, omega (arith, c .before .before .before .before .loop .inv .0, c .before .before .before .before .before .before .before .pre))
-
-add-i : tie.Need-add-i Inv-loop μ-loop
-add-i c = search needs
-
-loop-less : tie.Need-loop-less Inv-loop μ-loop
-loop-less c = search needs
 
 loop-again : tie.Need-loop-again Inv-loop μ-loop
 loop-again c =
@@ -88,14 +70,14 @@ mark-asked-spec =
     (tie.spec
     Inv-loop
     μ-loop
-    groups-requires
+    (λ c κs. search needs)  -- groups-requires
     loop-holds
-    mul-group-of
-    element-copy-out-group-of
-    group-of-requires
+    (λ c. search needs)  -- mul-group-of
+    (λ c. search needs)  -- element-copy-out-group-of
+    (λ c κs. search needs)  -- group-of-requires
     mark-group-requires
-    add-i
-    loop-less
+    (λ c. search needs)  -- add-i
+    (λ c. search needs)  -- loop-less
     loop-again
     same-length
     returns)

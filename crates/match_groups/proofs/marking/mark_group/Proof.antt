@@ -10,19 +10,10 @@ use Rattle.match_groups.specs.Marks.{marks-none, met-asking, met-silent}
 use Rattle.match_groups.proofs.marking.mark_group.Statement.{statement}
 use Rattle.match_groups.proofs.marking.mark_group.Tie as tie
 
-asks-of-requires : tie.Need-asks-of-requires
-asks-of-requires c κs = search needs
-
 returns : tie.Need-returns
 returns c =
     let a = c .before .before .before .args in
     marks-none (a .n) _ (a .marks .now) (λ k. met-silent (a .s) (nameAt (a .lens .now) (a .names .now) k) (getD (a .attributes .now) k 0) (a .g) _ (sym (c .before .asks-of .ensures) ∙ not-true _ (c .if1 .taken)))
-
-mark-met-requires : tie.Need-mark-met-requires
-mark-met-requires c κs = search needs
-
-same-length : tie.Need-same-length
-same-length c = search needs
 
 returns-2 : tie.Need-returns-2
 returns-2 c =
@@ -32,4 +23,10 @@ returns-2 c =
 
 pub mark-group-spec : {M : Type 1} → statement M
 mark-group-spec =
-    tie.close (tie.spec asks-of-requires returns mark-met-requires same-length returns-2)
+    tie.close
+    (tie.spec
+    (λ c κs. search needs)  -- asks-of-requires
+    returns
+    (λ c κs. search needs)  -- mark-met-requires
+    (λ c. search needs)  -- same-length
+    returns-2)

@@ -10,42 +10,6 @@ use Rattle.match_groups.specs.Marks.{marks-none, met-taken, taken-deep}
 use Rattle.match_groups.proofs.marking.mark_met.Statement.{statement}
 use Rattle.match_groups.proofs.marking.mark_met.Tie as tie
 
-enum-told : tie.Need-enum-told
-enum-told c = search needs
-
-enum-told-2 : tie.Need-enum-told-2
-enum-told-2 c = search needs
-
-enum-told-3 : tie.Need-enum-told-3
-enum-told-3 c = search needs
-
-mark-taken-requires : tie.Need-mark-taken-requires
-mark-taken-requires c κs = search needs
-
-enum-told-4 : tie.Need-enum-told-4
-enum-told-4 c = search needs
-
-mark-taken-requires-2 : tie.Need-mark-taken-requires-2
-mark-taken-requires-2 c κs = search needs
-
-enum-told-5 : tie.Need-enum-told-5
-enum-told-5 c = search needs
-
-mark-taken-requires-3 : tie.Need-mark-taken-requires-3
-mark-taken-requires-3 c κs = search needs
-
-enum-known-selector : tie.Need-enum-known-selector
-enum-known-selector c = search needs
-
-mark-range-requires : tie.Need-mark-range-requires
-mark-range-requires c κs = search needs
-
-enum-known-selector-2 : tie.Need-enum-known-selector-2
-enum-known-selector-2 c = search needs
-
-mark-range-requires-2 : tie.Need-mark-range-requires-2
-mark-range-requires-2 c κs = search needs
-
 returns : tie.Need-returns
 returns c =
     let a = c .before .before .before .args in
@@ -56,32 +20,20 @@ returns-2 c =
     let a = c .before .before .before .args in
     marks-none (a .n) _ (a .marks .now) (λ k. ap (meets (a .s) (nameAt (a .lens .now) (a .names .now) k) (getD (a .attributes .now) k 0)) (c .enum-told2 .given .1))
 
-same-length : tie.Need-same-length
-same-length c = search needs
-
 returns-3 : tie.Need-returns-3
 returns-3 c =
     let a = c .before .before .before .before .before .before .before .args in
     λ k h. c .before .before .mark-taken .ensures k h ∙ ap (λ (b : Bool). noted (getD (a .marks .now) k 0) || b) (met-taken (a .s) (nameAt (a .lens .now) (a .names .now) k) (getD (a .attributes .now) k 0) (a .selector) _ (c .before .before .before .before .enum-told3 .given .1) refl)
-
-same-length-2 : tie.Need-same-length-2
-same-length-2 c = search needs
 
 returns-4 : tie.Need-returns-4
 returns-4 c =
     let a = c .before .before .before .before .before .before .before .args in
     λ k h. c .before .before .mark-taken2 .ensures k h ∙ ap (λ (b : Bool). noted (getD (a .marks .now) k 0) || b) (met-taken (a .s) (nameAt (a .lens .now) (a .names .now) k) (getD (a .attributes .now) k 0) (a .selector) _ (c .before .before .before .before .enum-told4 .given .1) refl)
 
-same-length-3 : tie.Need-same-length-3
-same-length-3 c = search needs
-
 returns-5 : tie.Need-returns-5
 returns-5 c =
     let a = c .before .before .before .before .before .before .before .args in
     λ k h. c .before .before .mark-taken3 .ensures k h ∙ ap (λ (b : Bool). noted (getD (a .marks .now) k 0) || b) (met-taken (a .s) (nameAt (a .lens .now) (a .names .now) k) (getD (a .attributes .now) k 0) (a .selector) _ (c .before .before .before .before .enum-told5 .given .1) refl)
-
-same-length-4 : tie.Need-same-length-4
-same-length-4 c = search needs
 
 returns-6 : tie.Need-returns-6
 returns-6 c =
@@ -89,9 +41,6 @@ returns-6 c =
     λ k h. c .before .before .mark-range .ensures k h
     ∙ ap (λ (b : Bool). noted (getD (a .marks .now) k 0) || b)
     (taken-deep (getD (a .attributes .now) k 0) (nameAt (a .lens .now) (a .names .now) k) (namesIn (a .s) (c .before .before .before .before .before .selector .given .0 .0)) ∙ sym (ap (meets (a .s) (nameAt (a .lens .now) (a .names .now) k) (getD (a .attributes .now) k 0)) (c .before .before .before .before .before .selector .given .1)))
-
-same-length-5 : tie.Need-same-length-5
-same-length-5 c = search needs
 
 returns-7 : tie.Need-returns-7
 returns-7 c =
@@ -102,27 +51,27 @@ pub mark-met-spec : {M : Type 1} → statement M
 mark-met-spec =
     tie.close
     (tie.spec
-    enum-told
-    enum-told-2
-    enum-told-3
-    mark-taken-requires
-    enum-told-4
-    mark-taken-requires-2
-    enum-told-5
-    mark-taken-requires-3
-    enum-known-selector
-    mark-range-requires
-    enum-known-selector-2
-    mark-range-requires-2
+    (λ c. search needs)  -- enum-told
+    (λ c. search needs)  -- enum-told-2
+    (λ c. search needs)  -- enum-told-3
+    (λ c κs. search needs)  -- mark-taken-requires
+    (λ c. search needs)  -- enum-told-4
+    (λ c κs. search needs)  -- mark-taken-requires-2
+    (λ c. search needs)  -- enum-told-5
+    (λ c κs. search needs)  -- mark-taken-requires-3
+    (λ c. search needs)  -- enum-known-selector
+    (λ c κs. search needs)  -- mark-range-requires
+    (λ c. search needs)  -- enum-known-selector-2
+    (λ c κs. search needs)  -- mark-range-requires-2
     returns
     returns-2
-    same-length
+    (λ c. search needs)  -- same-length
     returns-3
-    same-length-2
+    (λ c. search needs)  -- same-length-2
     returns-4
-    same-length-3
+    (λ c. search needs)  -- same-length-3
     returns-5
-    same-length-4
+    (λ c. search needs)  -- same-length-4
     returns-6
-    same-length-5
+    (λ c. search needs)  -- same-length-5
     returns-7)

@@ -12,20 +12,11 @@ use Rattle.match_groups.specs.Marks.{takenByName}
 use Rattle.match_groups.proofs.marking.mark_name.Statement.{statement}
 use Rattle.match_groups.proofs.marking.mark_name.Tie as tie
 
-clip-requires : tie.Need-clip-requires
-clip-requires c κs = search needs
-
 array-share-prefix-o : tie.Need-array-share-prefix-o
 array-share-prefix-o c = let long : length (c .before .before .before .args .x .octets) ≡ 64 = search needs in omega arith
 
 slice-aggregate-mark-top : tie.Need-slice-aggregate-mark-top
 slice-aggregate-mark-top c = let long : length (c .before .before .before .before .args .x .octets) ≡ 64 = search needs in sym (length-take-le _ _ (omega arith))
-
-mark-top-requires : tie.Need-mark-top-requires
-mark-top-requires c κs = search needs
-
-same-length : tie.Need-same-length
-same-length c = search needs
 
 returns : tie.Need-returns
 returns c =
@@ -38,9 +29,9 @@ pub mark-name-spec : {M : Type 1} → statement M
 mark-name-spec =
     tie.close
     (tie.spec
-    clip-requires
+    (λ c κs. search needs)  -- clip-requires
     array-share-prefix-o
     slice-aggregate-mark-top
-    mark-top-requires
-    same-length
+    (λ c κs. search needs)  -- mark-top-requires
+    (λ c. search needs)  -- same-length
     returns)

@@ -27,29 +27,11 @@ Inv-loop deep attributes lens names n marks₀ s end i₀ marks i = (length mark
 abbrev μ-loop : tie.MeasureT-loop
 μ-loop deep attributes lens names n marks₀ s end i₀ marks i = end - i
 
-reach-requires : tie.Need-reach-requires Inv-loop μ-loop
-reach-requires c κs = search needs
-
-wide-requires : tie.Need-wide-requires Inv-loop μ-loop
-wide-requires c κs = search needs
-
 loop-holds : tie.Need-loop-holds Inv-loop μ-loop
 loop-holds c = (refl, λ k h. refl)
 
-mul-x : tie.Need-mul-x Inv-loop μ-loop
-mul-x c = search needs
-
-element-copy-out-x : tie.Need-element-copy-out-x Inv-loop μ-loop
-element-copy-out-x c = search needs
-
 mark-name-requires : tie.Need-mark-name-requires Inv-loop μ-loop
 mark-name-requires c κs = (omega arith, omega (arith, c .before .before .before .loop .inv .0, c .before .before .before .before .before .before .before .pre))
-
-add-i : tie.Need-add-i Inv-loop μ-loop
-add-i c = search needs
-
-loop-less : tie.Need-loop-less Inv-loop μ-loop
-loop-less c = search needs
 
 loop-again : tie.Need-loop-again Inv-loop μ-loop
 loop-again c =
@@ -84,14 +66,14 @@ mark-range-spec =
     (tie.spec
     Inv-loop
     μ-loop
-    reach-requires
-    wide-requires
+    (λ c κs. search needs)  -- reach-requires
+    (λ c κs. search needs)  -- wide-requires
     loop-holds
-    mul-x
-    element-copy-out-x
+    (λ c. search needs)  -- mul-x
+    (λ c. search needs)  -- element-copy-out-x
     mark-name-requires
-    add-i
-    loop-less
+    (λ c. search needs)  -- add-i
+    (λ c. search needs)  -- loop-less
     loop-again
     same-length
     returns)

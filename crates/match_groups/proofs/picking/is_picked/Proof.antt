@@ -6,9 +6,6 @@ use Rattle.match_groups.specs.Picked.{picked-hidden, picked-mailbox, pic
 use Rattle.match_groups.proofs.picking.is_picked.Statement.{statement}
 use Rattle.match_groups.proofs.picking.is_picked.Tie as tie
 
-has-requires : tie.Need-has-requires
-has-requires c κs = search needs
-
 returns : tie.Need-returns
 returns c = λ s n any messages mailbox. picked-hidden s n (c .before .before .args .a) (c .before .before .args .selected) (sym (c .before .has .ensures) ∙ not-true _ (c .if1 .taken))
 
@@ -22,4 +19,11 @@ returns-4 : tie.Need-returns-4
 returns-4 c = λ s n any messages mailbox. picked-other s n (c .before .before .before .before .args .a) _ (c .before .before .before .before .args .selected) (sym (c .before .before .before .has .ensures) ∙ not-false _ (c .before .before .if1 .left)) (sym mailbox ∙ c .before .if2 .left) (c .if3 .left) messages
 
 pub is-picked-spec : {M : Type 1} → statement M
-is-picked-spec = tie.close (tie.spec has-requires returns returns-2 returns-3 returns-4)
+is-picked-spec =
+    tie.close
+    (tie.spec
+    (λ c κs. search needs)  -- has-requires
+    returns
+    returns-2
+    returns-3
+    returns-4)

@@ -10,11 +10,13 @@ use Rattle.match_groups.proofs.picking.is_selected.Tie as tie
 returns : tie.Need-returns
 returns c = λ s e. selects-none s (c .before .args .id) (eq-eqb _ 0 (c .if1 .taken))
 
-wide-id-requires : tie.Need-wide-id-requires
-wide-id-requires c κs = search needs
-
 returns-2 : tie.Need-returns-2
 returns-2 c = λ s e. selects-some s (c .before .before .args .id) _ (ne-eqb _ 0 (c .before .if1 .left)) (ap (eqb (c .before .before .args .id)) (c .wide-id .ensures ∙ e))
 
 pub is-selected-spec : {M : Type 1} → statement M
-is-selected-spec = tie.close (tie.spec returns wide-id-requires returns-2)
+is-selected-spec =
+    tie.close
+    (tie.spec
+    returns
+    (λ c κs. search needs)  -- wide-id-requires
+    returns-2)

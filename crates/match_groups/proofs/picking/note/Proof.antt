@@ -6,21 +6,6 @@ use Rattle.match_groups.specs.Picked.{pickedBy, statusBy}
 use Rattle.match_groups.proofs.picking.note.Statement.{statement}
 use Rattle.match_groups.proofs.picking.note.Tie as tie
 
-is-selected-requires : tie.Need-is-selected-requires
-is-selected-requires c κs = search needs
-
-is-picked-requires : tie.Need-is-picked-requires
-is-picked-requires c κs = search needs
-
-octet-requires : tie.Need-octet-requires
-octet-requires c κs = search needs
-
-has-status-requires : tie.Need-has-status-requires
-has-status-requires c κs = search needs
-
-octet-requires-2 : tie.Need-octet-requires-2
-octet-requires-2 c κs = search needs
-
 returns : tie.Need-returns
 returns c = λ s n is any messages mailbox. record {
   told = c .before .before .octet .ensures ∙ (c .before .before .before .is-picked .ensures s n any messages mailbox ∙ ap (pickedBy s n (c .before .before .before .before .before .args .a)) (c .before .before .before .before .is-selected .ensures s is));
@@ -31,9 +16,9 @@ pub note-spec : {M : Type 1} → statement M
 note-spec =
     tie.close
     (tie.spec
-    is-selected-requires
-    is-picked-requires
-    octet-requires
-    has-status-requires
-    octet-requires-2
+    (λ c κs. search needs)  -- is-selected-requires
+    (λ c κs. search needs)  -- is-picked-requires
+    (λ c κs. search needs)  -- octet-requires
+    (λ c κs. search needs)  -- has-status-requires
+    (λ c κs. search needs)  -- octet-requires-2
     returns)

@@ -19,53 +19,14 @@ Inv-loop s wanted ids attributes lens names n picked₀ asks₀ messages mailbox
 abbrev μ-loop : tie.MeasureT-loop
 μ-loop s wanted ids attributes lens names n picked₀ asks₀ messages mailbox any k₀ picked asks k = n - k
 
-slice-aggregate-mark-asked : tie.Need-slice-aggregate-mark-asked Inv-loop μ-loop
-slice-aggregate-mark-asked c = search needs
-
-mark-asked-requires : tie.Need-mark-asked-requires Inv-loop μ-loop
-mark-asked-requires c κs = search needs
-
-slice-aggregate-mark-asked-2 : tie.Need-slice-aggregate-mark-asked-2 Inv-loop μ-loop
-slice-aggregate-mark-asked-2 c = search needs
-
-mark-asked-requires-2 : tie.Need-mark-asked-requires-2 Inv-loop μ-loop
-mark-asked-requires-2 c κs = search needs
-
-selected-asks-any-requires : tie.Need-selected-asks-any-requires Inv-loop μ-loop
-selected-asks-any-requires c κs = search needs
-
 loop-holds : tie.Need-loop-holds Inv-loop μ-loop
 loop-holds c = (omega arith, refl, refl, λ j h. absurd (let z : ⊥ = omega arith in z))
-
-mul-note : tie.Need-mul-note Inv-loop μ-loop
-mul-note c = search needs
-
-element-copy-out-note : tie.Need-element-copy-out-note Inv-loop μ-loop
-element-copy-out-note c = search needs
-
-element-copy-out-note-2 : tie.Need-element-copy-out-note-2 Inv-loop μ-loop
-element-copy-out-note-2 c = search needs
-
-array-read-note : tie.Need-array-read-note Inv-loop μ-loop
-array-read-note c = search needs
-
-array-read-note-2 : tie.Need-array-read-note-2 Inv-loop μ-loop
-array-read-note-2 c = search needs
-
-note-requires : tie.Need-note-requires Inv-loop μ-loop
-note-requires c κs = search needs
 
 slice-write-picked : tie.Need-slice-write-picked Inv-loop μ-loop
 slice-write-picked c = let l = c .before .before .before .before .loop in omega (arith, c .before .before .before .before .before .before .before .before .before .before .before .before .before .before .pre .1, l .inv .0, l .inv .1, c .before .before .before .loop-test)
 
 slice-write-asks : tie.Need-slice-write-asks Inv-loop μ-loop
 slice-write-asks c = let l = c .before .before .before .before .loop in omega (arith, c .before .before .before .before .before .before .before .before .before .before .before .before .before .before .pre .2, l .inv .0, l .inv .2, c .before .before .before .loop-test)
-
-add-k : tie.Need-add-k Inv-loop μ-loop
-add-k c = search needs
-
-loop-less : tie.Need-loop-less Inv-loop μ-loop
-loop-less c = search needs
 
 loop-again : tie.Need-loop-again Inv-loop μ-loop
 loop-again c =
@@ -101,22 +62,22 @@ note-rows-spec =
     (tie.spec
     Inv-loop
     μ-loop
-    slice-aggregate-mark-asked
-    mark-asked-requires
-    slice-aggregate-mark-asked-2
-    mark-asked-requires-2
-    selected-asks-any-requires
+    (λ c. search needs)  -- slice-aggregate-mark-asked
+    (λ c κs. search needs)  -- mark-asked-requires
+    (λ c. search needs)  -- slice-aggregate-mark-asked-2
+    (λ c κs. search needs)  -- mark-asked-requires-2
+    (λ c κs. search needs)  -- selected-asks-any-requires
     loop-holds
-    mul-note
-    element-copy-out-note
-    element-copy-out-note-2
-    array-read-note
-    array-read-note-2
-    note-requires
+    (λ c. search needs)  -- mul-note
+    (λ c. search needs)  -- element-copy-out-note
+    (λ c. search needs)  -- element-copy-out-note-2
+    (λ c. search needs)  -- array-read-note
+    (λ c. search needs)  -- array-read-note-2
+    (λ c κs. search needs)  -- note-requires
     slice-write-picked
     slice-write-asks
-    add-k
-    loop-less
+    (λ c. search needs)  -- add-k
+    (λ c. search needs)  -- loop-less
     loop-again
     same-length
     same-length-2

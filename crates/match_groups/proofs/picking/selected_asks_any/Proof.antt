@@ -5,23 +5,14 @@ use Rattle.match_groups.proofs.picking.selected_asks_any.Tie as tie
 use mathlib.Core.Path.{sym, _∙_}
 use Rattle.match_groups.specs.Picked.{any-first, any-second, any-third, any-fourth, any-fifth}
 
-selected-asks-requires : tie.Need-selected-asks-requires
-selected-asks-requires c κs = search needs
-
 returns : tie.Need-returns
 returns c = any-first (c .before .before .args .s) (sym (c .before .selected-asks .ensures) ∙ c .if1 .taken)
-
-selected-asks-requires-2 : tie.Need-selected-asks-requires-2
-selected-asks-requires-2 c κs = search needs
 
 returns-2 : tie.Need-returns-2
 returns-2 c =
     let selected-asks = c .before .before .before .selected-asks in
     any-second (c .before .before .before .before .args .s) (sym (selected-asks .ensures) ∙ c .before .before .if1 .left)
     (sym (c .before .selected-asks2 .ensures) ∙ c .if2 .taken)
-
-selected-asks-requires-3 : tie.Need-selected-asks-requires-3
-selected-asks-requires-3 c κs = search needs
 
 returns-3 : tie.Need-returns-3
 returns-3 c =
@@ -30,9 +21,6 @@ returns-3 c =
     let selected-asks2 = c .before .before .before .selected-asks2 in
     any-third (a .s) (sym (selected-asks .ensures) ∙ c .before .before .before .before .if1 .left) (sym (selected-asks2 .ensures) ∙ c .before .before .if2 .left)
     (sym (c .before .selected-asks3 .ensures) ∙ c .if3 .taken)
-
-selected-asks-requires-4 : tie.Need-selected-asks-requires-4
-selected-asks-requires-4 c κs = search needs
 
 returns-4 : tie.Need-returns-4
 returns-4 c =
@@ -43,9 +31,6 @@ returns-4 c =
     let selected-asks3 = c .before .before .before .selected-asks3 in
     any-fourth (a .s) (sym (selected-asks .ensures) ∙ if1 .left) (sym (selected-asks2 .ensures) ∙ c .before .before .before .before .if2 .left)
     (sym (selected-asks3 .ensures) ∙ c .before .before .if3 .left) (sym (c .before .selected-asks4 .ensures) ∙ c .if4 .taken)
-
-selected-asks-requires-5 : tie.Need-selected-asks-requires-5
-selected-asks-requires-5 c κs = search needs
 
 returns-5 : tie.Need-returns-5
 returns-5 c =
@@ -63,13 +48,13 @@ pub selected-asks-any-spec : {M : Type 1} → statement M
 selected-asks-any-spec =
     tie.close
     (tie.spec
-    selected-asks-requires
+    (λ c κs. search needs)  -- selected-asks-requires
     returns
-    selected-asks-requires-2
+    (λ c κs. search needs)  -- selected-asks-requires-2
     returns-2
-    selected-asks-requires-3
+    (λ c κs. search needs)  -- selected-asks-requires-3
     returns-3
-    selected-asks-requires-4
+    (λ c κs. search needs)  -- selected-asks-requires-4
     returns-4
-    selected-asks-requires-5
+    (λ c κs. search needs)  -- selected-asks-requires-5
     returns-5)

@@ -8,26 +8,11 @@ use lib.ListN.{getD}
 use Rattle.octets.proofs.Strings.{octet-in}
 use Rattle.octets.proofs.Days.{date-bare, date-no-date, date-no-quote, date-quoted}
 
-octet-at-requires : tie.Need-octet-at-requires
-octet-at-requires c κs = search needs
-
 add-bare-date-at : tie.Need-add-bare-date-at
 add-bare-date-at c = let e : getD (c .before .before .before .args .text .now) (c .before .before .before .args .at) 0 ≡ 34 = sym (c .before .octet-at .ensures) ∙ c .if1 .taken in omega (arith, octet-in (c .before .before .before .args .text .now) (c .before .before .before .args .at) (omega arith))
 
-bare-date-at-requires : tie.Need-bare-date-at-requires
-bare-date-at-requires c κs = search needs
-
-enum-known-q : tie.Need-enum-known-q
-enum-known-q c = search needs
-
-enum-told : tie.Need-enum-told
-enum-told c = search needs
-
 returns : tie.Need-returns
 returns c = record { exact = date-no-date (c .before .before .before .before .before .before .args .text .now) (c .before .before .before .before .before .before .args .at) (sym (c .before .before .before .before .octet-at .ensures) ∙ c .before .before .before .if1 .taken) (sym (c .enum-told .given .1) ∙ c .before .before .bare-date-at .ensures .exact); within = tt }
-
-octet-at-requires-2 : tie.Need-octet-at-requires-2
-octet-at-requires-2 c κs = search needs
 
 returns-2 : tie.Need-returns-2
 returns-2 c = record { exact = date-no-quote (c .before .before .before .before .before .before .before .before .before .args .text .now) (c .before .before .before .before .before .before .before .before .before .args .at) (sym (c .before .before .before .before .before .before .before .octet-at .ensures) ∙ c .before .before .before .before .before .before .if1 .taken) _ (sym (c .before .before .before .q .given .1) ∙ c .before .before .before .before .before .bare-date-at .ensures .exact) (λ e. c .if2 .taken (c .before .octet-at2 .ensures ∙ e)); within = tt }
@@ -38,9 +23,6 @@ add-t7 c = let e : getD (c .before .before .before .before .before .before .befo
 returns-3 : tie.Need-returns-3
 returns-3 c = let f = rw (c .before .before .before .q .given .1) at (c .before .before .before .before .before .bare-date-at .ensures .within) in let e : getD (c .before .before .before .before .before .before .before .before .before .args .text .now) (c .before .before .before .q .given .0 .0) 0 ≡ 34 = sym (c .before .octet-at2 .ensures) ∙ c .if2 .left in record { exact = date-quoted (c .before .before .before .before .before .before .before .before .before .args .text .now) (c .before .before .before .before .before .before .before .before .before .args .at) (sym (c .before .before .before .before .before .before .before .octet-at .ensures) ∙ c .before .before .before .before .before .before .if1 .taken) _ (sym (c .before .before .before .q .given .1) ∙ c .before .before .before .before .before .bare-date-at .ensures .exact) e; within = (omega arith, omega (arith, octet-in (c .before .before .before .before .before .before .before .before .before .args .text .now) (c .before .before .before .q .given .0 .0) (omega arith))) }
 
-bare-date-at-requires-2 : tie.Need-bare-date-at-requires-2
-bare-date-at-requires-2 c κs = search needs
-
 returns-4 : tie.Need-returns-4
 returns-4 c = record { exact = date-bare (c .before .before .before .before .args .text .now) (c .before .before .before .before .args .at) _ (λ e. c .before .if1 .left (c .before .before .octet-at .ensures ∙ e)) (c .bare-date-at2 .ensures .exact); within = c .bare-date-at2 .ensures .within }
 
@@ -48,15 +30,15 @@ pub date-at-spec : {M : Type 1} → statement M
 date-at-spec =
     tie.close
     (tie.spec
-    octet-at-requires
+    (λ c κs. search needs)  -- octet-at-requires
     add-bare-date-at
-    bare-date-at-requires
-    enum-known-q
-    enum-told
+    (λ c κs. search needs)  -- bare-date-at-requires
+    (λ c. search needs)  -- enum-known-q
+    (λ c. search needs)  -- enum-told
     returns
-    octet-at-requires-2
+    (λ c κs. search needs)  -- octet-at-requires-2
     returns-2
     add-t7
     returns-3
-    bare-date-at-requires-2
+    (λ c κs. search needs)  -- bare-date-at-requires-2
     returns-4)

@@ -5,17 +5,8 @@ use Rattle.octets.proofs.dates.digits_at.Tie as tie
 use native.Mathlib.Omega.{arith}
 use Rattle.octets.proofs.Days.{digits-few, digits-many, digits-are}
 
-run-end-requires : tie.Need-run-end-requires
-run-end-requires c κs = search needs
-
-sub-if1 : tie.Need-sub-if1
-sub-if1 c = search needs
-
 returns : tie.Need-returns
 returns c = record { exact = digits-few (c .before .before .before .args .least) (c .before .before .before .args .most) (c .before .before .before .args .text .now) (c .before .before .before .args .at) _ (c .before .run-end .ensures .exact) (c .if1 .taken); within = tt }
-
-sub-if2 : tie.Need-sub-if2
-sub-if2 c = search needs
 
 returns-2 : tie.Need-returns-2
 returns-2 c = record { exact = digits-many (c .before .before .before .before .args .least) (c .before .before .before .before .args .most) (c .before .before .before .before .args .text .now) (c .before .before .before .before .args .at) _ (c .before .before .run-end .ensures .exact) (c .before .if1 .left) (c .if2 .taken); within = tt }
@@ -24,4 +15,12 @@ returns-3 : tie.Need-returns-3
 returns-3 c = record { exact = digits-are (c .before .before .before .before .args .least) (c .before .before .before .before .args .most) (c .before .before .before .before .args .text .now) (c .before .before .before .before .args .at) _ (c .before .before .run-end .ensures .exact) (c .before .if1 .left) (c .if2 .left); within = (omega arith, omega arith) }
 
 pub digits-at-spec : {M : Type 1} → statement M
-digits-at-spec = tie.close (tie.spec run-end-requires sub-if1 returns sub-if2 returns-2 returns-3)
+digits-at-spec =
+    tie.close
+    (tie.spec
+    (λ c κs. search needs)  -- run-end-requires
+    (λ c. search needs)  -- sub-if1
+    returns
+    (λ c. search needs)  -- sub-if2
+    returns-2
+    returns-3)

@@ -9,23 +9,11 @@ use Rattle.octets.proofs.Days.{month-short, month-early, month-late, mo
 returns : tie.Need-returns
 returns c = record { exact = month-short (c .before .before .args .text .now) (c .before .before .args .at) (omega arith); within = tt }
 
-sub-if2 : tie.Need-sub-if2
-sub-if2 c = search needs
-
 returns-2 : tie.Need-returns-2
 returns-2 c = record { exact = month-short (c .before .before .before .args .text .now) (c .before .before .before .args .at) (omega arith); within = tt }
 
-add-end : tie.Need-add-end
-add-end c = search needs
-
-early-month-requires : tie.Need-early-month-requires
-early-month-requires c κs = search needs
-
 returns-3 : tie.Need-returns-3
 returns-3 c = record { exact = month-early (c .before .before .before .before .before .args .text .now) (c .before .before .before .before .before .args .at) (sym (c .before .early-month .ensures) ∙ c .if3 .taken); within = (omega arith, omega arith) }
-
-late-month-requires : tie.Need-late-month-requires
-late-month-requires c κs = search needs
 
 returns-4 : tie.Need-returns-4
 returns-4 c = record { exact = month-late (c .before .before .before .before .before .before .before .args .text .now) (c .before .before .before .before .before .before .before .args .at) (sym (c .before .before .before .early-month .ensures) ∙ c .before .before .if3 .left) (sym (c .before .late-month .ensures) ∙ c .if4 .taken); within = (omega arith, omega arith) }
@@ -38,11 +26,11 @@ month-at-spec =
     tie.close
     (tie.spec
     returns
-    sub-if2
+    (λ c. search needs)  -- sub-if2
     returns-2
-    add-end
-    early-month-requires
+    (λ c. search needs)  -- add-end
+    (λ c κs. search needs)  -- early-month-requires
     returns-3
-    late-month-requires
+    (λ c κs. search needs)  -- late-month-requires
     returns-4
     returns-5)

@@ -15,29 +15,8 @@ Inv-loop b at width w v₀ i₀ v i = (i ≤ w) × (v < 4294967296) × (v ≡ li
 abbrev μ-loop : tie.MeasureT-loop
 μ-loop b at width w v₀ i₀ v i = i
 
-four-at-most-requires : tie.Need-four-at-most-requires Inv-loop μ-loop
-four-at-most-requires c κs = search needs
-
 loop-holds : tie.Need-loop-holds Inv-loop μ-loop
 loop-holds c = (omega arith, omega arith, little-none (c .before .before .args .b .now) (c .before .before .args .at) (c .four-at-most .result))
-
-sub-i : tie.Need-sub-i Inv-loop μ-loop
-sub-i c = search needs
-
-mul-v : tie.Need-mul-v Inv-loop μ-loop
-mul-v c = search needs
-
-octet-from-requires : tie.Need-octet-from-requires Inv-loop μ-loop
-octet-from-requires c κs = search needs
-
-wide-requires : tie.Need-wide-requires Inv-loop μ-loop
-wide-requires c κs = search needs
-
-add-v : tie.Need-add-v Inv-loop μ-loop
-add-v c = search needs
-
-loop-less : tie.Need-loop-less Inv-loop μ-loop
-loop-less c = search needs
 
 loop-again : tie.Need-loop-again Inv-loop μ-loop
 loop-again c = let s = c .before .before .before .before .before .before .args .b .now in let l = c .before .before .before .loop in let w = c .before .before .before .before .four-at-most .result in let e = little-back s (c .before .before .before .before .before .before .args .at) w (l .i) (l .i - 1) (omega arith) (omega arith) in (omega arith, omega (arith, e, l .inv .2, c .wide .ensures .0, c .before .octet-from .ensures, little-small s (λ k. omega (arith, c .before .before .before .before .before .shared-slice-known .given k)) (w - (l .i - 1)) (c .before .before .before .before .before .before .args .at + (l .i - 1)) (omega arith)), omega (arith, e, l .inv .2, c .wide .ensures .0, c .before .octet-from .ensures))
@@ -51,13 +30,13 @@ little-spec =
     (tie.spec
     Inv-loop
     μ-loop
-    four-at-most-requires
+    (λ c κs. search needs)  -- four-at-most-requires
     loop-holds
-    sub-i
-    mul-v
-    octet-from-requires
-    wide-requires
-    add-v
-    loop-less
+    (λ c. search needs)  -- sub-i
+    (λ c. search needs)  -- mul-v
+    (λ c κs. search needs)  -- octet-from-requires
+    (λ c κs. search needs)  -- wide-requires
+    (λ c. search needs)  -- add-v
+    (λ c. search needs)  -- loop-less
     loop-again
     returns)

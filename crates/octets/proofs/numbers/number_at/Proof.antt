@@ -14,35 +14,14 @@ Inv-loop text at end v₀ i₀ v i = (at ≤ i) × (i ≤ end) × (v ≤ 4294967
 abbrev μ-loop : tie.MeasureT-loop
 μ-loop text at end v₀ i₀ v i = end - i
 
-run-end-requires : tie.Need-run-end-requires Inv-loop μ-loop
-run-end-requires c κs = search needs
-
 returns : tie.Need-returns Inv-loop μ-loop
 returns c = record { exact = number-none (c .before .before .before .args .text .now) (c .before .before .before .args .at) _ (c .before .run-end .ensures .exact) (c .if1 .taken); within = tt }
 
 loop-holds : tie.Need-loop-holds Inv-loop μ-loop
 loop-holds c = (omega arith, omega arith, omega arith, refl)
 
-mul-v : tie.Need-mul-v Inv-loop μ-loop
-mul-v c = search needs
-
-shared-slice-read-digit-value : tie.Need-shared-slice-read-digit-value Inv-loop μ-loop
-shared-slice-read-digit-value c = search needs
-
-digit-value-requires : tie.Need-digit-value-requires Inv-loop μ-loop
-digit-value-requires c κs = search needs
-
-add-v : tie.Need-add-v Inv-loop μ-loop
-add-v c = search needs
-
 returns-2 : tie.Need-returns-2 Inv-loop μ-loop
 returns-2 c = let s = c .before .before .before .before .before .before .before .before .args .text .now in let l = c .before .before .before .before .loop in record { exact = number-large s (c .before .before .before .before .before .before .before .before .args .at) _ (c .before .before .before .before .before .before .run-end .ensures .exact) _ (piece s (l .i + 1) (c .before .before .before .before .before .before .run-end .result)) (omega arith) (rw (c .before .digit-value .ensures .0) (l .inv .3 ∙ value-step s (l .i) (c .before .before .before .before .before .before .run-end .result) (l .v) (omega arith) (omega arith))) (c .if2 .taken); within = tt }
-
-add-i : tie.Need-add-i Inv-loop μ-loop
-add-i c = search needs
-
-loop-less : tie.Need-loop-less Inv-loop μ-loop
-loop-less c = search needs
 
 loop-again : tie.Need-loop-again Inv-loop μ-loop
 loop-again c = let s = c .before .before .before .before .before .before .before .before .args .text .now in let l = c .before .before .before .before .loop in (omega arith, omega arith, omega arith, rw (c .before .digit-value .ensures .0) (l .inv .3 ∙ value-step s (l .i) (c .before .before .before .before .before .before .run-end .result) (l .v) (omega arith) (omega arith)))
@@ -56,15 +35,15 @@ number-at-spec =
     (tie.spec
     Inv-loop
     μ-loop
-    run-end-requires
+    (λ c κs. search needs)  -- run-end-requires
     returns
     loop-holds
-    mul-v
-    shared-slice-read-digit-value
-    digit-value-requires
-    add-v
+    (λ c. search needs)  -- mul-v
+    (λ c. search needs)  -- shared-slice-read-digit-value
+    (λ c κs. search needs)  -- digit-value-requires
+    (λ c. search needs)  -- add-v
     returns-2
-    add-i
-    loop-less
+    (λ c. search needs)  -- add-i
+    (λ c. search needs)  -- loop-less
     loop-again
     returns-3)

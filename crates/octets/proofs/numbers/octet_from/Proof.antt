@@ -10,21 +10,16 @@ use lib.ListN.{List·getD-eq-default}
 returns : tie.Need-returns
 returns c = sym (List·getD-eq-default (c .before .args .b .now) 0 {n = c .before .args .at + c .before .args .i} (omega arith))
 
-sub-if2 : tie.Need-sub-if2
-sub-if2 c = search needs
-
 returns-2 : tie.Need-returns-2
 returns-2 c = sym (List·getD-eq-default (c .before .before .args .b .now) 0 {n = c .before .before .args .at + c .before .before .args .i} (omega arith))
 
-add-result : tie.Need-add-result
-add-result c = search needs
-
-shared-slice-read-result : tie.Need-shared-slice-read-result
-shared-slice-read-result c = search needs
-
-returns-3 : tie.Need-returns-3
-returns-3 c = search needs
-
 pub octet-from-spec : {M : Type 1} → statement M
 octet-from-spec =
-    tie.close (tie.spec returns sub-if2 returns-2 add-result shared-slice-read-result returns-3)
+    tie.close
+    (tie.spec
+    returns
+    (λ c. search needs)  -- sub-if2
+    returns-2
+    (λ c. search needs)  -- add-result
+    (λ c. search needs)  -- shared-slice-read-result
+    (λ c. search needs))  -- returns-3

@@ -5,9 +5,6 @@ use Rattle.octets.proofs.runs.run_at.Tie as tie
 use native.Mathlib.Omega.{arith}
 use Rattle.octets.proofs.Ends.{run-found, run-none}
 
-run-end-requires : tie.Need-run-end-requires
-run-end-requires c κs = search needs
-
 returns : tie.Need-returns
 returns c = record { exact = run-found _ _ _ _ (c .before .run-end .ensures .exact) (c .if1 .taken); within = (omega arith, omega arith) }
 
@@ -15,4 +12,9 @@ returns-2 : tie.Need-returns-2
 returns-2 c = record { exact = run-none _ _ _ _ (c .before .run-end .ensures .exact) (c .if1 .left); within = tt }
 
 pub run-at-spec : {M : Type 1} → statement M
-run-at-spec = tie.close (tie.spec run-end-requires returns returns-2)
+run-at-spec =
+    tie.close
+    (tie.spec
+    (λ c κs. search needs)  -- run-end-requires
+    returns
+    returns-2)

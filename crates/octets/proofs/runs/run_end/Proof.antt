@@ -19,18 +19,6 @@ abbrev μ-loop : tie.MeasureT-loop
 loop-holds : tie.Need-loop-holds Inv-loop μ-loop
 loop-holds c = (omega arith, omega arith, refl)
 
-shared-slice-read-in-class : tie.Need-shared-slice-read-in-class Inv-loop μ-loop
-shared-slice-read-in-class c = search needs
-
-in-class-requires : tie.Need-in-class-requires Inv-loop μ-loop
-in-class-requires c κs = search needs
-
-add-p : tie.Need-add-p Inv-loop μ-loop
-add-p c = search needs
-
-loop-less : tie.Need-loop-less Inv-loop μ-loop
-loop-less c = search needs
-
 loop-again : tie.Need-loop-again Inv-loop μ-loop
 loop-again c = (omega arith, omega arith, c .before .before .before .before .loop .inv .2 ∙ run-goes (inClass (c .before .before .before .before .before .before .args .c)) (c .before .before .before .before .before .before .args .text .now) (c .before .before .before .before .loop .p) (omega arith) (sym (c .before .in-class .ensures) ∙ c .if1 .taken))
 
@@ -47,10 +35,10 @@ run-end-spec =
     Inv-loop
     μ-loop
     loop-holds
-    shared-slice-read-in-class
-    in-class-requires
-    add-p
-    loop-less
+    (λ c. search needs)  -- shared-slice-read-in-class
+    (λ c κs. search needs)  -- in-class-requires
+    (λ c. search needs)  -- add-p
+    (λ c. search needs)  -- loop-less
     loop-again
     returns
     returns-2)

@@ -19,32 +19,11 @@ abbrev μ-loop : tie.MeasureT-loop
 loop-holds : tie.Need-loop-holds Inv-loop μ-loop
 loop-holds c = (omega arith, omega arith, refl, copied-start _ _ _ refl)
 
-same-length : tie.Need-same-length Inv-loop μ-loop
-same-length c = search needs
-
 returns : tie.Need-returns Inv-loop μ-loop
 returns c = let s = c .before .before .before .before .before .args .text .now in let l = c .before .before .loop in let e = piece-past s (l .i) (c .before .before .before .before .before .args .upto) (c .if1 .taken) in record { long = copied-long (l .inv .3) e; is = copied-is (l .inv .3) e; within = omega arith }
 
-shared-slice-read-store : tie.Need-shared-slice-read-store Inv-loop μ-loop
-shared-slice-read-store c = search needs
-
-store-requires : tie.Need-store-requires Inv-loop μ-loop
-store-requires c κs = search needs
-
-add-n : tie.Need-add-n Inv-loop μ-loop
-add-n c = search needs
-
-add-i : tie.Need-add-i Inv-loop μ-loop
-add-i c = search needs
-
-loop-less : tie.Need-loop-less Inv-loop μ-loop
-loop-less c = search needs
-
 loop-again : tie.Need-loop-again Inv-loop μ-loop
 loop-again c = let s = c .before .before .before .before .before .before .before .before .before .before .args .text .now in let l = c .before .before .before .before .before .before .before .loop in (omega arith, omega arith, search needs, rw (c .before .before .store .ensures) (copied-one _ _ (l .inv .3) (piece-cons s (l .i) (c .before .before .before .before .before .before .before .before .before .before .args .upto) (omega arith) (omega arith))))
-
-same-length-2 : tie.Need-same-length-2 Inv-loop μ-loop
-same-length-2 c = search needs
 
 returns-2 : tie.Need-returns-2 Inv-loop μ-loop
 returns-2 c = let s = c .before .before .before .before .args .text .now in let l = c .before .loop in let e = piece-over s (l .i) (c .before .before .before .before .args .upto) (c .loop-test .left) in record { long = copied-long (l .inv .3) e; is = copied-is (l .inv .3) e; within = omega arith }
@@ -56,13 +35,13 @@ copy-piece-spec =
     Inv-loop
     μ-loop
     loop-holds
-    same-length
+    (λ c. search needs)  -- same-length
     returns
-    shared-slice-read-store
-    store-requires
-    add-n
-    add-i
-    loop-less
+    (λ c. search needs)  -- shared-slice-read-store
+    (λ c κs. search needs)  -- store-requires
+    (λ c. search needs)  -- add-n
+    (λ c. search needs)  -- add-i
+    (λ c. search needs)  -- loop-less
     loop-again
-    same-length-2
+    (λ c. search needs)  -- same-length-2
     returns-2)

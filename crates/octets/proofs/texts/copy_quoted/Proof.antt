@@ -20,15 +20,6 @@ Inv-loop text at out₀ p₀ escaped₀ n₀ out p escaped n = (n < p) × (n ≤
 abbrev μ-loop : tie.MeasureT-loop
 μ-loop text at out₀ p₀ escaped₀ n₀ out p escaped n = length text - p
 
-quoted-at-requires : tie.Need-quoted-at-requires Inv-loop μ-loop
-quoted-at-requires c κs = search needs
-
-enum-told : tie.Need-enum-told Inv-loop μ-loop
-enum-told c = search needs
-
-enum-told-2 : tie.Need-enum-told-2 Inv-loop μ-loop
-enum-told-2 c = search needs
-
 returns : tie.Need-returns Inv-loop μ-loop
 returns c = let e = bad-value (quotedAt (c .before .before .before .before .before .args .text .now) (c .before .before .before .before .before .args .at)) (sym (c .enum-told2 .given .1) ∙ c .before .before .quoted-at .ensures .exact) in record { long = rw e; is = rw e (sym (fill-none (c .before .before .before .before .before .args .out .now))); within = omega arith }
 
@@ -38,32 +29,11 @@ add-p c = let f = rw (c .enum-told .given .1) at (c .before .before .quoted-at .
 loop-holds : tie.Need-loop-holds Inv-loop μ-loop
 loop-holds c = let s = c .before .before .before .before .before .args .text .now in let ok : nextOf (quotedAt s (c .before .before .before .before .before .args .at)) ≡ Bad → ⊥ = λ z. never _ (sym (c .enum-told .given .1) ∙ c .before .before .quoted-at .ensures .exact ∙ z) in let b = string-begins s (c .before .before .before .before .before .args .at) ok in (omega arith, omega arith, refl, λ z. ok (ap nextOf b ∙ z), copied-start _ _ _ (ap valueOf b))
 
-shared-slice-read-b : tie.Need-shared-slice-read-b Inv-loop μ-loop
-shared-slice-read-b c = search needs
-
-quote-step-requires : tie.Need-quote-step-requires Inv-loop μ-loop
-quote-step-requires c κs = search needs
-
-same-length : tie.Need-same-length Inv-loop μ-loop
-same-length c = search needs
-
 returns-2 : tie.Need-returns-2 Inv-loop μ-loop
 returns-2 c = let s = c .before .before .before .before .before .before .before .before .before .before .args .text .now in let l = c .before .before .before .before .loop in let e = string-closes s (l .p) (l .escaped) (omega arith) _ (c .before .quote-step .ensures) (c .if1 .taken) in record { long = copied-long (l .inv .4) e; is = copied-is (l .inv .4) e; within = omega arith }
 
-keep-requires : tie.Need-keep-requires Inv-loop μ-loop
-keep-requires c κs = search needs
-
-add-p-2 : tie.Need-add-p-2 Inv-loop μ-loop
-add-p-2 c = search needs
-
-loop-less : tie.Need-loop-less Inv-loop μ-loop
-loop-less c = search needs
-
 loop-again : tie.Need-loop-again Inv-loop μ-loop
 loop-again c = let s = c .before .before .before .before .before .before .before .before .before .before .before .before .before .before .args .text .now in let l = c .before .before .before .before .before .before .before .before .loop in (omega (arith, kept-short (c .before .before .before .before .before .quote-step .result) (getD s (l .p) 0)), omega (arith, kept-short (c .before .before .before .before .before .quote-step .result) (getD s (l .p) 0)), search needs, string-still s (l .p) (l .escaped) (omega arith) _ (c .before .before .before .before .before .quote-step .ensures) (c .before .before .before .before .if1 .left) (l .inv .3), rw (c .before .before .keep .ensures .1, c .before .before .keep .ensures .0) (copied-kept (c .before .before .before .before .before .quote-step .result) (getD s (l .p) 0) _ (l .inv .4) (string-goes s (l .p) (l .escaped) (omega arith) _ (c .before .before .before .before .before .quote-step .ensures) (c .before .before .before .before .if1 .left) (l .inv .3))))
-
-same-length-2 : tie.Need-same-length-2 Inv-loop μ-loop
-same-length-2 c = search needs
 
 returns-3 : tie.Need-returns-3 Inv-loop μ-loop
 returns-3 c = absurd (c .before .loop .inv .3 (ap nextOf (quote-past (c .before .before .before .before .before .before .before .args .text .now) (c .before .loop .p) (c .before .loop .escaped) (omega arith))))
@@ -74,19 +44,19 @@ copy-quoted-spec =
     (tie.spec
     Inv-loop
     μ-loop
-    quoted-at-requires
-    enum-told
-    enum-told-2
+    (λ c κs. search needs)  -- quoted-at-requires
+    (λ c. search needs)  -- enum-told
+    (λ c. search needs)  -- enum-told-2
     returns
     add-p
     loop-holds
-    shared-slice-read-b
-    quote-step-requires
-    same-length
+    (λ c. search needs)  -- shared-slice-read-b
+    (λ c κs. search needs)  -- quote-step-requires
+    (λ c. search needs)  -- same-length
     returns-2
-    keep-requires
-    add-p-2
-    loop-less
+    (λ c κs. search needs)  -- keep-requires
+    (λ c. search needs)  -- add-p-2
+    (λ c. search needs)  -- loop-less
     loop-again
-    same-length-2
+    (λ c. search needs)  -- same-length-2
     returns-3)

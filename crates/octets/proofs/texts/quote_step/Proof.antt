@@ -20,9 +20,6 @@ returns-4 c = rw (c .before .if1 .left, eq-eqb _ _ (c .if4 .taken))
 returns-5 : tie.Need-returns-5
 returns-5 c = rw (c .before .before .if1 .left, ne-eqb _ _ (c .before .if4 .left), eq-eqb _ _ (c .if5 .taken))
 
-in-class-requires : tie.Need-in-class-requires
-in-class-requires c κs = search needs
-
 returns-6 : tie.Need-returns-6
 returns-6 c = rw (c .before .before .before .before .if1 .left, ne-eqb _ _ (c .before .before .before .if4 .left), ne-eqb _ _ (c .before .before .if5 .left), sym (c .before .in-class .ensures) ∙ c .if6 .taken)
 
@@ -38,6 +35,6 @@ quote-step-spec =
     returns-3
     returns-4
     returns-5
-    in-class-requires
+    (λ c κs. search needs)  -- in-class-requires
     returns-6
     returns-7)

@@ -16,9 +16,6 @@ Inv-loop text at p₀ escaped₀ p escaped = (at < p) × (p ≤ length text) × 
 abbrev μ-loop : tie.MeasureT-loop
 μ-loop text at p₀ escaped₀ p escaped = length text - p
 
-octet-at-requires : tie.Need-octet-at-requires Inv-loop μ-loop
-octet-at-requires c κs = search needs
-
 returns : tie.Need-returns Inv-loop μ-loop
 returns c = record { exact = quote-none (c .before .before .before .args .text .now) (c .before .before .before .args .at) (λ e. c .if1 .taken (c .before .octet-at .ensures ∙ e)); within = tt }
 
@@ -28,26 +25,11 @@ add-p c = let e : getD (c .before .before .before .args .text .now) (c .before .
 loop-holds : tie.Need-loop-holds Inv-loop μ-loop
 loop-holds c = let e : getD (c .before .before .before .args .text .now) (c .before .before .before .args .at) 0 ≡ 34 = sym (c .before .octet-at .ensures) ∙ c .if1 .left in (omega arith, omega (arith, octet-in (c .before .before .before .args .text .now) (c .before .before .before .args .at) (omega arith)), ap nextOf (quote-begins (c .before .before .before .args .text .now) (c .before .before .before .args .at) e))
 
-shared-slice-read-quote-step : tie.Need-shared-slice-read-quote-step Inv-loop μ-loop
-shared-slice-read-quote-step c = search needs
-
-quote-step-requires : tie.Need-quote-step-requires Inv-loop μ-loop
-quote-step-requires c κs = search needs
-
-add-t12 : tie.Need-add-t12 Inv-loop μ-loop
-add-t12 c = search needs
-
 returns-2 : tie.Need-returns-2 Inv-loop μ-loop
 returns-2 c = record { exact = sym (c .before .before .before .before .loop .inv .2 ∙ quote-closes (c .before .before .before .before .before .before .before .before .args .text .now) (c .before .before .before .before .loop .p) (c .before .before .before .before .loop .escaped) (omega arith) _ (c .before .quote-step .ensures) (c .if2 .taken)); within = (omega arith, omega arith) }
 
 returns-3 : tie.Need-returns-3 Inv-loop μ-loop
 returns-3 c = record { exact = sym (c .before .before .before .before .before .loop .inv .2 ∙ quote-fails (c .before .before .before .before .before .before .before .before .before .args .text .now) (c .before .before .before .before .before .loop .p) (c .before .before .before .before .before .loop .escaped) (omega arith) _ (c .before .before .quote-step .ensures) (c .if3 .taken)); within = tt }
-
-add-p-2 : tie.Need-add-p-2 Inv-loop μ-loop
-add-p-2 c = search needs
-
-loop-less : tie.Need-loop-less Inv-loop μ-loop
-loop-less c = search needs
 
 loop-again : tie.Need-loop-again Inv-loop μ-loop
 loop-again c = (omega arith, omega arith, c .before .before .before .before .before .loop .inv .2 ∙ quote-goes (c .before .before .before .before .before .before .before .before .before .args .text .now) (c .before .before .before .before .before .loop .p) (c .before .before .before .before .before .loop .escaped) (omega arith) _ (c .before .before .quote-step .ensures) (c .before .if2 .left) (c .if3 .left))
@@ -61,16 +43,16 @@ quoted-at-spec =
     (tie.spec
     Inv-loop
     μ-loop
-    octet-at-requires
+    (λ c κs. search needs)  -- octet-at-requires
     returns
     add-p
     loop-holds
-    shared-slice-read-quote-step
-    quote-step-requires
-    add-t12
+    (λ c. search needs)  -- shared-slice-read-quote-step
+    (λ c κs. search needs)  -- quote-step-requires
+    (λ c. search needs)  -- add-t12
     returns-2
     returns-3
-    add-p-2
-    loop-less
+    (λ c. search needs)  -- add-p-2
+    (λ c. search needs)  -- loop-less
     loop-again
     returns-4)

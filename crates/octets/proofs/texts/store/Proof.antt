@@ -5,17 +5,14 @@ use Rattle.octets.proofs.texts.store.Tie as tie
 use mathlib.Core.Path.{sym}
 use lib.Seq.{set-out}
 
-slice-write-out : tie.Need-slice-write-out
-slice-write-out c = search needs
-
-same-length : tie.Need-same-length
-same-length c = search needs
-
-returns : tie.Need-returns
-returns c = search needs
-
 returns-2 : tie.Need-returns-2
 returns-2 c = sym (set-out (c .before .args .out .now) (c .before .args .n) (c .before .args .b) (c .if1 .left))
 
 pub store-spec : {M : Type 1} → statement M
-store-spec = tie.close (tie.spec slice-write-out same-length returns returns-2)
+store-spec =
+    tie.close
+    (tie.spec
+    (λ c. search needs)  -- slice-write-out
+    (λ c. search needs)  -- same-length
+    (λ c. search needs)  -- returns
+    returns-2)

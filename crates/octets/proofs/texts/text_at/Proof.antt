@@ -8,21 +8,18 @@ use Rattle.octets.specs.Classes.{inClass}
 use Rattle.octets.specs.Found.{nextOf}
 use Rattle.octets.proofs.Strings.{text-quoted, text-run}
 
-octet-at-requires : tie.Need-octet-at-requires
-octet-at-requires c κs = search needs
-
-quoted-at-requires : tie.Need-quoted-at-requires
-quoted-at-requires c κs = search needs
-
 returns : tie.Need-returns
 returns c = record { exact = c .quoted-at .ensures .exact ∙ ap nextOf (sym (text-quoted (inClass (c .before .before .before .before .args .c)) (c .before .before .before .before .args .text .now) (c .before .before .before .before .args .at) (sym (c .before .before .octet-at .ensures) ∙ c .before .if1 .taken))); within = c .quoted-at .ensures .within }
-
-run-at-requires : tie.Need-run-at-requires
-run-at-requires c κs = search needs
 
 returns-2 : tie.Need-returns-2
 returns-2 c = record { exact = c .run-at .ensures .exact ∙ ap nextOf (sym (text-run (inClass (c .before .before .before .before .args .c)) (c .before .before .before .before .args .text .now) (c .before .before .before .before .args .at) (λ e. c .before .if1 .left (c .before .before .octet-at .ensures ∙ e)))); within = c .run-at .ensures .within }
 
 pub text-at-spec : {M : Type 1} → statement M
 text-at-spec =
-    tie.close (tie.spec octet-at-requires quoted-at-requires returns run-at-requires returns-2)
+    tie.close
+    (tie.spec
+    (λ c κs. search needs)  -- octet-at-requires
+    (λ c κs. search needs)  -- quoted-at-requires
+    returns
+    (λ c κs. search needs)  -- run-at-requires
+    returns-2)

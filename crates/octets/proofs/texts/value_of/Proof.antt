@@ -7,26 +7,8 @@ use Rattle.octets.specs.Classes.{inClass}
 use Rattle.octets.proofs.Strings.{text-quoted, text-run}
 use Rattle.octets.proofs.Filling.{run-value}
 
-octet-at-requires : tie.Need-octet-at-requires
-octet-at-requires c κs = search needs
-
-copy-quoted-requires : tie.Need-copy-quoted-requires
-copy-quoted-requires c κs = search needs
-
-same-length : tie.Need-same-length
-same-length c = search needs
-
 returns : tie.Need-returns
 returns c = rw (text-quoted (inClass (c .before .before .before .before .before .before .before .before .args .c)) (c .before .before .before .before .before .before .before .before .args .text .now) (c .before .before .before .before .before .before .before .before .args .at) (sym (c .before .before .before .before .before .octet-at .ensures) ∙ c .before .before .before .before .if1 .taken)) (c .before .before .copy-quoted .ensures)
-
-run-end-requires : tie.Need-run-end-requires
-run-end-requires c κs = search needs
-
-copy-piece-requires : tie.Need-copy-piece-requires
-copy-piece-requires c κs = search needs
-
-same-length-2 : tie.Need-same-length-2
-same-length-2 c = search needs
 
 returns-2 : tie.Need-returns-2
 returns-2 c = rw (text-run (inClass (c .before .before .before .before .before .before .before .before .before .args .c)) (c .before .before .before .before .before .before .before .before .before .args .text .now) (c .before .before .before .before .before .before .before .before .before .args .at) (λ e. c .before .before .before .before .before .if1 .left (c .before .before .before .before .before .before .octet-at .ensures ∙ e)), run-value (inClass (c .before .before .before .before .before .before .before .before .before .args .c)) (c .before .before .before .before .before .before .before .before .before .args .text .now) (c .before .before .before .before .before .before .before .before .before .args .at) _ (c .before .before .before .before .run-end .ensures .exact)) (c .before .before .copy-piece .ensures)
@@ -35,11 +17,11 @@ pub value-of-spec : {M : Type 1} → statement M
 value-of-spec =
     tie.close
     (tie.spec
-    octet-at-requires
-    copy-quoted-requires
-    same-length
+    (λ c κs. search needs)  -- octet-at-requires
+    (λ c κs. search needs)  -- copy-quoted-requires
+    (λ c. search needs)  -- same-length
     returns
-    run-end-requires
-    copy-piece-requires
-    same-length-2
+    (λ c κs. search needs)  -- run-end-requires
+    (λ c κs. search needs)  -- copy-piece-requires
+    (λ c. search needs)  -- same-length-2
     returns-2)

@@ -25,29 +25,8 @@ returns c = let s = c .before .before .before .before .before .args .text .now i
 returns-2 : tie.Need-returns-2 Inv-loop μ-loop
 returns-2 c = let s = c .before .before .before .before .before .before .args .text .now in let w = c .before .before .before .before .before .before .args .word .now in let l = c .before .before .before .loop in sym (l .inv .1 ∙ word-short s w (l .i) (c .before .before .before .before .before .before .args .upto) (l .j) (piece-past s (l .i) (c .before .before .before .before .before .before .args .upto) (c .if2 .taken)) (omega arith))
 
-shared-slice-read-upper-of : tie.Need-shared-slice-read-upper-of Inv-loop μ-loop
-shared-slice-read-upper-of c = search needs
-
-upper-of-requires : tie.Need-upper-of-requires Inv-loop μ-loop
-upper-of-requires c κs = search needs
-
-shared-slice-read-upper-of-2 : tie.Need-shared-slice-read-upper-of-2 Inv-loop μ-loop
-shared-slice-read-upper-of-2 c = search needs
-
-upper-of-requires-2 : tie.Need-upper-of-requires-2 Inv-loop μ-loop
-upper-of-requires-2 c κs = search needs
-
 returns-3 : tie.Need-returns-3 Inv-loop μ-loop
 returns-3 c = let s = c .before .before .before .before .before .before .before .before .before .before .before .args .text .now in let w = c .before .before .before .before .before .before .before .before .before .before .before .args .word .now in let l = c .before .before .before .before .before .before .before .before .loop in sym (l .inv .1 ∙ word-miss s w (l .i) (c .before .before .before .before .before .before .before .before .before .before .before .args .upto) (l .j) (omega arith) (omega arith) (omega arith) (λ e. c .if3 .taken (c .before .before .before .upper-of .ensures ∙ e ∙ sym (c .before .upper-of2 .ensures))))
-
-add-i : tie.Need-add-i Inv-loop μ-loop
-add-i c = search needs
-
-add-j : tie.Need-add-j Inv-loop μ-loop
-add-j c = search needs
-
-loop-less : tie.Need-loop-less Inv-loop μ-loop
-loop-less c = search needs
 
 loop-again : tie.Need-loop-again Inv-loop μ-loop
 loop-again c = let s = c .before .before .before .before .before .before .before .before .before .before .before .args .text .now in let w = c .before .before .before .before .before .before .before .before .before .before .before .args .word .now in let l = c .before .before .before .before .before .before .before .before .loop in (omega arith, l .inv .1 ∙ word-step s w (l .i) (c .before .before .before .before .before .before .before .before .before .before .before .args .upto) (l .j) (omega arith) (omega arith) (omega arith) (sym (c .before .before .before .upper-of .ensures) ∙ c .if3 .left ∙ c .before .upper-of2 .ensures))
@@ -70,14 +49,14 @@ is-word-spec =
     loop-holds
     returns
     returns-2
-    shared-slice-read-upper-of
-    upper-of-requires
-    shared-slice-read-upper-of-2
-    upper-of-requires-2
+    (λ c. search needs)  -- shared-slice-read-upper-of
+    (λ c κs. search needs)  -- upper-of-requires
+    (λ c. search needs)  -- shared-slice-read-upper-of-2
+    (λ c κs. search needs)  -- upper-of-requires-2
     returns-3
-    add-i
-    add-j
-    loop-less
+    (λ c. search needs)  -- add-i
+    (λ c. search needs)  -- add-j
+    (λ c. search needs)  -- loop-less
     loop-again
     returns-4
     returns-5

@@ -3,14 +3,13 @@ use borrow.Author.Needs.{needs}
 use Rattle.octets.proofs.words.word_at.Statement.{statement}
 use Rattle.octets.proofs.words.word_at.Tie as tie
 
-run-end-requires : tie.Need-run-end-requires
-run-end-requires c κs = search needs
-
-is-word-requires : tie.Need-is-word-requires
-is-word-requires c κs = search needs
-
 returns : tie.Need-returns
 returns c = rw (← c .before .run-end .ensures .exact) (c .is-word .ensures)
 
 pub word-at-spec : {M : Type 1} → statement M
-word-at-spec = tie.close (tie.spec run-end-requires is-word-requires returns)
+word-at-spec =
+    tie.close
+    (tie.spec
+    (λ c κs. search needs)  -- run-end-requires
+    (λ c κs. search needs)  -- is-word-requires
+    returns)

@@ -40,15 +40,6 @@ fields-to-close-below t =
 abbrev fields-to-close-calls : ℕ → fields-to-close-lts.Claims
 fields-to-close-calls t = (text-at-reads.Asked, text-at-reads.Learnt, octet-at-reads.Asked, octet-at-reads.Learnt, fields-to-close-below t, fields-to-close.Post)
 
-fields-to-close-text-at-requires : (t : ℕ) → fields-to-close-lts.Need-text-at-requires (fields-to-close-calls t) (fields-to-close-at t) fields-to-close.Post
-fields-to-close-text-at-requires t c κs = search needs
-
-fields-to-close-enum-known-next : (t : ℕ) → fields-to-close-lts.Need-enum-known-next (fields-to-close-calls t) (fields-to-close-at t) fields-to-close.Post
-fields-to-close-enum-known-next t c = search needs
-
-fields-to-close-octet-at-requires : (t : ℕ) → fields-to-close-lts.Need-octet-at-requires (fields-to-close-calls t) (fields-to-close-at t) fields-to-close.Post
-fields-to-close-octet-at-requires t c κs = search needs
-
 fields-to-close-add-fields-to-close : (t : ℕ) → fields-to-close-lts.Need-add-fields-to-close (fields-to-close-calls t) (fields-to-close-at t) fields-to-close.Post
 fields-to-close-add-fields-to-close t c = let i = in-text (c .before .before .before .before .before .before .before .args .text .now) (c .before .before .before .next .given .0 .0) (sym (c .before .octet-at .ensures) ∙ c .if1 .taken) (omega arith) in omega arith
 
@@ -58,9 +49,6 @@ fields-to-close-fields-to-close-requires t c κs = let w = rw (c .before .before
 
 fields-to-close-add-t13 : (t : ℕ) → fields-to-close-lts.Need-add-t13 (fields-to-close-calls t) (fields-to-close-at t) fields-to-close.Post
 fields-to-close-add-t13 t c = let i = in-text (c .before .before .before .before .before .before .before .before .args .text .now) (c .before .before .before .before .next .given .0 .0) (sym (c .before .before .octet-at .ensures) ∙ c .if2 .taken) (omega arith) in omega arith
-
-fields-to-close-enum-told : (t : ℕ) → fields-to-close-lts.Need-enum-told (fields-to-close-calls t) (fields-to-close-at t) fields-to-close.Post
-fields-to-close-enum-told t c = search needs
 
 fields-to-close-returns : (t : ℕ) → fields-to-close-lts.Need-returns (fields-to-close-calls t) (fields-to-close-at t) fields-to-close.Post
 fields-to-close-returns t c = let w = rw (c .before .before .before .before .next .given .1) at (c .before .before .before .before .before .before .text-at .ensures .within) in record { within = within-from (c .before .before .before .before .before .before .before .before .args .text .now) (c .before .before .before .before .before .before .before .before .args .at) (c .before .before .before .before .next .given .0 .0 + 1) (c .fields-to-close .result) (omega arith) (c .fields-to-close .ensures .within); exact = λ n h. c .fields-to-close .ensures .exact (n - 1) (omega arith) ∙ end-another (astringAt (c .before .before .before .before .before .before .before .before .args .text .now)) (nextAt closing (c .before .before .before .before .before .before .before .before .args .text .now)) (c .before .before .before .before .before .before .before .before .args .at) n (omega arith) (next-found (astringAt (c .before .before .before .before .before .before .before .before .args .text .now) (c .before .before .before .before .before .before .before .before .args .at)) (sym (c .before .before .before .before .next .given .1) ∙ c .before .before .before .before .before .before .text-at .ensures .exact) .1) (next-space (c .before .before .before .before .before .before .before .before .args .text .now) (c .before .before .before .before .next .given .0 .0) (sym (c .before .before .octet-at .ensures) ∙ c .before .if1 .taken)) }
@@ -78,13 +66,13 @@ pub +fields-to-close-spec : {M : Type 1} → statement M
 +fields-to-close-spec = close μ-fields-to-close λ t. fields-to-close-lts.spec (fields-to-close-calls t)
     (fields-to-close-at t)
     fields-to-close.Post
-    (fields-to-close-text-at-requires t)
-    (fields-to-close-enum-known-next t)
-    (fields-to-close-octet-at-requires t)
+    (λ c κs. search needs)  -- fields-to-close-text-at-requires
+    (λ c. search needs)  -- fields-to-close-enum-known-next
+    (λ c κs. search needs)  -- fields-to-close-octet-at-requires
     (fields-to-close-add-fields-to-close t)
     (fields-to-close-fields-to-close-requires t)
     (fields-to-close-add-t13 t)
-    (fields-to-close-enum-told t)
+    (λ c. search needs)  -- fields-to-close-enum-told
     (fields-to-close-returns t)
     (fields-to-close-returns-2 t)
     (fields-to-close-returns-3 t)

@@ -34,32 +34,14 @@ parts-at-below t =
 abbrev parts-at-calls : ℕ → parts-at-lts.Claims
 parts-at-calls t = (positive-at-reads.Asked, positive-at-reads.Learnt, octet-at-reads.Asked, octet-at-reads.Learnt, in-class-reads.Asked, in-class-reads.Learnt, parts-at-below t, parts-at.Post)
 
-parts-at-positive-at-requires : (t : ℕ) → parts-at-lts.Need-positive-at-requires (parts-at-calls t) (parts-at-at t) parts-at.Post
-parts-at-positive-at-requires t c κs = search needs
-
-parts-at-enum-known-next : (t : ℕ) → parts-at-lts.Need-enum-known-next (parts-at-calls t) (parts-at-at t) parts-at.Post
-parts-at-enum-known-next t c = search needs
-
-parts-at-octet-at-requires : (t : ℕ) → parts-at-lts.Need-octet-at-requires (parts-at-calls t) (parts-at-at t) parts-at.Post
-parts-at-octet-at-requires t c κs = search needs
-
 parts-at-returns : (t : ℕ) → parts-at-lts.Need-returns (parts-at-calls t) (parts-at-at t) parts-at.Post
 parts-at-returns t c = let w = rw (c .before .before .before .next .given .1) at (c .before .before .before .before .before .positive-at .ensures .within) in record { within = (omega arith, omega arith); exact = λ n h. end-over (positiveAt (c .before .before .before .before .before .before .before .args .text .now)) (partNext (c .before .before .before .before .before .before .before .args .text .now)) (c .before .before .before .before .before .before .before .args .at) n (omega arith) (number-found (positiveAt (c .before .before .before .before .before .before .before .args .text .now) (c .before .before .before .before .before .before .before .args .at)) (sym (c .before .before .before .next .given .1) ∙ c .before .before .before .before .before .positive-at .ensures .exact)) (part-over (c .before .before .before .before .before .before .before .args .text .now) (c .before .before .before .next .given .0 .1 .0) (λ e. c .if1 .taken (c .before .octet-at .ensures ∙ e))) }
 
 parts-at-add-part : (t : ℕ) → parts-at-lts.Need-add-part (parts-at-calls t) (parts-at-at t) parts-at.Post
 parts-at-add-part t c = let i = in-text (c .before .before .before .before .before .before .before .args .text .now) (c .before .before .before .next .given .0 .1 .0) (sym (c .before .octet-at .ensures) ∙ c .if1 .left) (omega arith) in omega arith
 
-parts-at-octet-at-requires-2 : (t : ℕ) → parts-at-lts.Need-octet-at-requires-2 (parts-at-calls t) (parts-at-at t) parts-at.Post
-parts-at-octet-at-requires-2 t c κs = search needs
-
-parts-at-in-class-requires : (t : ℕ) → parts-at-lts.Need-in-class-requires (parts-at-calls t) (parts-at-at t) parts-at.Post
-parts-at-in-class-requires t c κs = search needs
-
 parts-at-parts-at-requires : (t : ℕ) → parts-at-lts.Need-parts-at-requires (parts-at-calls t) (parts-at-at t) parts-at.Post
 parts-at-parts-at-requires t c κs = let w = rw (c .before .before .before .before .before .before .next .given .1) at (c .before .before .before .before .before .before .before .before .positive-at .ensures .within) in let i = in-text (c .before .before .before .before .before .before .before .before .before .before .args .text .now) (c .before .before .before .before .before .before .next .given .0 .1 .0) (sym (c .before .before .before .before .octet-at .ensures) ∙ c .before .before .before .if1 .left) (omega arith) in omega arith
-
-parts-at-enum-told : (t : ℕ) → parts-at-lts.Need-enum-told (parts-at-calls t) (parts-at-at t) parts-at.Post
-parts-at-enum-told t c = search needs
 
 parts-at-returns-2 : (t : ℕ) → parts-at-lts.Need-returns-2 (parts-at-calls t) (parts-at-at t) parts-at.Post
 parts-at-returns-2 t c = let w = rw (c .before .before .before .before .before .before .before .next .given .1) at (c .before .before .before .before .before .before .before .before .before .positive-at .ensures .within) in record { within = within-from (c .before .before .before .before .before .before .before .before .before .before .before .args .text .now) (c .before .before .before .before .before .before .before .before .before .before .before .args .at) (c .before .before .before .before .before .before .before .next .given .0 .1 .0 + 1) (c .parts-at .result) (omega arith) (c .parts-at .ensures .within); exact = λ n h. c .parts-at .ensures .exact (n - 1) (omega arith) ∙ end-another (positiveAt (c .before .before .before .before .before .before .before .before .before .before .before .args .text .now)) (partNext (c .before .before .before .before .before .before .before .before .before .before .before .args .text .now)) (c .before .before .before .before .before .before .before .before .before .before .before .args .at) n (omega arith) (number-found (positiveAt (c .before .before .before .before .before .before .before .before .before .before .before .args .text .now) (c .before .before .before .before .before .before .before .before .before .before .before .args .at)) (sym (c .before .before .before .before .before .before .before .next .given .1) ∙ c .before .before .before .before .before .before .before .before .before .positive-at .ensures .exact)) (part-another (c .before .before .before .before .before .before .before .before .before .before .before .args .text .now) (c .before .before .before .before .before .before .before .next .given .0 .1 .0) (sym (c .before .before .before .before .before .octet-at .ensures) ∙ c .before .before .before .before .if1 .left) (rw (c .before .before .before .octet-at2 .ensures) at (sym (c .before .before .in-class .ensures) ∙ c .before .if2 .taken))) }
@@ -74,15 +56,15 @@ pub +parts-at-spec : {M : Type 1} → statement M
 +parts-at-spec = close μ-parts-at λ t. parts-at-lts.spec (parts-at-calls t)
     (parts-at-at t)
     parts-at.Post
-    (parts-at-positive-at-requires t)
-    (parts-at-enum-known-next t)
-    (parts-at-octet-at-requires t)
+    (λ c κs. search needs)  -- parts-at-positive-at-requires
+    (λ c. search needs)  -- parts-at-enum-known-next
+    (λ c κs. search needs)  -- parts-at-octet-at-requires
     (parts-at-returns t)
     (parts-at-add-part t)
-    (parts-at-octet-at-requires-2 t)
-    (parts-at-in-class-requires t)
+    (λ c κs. search needs)  -- parts-at-octet-at-requires-2
+    (λ c κs. search needs)  -- parts-at-in-class-requires
     (parts-at-parts-at-requires t)
-    (parts-at-enum-told t)
+    (λ c. search needs)  -- parts-at-enum-told
     (parts-at-returns-2 t)
     (parts-at-returns-3 t)
     (parts-at-returns-4 t)

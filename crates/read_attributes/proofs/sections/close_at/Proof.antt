@@ -9,20 +9,11 @@ use Rattle.read_attributes.proofs.Rows.{within-from}
 use Rattle.read_attributes.proofs.Sectioning.{close-blank, close-partial, close-alone}
 use Rattle.octets.specs.Rows.{in-text}
 
-octet-at-requires : tie.Need-octet-at-requires
-octet-at-requires c κs = search needs
-
 returns : tie.Need-returns
 returns c = record { exact = close-blank (c .before .before .before .args .text .now) (c .before .before .before .args .at) (λ e. c .if1 .taken (c .before .octet-at .ensures ∙ e)); within = tt }
 
 add-next : tie.Need-add-next
 add-next c = let i = in-text (c .before .before .before .args .text .now) (c .before .before .before .args .at) (sym (c .before .octet-at .ensures) ∙ c .if1 .left) (omega arith) in omega arith
-
-octet-at-requires-2 : tie.Need-octet-at-requires-2
-octet-at-requires-2 c κs = search needs
-
-partial-at-requires : tie.Need-partial-at-requires
-partial-at-requires c κs = search needs
 
 returns-2 : tie.Need-returns-2
 returns-2 c = record { exact = c .partial-at .ensures .exact ∙ close-partial (c .before .before .before .before .before .before .args .text .now) (c .before .before .before .before .before .before .args .at) (sym (c .before .before .before .before .octet-at .ensures) ∙ c .before .before .before .if1 .left) (sym (c .before .before .octet-at2 .ensures) ∙ c .before .if2 .taken); within = within-from (c .before .before .before .before .before .before .args .text .now) (c .before .before .before .before .before .before .args .at) ((c .before .before .before .before .before .before .args .at) + 1) (c .partial-at .result) (omega arith) (c .partial-at .ensures .within) }
@@ -34,10 +25,10 @@ pub close-at-spec : {M : Type 1} → statement M
 close-at-spec =
     tie.close
     (tie.spec
-    octet-at-requires
+    (λ c κs. search needs)  -- octet-at-requires
     returns
     add-next
-    octet-at-requires-2
-    partial-at-requires
+    (λ c κs. search needs)  -- octet-at-requires-2
+    (λ c κs. search needs)  -- partial-at-requires
     returns-2
     returns-3)

@@ -7,29 +7,14 @@ use native.Mathlib.Omega.{arith}
 use Rattle.read_attributes.proofs.Sectioning.{count-blank, count-none, count-shut, count-open}
 use Rattle.octets.specs.Rows.{in-text}
 
-octet-at-requires : tie.Need-octet-at-requires
-octet-at-requires c κs = search needs
-
 returns : tie.Need-returns
 returns c = record { exact = count-blank (c .before .before .before .args .text .now) (c .before .before .before .args .at) (λ e. c .if1 .taken (c .before .octet-at .ensures ∙ e)); within = tt }
 
 add-positive-at : tie.Need-add-positive-at
 add-positive-at c = let i = in-text (c .before .before .before .args .text .now) (c .before .before .before .args .at) (sym (c .before .octet-at .ensures) ∙ c .if1 .left) (omega arith) in omega arith
 
-positive-at-requires : tie.Need-positive-at-requires
-positive-at-requires c κs = search needs
-
-enum-known-next : tie.Need-enum-known-next
-enum-known-next c = search needs
-
-octet-at-requires-2 : tie.Need-octet-at-requires-2
-octet-at-requires-2 c κs = search needs
-
 add-t12 : tie.Need-add-t12
 add-t12 c = let i = in-text (c .before .before .before .before .before .before .before .before .before .args .text .now) (c .before .before .before .next .given .0 .1 .0) (sym (c .before .octet-at2 .ensures) ∙ c .if2 .taken) (omega arith) in omega arith
-
-enum-told : tie.Need-enum-told
-enum-told c = search needs
 
 returns-2 : tie.Need-returns-2
 returns-2 c = let w = rw (c .before .before .before .next .given .1) at (c .before .before .before .before .before .positive-at .ensures .within) in let i = in-text (c .before .before .before .before .before .before .before .before .before .args .text .now) (c .before .before .before .next .given .0 .1 .0) (sym (c .before .octet-at2 .ensures) ∙ c .if2 .taken) (omega arith) in record { exact = count-shut (c .before .before .before .before .before .before .before .before .before .args .text .now) (c .before .before .before .before .before .before .before .before .before .args .at) (sym (c .before .before .before .before .before .before .before .octet-at .ensures) ∙ c .before .before .before .before .before .before .if1 .left) (sym (c .before .before .before .next .given .1) ∙ c .before .before .before .before .before .positive-at .ensures .exact) (sym (c .before .octet-at2 .ensures) ∙ c .if2 .taken); within = (omega arith, omega arith) }
@@ -44,14 +29,14 @@ pub count-at-spec : {M : Type 1} → statement M
 count-at-spec =
     tie.close
     (tie.spec
-    octet-at-requires
+    (λ c κs. search needs)  -- octet-at-requires
     returns
     add-positive-at
-    positive-at-requires
-    enum-known-next
-    octet-at-requires-2
+    (λ c κs. search needs)  -- positive-at-requires
+    (λ c. search needs)  -- enum-known-next
+    (λ c κs. search needs)  -- octet-at-requires-2
     add-t12
-    enum-told
+    (λ c. search needs)  -- enum-told
     returns-2
     returns-3
     returns-4)

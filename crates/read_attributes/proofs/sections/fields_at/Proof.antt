@@ -10,26 +10,17 @@ use Rattle.read_attributes.proofs.Rows.{within-from}
 use Rattle.read_attributes.proofs.Sectioning.{fields-blank, fields-shut, fields-list}
 use Rattle.octets.specs.Rows.{in-text}
 
-octet-at-requires : tie.Need-octet-at-requires
-octet-at-requires c κs = search needs
-
 returns : tie.Need-returns
 returns c = record { exact = fields-blank (c .before .before .before .args .text .now) (c .before .before .before .args .at) (λ e. c .if1 .taken (c .before .octet-at .ensures ∙ e)); within = tt }
 
 add-next : tie.Need-add-next
 add-next c = let i = in-text (c .before .before .before .args .text .now) (c .before .before .before .args .at) (sym (c .before .octet-at .ensures) ∙ c .if1 .left) (omega arith) in omega arith
 
-octet-at-requires-2 : tie.Need-octet-at-requires-2
-octet-at-requires-2 c κs = search needs
-
 returns-2 : tie.Need-returns-2
 returns-2 c = record { exact = fields-shut (c .before .before .before .before .before .args .text .now) (c .before .before .before .before .before .args .at) (sym (c .before .before .before .octet-at .ensures) ∙ c .before .before .if1 .left) (λ e. c .if2 .taken (c .before .octet-at2 .ensures ∙ e)); within = tt }
 
 add-fields-to-close : tie.Need-add-fields-to-close
 add-fields-to-close c = let i = in-text (c .before .before .before .before .before .args .text .now) ((c .before .before .before .before .before .args .at) + 1) (sym (c .before .octet-at2 .ensures) ∙ c .if2 .left) (omega arith) in omega arith
-
-fields-to-close-requires : tie.Need-fields-to-close-requires
-fields-to-close-requires c κs = search needs
 
 returns-3 : tie.Need-returns-3
 returns-3 c = record { exact = c .fields-to-close .ensures .exact (length (c .before .before .before .before .before .before .args .text .now)) (omega arith) ∙ fields-list (c .before .before .before .before .before .before .args .text .now) (c .before .before .before .before .before .before .args .at) (sym (c .before .before .before .before .octet-at .ensures) ∙ c .before .before .before .if1 .left) (sym (c .before .before .octet-at2 .ensures) ∙ c .before .if2 .left); within = within-from (c .before .before .before .before .before .before .args .text .now) (c .before .before .before .before .before .before .args .at) ((c .before .before .before .before .before .before .args .at) + 1 + 1) (c .fields-to-close .result) (omega arith) (c .fields-to-close .ensures .within) }
@@ -38,11 +29,11 @@ pub fields-at-spec : {M : Type 1} → statement M
 fields-at-spec =
     tie.close
     (tie.spec
-    octet-at-requires
+    (λ c κs. search needs)  -- octet-at-requires
     returns
     add-next
-    octet-at-requires-2
+    (λ c κs. search needs)  -- octet-at-requires-2
     returns-2
     add-fields-to-close
-    fields-to-close-requires
+    (λ c κs. search needs)  -- fields-to-close-requires
     returns-3)

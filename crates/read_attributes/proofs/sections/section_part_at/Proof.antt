@@ -10,23 +10,8 @@ use Rattle.read_attributes.proofs.Rows.{within-from}
 use Rattle.read_attributes.proofs.Sectioning.{part-none, part-text, part-alone}
 use Rattle.octets.specs.Rows.{in-text}
 
-parts-at-requires : tie.Need-parts-at-requires
-parts-at-requires c κs = search needs
-
-enum-known-next : tie.Need-enum-known-next
-enum-known-next c = search needs
-
-octet-at-requires : tie.Need-octet-at-requires
-octet-at-requires c κs = search needs
-
 add-section-text-at : tie.Need-add-section-text-at
 add-section-text-at c = let i = in-text (c .before .before .before .before .before .before .before .args .text .now) (c .before .before .before .next .given .0 .0) (sym (c .before .octet-at .ensures) ∙ c .if1 .taken) (omega arith) in omega arith
-
-section-text-at-requires : tie.Need-section-text-at-requires
-section-text-at-requires c κs = search needs
-
-enum-told : tie.Need-enum-told
-enum-told c = search needs
 
 returns : tie.Need-returns
 returns c = let w = rw (c .before .before .before .before .next .given .1) at (c .before .before .before .before .before .before .parts-at .ensures .within) in record { exact = c .section-text-at .ensures .exact ∙ part-text (c .before .before .before .before .before .before .before .before .args .text .now) (c .before .before .before .before .before .before .before .before .args .at) (sym (c .before .before .before .before .next .given .1) ∙ c .before .before .before .before .before .before .parts-at .ensures .exact (length (c .before .before .before .before .before .before .before .before .args .text .now)) (omega arith)) (sym (c .before .before .octet-at .ensures) ∙ c .before .if1 .taken); within = within-from (c .before .before .before .before .before .before .before .before .args .text .now) (c .before .before .before .before .before .before .before .before .args .at) (c .before .before .before .before .next .given .0 .0 + 1) (c .section-text-at .result) (omega arith) (c .section-text-at .ensures .within) }
@@ -41,12 +26,12 @@ pub section-part-at-spec : {M : Type 1} → statement M
 section-part-at-spec =
     tie.close
     (tie.spec
-    parts-at-requires
-    enum-known-next
-    octet-at-requires
+    (λ c κs. search needs)  -- parts-at-requires
+    (λ c. search needs)  -- enum-known-next
+    (λ c κs. search needs)  -- octet-at-requires
     add-section-text-at
-    section-text-at-requires
-    enum-told
+    (λ c κs. search needs)  -- section-text-at-requires
+    (λ c. search needs)  -- enum-told
     returns
     returns-2
     returns-3)

@@ -7,20 +7,8 @@ use native.Mathlib.Omega.{arith}
 use Rattle.read_attributes.proofs.Sectioning.{within-onward, spec-empty, spec-part, spec-text}
 use Rattle.octets.specs.Rows.{in-text}
 
-octet-at-requires : tie.Need-octet-at-requires
-octet-at-requires c κs = search needs
-
 returns : tie.Need-returns
 returns c = let i = in-text (c .before .before .before .args .text .now) (c .before .before .before .args .at) (sym (c .before .octet-at .ensures) ∙ c .if1 .taken) (omega arith) in record { exact = spec-empty (c .before .before .before .args .text .now) (c .before .before .before .args .at) (sym (c .before .octet-at .ensures) ∙ c .if1 .taken); within = (omega arith, omega arith) }
-
-in-class-requires : tie.Need-in-class-requires
-in-class-requires c κs = search needs
-
-section-part-at-requires : tie.Need-section-part-at-requires
-section-part-at-requires c κs = search needs
-
-section-text-at-requires : tie.Need-section-text-at-requires
-section-text-at-requires c κs = search needs
 
 returns-2 : tie.Need-returns-2
 returns-2 c = record { exact = c .section-part-at .ensures .exact ∙ spec-part (c .before .before .before .before .before .before .args .text .now) (c .before .before .before .before .before .before .args .at) (λ e. c .before .before .before .if1 .left (c .before .before .before .before .octet-at .ensures ∙ e)) (rw (c .before .before .before .before .octet-at .ensures) at (sym (c .before .before .in-class .ensures) ∙ c .before .if2 .taken)); within = within-onward (c .before .before .before .before .before .before .args .text .now) (c .before .before .before .before .before .before .args .at) (c .section-part-at .result) (c .section-part-at .ensures .within) }
@@ -32,10 +20,10 @@ pub section-spec-at-spec : {M : Type 1} → statement M
 section-spec-at-spec =
     tie.close
     (tie.spec
-    octet-at-requires
+    (λ c κs. search needs)  -- octet-at-requires
     returns
-    in-class-requires
-    section-part-at-requires
-    section-text-at-requires
+    (λ c κs. search needs)  -- in-class-requires
+    (λ c κs. search needs)  -- section-part-at-requires
+    (λ c κs. search needs)  -- section-text-at-requires
     returns-2
     returns-3)

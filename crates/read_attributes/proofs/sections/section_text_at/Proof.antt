@@ -9,33 +9,6 @@ use Rattle.read_attributes.specs.declared.sections.Wanted.the-variants.{
 use Rattle.read_attributes.proofs.Rows.{within-from}
 use Rattle.read_attributes.proofs.Sectioning.{wantedAt, text-none, text-by}
 
-run-at-requires : tie.Need-run-at-requires
-run-at-requires c κs = search needs
-
-enum-known-end : tie.Need-enum-known-end
-enum-known-end c = search needs
-
-section-word-requires : tie.Need-section-word-requires
-section-word-requires c κs = search needs
-
-enum-told : tie.Need-enum-told
-enum-told c = search needs
-
-enum-told-2 : tie.Need-enum-told-2
-enum-told-2 c = search needs
-
-fields-at-requires : tie.Need-fields-at-requires
-fields-at-requires c κs = search needs
-
-enum-told-3 : tie.Need-enum-told-3
-enum-told-3 c = search needs
-
-enum-told-4 : tie.Need-enum-told-4
-enum-told-4 c = search needs
-
-enum-told-5 : tie.Need-enum-told-5
-enum-told-5 c = search needs
-
 returns : tie.Need-returns
 returns c = record { exact = text-by (c .before .before .before .before .before .before .before .before .args .part) (c .before .before .before .before .before .before .before .before .args .text .now) (c .before .before .before .before .before .before .before .before .args .at) (sym (c .before .before .before .before .end .given .1) ∙ c .before .before .before .before .before .before .run-at .ensures .exact) (c .enum-told .given .1) (c .before .before .section-word .ensures); within = rw (c .before .before .before .before .end .given .1) at (c .before .before .before .before .before .before .run-at .ensures .within) }
 
@@ -58,15 +31,15 @@ pub section-text-at-spec : {M : Type 1} → statement M
 section-text-at-spec =
     tie.close
     (tie.spec
-    run-at-requires
-    enum-known-end
-    section-word-requires
-    enum-told
-    enum-told-2
-    fields-at-requires
-    enum-told-3
-    enum-told-4
-    enum-told-5
+    (λ c κs. search needs)  -- run-at-requires
+    (λ c. search needs)  -- enum-known-end
+    (λ c κs. search needs)  -- section-word-requires
+    (λ c. search needs)  -- enum-told
+    (λ c. search needs)  -- enum-told-2
+    (λ c κs. search needs)  -- fields-at-requires
+    (λ c. search needs)  -- enum-told-3
+    (λ c. search needs)  -- enum-told-4
+    (λ c. search needs)  -- enum-told-5
     returns
     returns-2
     returns-3

@@ -31,15 +31,6 @@ names-row-below t =
 abbrev names-row-calls : ℕ → names-row-lts.Claims
 names-row-calls t = (text-at-reads.Asked, text-at-reads.Learnt, octet-at-reads.Asked, octet-at-reads.Learnt, names-row-below t, names-row.Post, one-more-reads.Asked, one-more-reads.Learnt)
 
-names-row-text-at-requires : (t : ℕ) → names-row-lts.Need-text-at-requires (names-row-calls t) (names-row-at t) names-row.Post
-names-row-text-at-requires t c κs = search needs
-
-names-row-enum-known-p : (t : ℕ) → names-row-lts.Need-enum-known-p (names-row-calls t) (names-row-at t) names-row.Post
-names-row-enum-known-p t c = search needs
-
-names-row-octet-at-requires : (t : ℕ) → names-row-lts.Need-octet-at-requires (names-row-calls t) (names-row-at t) names-row.Post
-names-row-octet-at-requires t c κs = search needs
-
 names-row-add-names-row : (t : ℕ) → names-row-lts.Need-add-names-row (names-row-calls t) (names-row-at t) names-row.Post
 names-row-add-names-row t c = let w = rw (c .before .before .before .p .given .1) at (c .before .before .before .before .before .text-at .ensures .within) in let i = in-text (c .before .before .before .before .before .before .before .args .text .now) (c .before .before .before .p .given .0 .0) (sym (c .before .octet-at .ensures) ∙ c .if1 .taken) (omega arith) in omega arith
 
@@ -51,9 +42,6 @@ names-row-one-more-requires t c κs = let w = rw (c .before .before .before .bef
 
 names-row-add-t14 : (t : ℕ) → names-row-lts.Need-add-t14 (names-row-calls t) (names-row-at t) names-row.Post
 names-row-add-t14 t c = let w = rw (c .before .before .before .before .p .given .1) at (c .before .before .before .before .before .before .text-at .ensures .within) in let i = in-text (c .before .before .before .before .before .before .before .before .args .text .now) (c .before .before .before .before .p .given .0 .0) (sym (c .before .before .octet-at .ensures) ∙ c .if2 .taken) (omega arith) in omega arith
-
-names-row-enum-told : (t : ℕ) → names-row-lts.Need-enum-told (names-row-calls t) (names-row-at t) names-row.Post
-names-row-enum-told t c = search needs
 
 names-row-returns : (t : ℕ) → names-row-lts.Need-returns (names-row-calls t) (names-row-at t) names-row.Post
 names-row-returns t c = let w = rw (c .before .before .before .before .before .p .given .1) at (c .before .before .before .before .before .before .before .text-at .ensures .within) in let i = in-text (c .before .before .before .before .before .before .before .before .before .args .text .now) (c .before .before .before .before .before .p .given .0 .0) (sym (c .before .before .before .octet-at .ensures) ∙ c .before .before .if1 .taken) (omega arith) in record { exact = λ n h. c .one-more .ensures ∙ ap oneMore (c .before .names-row .ensures .exact (n - 1) (omega arith)) ∙ row-more (c .before .before .before .before .before .before .before .before .before .args .text .now) (c .before .before .before .before .before .before .before .before .before .args .at) n (omega arith) (sym (c .before .before .before .before .before .p .given .1) ∙ c .before .before .before .before .before .before .before .text-at .ensures .exact) (sym (c .before .before .before .octet-at .ensures) ∙ c .before .before .if1 .taken); within = rw (c .one-more .ensures) (within-more (c .before .before .before .before .before .before .before .before .before .args .text .now) (c .before .before .before .before .before .before .before .before .before .args .at) (c .before .before .before .before .before .p .given .0 .0) (c .before .names-row .result) (omega arith) (c .before .names-row .ensures .within)) }
@@ -71,14 +59,14 @@ pub +names-row-spec : {M : Type 1} → statement M
 +names-row-spec = close μ-names-row λ t. names-row-lts.spec (names-row-calls t)
     (names-row-at t)
     names-row.Post
-    (names-row-text-at-requires t)
-    (names-row-enum-known-p t)
-    (names-row-octet-at-requires t)
+    (λ c κs. search needs)  -- names-row-text-at-requires
+    (λ c. search needs)  -- names-row-enum-known-p
+    (λ c κs. search needs)  -- names-row-octet-at-requires
     (names-row-add-names-row t)
     (names-row-names-row-requires t)
     (names-row-one-more-requires t)
     (names-row-add-t14 t)
-    (names-row-enum-told t)
+    (λ c. search needs)  -- names-row-enum-told
     (names-row-returns t)
     (names-row-returns-2 t)
     (names-row-returns-3 t)

@@ -11,35 +11,14 @@ use Rattle.read_filters.proofs.mailboxes.keep_names.Statement.{statemen
 use Rattle.read_filters.proofs.mailboxes.keep_names.Tie as tie
 use Rattle.octets.specs.Rows.{in-text}
 
-octet-at-requires : tie.Need-octet-at-requires
-octet-at-requires c κs = search needs
-
 add-keep-row : tie.Need-add-keep-row
 add-keep-row c = let i = in-text (c .before .before .before .args .text .now) (c .before .before .before .args .at) (sym (c .before .octet-at .ensures) ∙ c .if1 .taken) (omega arith) in omega arith
-
-keep-row-requires : tie.Need-keep-row-requires
-keep-row-requires c κs = search needs
 
 returns : tie.Need-returns
 returns c = let i = in-text (c .before .before .before .before .args .text .now) (c .before .before .before .before .args .at) (sym (c .before .before .octet-at .ensures) ∙ c .before .if1 .taken) (omega arith) in record { exact = c .keep-row .ensures .exact (length (c .before .before .before .before .args .text .now)) (omega arith) ∙ kept-row (c .before .before .before .before .args .text .now) (c .before .before .before .before .args .at) (c .before .before .before .before .args .kept) (sym (c .before .before .octet-at .ensures) ∙ c .before .if1 .taken); within = fits-from (c .keep-row .result .ok) (c .before .before .before .before .args .text .now) (c .before .before .before .before .args .at) (c .keep-row .result) (c .keep-row .ensures .within) }
 
-text-at-requires : tie.Need-text-at-requires
-text-at-requires c κs = search needs
-
-enum-known-p : tie.Need-enum-known-p
-enum-known-p c = search needs
-
-enum-told : tie.Need-enum-told
-enum-told c = search needs
-
-unread-requires : tie.Need-unread-requires
-unread-requires c κs = search needs
-
 returns-2 : tie.Need-returns-2
 returns-2 c = record { exact = c .unread .ensures ∙ kept-none (c .before .before .before .before .before .before .before .args .text .now) (c .before .before .before .before .before .before .before .args .at) (c .before .before .before .before .before .before .before .args .kept) (λ e. c .before .before .before .before .if1 .left (c .before .before .before .before .before .octet-at .ensures ∙ e)) (sym (c .before .enum-told .given .1) ∙ c .before .before .before .text-at .ensures .exact); within = rw (c .unread .ensures) tt }
-
-name-at-requires : tie.Need-name-at-requires
-name-at-requires c κs = search needs
 
 keep-one-requires : tie.Need-keep-one-requires
 keep-one-requires c κs = let w = rw (c .before .before .p .given .1) at (c .before .before .before .before .text-at .ensures .within) in omega arith
@@ -51,15 +30,15 @@ pub keep-names-spec : {M : Type 1} → statement M
 keep-names-spec =
     tie.close
     (tie.spec
-    octet-at-requires
+    (λ c κs. search needs)  -- octet-at-requires
     add-keep-row
-    keep-row-requires
+    (λ c κs. search needs)  -- keep-row-requires
     returns
-    text-at-requires
-    enum-known-p
-    enum-told
-    unread-requires
+    (λ c κs. search needs)  -- text-at-requires
+    (λ c. search needs)  -- enum-known-p
+    (λ c. search needs)  -- enum-told
+    (λ c κs. search needs)  -- unread-requires
     returns-2
-    name-at-requires
+    (λ c κs. search needs)  -- name-at-requires
     keep-one-requires
     returns-3)

@@ -20,38 +20,17 @@ abbrev μ-loop : tie.MeasureT-loop
 loop-holds : tie.Need-loop-holds Inv-loop μ-loop
 loop-holds c = goes-start (c .before .args .text .now) (c .before .args .at) (c .before .args .kept) (c .before .pre)
 
-text-at-requires : tie.Need-text-at-requires Inv-loop μ-loop
-text-at-requires c κs = search needs
-
-enum-known-q : tie.Need-enum-known-q Inv-loop μ-loop
-enum-known-q c = search needs
-
-enum-told : tie.Need-enum-told Inv-loop μ-loop
-enum-told c = search needs
-
-unread-requires : tie.Need-unread-requires Inv-loop μ-loop
-unread-requires c κs = search needs
-
 returns : tie.Need-returns Inv-loop μ-loop
 returns c = record { exact = λ n h. c .unread .ensures ∙ goes-none (c .before .before .before .before .before .before .args .text .now) (c .before .before .before .before .before .before .args .at) (c .before .before .before .before .before .before .args .kept) (c .before .before .before .before .loop .more) (c .before .before .before .before .loop .p) (c .before .before .before .before .loop .inv) (sym (c .before .enum-told .given .1) ∙ c .before .before .before .text-at .ensures .exact) n h; within = rw (c .unread .ensures) tt }
 
-name-at-requires : tie.Need-name-at-requires Inv-loop μ-loop
-name-at-requires c κs = search needs
-
 keep-one-requires : tie.Need-keep-one-requires Inv-loop μ-loop
 keep-one-requires c κs = let w = rw (c .before .before .q .given .1) at (c .before .before .before .before .text-at .ensures .within) in omega (arith, c .before .before .before .before .before .loop .inv .few)
-
-octet-at-requires : tie.Need-octet-at-requires Inv-loop μ-loop
-octet-at-requires c κs = search needs
 
 add-t12 : tie.Need-add-t12 Inv-loop μ-loop
 add-t12 c = let w = rw (c .before .before .before .before .before .q .given .1) at (c .before .before .before .before .before .before .before .text-at .ensures .within) in let i = in-text (c .before .before .before .before .before .before .before .before .before .before .args .text .now) (c .before .before .before .before .before .q .given .0 .0) (sym (c .before .octet-at .ensures) ∙ c .if1 .taken) (omega arith) in omega arith
 
 returns-2 : tie.Need-returns-2 Inv-loop μ-loop
 returns-2 c = let w = rw (c .before .before .before .before .before .q .given .1) at (c .before .before .before .before .before .before .before .text-at .ensures .within) in let i = in-text (c .before .before .before .before .before .before .before .before .before .before .args .text .now) (c .before .before .before .before .before .q .given .0 .0) (sym (c .before .octet-at .ensures) ∙ c .if1 .taken) (omega arith) in record { exact = λ n h. goes-last (c .before .before .before .before .before .before .before .before .before .before .args .text .now) (c .before .before .before .before .before .before .before .before .before .before .args .at) (c .before .before .before .before .before .before .before .before .before .before .args .kept) (c .before .before .before .before .before .before .before .before .loop .more) (c .before .before .before .before .before .before .before .before .loop .p) (c .before .before .before .before .before .before .before .before .loop .inv) (sym (c .before .before .before .before .before .q .given .1) ∙ c .before .before .before .before .before .before .before .text-at .ensures .exact) (c .before .before .keep-one .result) (c .before .before .keep-one .ensures ∙ ap (withOne (c .before .before .before .before .before .before .before .before .loop .more)) (c .before .before .before .name-at .ensures)) (sym (c .before .octet-at .ensures) ∙ c .if1 .taken) n h; within = (omega (arith, c .before .before .before .before .before .before .before .before .loop .inv .from), omega arith, omega (arith, c .before .before .before .before .before .before .before .before .loop .inv .few, ap (λ (m : Kept). m .count) (c .before .before .keep-one .ensures))) }
-
-unread-requires-2 : tie.Need-unread-requires-2 Inv-loop μ-loop
-unread-requires-2 c κs = search needs
 
 returns-3 : tie.Need-returns-3 Inv-loop μ-loop
 returns-3 c = record { exact = λ n h. c .unread2 .ensures ∙ goes-wrong (c .before .before .before .before .before .before .before .before .before .before .before .before .args .text .now) (c .before .before .before .before .before .before .before .before .before .before .before .before .args .at) (c .before .before .before .before .before .before .before .before .before .before .before .before .args .kept) (c .before .before .before .before .before .before .before .before .before .before .loop .more) (c .before .before .before .before .before .before .before .before .before .before .loop .p) (c .before .before .before .before .before .before .before .before .before .before .loop .inv) (sym (c .before .before .before .before .before .before .before .q .given .1) ∙ c .before .before .before .before .before .before .before .before .before .text-at .ensures .exact) (λ e. c .before .if2 .taken (c .before .before .before .octet-at .ensures ∙ e)) (λ e. c .before .before .if1 .left (c .before .before .before .octet-at .ensures ∙ e)) n h; within = rw (c .unread2 .ensures) tt }
@@ -72,17 +51,17 @@ keep-row-spec =
     Inv-loop
     μ-loop
     loop-holds
-    text-at-requires
-    enum-known-q
-    enum-told
-    unread-requires
+    (λ c κs. search needs)  -- text-at-requires
+    (λ c. search needs)  -- enum-known-q
+    (λ c. search needs)  -- enum-told
+    (λ c κs. search needs)  -- unread-requires
     returns
-    name-at-requires
+    (λ c κs. search needs)  -- name-at-requires
     keep-one-requires
-    octet-at-requires
+    (λ c κs. search needs)  -- octet-at-requires
     add-t12
     returns-2
-    unread-requires-2
+    (λ c κs. search needs)  -- unread-requires-2
     returns-3
     add-p
     loop-less

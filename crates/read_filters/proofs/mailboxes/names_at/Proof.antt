@@ -9,26 +9,11 @@ use Rattle.read_filters.proofs.mailboxes.names_at.Statement.{statement}
 use Rattle.read_filters.proofs.mailboxes.names_at.Tie as tie
 use Rattle.octets.specs.Rows.{in-text}
 
-octet-at-requires : tie.Need-octet-at-requires
-octet-at-requires c κs = search needs
-
 add-names-row : tie.Need-add-names-row
 add-names-row c = let i = in-text (c .before .before .before .args .text .now) (c .before .before .before .args .at) (sym (c .before .octet-at .ensures) ∙ c .if1 .taken) (omega arith) in omega arith
 
-names-row-requires : tie.Need-names-row-requires
-names-row-requires c κs = search needs
-
 returns : tie.Need-returns
 returns c = let i = in-text (c .before .before .before .before .args .text .now) (c .before .before .before .before .args .at) (sym (c .before .before .octet-at .ensures) ∙ c .before .if1 .taken) (omega arith) in record { exact = c .names-row .ensures .exact (length (c .before .before .before .before .args .text .now)) (omega arith) ∙ names-row (c .before .before .before .before .args .text .now) (c .before .before .before .before .args .at) (sym (c .before .before .octet-at .ensures) ∙ c .before .if1 .taken); within = within-from (c .before .before .before .before .args .text .now) (c .before .before .before .before .args .at) (c .names-row .result) (c .names-row .ensures .within) }
-
-text-at-requires : tie.Need-text-at-requires
-text-at-requires c κs = search needs
-
-enum-known-p : tie.Need-enum-known-p
-enum-known-p c = search needs
-
-enum-told : tie.Need-enum-told
-enum-told c = search needs
 
 returns-2 : tie.Need-returns-2
 returns-2 c = let w = rw (c .before .p .given .1) at (c .before .before .before .text-at .ensures .within) in record { exact = names-one (c .before .before .before .before .before .before .before .args .text .now) (c .before .before .before .before .before .before .before .args .at) (λ e. c .before .before .before .before .if1 .left (c .before .before .before .before .before .octet-at .ensures ∙ e)) (sym (c .before .p .given .1) ∙ c .before .before .before .text-at .ensures .exact); within = omega arith }
@@ -40,12 +25,12 @@ pub names-at-spec : {M : Type 1} → statement M
 names-at-spec =
     tie.close
     (tie.spec
-    octet-at-requires
+    (λ c κs. search needs)  -- octet-at-requires
     add-names-row
-    names-row-requires
+    (λ c κs. search needs)  -- names-row-requires
     returns
-    text-at-requires
-    enum-known-p
-    enum-told
+    (λ c κs. search needs)  -- text-at-requires
+    (λ c. search needs)  -- enum-known-p
+    (λ c. search needs)  -- enum-told
     returns-2
     returns-3)

@@ -50,38 +50,14 @@ key-at-calls t = (begin-reads.Asked, begin-reads.Learnt, key-at-below t, key-at.
 abbrev keys-at-calls : ℕ → keys-at-lts.Claims
 keys-at-calls t = (key-at-below t, key-at.Post, next-at-reads.Asked, next-at-reads.Learnt, keys-at-below t, keys-at.Post, joined-reads.Asked, joined-reads.Learnt, ended-reads.Asked, ended-reads.Learnt)
 
-key-at-begin-requires : (t : ℕ) → key-at-lts.Need-begin-requires (key-at-calls t) (key-at-at t) key-at.Post
-key-at-begin-requires t c κs = search needs
-
-key-at-enum-known-next : (t : ℕ) → key-at-lts.Need-enum-known-next (key-at-calls t) (key-at-at t) key-at.Post
-key-at-enum-known-next t c = search needs
-
-key-at-enum-known-p : (t : ℕ) → key-at-lts.Need-enum-known-p (key-at-calls t) (key-at-at t) key-at.Post
-key-at-enum-known-p t c = search needs
-
-key-at-add-key-at : (t : ℕ) → key-at-lts.Need-add-key-at (key-at-calls t) (key-at-at t) key-at.Post
-key-at-add-key-at t c = search needs
-
 key-at-key-at-requires : (t : ℕ) → key-at-lts.Need-key-at-requires (key-at-calls t) (key-at-at t) key-at.Post
 key-at-key-at-requires t c κs = let w = rw (c .before .before .p .given .1) at (c .before .before .before .before .before .before .begin .ensures .within) in omega arith
 
 key-at-closed-requires : (t : ℕ) → key-at-lts.Need-closed-requires (key-at-calls t) (key-at-at t) key-at.Post
 key-at-closed-requires t c κs = within-closable (c .before .before .before .before .before .before .before .before .before .before .before .before .before .before .args .text .now) (c .before .before .before .before .before .before .p .given .0 .0) (c .before .before .before .before .before .before .before .before .before .before .before .before .before .before .args .n) 0 (c .before .before .before .key-at .result) (omega arith) (omega arith) (omega arith) (c .before .before .before .key-at .ensures .within)
 
-key-at-enum-known-p-2 : (t : ℕ) → key-at-lts.Need-enum-known-p-2 (key-at-calls t) (key-at-at t) key-at.Post
-key-at-enum-known-p-2 t c = search needs
-
-key-at-add-key-at-2 : (t : ℕ) → key-at-lts.Need-add-key-at-2 (key-at-calls t) (key-at-at t) key-at.Post
-key-at-add-key-at-2 t c = search needs
-
 key-at-key-at-requires-2 : (t : ℕ) → key-at-lts.Need-key-at-requires-2 (key-at-calls t) (key-at-at t) key-at.Post
 key-at-key-at-requires-2 t c κs = let w = rw (c .before .before .p2 .given .1) at (c .before .before .before .before .before .before .begin .ensures .within) in omega arith
-
-key-at-enum-known-first : (t : ℕ) → key-at-lts.Need-enum-known-first (key-at-calls t) (key-at-at t) key-at.Post
-key-at-enum-known-first t c = search needs
-
-key-at-octet-at-requires : (t : ℕ) → key-at-lts.Need-octet-at-requires (key-at-calls t) (key-at-at t) key-at.Post
-key-at-octet-at-requires t c κs = search needs
 
 key-at-add-key-at-3 : (t : ℕ) → key-at-lts.Need-add-key-at-3 (key-at-calls t) (key-at-at t) key-at.Post
 key-at-add-key-at-3 t c = let v = rw (c .before .before .before .first .given .1) at (c .before .before .before .before .before .before .before .key-at2 .ensures .within) in omega arith
@@ -95,77 +71,35 @@ key-at-joined-requires t c κs = let v = rw (c .before .before .before .before .
 key-at-closed-requires-2 : (t : ℕ) → key-at-lts.Need-closed-requires-2 (key-at-calls t) (key-at-at t) key-at.Post
 key-at-closed-requires-2 t c κs = within-closable (c .before .before .before .before .before .before .before .before .before .before .before .before .before .before .before .before .before .before .before .before .before .before .before .before .args .text .now) (c .before .before .before .before .before .before .before .before .before .before .before .before .before .before .before .before .p2 .given .0 .0) (c .before .before .before .before .before .before .before .before .before .before .before .before .before .before .before .before .before .before .before .before .before .before .before .before .args .n) 0 (c .joined .result) (c .before .before .before .before .before .before .before .before .before .before .before .before .before .before .before .before .before .before .before .before .before .before .before .before .pre .1 .short) (let l = c .before .before .before .before .before .before .before .before .before .before .before .before .before .before .before .before .before .before .before .before .before .before .before .before .pre .1 .room in omega arith) (omega arith) (within-joined (c .before .before .before .before .before .before .before .before .before .before .before .before .before .before .before .before .before .before .before .before .before .before .before .before .args .text .now) (c .before .before .before .before .before .before .before .before .before .before .before .before .before .before .before .before .p2 .given .0 .0) (c .before .before .before .before .before .before .before .before .before .before .before .before .before .before .before .before .before .before .before .before .before .before .before .before .args .n + 2) ((c .before .before .before .before .before .before .before .before .before .first .given .0 .0) + 1) (c .before .before .before .before .before .before .before .before .before .before .before .before .before .key-at2 .result) (c .before .before .before .before .key-at3 .result) (c .joined .result) (c .joined .ensures ∙ ap (λ (x : Read). join x (c .before .before .before .before .key-at3 .result)) (sym (c .before .before .before .before .before .before .before .before .before .first .given .1))) (c .before .before .before .before .before .before .before .before .before .first .given .1) (omega arith) (c .before .before .before .before .before .before .before .before .before .before .before .before .before .key-at2 .ensures .within) (c .before .before .before .before .key-at3 .ensures .within))
 
-key-at-enum-told : (t : ℕ) → key-at-lts.Need-enum-told (key-at-calls t) (key-at-at t) key-at.Post
-key-at-enum-told t c = search needs
-
-key-at-enum-known-p-3 : (t : ℕ) → key-at-lts.Need-enum-known-p-3 (key-at-calls t) (key-at-at t) key-at.Post
-key-at-enum-known-p-3 t c = search needs
-
-key-at-add-keys-at : (t : ℕ) → key-at-lts.Need-add-keys-at (key-at-calls t) (key-at-at t) key-at.Post
-key-at-add-keys-at t c = search needs
-
 key-at-keys-at-requires : (t : ℕ) → key-at-lts.Need-keys-at-requires (key-at-calls t) (key-at-at t) key-at.Post
 key-at-keys-at-requires t c κs = let w = rw (c .before .before .p3 .given .1) at (c .before .before .before .before .before .before .begin .ensures .within) in omega arith
 
 key-at-closed-requires-3 : (t : ℕ) → key-at-lts.Need-closed-requires-3 (key-at-calls t) (key-at-at t) key-at.Post
 key-at-closed-requires-3 t c κs = within-closable (c .before .before .before .before .before .before .before .before .before .before .before .before .before .before .args .text .now) (c .before .before .before .before .before .before .p3 .given .0 .0) (c .before .before .before .before .before .before .before .before .before .before .before .before .before .before .args .n) 1 (c .before .before .before .keys-at .result) (omega arith) (omega arith) (omega arith) (c .before .before .before .keys-at .ensures .within)
 
-key-at-enum-told-2 : (t : ℕ) → key-at-lts.Need-enum-told-2 (key-at-calls t) (key-at-at t) key-at.Post
-key-at-enum-told-2 t c = search needs
-
-key-at-same-length : (t : ℕ) → key-at-lts.Need-same-length (key-at-calls t) (key-at-at t) key-at.Post
-key-at-same-length t c = search needs
-
 key-at-returns : (t : ℕ) → key-at-lts.Need-returns (key-at-calls t) (key-at-at t) key-at.Post
 key-at-returns t c = let w = rw (c .before .next .given .1) at (c .before .before .before .before .before .begin .ensures .within) in record { within = within-one (c .before .before .before .before .before .before .before .before .before .args .text .now) (c .before .before .before .before .before .before .before .before .before .args .at) (c .before .before .before .before .before .before .before .before .before .args .n) (c .before .next .given .0 .0) (c .before .next .given .0 .1 .0) (c .before .next .given .0 .1 .1 .1 .0) (c .before .next .given .0 .1 .1 .0) w; exact = λ m h. key-single (c .before .before .before .before .before .before .before .before .before .args .text .now) (c .before .before .before .before .before .before .before .before .before .args .at) m (c .before .before .before .before .before .begin .result) (c .before .before .before .before .before .before .before .before .before .args .cells .now) (c .before .before .before .before .before .begin .last .1 .1 .0) (c .before .before .before .before .before .before .before .before .before .args .n) (c .before .before .before .before .before .begin .ensures .exact) (omega arith) (c .before .next .given .1) }
-
-key-at-same-length-2 : (t : ℕ) → key-at-lts.Need-same-length-2 (key-at-calls t) (key-at-at t) key-at.Post
-key-at-same-length-2 t c = search needs
 
 key-at-returns-2 : (t : ℕ) → key-at-lts.Need-returns-2 (key-at-calls t) (key-at-at t) key-at.Post
 key-at-returns-2 t c = let w = rw (c .before .before .before .before .before .before .before .before .before .p .given .1) at (c .before .before .before .before .before .before .before .before .before .before .before .before .before .begin .ensures .within) in record { within = within-closed (c .before .before .before .before .before .before .before .before .before .before .before .before .before .before .before .before .before .args .text .now) (c .before .before .before .before .before .before .before .before .before .before .before .before .before .before .before .before .before .args .at) (c .before .before .before .before .before .before .before .before .before .p .given .0 .0) (c .before .before .before .before .before .before .before .before .before .before .before .before .before .before .before .before .before .args .n) 8 0 (c .before .before .before .before .before .before .key-at .last .1 .1 .0) (c .before .before .closed .last .0) (c .before .before .closed .result) (c .before .before .before .before .before .before .key-at .result) (omega arith) (omega arith) (c .before .before .closed .ensures) (c .before .before .before .before .before .before .key-at .ensures .within); exact = λ m h. key-non (c .before .before .before .before .before .before .before .before .before .before .before .before .before .before .before .before .before .args .text .now) (c .before .before .before .before .before .before .before .before .before .before .before .before .before .before .before .before .before .args .at) m (c .before .before .before .before .before .before .before .before .before .before .before .before .before .begin .result) (c .before .before .before .before .before .before .before .before .before .before .before .before .before .before .before .before .before .args .cells .now) (c .before .before .before .before .before .before .before .before .before .before .before .before .before .begin .last .1 .1 .0) (c .before .before .before .before .before .before .before .before .before .before .before .before .before .before .before .before .before .args .n) (c .before .before .before .before .before .before .before .before .before .before .before .before .before .begin .ensures .exact) (omega arith) (c .before .before .before .before .before .before .before .before .before .p .given .1) (c .before .before .before .before .before .before .key-at .last .1 .1 .0) (c .before .before .closed .last .0) (c .before .before .before .before .before .before .key-at .result) (c .before .before .closed .result) (c .before .before .before .before .before .before .key-at .ensures .exact (m - 1) (omega arith)) (c .before .before .closed .ensures) }
 
-key-at-same-length-3 : (t : ℕ) → key-at-lts.Need-same-length-3 (key-at-calls t) (key-at-at t) key-at.Post
-key-at-same-length-3 t c = search needs
-
 key-at-returns-3 : (t : ℕ) → key-at-lts.Need-returns-3 (key-at-calls t) (key-at-at t) key-at.Post
 key-at-returns-3 t c = let w = rw (c .before .before .before .before .before .before .before .before .before .before .before .before .before .before .before .before .before .before .before .p2 .given .1) at (c .before .before .before .before .before .before .before .before .before .before .before .before .before .before .before .before .before .before .before .before .before .before .before .begin .ensures .within) in let v = rw (c .before .before .before .before .before .before .before .before .before .before .before .before .first .given .1) at (c .before .before .before .before .before .before .before .before .before .before .before .before .before .before .before .before .key-at2 .ensures .within) in let i = in-text (c .before .before .before .before .before .before .before .before .before .before .before .before .before .before .before .before .before .before .before .before .before .before .before .before .before .before .before .args .text .now) (c .before .before .before .before .before .before .before .before .before .before .before .before .first .given .0 .0) (sym (c .before .before .before .before .before .before .before .before .before .before .octet-at .ensures) ∙ c .before .before .before .before .before .before .before .before .before .if1 .taken) (omega arith) in record { within = within-closed (c .before .before .before .before .before .before .before .before .before .before .before .before .before .before .before .before .before .before .before .before .before .before .before .before .before .before .before .args .text .now) (c .before .before .before .before .before .before .before .before .before .before .before .before .before .before .before .before .before .before .before .before .before .before .before .before .before .before .before .args .at) (c .before .before .before .before .before .before .before .before .before .before .before .before .before .before .before .before .before .before .before .p2 .given .0 .0) (c .before .before .before .before .before .before .before .before .before .before .before .before .before .before .before .before .before .before .before .before .before .before .before .before .before .before .before .args .n) 9 0 (c .before .before .before .before .before .before .before .key-at3 .last .1 .1 .0) (c .before .before .closed2 .last .0) (c .before .before .closed2 .result) (c .before .before .before .joined .result) (omega arith) (omega arith) (c .before .before .closed2 .ensures) (within-joined (c .before .before .before .before .before .before .before .before .before .before .before .before .before .before .before .before .before .before .before .before .before .before .before .before .before .before .before .args .text .now) (c .before .before .before .before .before .before .before .before .before .before .before .before .before .before .before .before .before .before .before .p2 .given .0 .0) (c .before .before .before .before .before .before .before .before .before .before .before .before .before .before .before .before .before .before .before .before .before .before .before .before .before .before .before .args .n + 2) ((c .before .before .before .before .before .before .before .before .before .before .before .before .first .given .0 .0) + 1) (c .before .before .before .before .before .before .before .before .before .before .before .before .before .before .before .before .key-at2 .result) (c .before .before .before .before .before .before .before .key-at3 .result) (c .before .before .before .joined .result) (c .before .before .before .joined .ensures ∙ ap (λ (x : Read). join x (c .before .before .before .before .before .before .before .key-at3 .result)) (sym (c .before .before .before .before .before .before .before .before .before .before .before .before .first .given .1))) (c .before .before .before .before .before .before .before .before .before .before .before .before .first .given .1) (omega arith) (c .before .before .before .before .before .before .before .before .before .before .before .before .before .before .before .before .key-at2 .ensures .within) (c .before .before .before .before .before .before .before .key-at3 .ensures .within)); exact = λ m h. either-two (c .before .before .before .before .before .before .before .before .before .before .before .before .before .before .before .before .before .before .before .before .before .before .before .before .before .before .before .args .text .now) (c .before .before .before .before .before .before .before .before .before .before .before .before .before .before .before .before .before .before .before .before .before .before .before .before .before .before .before .args .at) m (c .before .before .before .before .before .before .before .before .before .before .before .before .before .before .before .before .before .before .before .before .before .before .before .begin .result) (c .before .before .before .before .before .before .before .before .before .before .before .before .before .before .before .before .before .before .before .before .before .before .before .before .before .before .before .args .cells .now) (c .before .before .before .before .before .before .before .before .before .before .before .before .before .before .before .before .before .before .before .before .before .before .before .begin .last .1 .1 .0) (c .before .before .before .before .before .before .before .before .before .before .before .before .before .before .before .before .before .before .before .before .before .before .before .before .before .before .before .args .n) (c .before .before .before .before .before .before .before .before .before .before .before .before .before .before .before .before .before .before .before .before .before .before .before .begin .ensures .exact) (omega arith) (c .before .before .before .before .before .before .before .before .before .before .before .before .before .before .before .before .before .before .before .p2 .given .1) (c .before .before .before .before .before .before .before .before .before .before .before .before .before .before .before .before .key-at2 .last .1 .1 .0) (c .before .before .before .before .before .before .before .before .before .before .before .before .before .before .before .before .key-at2 .result) (c .before .before .before .before .before .before .before .before .before .before .before .before .before .before .before .before .key-at2 .ensures .exact (m - 1) (omega arith)) (c .before .before .before .before .before .before .before .before .before .before .before .before .first .given .1) (sym (c .before .before .before .before .before .before .before .before .before .before .octet-at .ensures) ∙ c .before .before .before .before .before .before .before .before .before .if1 .taken) (c .before .before .before .before .before .before .before .key-at3 .last .1 .1 .0) (c .before .before .closed2 .last .0) (c .before .before .before .before .before .before .before .key-at3 .result) (c .before .before .before .joined .result) (c .before .before .closed2 .result) (c .before .before .before .before .before .before .before .key-at3 .ensures .exact (m - 1) (omega arith)) (c .before .before .before .joined .ensures ∙ ap (λ (x : Read). join x (c .before .before .before .before .before .before .before .key-at3 .result)) (sym (c .before .before .before .before .before .before .before .before .before .before .before .before .first .given .1))) (c .before .before .closed2 .ensures) }
-
-key-at-same-length-4 : (t : ℕ) → key-at-lts.Need-same-length-4 (key-at-calls t) (key-at-at t) key-at.Post
-key-at-same-length-4 t c = search needs
 
 key-at-returns-4 : (t : ℕ) → key-at-lts.Need-returns-4 (key-at-calls t) (key-at-at t) key-at.Post
 key-at-returns-4 t c = let w = rw (c .before .before .before .before .before .before .before .before .before .before .p2 .given .1) at (c .before .before .before .before .before .before .before .before .before .before .before .before .before .before .begin .ensures .within) in record { within = tt; exact = λ m h. either-one (c .before .before .before .before .before .before .before .before .before .before .before .before .before .before .before .before .before .before .args .text .now) (c .before .before .before .before .before .before .before .before .before .before .before .before .before .before .before .before .before .before .args .at) m (c .before .before .before .before .before .before .before .before .before .before .before .before .before .before .begin .result) (c .before .before .before .before .before .before .before .before .before .before .before .before .before .before .before .before .before .before .args .cells .now) (c .before .before .before .before .before .before .before .before .before .before .before .before .before .before .begin .last .1 .1 .0) (c .before .before .before .before .before .before .before .before .before .before .before .before .before .before .before .before .before .before .args .n) (c .before .before .before .before .before .before .before .before .before .before .before .before .before .before .begin .ensures .exact) (omega arith) (c .before .before .before .before .before .before .before .before .before .before .p2 .given .1) (c .before .before .before .before .before .before .before .key-at2 .last .1 .1 .0) (c .before .before .before .before .before .before .before .key-at2 .result) (c .before .before .before .before .before .before .before .key-at2 .ensures .exact (m - 1) (omega arith)) (c .before .before .before .first .given .1) (λ e. c .if1 .left (c .before .octet-at .ensures ∙ e)) }
 
-key-at-same-length-5 : (t : ℕ) → key-at-lts.Need-same-length-5 (key-at-calls t) (key-at-at t) key-at.Post
-key-at-same-length-5 t c = search needs
-
 key-at-returns-5 : (t : ℕ) → key-at-lts.Need-returns-5 (key-at-calls t) (key-at-at t) key-at.Post
 key-at-returns-5 t c = let w = rw (c .before .before .before .before .before .before .before .p2 .given .1) at (c .before .before .before .before .before .before .before .before .before .before .before .begin .ensures .within) in record { within = tt; exact = λ m h. either-none (c .before .before .before .before .before .before .before .before .before .before .before .before .before .before .before .args .text .now) (c .before .before .before .before .before .before .before .before .before .before .before .before .before .before .before .args .at) m (c .before .before .before .before .before .before .before .before .before .before .before .begin .result) (c .before .before .before .before .before .before .before .before .before .before .before .before .before .before .before .args .cells .now) (c .before .before .before .before .before .before .before .before .before .before .before .begin .last .1 .1 .0) (c .before .before .before .before .before .before .before .before .before .before .before .before .before .before .before .args .n) (c .before .before .before .before .before .before .before .before .before .before .before .begin .ensures .exact) (omega arith) (c .before .before .before .before .before .before .before .p2 .given .1) (c .before .before .before .before .key-at2 .last .1 .1 .0) (c .before .before .before .before .key-at2 .result) (c .before .before .before .before .key-at2 .ensures .exact (m - 1) (omega arith)) (c .enum-told .given .1) }
-
-key-at-same-length-6 : (t : ℕ) → key-at-lts.Need-same-length-6 (key-at-calls t) (key-at-at t) key-at.Post
-key-at-same-length-6 t c = search needs
 
 key-at-returns-6 : (t : ℕ) → key-at-lts.Need-returns-6 (key-at-calls t) (key-at-at t) key-at.Post
 key-at-returns-6 t c = let w = rw (c .before .before .before .before .before .before .before .before .before .p3 .given .1) at (c .before .before .before .before .before .before .before .before .before .before .before .before .before .begin .ensures .within) in record { within = within-closed (c .before .before .before .before .before .before .before .before .before .before .before .before .before .before .before .before .before .args .text .now) (c .before .before .before .before .before .before .before .before .before .before .before .before .before .before .before .before .before .args .at) (c .before .before .before .before .before .before .before .before .before .p3 .given .0 .0) (c .before .before .before .before .before .before .before .before .before .before .before .before .before .before .before .before .before .args .n) 10 1 (c .before .before .before .before .before .before .keys-at .last .1 .1 .0) (c .before .before .closed3 .last .0) (c .before .before .closed3 .result) (c .before .before .before .before .before .before .keys-at .result) (omega arith) (omega arith) (c .before .before .closed3 .ensures) (c .before .before .before .before .before .before .keys-at .ensures .within); exact = λ m h. key-group (c .before .before .before .before .before .before .before .before .before .before .before .before .before .before .before .before .before .args .text .now) (c .before .before .before .before .before .before .before .before .before .before .before .before .before .before .before .before .before .args .at) m (c .before .before .before .before .before .before .before .before .before .before .before .before .before .begin .result) (c .before .before .before .before .before .before .before .before .before .before .before .before .before .before .before .before .before .args .cells .now) (c .before .before .before .before .before .before .before .before .before .before .before .before .before .begin .last .1 .1 .0) (c .before .before .before .before .before .before .before .before .before .before .before .before .before .before .before .before .before .args .n) (c .before .before .before .before .before .before .before .before .before .before .before .before .before .begin .ensures .exact) (omega arith) (c .before .before .before .before .before .before .before .before .before .p3 .given .1) (c .before .before .before .before .before .before .keys-at .last .1 .1 .0) (c .before .before .closed3 .last .0) (c .before .before .before .before .before .before .keys-at .result) (c .before .before .closed3 .result) (c .before .before .before .before .before .before .keys-at .ensures .exact (m - 1) (omega arith)) (c .before .before .closed3 .ensures) }
 
-key-at-same-length-7 : (t : ℕ) → key-at-lts.Need-same-length-7 (key-at-calls t) (key-at-at t) key-at.Post
-key-at-same-length-7 t c = search needs
-
 key-at-returns-7 : (t : ℕ) → key-at-lts.Need-returns-7 (key-at-calls t) (key-at-at t) key-at.Post
 key-at-returns-7 t c = record { within = tt; exact = λ m h. key-wrong (c .before .before .before .before .before .before .before .before .args .text .now) (c .before .before .before .before .before .before .before .before .args .at) m (c .before .before .before .before .begin .result) (c .before .before .before .before .before .before .before .before .args .cells .now) (c .before .before .before .before .begin .last .1 .1 .0) (c .before .before .before .before .before .before .before .before .args .n) (c .before .before .before .before .begin .ensures .exact) (c .enum-told2 .given .1) }
 
-keys-at-key-at-requires : (t : ℕ) → keys-at-lts.Need-key-at-requires (keys-at-calls t) (keys-at-at t) keys-at.Post
-keys-at-key-at-requires t c κs = search needs
-
-keys-at-enum-known-first : (t : ℕ) → keys-at-lts.Need-enum-known-first (keys-at-calls t) (keys-at-at t) keys-at.Post
-keys-at-enum-known-first t c = search needs
-
 keys-at-next-at-requires : (t : ℕ) → keys-at-lts.Need-next-at-requires (keys-at-calls t) (keys-at-at t) keys-at.Post
 keys-at-next-at-requires t c κs = let v = rw (c .before .first .given .1) at (c .before .before .before .before .before .key-at .ensures .within) in omega arith
-
-keys-at-enum-known-p : (t : ℕ) → keys-at-lts.Need-enum-known-p (keys-at-calls t) (keys-at-at t) keys-at.Post
-keys-at-enum-known-p t c = search needs
 
 keys-at-keys-at-requires : (t : ℕ) → keys-at-lts.Need-keys-at-requires (keys-at-calls t) (keys-at-at t) keys-at.Post
 keys-at-keys-at-requires t c κs = let v = rw (c .before .before .before .before .before .before .first .given .1) at (c .before .before .before .before .before .before .before .before .before .before .key-at .ensures .within) in let w = rw (c .before .before .p .given .1) at (c .before .before .before .before .next-at .ensures .within) in omega arith
@@ -173,38 +107,14 @@ keys-at-keys-at-requires t c κs = let v = rw (c .before .before .before .before
 keys-at-joined-requires : (t : ℕ) → keys-at-lts.Need-joined-requires (keys-at-calls t) (keys-at-at t) keys-at.Post
 keys-at-joined-requires t c κs = let v = rw (c .before .before .before .before .before .before .before .before .before .first .given .1) at (c .before .before .before .before .before .before .before .before .before .before .before .before .before .key-at .ensures .within) in let l = (c .before .before .before .before .before .before .before .before .before .before .before .before .before .before .before .before .before .pre .1 .short) in (omega arith, within-small (c .before .before .before .before .before .before .before .before .before .before .before .before .before .before .before .before .before .args .text .now) (c .before .before .before .before .before .p .given .0 .0) (c .before .before .before .before .before .before .before .before .before .first .given .0 .1 .0) (c .before .before .keys-at .result) (c .before .before .before .before .before .before .before .before .before .before .before .before .before .before .before .before .before .pre .1 .short) (c .before .before .keys-at .ensures .within))
 
-keys-at-enum-known-p-2 : (t : ℕ) → keys-at-lts.Need-enum-known-p-2 (keys-at-calls t) (keys-at-at t) keys-at.Post
-keys-at-enum-known-p-2 t c = search needs
-
-keys-at-ended-requires : (t : ℕ) → keys-at-lts.Need-ended-requires (keys-at-calls t) (keys-at-at t) keys-at.Post
-keys-at-ended-requires t c κs = search needs
-
-keys-at-enum-told : (t : ℕ) → keys-at-lts.Need-enum-told (keys-at-calls t) (keys-at-at t) keys-at.Post
-keys-at-enum-told t c = search needs
-
-keys-at-enum-told-2 : (t : ℕ) → keys-at-lts.Need-enum-told-2 (keys-at-calls t) (keys-at-at t) keys-at.Post
-keys-at-enum-told-2 t c = search needs
-
-keys-at-same-length : (t : ℕ) → keys-at-lts.Need-same-length (keys-at-calls t) (keys-at-at t) keys-at.Post
-keys-at-same-length t c = search needs
-
 keys-at-returns : (t : ℕ) → keys-at-lts.Need-returns (keys-at-calls t) (keys-at-at t) keys-at.Post
 keys-at-returns t c = let v = rw (c .before .before .before .before .before .before .before .before .before .before .first .given .1) at (c .before .before .before .before .before .before .before .before .before .before .before .before .before .before .key-at .ensures .within) in let w = rw (c .before .before .before .before .before .before .p .given .1) at (c .before .before .before .before .before .before .before .before .next-at .ensures .within) in record { within = within-joined (c .before .before .before .before .before .before .before .before .before .before .before .before .before .before .before .before .before .before .args .text .now) (c .before .before .before .before .before .before .before .before .before .before .before .before .before .before .before .before .before .before .args .at) (c .before .before .before .before .before .before .before .before .before .before .before .before .before .before .before .before .before .before .args .n) (c .before .before .before .before .before .before .p .given .0 .0) (c .before .before .before .before .before .before .before .before .before .before .before .before .before .before .key-at .result) (c .before .before .before .keys-at .result) (c .joined .result) (c .joined .ensures ∙ ap (λ (x : Read). join x (c .before .before .before .keys-at .result)) (sym (c .before .before .before .before .before .before .before .before .before .before .first .given .1))) (c .before .before .before .before .before .before .before .before .before .before .first .given .1) (omega arith) (c .before .before .before .before .before .before .before .before .before .before .before .before .before .before .key-at .ensures .within) (c .before .before .before .keys-at .ensures .within); exact = λ m h. keys-more (endingOf (c .before .before .before .before .before .before .before .before .before .before .before .before .before .before .before .before .before .before .args .e)) (c .before .before .before .before .before .before .before .before .before .before .before .before .before .before .before .before .before .before .args .text .now) (c .before .before .before .before .before .before .before .before .before .before .before .before .before .before .before .before .before .before .args .at) m (omega arith) (c .before .before .before .before .before .before .before .before .before .before .before .before .before .before .before .before .before .before .args .cells .now) (c .before .before .before .before .before .before .before .before .before .before .before .before .before .before .key-at .last .1 .1 .0) (c .before .before .before .before .before .before .before .before .before .before .before .before .before .before .before .before .before .before .args .n) (c .before .before .before .before .before .before .before .before .before .before .before .before .before .before .key-at .result) (c .before .before .before .before .before .before .before .before .before .before .before .before .before .before .key-at .ensures .exact (m - 1) (omega arith)) (c .before .before .before .before .before .before .before .before .before .before .first .given .1) (sym (c .before .before .before .before .before .before .p .given .1) ∙ c .before .before .before .before .before .before .before .before .next-at .ensures .exact) (c .before .before .before .keys-at .last .1 .1 .0) (c .before .before .before .keys-at .result) (c .joined .result) (c .before .before .before .keys-at .ensures .exact (m - 1) (omega arith)) (c .joined .ensures ∙ ap (λ (x : Read). join x (c .before .before .before .keys-at .result)) (sym (c .before .before .before .before .before .before .before .before .before .before .first .given .1))) }
-
-keys-at-same-length-2 : (t : ℕ) → keys-at-lts.Need-same-length-2 (keys-at-calls t) (keys-at-at t) keys-at.Post
-keys-at-same-length-2 t c = search needs
 
 keys-at-returns-2 : (t : ℕ) → keys-at-lts.Need-returns-2 (keys-at-calls t) (keys-at-at t) keys-at.Post
 keys-at-returns-2 t c = let v = rw (c .before .before .before .before .before .before .first .given .1) at (c .before .before .before .before .before .before .before .before .before .before .key-at .ensures .within) in let w = rw (c .before .before .p2 .given .1) at (c .before .before .before .before .next-at .ensures .within) in record { within = within-ended (c .before .before .before .before .before .before .before .before .before .before .before .before .before .before .args .text .now) (c .before .before .before .before .before .before .before .before .before .before .before .before .before .before .args .at) (c .before .before .before .before .before .before .before .before .before .before .before .before .before .before .args .n) (c .before .before .p2 .given .0 .0) (c .before .before .before .before .before .before .before .before .before .before .key-at .result) (c .ended .result) (c .ended .ensures ∙ ap (endAt (c .before .before .p2 .given .0 .0)) (sym (c .before .before .before .before .before .before .first .given .1))) (c .before .before .before .before .before .before .first .given .1) (omega arith) (omega arith) (c .before .before .before .before .before .before .before .before .before .before .key-at .ensures .within); exact = λ m h. keys-over (endingOf (c .before .before .before .before .before .before .before .before .before .before .before .before .before .before .args .e)) (c .before .before .before .before .before .before .before .before .before .before .before .before .before .before .args .text .now) (c .before .before .before .before .before .before .before .before .before .before .before .before .before .before .args .at) m (omega arith) (c .before .before .before .before .before .before .before .before .before .before .before .before .before .before .args .cells .now) (c .before .before .before .before .before .before .before .before .before .before .key-at .last .1 .1 .0) (c .before .before .before .before .before .before .before .before .before .before .before .before .before .before .args .n) (c .before .before .before .before .before .before .before .before .before .before .key-at .result) (c .before .before .before .before .before .before .before .before .before .before .key-at .ensures .exact (m - 1) (omega arith)) (c .before .before .before .before .before .before .first .given .1) (sym (c .before .before .p2 .given .1) ∙ c .before .before .before .before .next-at .ensures .exact) (c .ended .result) (c .ended .ensures ∙ ap (endAt (c .before .before .p2 .given .0 .0)) (sym (c .before .before .before .before .before .before .first .given .1))) }
 
-keys-at-same-length-3 : (t : ℕ) → keys-at-lts.Need-same-length-3 (keys-at-calls t) (keys-at-at t) keys-at.Post
-keys-at-same-length-3 t c = search needs
-
 keys-at-returns-3 : (t : ℕ) → keys-at-lts.Need-returns-3 (keys-at-calls t) (keys-at-at t) keys-at.Post
 keys-at-returns-3 t c = record { within = tt; exact = λ m h. keys-wrong (endingOf (c .before .before .before .before .before .before .before .before .before .before .before .before .args .e)) (c .before .before .before .before .before .before .before .before .before .before .before .before .args .text .now) (c .before .before .before .before .before .before .before .before .before .before .before .before .args .at) m (omega arith) (c .before .before .before .before .before .before .before .before .before .before .before .before .args .cells .now) (c .before .before .before .before .before .before .before .before .key-at .last .1 .1 .0) (c .before .before .before .before .before .before .before .before .before .before .before .before .args .n) (c .before .before .before .before .before .before .before .before .key-at .result) (c .before .before .before .before .before .before .before .before .key-at .ensures .exact (m - 1) (omega arith)) (c .before .before .before .before .first .given .1) (sym (c .enum-told .given .1) ∙ c .before .before .next-at .ensures .exact) }
-
-keys-at-same-length-4 : (t : ℕ) → keys-at-lts.Need-same-length-4 (keys-at-calls t) (keys-at-at t) keys-at.Post
-keys-at-same-length-4 t c = search needs
 
 keys-at-returns-4 : (t : ℕ) → keys-at-lts.Need-returns-4 (keys-at-calls t) (keys-at-at t) keys-at.Post
 keys-at-returns-4 t c = record { within = tt; exact = λ m h. keys-none (endingOf (c .before .before .before .before .before .before .before .before .args .e)) (c .before .before .before .before .before .before .before .before .args .text .now) (c .before .before .before .before .before .before .before .before .args .at) m (omega arith) (c .before .before .before .before .before .before .before .before .args .cells .now) (c .before .before .before .before .key-at .last .1 .1 .0) (c .before .before .before .before .before .before .before .before .args .n) (c .before .before .before .before .key-at .result) (c .before .before .before .before .key-at .ensures .exact (m - 1) (omega arith)) (c .enum-told2 .given .1) }
@@ -213,59 +123,59 @@ pub +key-at+keys-at-spec : {M : Type 1} → statement M
 +key-at+keys-at-spec = close μ-key-at μ-keys-at (λ t. key-at-lts.spec (key-at-calls t)
     (key-at-at t)
     key-at.Post
-    (key-at-begin-requires t)
-    (key-at-enum-known-next t)
-    (key-at-enum-known-p t)
-    (key-at-add-key-at t)
+    (λ c κs. search needs)  -- key-at-begin-requires
+    (λ c. search needs)  -- key-at-enum-known-next
+    (λ c. search needs)  -- key-at-enum-known-p
+    (λ c. search needs)  -- key-at-add-key-at
     (key-at-key-at-requires t)
     (key-at-closed-requires t)
-    (key-at-enum-known-p-2 t)
-    (key-at-add-key-at-2 t)
+    (λ c. search needs)  -- key-at-enum-known-p-2
+    (λ c. search needs)  -- key-at-add-key-at-2
     (key-at-key-at-requires-2 t)
-    (key-at-enum-known-first t)
-    (key-at-octet-at-requires t)
+    (λ c. search needs)  -- key-at-enum-known-first
+    (λ c κs. search needs)  -- key-at-octet-at-requires
     (key-at-add-key-at-3 t)
     (key-at-key-at-requires-3 t)
     (key-at-joined-requires t)
     (key-at-closed-requires-2 t)
-    (key-at-enum-told t)
-    (key-at-enum-known-p-3 t)
-    (key-at-add-keys-at t)
+    (λ c. search needs)  -- key-at-enum-told
+    (λ c. search needs)  -- key-at-enum-known-p-3
+    (λ c. search needs)  -- key-at-add-keys-at
     (key-at-keys-at-requires t)
     (key-at-closed-requires-3 t)
-    (key-at-enum-told-2 t)
-    (key-at-same-length t)
+    (λ c. search needs)  -- key-at-enum-told-2
+    (λ c. search needs)  -- key-at-same-length
     (key-at-returns t)
-    (key-at-same-length-2 t)
+    (λ c. search needs)  -- key-at-same-length-2
     (key-at-returns-2 t)
-    (key-at-same-length-3 t)
+    (λ c. search needs)  -- key-at-same-length-3
     (key-at-returns-3 t)
-    (key-at-same-length-4 t)
+    (λ c. search needs)  -- key-at-same-length-4
     (key-at-returns-4 t)
-    (key-at-same-length-5 t)
+    (λ c. search needs)  -- key-at-same-length-5
     (key-at-returns-5 t)
-    (key-at-same-length-6 t)
+    (λ c. search needs)  -- key-at-same-length-6
     (key-at-returns-6 t)
-    (key-at-same-length-7 t)
+    (λ c. search needs)  -- key-at-same-length-7
     (key-at-returns-7 t))
     λ t. keys-at-lts.spec (keys-at-calls t)
     (keys-at-at t)
     keys-at.Post
-    (keys-at-key-at-requires t)
-    (keys-at-enum-known-first t)
+    (λ c κs. search needs)  -- keys-at-key-at-requires
+    (λ c. search needs)  -- keys-at-enum-known-first
     (keys-at-next-at-requires t)
-    (keys-at-enum-known-p t)
+    (λ c. search needs)  -- keys-at-enum-known-p
     (keys-at-keys-at-requires t)
     (keys-at-joined-requires t)
-    (keys-at-enum-known-p-2 t)
-    (keys-at-ended-requires t)
-    (keys-at-enum-told t)
-    (keys-at-enum-told-2 t)
-    (keys-at-same-length t)
+    (λ c. search needs)  -- keys-at-enum-known-p-2
+    (λ c κs. search needs)  -- keys-at-ended-requires
+    (λ c. search needs)  -- keys-at-enum-told
+    (λ c. search needs)  -- keys-at-enum-told-2
+    (λ c. search needs)  -- keys-at-same-length
     (keys-at-returns t)
-    (keys-at-same-length-2 t)
+    (λ c. search needs)  -- keys-at-same-length-2
     (keys-at-returns-2 t)
-    (keys-at-same-length-3 t)
+    (λ c. search needs)  -- keys-at-same-length-3
     (keys-at-returns-3 t)
-    (keys-at-same-length-4 t)
+    (λ c. search needs)  -- keys-at-same-length-4
     (keys-at-returns-4 t)

@@ -5,9 +5,6 @@ use borrow.Author.Needs.{needs}
 use Rattle.read_keys.proofs.nesting.closed.Statement.{statement}
 use Rattle.read_keys.proofs.nesting.closed.Tie as tie
 
-enum-known-r : tie.Need-enum-known-r
-enum-known-r c = search needs
-
 add-store-two : tie.Need-add-store-two
 add-store-two c = let s = rw (c .before .before .r .given .1) at (c .before .before .before .before .before .pre) in omega arith
 
@@ -23,12 +20,6 @@ add-t18 c = let s = rw (c .before .before .before .before .before .r .given .1) 
 add-t19 : tie.Need-add-t19
 add-t19 c = let s = rw (c .before .before .before .before .before .r .given .1) at (c .before .before .before .before .before .before .before .before .pre) in omega arith
 
-enum-told : tie.Need-enum-told
-enum-told c = search needs
-
-same-length : tie.Need-same-length
-same-length c = search needs
-
 returns : tie.Need-returns
 returns c = rw (c .before .before .before .before .before .r .given .1) (refl, c .before .before .store-two .ensures)
 
@@ -39,13 +30,13 @@ pub closed-spec : {M : Type 1} → statement M
 closed-spec =
     tie.close
     (tie.spec
-    enum-known-r
+    (λ c. search needs)  -- enum-known-r
     add-store-two
     sub-store-two
     store-two-requires
     add-t18
     add-t19
-    enum-told
-    same-length
+    (λ c. search needs)  -- enum-told
+    (λ c. search needs)  -- same-length
     returns
     returns-2)

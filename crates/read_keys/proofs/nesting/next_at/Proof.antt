@@ -8,20 +8,18 @@ use Rattle.read_keys.proofs.nesting.next_at.Statement.{statement}
 use Rattle.read_keys.proofs.nesting.next_at.Tie as tie
 use Rattle.octets.specs.Rows.{in-text}
 
-octet-at-requires : tie.Need-octet-at-requires
-octet-at-requires c κs = search needs
-
-add-t6 : tie.Need-add-t6
-add-t6 c = search needs
-
 returns : tie.Need-returns
 returns c = let i = in-text (c .before .before .before .args .text .now) (c .before .before .before .args .at) (sym (c .before .octet-at .ensures) ∙ c .if1 .taken) (omega arith) in record { exact = next-space (c .before .before .before .args .text .now) (c .before .before .before .args .at) (endingOf (c .before .before .before .args .e)) (sym (c .before .octet-at .ensures) ∙ c .if1 .taken); within = (omega arith, omega arith) }
-
-over-at-requires : tie.Need-over-at-requires
-over-at-requires c κs = search needs
 
 returns-2 : tie.Need-returns-2
 returns-2 c = record { exact = c .over-at .ensures .exact ∙ next-over (c .before .before .before .before .args .text .now) (c .before .before .before .before .args .at) (endingOf (c .before .before .before .before .args .e)) (λ e. c .before .if1 .left (c .before .before .octet-at .ensures ∙ e)); within = c .over-at .ensures .within }
 
 pub next-at-spec : {M : Type 1} → statement M
-next-at-spec = tie.close (tie.spec octet-at-requires add-t6 returns over-at-requires returns-2)
+next-at-spec =
+    tie.close
+    (tie.spec
+    (λ c κs. search needs)  -- octet-at-requires
+    (λ c. search needs)  -- add-t6
+    returns
+    (λ c κs. search needs)  -- over-at-requires
+    returns-2)

@@ -7,18 +7,6 @@ use Rattle.read_keys.proofs.nesting.over_at.Statement.{statement}
 use Rattle.read_keys.proofs.nesting.over_at.Tie as tie
 use Rattle.octets.specs.Rows.{in-text}
 
-enum-told : tie.Need-enum-told
-enum-told c = search needs
-
-octet-at-requires : tie.Need-octet-at-requires
-octet-at-requires c κs = search needs
-
-add-t8 : tie.Need-add-t8
-add-t8 c = search needs
-
-enum-told-2 : tie.Need-enum-told-2
-enum-told-2 c = search needs
-
 returns : tie.Need-returns
 returns c = let i = in-text (c .before .before .before .before .before .args .text .now) (c .before .before .before .before .before .args .at) (sym (c .before .octet-at .ensures) ∙ c .if1 .taken) (omega arith) in record { exact = over-closing (c .before .before .before .before .before .args .text .now) (c .before .before .before .before .before .args .at) (c .before .before .enum-told .given .1) (sym (c .before .octet-at .ensures) ∙ c .if1 .taken); within = (omega arith, omega arith) }
 
@@ -34,4 +22,12 @@ returns-4 c = record { exact = over-rest (c .before .before .before .before .arg
 pub over-at-spec : {M : Type 1} → statement M
 over-at-spec =
     tie.close
-    (tie.spec enum-told octet-at-requires add-t8 enum-told-2 returns returns-2 returns-3 returns-4)
+    (tie.spec
+    (λ c. search needs)  -- enum-told
+    (λ c κs. search needs)  -- octet-at-requires
+    (λ c. search needs)  -- add-t8
+    (λ c. search needs)  -- enum-told-2
+    returns
+    returns-2
+    returns-3
+    returns-4)

@@ -6,14 +6,13 @@ use borrow.Author.Needs.{needs}
 use Rattle.read_keys.proofs.nesting.program_at.Statement.{statement}
 use Rattle.read_keys.proofs.nesting.program_at.Tie as tie
 
-keys-at-requires : tie.Need-keys-at-requires
-keys-at-requires c κs = search needs
-
-same-length : tie.Need-same-length
-same-length c = search needs
-
 returns : tie.Need-returns
 returns c = record { within = c .before .before .keys-at .ensures .within; exact = c .before .before .keys-at .ensures .exact (2 * length (c .before .before .before .before .before .before .args .text .now) + 1) (omega arith) }
 
 pub program-at-spec : {M : Type 1} → statement M
-program-at-spec = tie.close (tie.spec keys-at-requires same-length returns)
+program-at-spec =
+    tie.close
+    (tie.spec
+    (λ c κs. search needs)  -- keys-at-requires
+    (λ c. search needs)  -- same-length
+    returns)

@@ -7,21 +7,21 @@ use Rattle.read_keys.proofs.sets.bound_at.Statement.{statement}
 use Rattle.read_keys.proofs.sets.bound_at.Tie as tie
 use Rattle.octets.specs.Rows.{in-text}
 
-octet-at-requires : tie.Need-octet-at-requires
-octet-at-requires c κs = search needs
-
 add-t5 : tie.Need-add-t5
 add-t5 c = let i = in-text (c .before .before .before .args .text .now) (c .before .before .before .args .at) (sym (c .before .octet-at .ensures) ∙ c .if1 .taken) (omega arith) in omega arith
 
 returns : tie.Need-returns
 returns c = let i = in-text (c .before .before .before .args .text .now) (c .before .before .before .args .at) (sym (c .before .octet-at .ensures) ∙ c .if1 .taken) (omega arith) in record { exact = bound-star (c .before .before .before .args .text .now) (c .before .before .before .args .at) (sym (c .before .octet-at .ensures) ∙ c .if1 .taken); within = (omega arith, omega arith, omega arith) }
 
-positive-at-requires : tie.Need-positive-at-requires
-positive-at-requires c κs = search needs
-
 returns-2 : tie.Need-returns-2
 returns-2 c = record { exact = c .positive-at .ensures .exact ∙ bound-number (c .before .before .before .before .args .text .now) (c .before .before .before .before .args .at) (λ e. c .before .if1 .left (c .before .before .octet-at .ensures ∙ e)); within = c .positive-at .ensures .within }
 
 pub bound-at-spec : {M : Type 1} → statement M
 bound-at-spec =
-    tie.close (tie.spec octet-at-requires add-t5 returns positive-at-requires returns-2)
+    tie.close
+    (tie.spec
+    (λ c κs. search needs)  -- octet-at-requires
+    add-t5
+    returns
+    (λ c κs. search needs)  -- positive-at-requires
+    returns-2)

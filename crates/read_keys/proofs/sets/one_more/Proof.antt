@@ -6,20 +6,18 @@ use borrow.Author.Needs.{needs}
 use Rattle.read_keys.proofs.sets.one_more.Statement.{statement}
 use Rattle.read_keys.proofs.sets.one_more.Tie as tie
 
-enum-known-r : tie.Need-enum-known-r
-enum-known-r c = search needs
-
 add-t5 : tie.Need-add-t5
 add-t5 c = let s = rw (c .before .r .given .1) at (c .before .before .before .pre) in omega arith
-
-enum-told : tie.Need-enum-told
-enum-told c = search needs
 
 returns : tie.Need-returns
 returns c = ap counted (sym (c .before .r .given .1))
 
-returns-2 : tie.Need-returns-2
-returns-2 c = search needs
-
 pub one-more-spec : {M : Type 1} → statement M
-one-more-spec = tie.close (tie.spec enum-known-r add-t5 enum-told returns returns-2)
+one-more-spec =
+    tie.close
+    (tie.spec
+    (λ c. search needs)  -- enum-known-r
+    add-t5
+    (λ c. search needs)  -- enum-told
+    returns
+    (λ c. search needs))  -- returns-2

@@ -6,29 +6,8 @@ use borrow.Author.Needs.{needs}
 use Rattle.read_keys.proofs.sets.part_at.Statement.{statement}
 use Rattle.read_keys.proofs.sets.part_at.Tie as tie
 
-bound-at-requires : tie.Need-bound-at-requires
-bound-at-requires c κs = search needs
-
-enum-known-from : tie.Need-enum-known-from
-enum-known-from c = search needs
-
-octet-at-requires : tie.Need-octet-at-requires
-octet-at-requires c κs = search needs
-
 add-bound-at : tie.Need-add-bound-at
 add-bound-at c = let w = rw (c .before .before .before .from .given .1) at (c .before .before .before .before .before .bound-at .ensures .within) in omega arith
-
-bound-at-requires-2 : tie.Need-bound-at-requires-2
-bound-at-requires-2 c κs = search needs
-
-enum-known-upto : tie.Need-enum-known-upto
-enum-known-upto c = search needs
-
-enum-told : tie.Need-enum-told
-enum-told c = search needs
-
-enum-told-2 : tie.Need-enum-told-2
-enum-told-2 c = search needs
 
 returns : tie.Need-returns
 returns c = let w = rw (c .before .before .before .before .before .before .before .from .given .1) at (c .before .before .before .before .before .before .before .before .before .bound-at .ensures .within) in let v = rw (c .before .upto .given .1) at (c .before .before .before .bound-at2 .ensures .within) in record { exact = part-two (c .before .before .before .before .before .before .before .before .before .before .before .args .text .now) (c .before .before .before .before .before .before .before .before .before .before .before .args .at) (sym (c .before .before .before .before .before .before .before .from .given .1) ∙ c .before .before .before .before .before .before .before .before .before .bound-at .ensures .exact) (sym (c .before .before .before .before .before .octet-at .ensures) ∙ c .before .before .before .before .if1 .taken) (sym (c .before .upto .given .1) ∙ c .before .before .before .bound-at2 .ensures .exact); within = (omega arith, omega arith) }
@@ -46,14 +25,14 @@ pub part-at-spec : {M : Type 1} → statement M
 part-at-spec =
     tie.close
     (tie.spec
-    bound-at-requires
-    enum-known-from
-    octet-at-requires
+    (λ c κs. search needs)  -- bound-at-requires
+    (λ c. search needs)  -- enum-known-from
+    (λ c κs. search needs)  -- octet-at-requires
     add-bound-at
-    bound-at-requires-2
-    enum-known-upto
-    enum-told
-    enum-told-2
+    (λ c κs. search needs)  -- bound-at-requires-2
+    (λ c. search needs)  -- enum-known-upto
+    (λ c. search needs)  -- enum-told
+    (λ c. search needs)  -- enum-told-2
     returns
     returns-2
     returns-3

@@ -5,20 +5,15 @@ use lib.Seq.{set-out}
 use Rattle.read_keys.proofs.sets.store.Statement.{statement}
 use Rattle.read_keys.proofs.sets.store.Tie as tie
 
-mul-cells : tie.Need-mul-cells
-mul-cells c = search needs
-
-slice-write-cells : tie.Need-slice-write-cells
-slice-write-cells c = search needs
-
-same-length : tie.Need-same-length
-same-length c = search needs
-
-returns : tie.Need-returns
-returns c = search needs
-
 returns-2 : tie.Need-returns-2
 returns-2 c = sym (set-out (c .before .args .cells .now) (c .before .args .n) (c .before .args .v) (c .if1 .left))
 
 pub store-spec : {M : Type 1} → statement M
-store-spec = tie.close (tie.spec mul-cells slice-write-cells same-length returns returns-2)
+store-spec =
+    tie.close
+    (tie.spec
+    (λ c. search needs)  -- mul-cells
+    (λ c. search needs)  -- slice-write-cells
+    (λ c. search needs)  -- same-length
+    (λ c. search needs)  -- returns
+    returns-2)

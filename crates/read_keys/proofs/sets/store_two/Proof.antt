@@ -4,20 +4,15 @@ use borrow.Author.Needs.{needs}
 use Rattle.read_keys.proofs.sets.store_two.Statement.{statement}
 use Rattle.read_keys.proofs.sets.store_two.Tie as tie
 
-store-requires : tie.Need-store-requires
-store-requires c κs = search needs
-
-add-store : tie.Need-add-store
-add-store c = search needs
-
-store-requires-2 : tie.Need-store-requires-2
-store-requires-2 c κs = search needs
-
-same-length : tie.Need-same-length
-same-length c = search needs
-
 returns : tie.Need-returns
 returns c = stored-two (c .before .before .before .before .before .before .before .before .before .args .cells .now) (c .before .before .before .before .before .before .store .last .0) (c .before .before .store2 .last .0) (c .before .before .before .before .before .before .before .before .before .args .n) (c .before .before .before .before .before .before .before .before .before .args .v) (c .before .before .before .before .before .before .before .before .before .args .w) (c .before .before .before .before .before .before .store .ensures) (c .before .before .store2 .ensures)
 
 pub store-two-spec : {M : Type 1} → statement M
-store-two-spec = tie.close (tie.spec store-requires add-store store-requires-2 same-length returns)
+store-two-spec =
+    tie.close
+    (tie.spec
+    (λ c κs. search needs)  -- store-requires
+    (λ c. search needs)  -- add-store
+    (λ c κs. search needs)  -- store-requires-2
+    (λ c. search needs)  -- same-length
+    returns)

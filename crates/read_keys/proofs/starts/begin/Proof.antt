@@ -10,53 +10,20 @@ use Rattle.read_keys.proofs.starts.begin.Statement.{statement}
 use Rattle.read_keys.proofs.starts.begin.Tie as tie
 use Rattle.octets.specs.Rows.{in-text}
 
-octet-at-requires : tie.Need-octet-at-requires
-octet-at-requires c κs = search needs
-
 add-t9 : tie.Need-add-t9
 add-t9 c = let i = in-text (c .before .before .before .before .args .text .now) (c .before .before .before .before .args .at) (sym (c .before .octet-at .ensures) ∙ c .if1 .taken) (omega arith) in omega arith
 
 returns : tie.Need-returns
 returns c = let i = in-text (c .before .before .before .before .args .text .now) (c .before .before .before .before .args .at) (sym (c .before .octet-at .ensures) ∙ c .if1 .taken) (omega arith) in record { within = (omega arith, omega arith); exact = begun-by (c .before .before .before .before .args .text .now) (c .before .before .before .before .args .at) (Opening (c .before .before .before .before .args .at + 1)) (c .before .before .before .before .args .cells .now) (c .before .before .before .before .args .cells .now) (c .before .before .before .before .args .n) (start-open (c .before .before .before .before .args .text .now) (c .before .before .before .before .args .at) (sym (c .before .octet-at .ensures) ∙ c .if1 .taken)) (refl, refl) }
 
-put-set-requires : tie.Need-put-set-requires
-put-set-requires c κs = search needs
-
-same-length : tie.Need-same-length
-same-length c = search needs
-
 returns-2 : tie.Need-returns-2
 returns-2 c = record { within = c .before .before .put-set .ensures .within; exact = begun-numbers (c .before .before .before .before .before .before .before .before .before .args .text .now) (c .before .before .before .before .before .before .before .before .before .args .at) (c .before .before .put-set .result) (c .before .before .before .before .before .before .before .before .before .args .cells .now) (c .before .before .put-set .last .1 .1 .0) (c .before .before .before .before .before .before .before .before .before .args .n) (start-star (c .before .before .before .before .before .before .before .before .before .args .text .now) (c .before .before .before .before .before .before .before .before .before .args .at) (λ e. c .before .before .before .before .before .if1 .left (c .before .before .before .before .before .before .octet-at .ensures ∙ e)) (sym (c .before .before .before .before .before .before .octet-at .ensures) ∙ c .before .before .before .before .if2 .taken)) (c .before .before .put-set .ensures .exact) }
-
-in-class-requires : tie.Need-in-class-requires
-in-class-requires c κs = search needs
-
-put-set-requires-2 : tie.Need-put-set-requires-2
-put-set-requires-2 c κs = search needs
-
-same-length-2 : tie.Need-same-length-2
-same-length-2 c = search needs
 
 returns-3 : tie.Need-returns-3
 returns-3 c = record { within = c .before .before .put-set2 .ensures .within; exact = begun-numbers (c .before .before .before .before .before .before .before .before .before .before .before .args .text .now) (c .before .before .before .before .before .before .before .before .before .before .before .args .at) (c .before .before .put-set2 .result) (c .before .before .before .before .before .before .before .before .before .before .before .args .cells .now) (c .before .before .put-set2 .last .1 .1 .0) (c .before .before .before .before .before .before .before .before .before .before .before .args .n) (start-digit (c .before .before .before .before .before .before .before .before .before .before .before .args .text .now) (c .before .before .before .before .before .before .before .before .before .before .before .args .at) (λ e. c .before .before .before .before .before .before .before .if1 .left (c .before .before .before .before .before .before .before .before .octet-at .ensures ∙ e)) (ap digit (sym (c .before .before .before .before .before .before .before .before .octet-at .ensures)) ∙ sym (c .before .before .before .before .before .in-class .ensures) ∙ c .before .before .before .before .if3 .taken)) (c .before .before .put-set2 .ensures .exact) }
 
-run-at-requires : tie.Need-run-at-requires
-run-at-requires c κs = search needs
-
-enum-known-p : tie.Need-enum-known-p
-enum-known-p c = search needs
-
-key-word-requires : tie.Need-key-word-requires
-key-word-requires c κs = search needs
-
 begin-by-requires : tie.Need-begin-by-requires
 begin-by-requires c κs = let w = rw (c .before .before .before .p .given .1) at (c .before .before .before .before .before .run-at .ensures .within) in omega arith
-
-enum-told : tie.Need-enum-told
-enum-told c = search needs
-
-same-length-3 : tie.Need-same-length-3
-same-length-3 c = search needs
 
 returns-4 : tie.Need-returns-4
 returns-4 c = let w = rw (c .before .before .before .before .before .before .p .given .1) at (c .before .before .before .before .before .before .before .before .run-at .ensures .within) in record { within = inside-from (c .before .before .before .before .before .before .before .before .before .before .before .before .before .before .before .before .args .text .now) (c .before .before .before .before .before .before .before .before .before .before .before .before .before .before .before .before .args .at + 1) (c .before .before .before .before .before .before .p .given .0 .0) (c .before .before .before .before .before .before .before .before .before .before .before .before .before .before .before .before .args .n) (c .before .before .begin-by .result) (omega arith) (c .before .before .begin-by .ensures .within); exact = begun-by (c .before .before .before .before .before .before .before .before .before .before .before .before .before .before .before .before .args .text .now) (c .before .before .before .before .before .before .before .before .before .before .before .before .before .before .before .before .args .at) (c .before .before .begin-by .result) (c .before .before .before .before .before .before .before .before .before .before .before .before .before .before .before .before .args .cells .now) (c .before .before .begin-by .last .1 .1 .1 .0) (c .before .before .before .before .before .before .before .before .before .before .before .before .before .before .before .before .args .n) (start-word (c .before .before .before .before .before .before .before .before .before .before .before .before .before .before .before .before .args .text .now) (c .before .before .before .before .before .before .before .before .before .before .before .before .before .before .before .before .args .at) (λ e. c .before .before .before .before .before .before .before .before .before .before .before .before .if1 .left (c .before .before .before .before .before .before .before .before .before .before .before .before .before .octet-at .ensures ∙ e)) (λ e. c .before .before .before .before .before .before .before .before .before .before .before .if2 .left (c .before .before .before .before .before .before .before .before .before .before .before .before .before .octet-at .ensures ∙ e)) (ap digit (sym (c .before .before .before .before .before .before .before .before .before .before .before .before .before .octet-at .ensures)) ∙ sym (c .before .before .before .before .before .before .before .before .before .before .in-class .ensures) ∙ c .before .before .before .before .before .before .before .before .before .if3 .left) (sym (c .before .before .before .before .before .before .p .given .1) ∙ c .before .before .before .before .before .before .before .before .run-at .ensures .exact) (c .before .before .before .before .key-word .result) (c .before .before .before .before .key-word .ensures)) (c .before .before .begin-by .ensures .exact) }
@@ -68,21 +35,21 @@ pub begin-spec : {M : Type 1} → statement M
 begin-spec =
     tie.close
     (tie.spec
-    octet-at-requires
+    (λ c κs. search needs)  -- octet-at-requires
     add-t9
     returns
-    put-set-requires
-    same-length
+    (λ c κs. search needs)  -- put-set-requires
+    (λ c. search needs)  -- same-length
     returns-2
-    in-class-requires
-    put-set-requires-2
-    same-length-2
+    (λ c κs. search needs)  -- in-class-requires
+    (λ c κs. search needs)  -- put-set-requires-2
+    (λ c. search needs)  -- same-length-2
     returns-3
-    run-at-requires
-    enum-known-p
-    key-word-requires
+    (λ c κs. search needs)  -- run-at-requires
+    (λ c. search needs)  -- enum-known-p
+    (λ c κs. search needs)  -- key-word-requires
     begin-by-requires
-    enum-told
-    same-length-3
+    (λ c. search needs)  -- enum-told
+    (λ c. search needs)  -- same-length-3
     returns-4
     returns-5)

@@ -6,24 +6,6 @@ use borrow.Author.Needs.{needs}
 use Rattle.read_keys.proofs.starts.put_flag.Statement.{statement}
 use Rattle.read_keys.proofs.starts.put_flag.Tie as tie
 
-store-requires : tie.Need-store-requires
-store-requires c κs = search needs
-
-flag-number-requires : tie.Need-flag-number-requires
-flag-number-requires c κs = search needs
-
-add-store-two : tie.Need-add-store-two
-add-store-two c = search needs
-
-store-two-requires : tie.Need-store-two-requires
-store-two-requires c κs = search needs
-
-add-t12 : tie.Need-add-t12
-add-t12 c = search needs
-
-same-length : tie.Need-same-length
-same-length c = search needs
-
 returns : tie.Need-returns
 returns c = (refl, stored-three (c .before .before .before .before .before .before .before .before .before .before .args .cells .now) (c .before .before .before .before .before .before .before .store .last .0) (c .before .before .store-two .last .0) (c .before .before .before .before .before .before .before .before .before .before .args .n) 2 (c .before .before .before .before .before .before .before .before .before .before .args .bit) (flagNumber (c .before .before .before .before .before .before .before .before .before .before .args .on)) (c .before .before .before .before .before .before .before .store .ensures) (rw (c .before .before .before .before .flag-number .ensures) at (c .before .before .store-two .ensures)))
 
@@ -31,10 +13,10 @@ pub put-flag-spec : {M : Type 1} → statement M
 put-flag-spec =
     tie.close
     (tie.spec
-    store-requires
-    flag-number-requires
-    add-store-two
-    store-two-requires
-    add-t12
-    same-length
+    (λ c κs. search needs)  -- store-requires
+    (λ c κs. search needs)  -- flag-number-requires
+    (λ c. search needs)  -- add-store-two
+    (λ c κs. search needs)  -- store-two-requires
+    (λ c. search needs)  -- add-t12
+    (λ c. search needs)  -- same-length
     returns)

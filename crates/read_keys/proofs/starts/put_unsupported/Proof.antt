@@ -4,21 +4,6 @@ use borrow.Author.Needs.{needs}
 use Rattle.read_keys.proofs.starts.put_unsupported.Statement.{statement}
 use Rattle.read_keys.proofs.starts.put_unsupported.Tie as tie
 
-enum-known-x : tie.Need-enum-known-x
-enum-known-x c = search needs
-
-store-requires : tie.Need-store-requires
-store-requires c κs = search needs
-
-add-t9 : tie.Need-add-t9
-add-t9 c = search needs
-
-enum-told : tie.Need-enum-told
-enum-told c = search needs
-
-same-length : tie.Need-same-length
-same-length c = search needs
-
 returns : tie.Need-returns
 returns c = rw (c .before .before .before .before .before .x .given .1) (refl, c .before .before .store .ensures)
 
@@ -27,4 +12,12 @@ returns-2 c = rw (c .enum-told .given .1) refl
 
 pub put-unsupported-spec : {M : Type 1} → statement M
 put-unsupported-spec =
-    tie.close (tie.spec enum-known-x store-requires add-t9 enum-told same-length returns returns-2)
+    tie.close
+    (tie.spec
+    (λ c. search needs)  -- enum-known-x
+    (λ c κs. search needs)  -- store-requires
+    (λ c. search needs)  -- add-t9
+    (λ c. search needs)  -- enum-told
+    (λ c. search needs)  -- same-length
+    returns
+    returns-2)

@@ -8,42 +8,6 @@ use borrow.Author.Needs.{needs}
 use Rattle.read_keys.proofs.terms.argument_at.Statement.{statement}
 use Rattle.read_keys.proofs.terms.argument_at.Tie as tie
 
-enum-told : tie.Need-enum-told
-enum-told c = search needs
-
-enum-told-2 : tie.Need-enum-told-2
-enum-told-2 c = search needs
-
-text-behind-requires : tie.Need-text-behind-requires
-text-behind-requires c κs = search needs
-
-enum-told-3 : tie.Need-enum-told-3
-enum-told-3 c = search needs
-
-atom-behind-requires : tie.Need-atom-behind-requires
-atom-behind-requires c κs = search needs
-
-enum-told-4 : tie.Need-enum-told-4
-enum-told-4 c = search needs
-
-date-behind-requires : tie.Need-date-behind-requires
-date-behind-requires c κs = search needs
-
-enum-told-5 : tie.Need-enum-told-5
-enum-told-5 c = search needs
-
-text-behind-requires-2 : tie.Need-text-behind-requires-2
-text-behind-requires-2 c κs = search needs
-
-enum-known-p : tie.Need-enum-known-p
-enum-known-p c = search needs
-
-text-behind-requires-3 : tie.Need-text-behind-requires-3
-text-behind-requires-3 c κs = search needs
-
-enum-told-6 : tie.Need-enum-told-6
-enum-told-6 c = search needs
-
 returns : tie.Need-returns
 returns c = record { exact = ap (λ (x : Argument). argumentAt x (c .before .before .before .args .text .now) (c .before .before .before .args .at)) (sym (c .enum-told .given .1)); within = (omega arith, omega arith) }
 
@@ -66,18 +30,18 @@ pub argument-at-spec : {M : Type 1} → statement M
 argument-at-spec =
     tie.close
     (tie.spec
-    enum-told
-    enum-told-2
-    text-behind-requires
-    enum-told-3
-    atom-behind-requires
-    enum-told-4
-    date-behind-requires
-    enum-told-5
-    text-behind-requires-2
-    enum-known-p
-    text-behind-requires-3
-    enum-told-6
+    (λ c. search needs)  -- enum-told
+    (λ c. search needs)  -- enum-told-2
+    (λ c κs. search needs)  -- text-behind-requires
+    (λ c. search needs)  -- enum-told-3
+    (λ c κs. search needs)  -- atom-behind-requires
+    (λ c. search needs)  -- enum-told-4
+    (λ c κs. search needs)  -- date-behind-requires
+    (λ c. search needs)  -- enum-told-5
+    (λ c κs. search needs)  -- text-behind-requires-2
+    (λ c. search needs)  -- enum-known-p
+    (λ c κs. search needs)  -- text-behind-requires-3
+    (λ c. search needs)  -- enum-told-6
     returns
     returns-2
     returns-3

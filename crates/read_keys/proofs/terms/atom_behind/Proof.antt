@@ -8,14 +8,8 @@ use Rattle.read_keys.proofs.terms.atom_behind.Statement.{statement}
 use Rattle.read_keys.proofs.terms.atom_behind.Tie as tie
 use Rattle.octets.specs.Rows.{in-text}
 
-octet-at-requires : tie.Need-octet-at-requires
-octet-at-requires c κs = search needs
-
 add-run-at : tie.Need-add-run-at
 add-run-at c = let i = in-text (c .before .before .before .args .text .now) (c .before .before .before .args .at) (sym (c .before .octet-at .ensures) ∙ c .if1 .taken) (omega arith) in omega arith
-
-run-at-requires : tie.Need-run-at-requires
-run-at-requires c κs = search needs
 
 returns : tie.Need-returns
 returns c = record { exact = c .run-at .ensures .exact ∙ next-yes (c .before .before .before .before .args .text .now) (c .before .before .before .before .args .at) (λ q. atomAt (c .before .before .before .before .args .text .now) q) (sym (c .before .before .octet-at .ensures) ∙ c .before .if1 .taken); within = within-from (c .before .before .before .before .args .text .now) (c .before .before .before .before .args .at) (c .run-at .result) (c .run-at .ensures .within) }
@@ -25,4 +19,10 @@ returns-2 c = record { exact = next-no (c .before .before .before .args .text .n
 
 pub atom-behind-spec : {M : Type 1} → statement M
 atom-behind-spec =
-    tie.close (tie.spec octet-at-requires add-run-at run-at-requires returns returns-2)
+    tie.close
+    (tie.spec
+    (λ c κs. search needs)  -- octet-at-requires
+    add-run-at
+    (λ c κs. search needs)  -- run-at-requires
+    returns
+    returns-2)

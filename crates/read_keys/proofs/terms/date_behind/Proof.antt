@@ -8,14 +8,8 @@ use Rattle.read_keys.proofs.terms.date_behind.Statement.{statement}
 use Rattle.read_keys.proofs.terms.date_behind.Tie as tie
 use Rattle.octets.specs.Rows.{in-text}
 
-octet-at-requires : tie.Need-octet-at-requires
-octet-at-requires c κs = search needs
-
 add-date-at : tie.Need-add-date-at
 add-date-at c = let i = in-text (c .before .before .before .args .text .now) (c .before .before .before .args .at) (sym (c .before .octet-at .ensures) ∙ c .if1 .taken) (omega arith) in omega arith
-
-date-at-requires : tie.Need-date-at-requires
-date-at-requires c κs = search needs
 
 returns : tie.Need-returns
 returns c = record { exact = c .date-at .ensures .exact ∙ next-yes (c .before .before .before .before .args .text .now) (c .before .before .before .before .args .at) (λ q. dateAt (c .before .before .before .before .args .text .now) q) (sym (c .before .before .octet-at .ensures) ∙ c .before .if1 .taken); within = within-from (c .before .before .before .before .args .text .now) (c .before .before .before .before .args .at) (c .date-at .result) (c .date-at .ensures .within) }
@@ -25,4 +19,10 @@ returns-2 c = record { exact = next-no (c .before .before .before .args .text .n
 
 pub date-behind-spec : {M : Type 1} → statement M
 date-behind-spec =
-    tie.close (tie.spec octet-at-requires add-date-at date-at-requires returns returns-2)
+    tie.close
+    (tie.spec
+    (λ c κs. search needs)  -- octet-at-requires
+    add-date-at
+    (λ c κs. search needs)  -- date-at-requires
+    returns
+    returns-2)

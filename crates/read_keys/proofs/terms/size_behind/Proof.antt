@@ -9,14 +9,8 @@ use Rattle.read_keys.proofs.terms.size_behind.Statement.{statement}
 use Rattle.read_keys.proofs.terms.size_behind.Tie as tie
 use Rattle.octets.specs.Rows.{in-text}
 
-octet-at-requires : tie.Need-octet-at-requires
-octet-at-requires c κs = search needs
-
 add-number-at : tie.Need-add-number-at
 add-number-at c = let i = in-text (c .before .before .before .args .text .now) (c .before .before .before .args .at) (sym (c .before .octet-at .ensures) ∙ c .if1 .taken) (omega arith) in omega arith
-
-number-at-requires : tie.Need-number-at-requires
-number-at-requires c κs = search needs
 
 returns : tie.Need-returns
 returns c = record { exact = c .number-at .ensures .exact ∙ sym (ap readNumber (after-yes (c .before .before .before .before .args .text .now) (c .before .before .before .before .args .at) (λ q. numberAt (c .before .before .before .before .args .text .now) q) (sym (c .before .before .octet-at .ensures) ∙ c .before .if1 .taken))); within = small-from (c .before .before .before .before .args .text .now) (c .before .before .before .before .args .at) (c .number-at .result) (c .number-at .ensures .within) }
@@ -26,4 +20,10 @@ returns-2 c = record { exact = sym (ap readNumber (after-no (c .before .before .
 
 pub size-behind-spec : {M : Type 1} → statement M
 size-behind-spec =
-    tie.close (tie.spec octet-at-requires add-number-at number-at-requires returns returns-2)
+    tie.close
+    (tie.spec
+    (λ c κs. search needs)  -- octet-at-requires
+    add-number-at
+    (λ c κs. search needs)  -- number-at-requires
+    returns
+    returns-2)

@@ -5,20 +5,8 @@ use Rattle.read_keys.proofs.Choice.{or-skip, or-hit}
 use Rattle.read_keys.proofs.terms.takes_keyword.Statement.{statement}
 use Rattle.read_keys.proofs.terms.takes_keyword.Tie as tie
 
-slice-aggregate-is-word : tie.Need-slice-aggregate-is-word
-slice-aggregate-is-word c = search needs
-
-is-word-requires : tie.Need-is-word-requires
-is-word-requires c κs = search needs
-
 returns : tie.Need-returns
 returns c = or-hit _ (sym (c .before .is-word .ensures) ∙ c .if1 .taken)
-
-slice-aggregate-is-word-2 : tie.Need-slice-aggregate-is-word-2
-slice-aggregate-is-word-2 c = search needs
-
-is-word-requires-2 : tie.Need-is-word-requires-2
-is-word-requires-2 c κs = search needs
 
 returns-2 : tie.Need-returns-2
 returns-2 c = or-skip _ (sym (c .before .before .before .before .is-word .ensures) ∙ c .before .before .before .if1 .left) (or-hit _ (sym (c .before .is-word2 .ensures) ∙ c .if2 .taken))
@@ -30,10 +18,10 @@ pub takes-keyword-spec : {M : Type 1} → statement M
 takes-keyword-spec =
     tie.close
     (tie.spec
-    slice-aggregate-is-word
-    is-word-requires
+    (λ c. search needs)  -- slice-aggregate-is-word
+    (λ c κs. search needs)  -- is-word-requires
     returns
-    slice-aggregate-is-word-2
-    is-word-requires-2
+    (λ c. search needs)  -- slice-aggregate-is-word-2
+    (λ c κs. search needs)  -- is-word-requires-2
     returns-2
     returns-3)

@@ -5,29 +5,11 @@ use Rattle.read_keys.proofs.Choice.{or-skip, or-hit}
 use Rattle.read_keys.proofs.terms.takes_nothing.Statement.{statement}
 use Rattle.read_keys.proofs.terms.takes_nothing.Tie as tie
 
-slice-aggregate-is-word : tie.Need-slice-aggregate-is-word
-slice-aggregate-is-word c = search needs
-
-is-word-requires : tie.Need-is-word-requires
-is-word-requires c κs = search needs
-
 returns : tie.Need-returns
 returns c = or-hit _ (sym (c .before .is-word .ensures) ∙ c .if1 .taken)
 
-slice-aggregate-is-word-2 : tie.Need-slice-aggregate-is-word-2
-slice-aggregate-is-word-2 c = search needs
-
-is-word-requires-2 : tie.Need-is-word-requires-2
-is-word-requires-2 c κs = search needs
-
 returns-2 : tie.Need-returns-2
 returns-2 c = or-skip _ (sym (c .before .before .before .before .is-word .ensures) ∙ c .before .before .before .if1 .left) (or-hit _ (sym (c .before .is-word2 .ensures) ∙ c .if2 .taken))
-
-slice-aggregate-is-word-3 : tie.Need-slice-aggregate-is-word-3
-slice-aggregate-is-word-3 c = search needs
-
-is-word-requires-3 : tie.Need-is-word-requires-3
-is-word-requires-3 c κs = search needs
 
 returns-3 : tie.Need-returns-3
 returns-3 c = or-skip _ (sym (c .before .before .before .before .before .before .before .is-word .ensures) ∙ c .before .before .before .before .before .before .if1 .left) (or-skip _ (sym (c .before .before .before .before .is-word2 .ensures) ∙ c .before .before .before .if2 .left) (or-hit _ (sym (c .before .is-word3 .ensures) ∙ c .if3 .taken)))
@@ -39,13 +21,13 @@ pub takes-nothing-spec : {M : Type 1} → statement M
 takes-nothing-spec =
     tie.close
     (tie.spec
-    slice-aggregate-is-word
-    is-word-requires
+    (λ c. search needs)  -- slice-aggregate-is-word
+    (λ c κs. search needs)  -- is-word-requires
     returns
-    slice-aggregate-is-word-2
-    is-word-requires-2
+    (λ c. search needs)  -- slice-aggregate-is-word-2
+    (λ c κs. search needs)  -- is-word-requires-2
     returns-2
-    slice-aggregate-is-word-3
-    is-word-requires-3
+    (λ c. search needs)  -- slice-aggregate-is-word-3
+    (λ c κs. search needs)  -- is-word-requires-3
     returns-3
     returns-4)

@@ -5,35 +5,17 @@ use Rattle.read_keys.proofs.Choice.{skip, hit}
 use Rattle.read_keys.proofs.terms.unsupported_word.Statement.{statement}
 use Rattle.read_keys.proofs.terms.unsupported_word.Tie as tie
 
-takes-nothing-requires : tie.Need-takes-nothing-requires
-takes-nothing-requires c κs = search needs
-
 returns : tie.Need-returns
 returns c = hit _ _ (sym (c .before .takes-nothing .ensures) ∙ c .if1 .taken)
-
-takes-text-requires : tie.Need-takes-text-requires
-takes-text-requires c κs = search needs
 
 returns-2 : tie.Need-returns-2
 returns-2 c = skip _ _ (sym (c .before .before .before .takes-nothing .ensures) ∙ c .before .before .if1 .left) (hit _ _ (sym (c .before .takes-text .ensures) ∙ c .if2 .taken))
 
-takes-keyword-requires : tie.Need-takes-keyword-requires
-takes-keyword-requires c κs = search needs
-
 returns-3 : tie.Need-returns-3
 returns-3 c = skip _ _ (sym (c .before .before .before .before .before .takes-nothing .ensures) ∙ c .before .before .before .before .if1 .left) (skip _ _ (sym (c .before .before .before .takes-text .ensures) ∙ c .before .before .if2 .left) (hit _ _ (sym (c .before .takes-keyword .ensures) ∙ c .if3 .taken)))
 
-takes-date-requires : tie.Need-takes-date-requires
-takes-date-requires c κs = search needs
-
 returns-4 : tie.Need-returns-4
 returns-4 c = skip _ _ (sym (c .before .before .before .before .before .before .before .takes-nothing .ensures) ∙ c .before .before .before .before .before .before .if1 .left) (skip _ _ (sym (c .before .before .before .before .before .takes-text .ensures) ∙ c .before .before .before .before .if2 .left) (skip _ _ (sym (c .before .before .before .takes-keyword .ensures) ∙ c .before .before .if3 .left) (hit _ _ (sym (c .before .takes-date .ensures) ∙ c .if4 .taken))))
-
-slice-aggregate-is-word : tie.Need-slice-aggregate-is-word
-slice-aggregate-is-word c = search needs
-
-is-word-requires : tie.Need-is-word-requires
-is-word-requires c κs = search needs
 
 returns-5 : tie.Need-returns-5
 returns-5 c = skip _ _ (sym (c .before .before .before .before .before .before .before .before .before .before .takes-nothing .ensures) ∙ c .before .before .before .before .before .before .before .before .before .if1 .left) (skip _ _ (sym (c .before .before .before .before .before .before .before .before .takes-text .ensures) ∙ c .before .before .before .before .before .before .before .if2 .left) (skip _ _ (sym (c .before .before .before .before .before .before .takes-keyword .ensures) ∙ c .before .before .before .before .before .if3 .left) (skip _ _ (sym (c .before .before .before .before .takes-date .ensures) ∙ c .before .before .before .if4 .left) (hit _ _ (sym (c .before .is-word .ensures) ∙ c .if5 .taken)))))
@@ -45,15 +27,15 @@ pub unsupported-word-spec : {M : Type 1} → statement M
 unsupported-word-spec =
     tie.close
     (tie.spec
-    takes-nothing-requires
+    (λ c κs. search needs)  -- takes-nothing-requires
     returns
-    takes-text-requires
+    (λ c κs. search needs)  -- takes-text-requires
     returns-2
-    takes-keyword-requires
+    (λ c κs. search needs)  -- takes-keyword-requires
     returns-3
-    takes-date-requires
+    (λ c κs. search needs)  -- takes-date-requires
     returns-4
-    slice-aggregate-is-word
-    is-word-requires
+    (λ c. search needs)  -- slice-aggregate-is-word
+    (λ c κs. search needs)  -- is-word-requires
     returns-5
     returns-6)

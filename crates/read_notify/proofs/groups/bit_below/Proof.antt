@@ -4,15 +4,6 @@ use borrow.Author.Needs.{needs}
 use Rattle.read_notify.proofs.groups.bit_below.Statement.{statement}
 use Rattle.read_notify.proofs.groups.bit_below.Tie as tie
 
-mul-result : tie.Need-mul-result
-mul-result c = search needs
-
-add-result : tie.Need-add-result
-add-result c = search needs
-
-mul-result-2 : tie.Need-mul-result-2
-mul-result-2 c = search needs
-
 returns : tie.Need-returns
 returns c = rw (c .if1 .taken) (omega arith, omega arith)
 
@@ -20,4 +11,11 @@ returns-2 : tie.Need-returns-2
 returns-2 c = rw (c .if1 .left) (omega arith, omega arith)
 
 pub bit-below-spec : {M : Type 1} → statement M
-bit-below-spec = tie.close (tie.spec mul-result add-result mul-result-2 returns returns-2)
+bit-below-spec =
+    tie.close
+    (tie.spec
+    (λ c. search needs)  -- mul-result
+    (λ c. search needs)  -- add-result
+    (λ c. search needs)  -- mul-result-2
+    returns
+    returns-2)

@@ -8,29 +8,11 @@ use Rattle.read_notify.proofs.groups.lent_at.Statement.{statement}
 use Rattle.read_notify.proofs.groups.lent_at.Tie as tie
 use Rattle.octets.specs.Rows.{in-text}
 
-octet-at-requires : tie.Need-octet-at-requires
-octet-at-requires c κs = search needs
-
 returns : tie.Need-returns
 returns c = record { exact = lent-blank (c .before .before .before .args .text .now) (c .before .before .before .args .at) (c .before .before .before .args .first) (λ e. c .if1 .taken (c .before .octet-at .ensures ∙ e)); within = tt }
 
 add-filter-at : tie.Need-add-filter-at
 add-filter-at c = let i = in-text (c .before .before .before .args .text .now) (c .before .before .before .args .at) (sym (c .before .octet-at .ensures) ∙ c .if1 .left) (omega arith) in omega arith
-
-filter-at-requires : tie.Need-filter-at-requires
-filter-at-requires c κs = search needs
-
-enum-known-scope : tie.Need-enum-known-scope
-enum-known-scope c = search needs
-
-is-groupable-requires : tie.Need-is-groupable-requires
-is-groupable-requires c κs = search needs
-
-lent-behind-requires : tie.Need-lent-behind-requires
-lent-behind-requires c κs = search needs
-
-enum-told : tie.Need-enum-told
-enum-told c = search needs
 
 returns-2 : tie.Need-returns-2
 returns-2 c = let w = rw (c .before .before .before .before .scope .given .1) at (c .before .before .before .before .before .before .filter-at .ensures .within) in record { exact = lent-by (c .before .before .before .before .before .before .before .before .before .before .args .text .now) (c .before .before .before .before .before .before .before .before .before .before .args .at) (c .before .before .before .before .before .before .before .before .before .before .args .first) (sym (c .before .before .before .before .before .before .before .before .octet-at .ensures) ∙ c .before .before .before .before .before .before .before .if1 .left) (sym (c .before .before .before .before .scope .given .1) ∙ c .before .before .before .before .before .before .filter-at .ensures .exact) (c .before .before .is-groupable .ensures) (c .before .if2 .taken) (c .lent-behind .ensures .exact); within = within-lent (c .before .before .before .before .before .before .before .before .before .before .args .text .now) (c .before .before .before .before .before .before .before .before .before .before .args .at) (c .before .before .before .before .scope .given .0 .1 .0) (c .before .before .before .before .scope .given .0 .1 .1 .0) (c .lent-behind .result) (omega arith) (c .lent-behind .ensures .within) }
@@ -45,14 +27,14 @@ pub lent-at-spec : {M : Type 1} → statement M
 lent-at-spec =
     tie.close
     (tie.spec
-    octet-at-requires
+    (λ c κs. search needs)  -- octet-at-requires
     returns
     add-filter-at
-    filter-at-requires
-    enum-known-scope
-    is-groupable-requires
-    lent-behind-requires
-    enum-told
+    (λ c κs. search needs)  -- filter-at-requires
+    (λ c. search needs)  -- enum-known-scope
+    (λ c κs. search needs)  -- is-groupable-requires
+    (λ c κs. search needs)  -- lent-behind-requires
+    (λ c. search needs)  -- enum-told
     returns-2
     returns-3
     returns-4)

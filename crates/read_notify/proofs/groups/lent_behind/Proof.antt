@@ -10,41 +10,17 @@ use Rattle.octets.specs.Rows.{in-text}
 use Rattle.read_notify.proofs.groups.lent_behind.Statement.{statement}
 use Rattle.read_notify.proofs.groups.lent_behind.Tie as tie
 
-octet-at-requires : tie.Need-octet-at-requires
-octet-at-requires c κs = search needs
-
 returns : tie.Need-returns
 returns c = record { exact = λ f a b. behind-blank (c .before .before .before .args .text .now) (c .before .before .before .args .at) (c .before .before .before .args .first) f (λ e. c .if1 .taken (c .before .octet-at .ensures ∙ e)); within = tt }
 
 add-events-at : tie.Need-add-events-at
 add-events-at c = let i = in-text (c .before .before .before .args .text .now) (c .before .before .before .args .at) (sym (c .before .octet-at .ensures) ∙ c .if1 .left) (omega arith) in omega arith
 
-events-at-requires : tie.Need-events-at-requires
-events-at-requires c κs = search needs
-
-enum-known-e : tie.Need-enum-known-e
-enum-known-e c = search needs
-
-octet-at-requires-2 : tie.Need-octet-at-requires-2
-octet-at-requires-2 c κs = search needs
-
 returns-2 : tie.Need-returns-2
 returns-2 c = record { exact = λ f a b. behind-open (c .before .before .before .before .before .before .before .before .before .args .text .now) (c .before .before .before .before .before .before .before .before .before .args .at) (c .before .before .before .before .before .before .before .before .before .args .first) f (sym (c .before .before .before .before .before .before .before .octet-at .ensures) ∙ c .before .before .before .before .before .before .if1 .left) (sym (c .before .before .before .e .given .1) ∙ c .before .before .before .before .before .events-at .ensures .exact) (λ e. c .if2 .taken (c .before .octet-at2 .ensures ∙ e)); within = tt }
 
-selector-of-requires : tie.Need-selector-of-requires
-selector-of-requires c κs = search needs
-
-lent-requires : tie.Need-lent-requires
-lent-requires c κs = search needs
-
-tally-by-requires : tie.Need-tally-by-requires
-tally-by-requires c κs = search needs
-
 add-t18 : tie.Need-add-t18
 add-t18 c = let i = in-text (c .before .before .before .before .before .before .before .before .before .before .before .before .args .text .now) (c .before .before .before .before .before .before .e .given .0 .1 .0) (sym (c .before .before .before .before .octet-at2 .ensures) ∙ c .before .before .before .if2 .left) (omega arith) in omega arith
-
-enum-told : tie.Need-enum-told
-enum-told c = search needs
 
 returns-3 : tie.Need-returns-3
 returns-3 c =
@@ -67,17 +43,17 @@ pub lent-behind-spec : {M : Type 1} → statement M
 lent-behind-spec =
     tie.close
     (tie.spec
-    octet-at-requires
+    (λ c κs. search needs)  -- octet-at-requires
     returns
     add-events-at
-    events-at-requires
-    enum-known-e
-    octet-at-requires-2
+    (λ c κs. search needs)  -- events-at-requires
+    (λ c. search needs)  -- enum-known-e
+    (λ c κs. search needs)  -- octet-at-requires-2
     returns-2
-    selector-of-requires
-    lent-requires
-    tally-by-requires
+    (λ c κs. search needs)  -- selector-of-requires
+    (λ c κs. search needs)  -- lent-requires
+    (λ c κs. search needs)  -- tally-by-requires
     add-t18
-    enum-told
+    (λ c. search needs)  -- enum-told
     returns-3
     returns-4)

@@ -4,9 +4,6 @@ use borrow.Author.Needs.{needs}
 use Rattle.read_notify.proofs.groups.low.Statement.{statement}
 use Rattle.read_notify.proofs.groups.low.Tie as tie
 
-cast-result : tie.Need-cast-result
-cast-result c = search needs
-
 returns : tie.Need-returns
 returns c = simp (lt-ltb _ _ (c .if1 .taken))
 
@@ -14,4 +11,9 @@ returns-2 : tie.Need-returns-2
 returns-2 c = simp (le-ltb _ _ (c .if1 .left))
 
 pub low-spec : {M : Type 1} → statement M
-low-spec = tie.close (tie.spec cast-result returns returns-2)
+low-spec =
+    tie.close
+    (tie.spec
+    (λ c. search needs)  -- cast-result
+    returns
+    returns-2)

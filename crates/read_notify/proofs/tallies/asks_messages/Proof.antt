@@ -3,18 +3,14 @@ use borrow.Author.Needs.{needs}
 use Rattle.read_notify.proofs.tallies.asks_messages.Statement.{statement}
 use Rattle.read_notify.proofs.tallies.asks_messages.Tie as tie
 
-either-requires : tie.Need-either-requires
-either-requires c κs = search needs
-
-either-requires-2 : tie.Need-either-requires-2
-either-requires-2 c κs = search needs
-
-either-requires-3 : tie.Need-either-requires-3
-either-requires-3 c κs = search needs
-
 returns : tie.Need-returns
 returns c = rw (c .either3 .ensures, c .before .before .either .ensures, c .before .either2 .ensures)
 
 pub asks-messages-spec : {M : Type 1} → statement M
 asks-messages-spec =
-    tie.close (tie.spec either-requires either-requires-2 either-requires-3 returns)
+    tie.close
+    (tie.spec
+    (λ c κs. search needs)  -- either-requires
+    (λ c κs. search needs)  -- either-requires-2
+    (λ c κs. search needs)  -- either-requires-3
+    returns)

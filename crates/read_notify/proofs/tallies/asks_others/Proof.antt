@@ -3,14 +3,13 @@ use borrow.Author.Needs.{needs}
 use Rattle.read_notify.proofs.tallies.asks_others.Statement.{statement}
 use Rattle.read_notify.proofs.tallies.asks_others.Tie as tie
 
-either-requires : tie.Need-either-requires
-either-requires c κs = search needs
-
-either-requires-2 : tie.Need-either-requires-2
-either-requires-2 c κs = search needs
-
 returns : tie.Need-returns
 returns c = rw (c .either2 .ensures, c .before .either .ensures)
 
 pub asks-others-spec : {M : Type 1} → statement M
-asks-others-spec = tie.close (tie.spec either-requires either-requires-2 returns)
+asks-others-spec =
+    tie.close
+    (tie.spec
+    (λ c κs. search needs)  -- either-requires
+    (λ c κs. search needs)  -- either-requires-2
+    returns)

@@ -15,29 +15,8 @@ Inv-loop text at tally₀ watch₀ kept₀ p₀ tally watch kept p = Goes text a
 abbrev μ-loop : tie.MeasureT-loop
 μ-loop text at tally₀ watch₀ kept₀ p₀ tally watch kept p = length text - p
 
-no-tally-requires : tie.Need-no-tally-requires Inv-loop μ-loop
-no-tally-requires c κs = search needs
-
-no-watch-requires : tie.Need-no-watch-requires Inv-loop μ-loop
-no-watch-requires c κs = search needs
-
-keep-nothing-requires : tie.Need-keep-nothing-requires Inv-loop μ-loop
-keep-nothing-requires c κs = search needs
-
 loop-holds : tie.Need-loop-holds Inv-loop μ-loop
 loop-holds c = goes-start (c .before .before .before .before .args .text .now) (c .before .before .before .before .args .at) _ _ _ (c .before .before .no-tally .ensures) (c .before .no-watch .ensures) (c .keep-nothing .ensures)
-
-lent-at-requires : tie.Need-lent-at-requires Inv-loop μ-loop
-lent-at-requires c κs = search needs
-
-enum-known-group : tie.Need-enum-known-group Inv-loop μ-loop
-enum-known-group c = search needs
-
-enum-told : tie.Need-enum-told Inv-loop μ-loop
-enum-told c = search needs
-
-ungathered-requires : tie.Need-ungathered-requires Inv-loop μ-loop
-ungathered-requires c κs = search needs
 
 returns : tie.Need-returns Inv-loop μ-loop
 returns c =
@@ -64,12 +43,6 @@ added-requires c κs =
     let w = rw (c .before .before .before .group .given .1) at (c .before .before .before .before .before .lent-at .ensures .within) in
     let n = l .inv .counts in
     record { groups = omega (arith, n .0, w .0, w .2, w .3); names = omega (arith, n .1, w .2, w .3); selected = omega (arith, n .2, w .1, w .2, w .3) }
-
-octet-at-requires : tie.Need-octet-at-requires Inv-loop μ-loop
-octet-at-requires c κs = search needs
-
-gathered-requires : tie.Need-gathered-requires Inv-loop μ-loop
-gathered-requires c κs = search needs
 
 returns-2 : tie.Need-returns-2 Inv-loop μ-loop
 returns-2 c =
@@ -101,21 +74,21 @@ gather-spec =
     (tie.spec
     Inv-loop
     μ-loop
-    no-tally-requires
-    no-watch-requires
-    keep-nothing-requires
+    (λ c κs. search needs)  -- no-tally-requires
+    (λ c κs. search needs)  -- no-watch-requires
+    (λ c κs. search needs)  -- keep-nothing-requires
     loop-holds
-    lent-at-requires
-    enum-known-group
-    enum-told
-    ungathered-requires
+    (λ c κs. search needs)  -- lent-at-requires
+    (λ c. search needs)  -- enum-known-group
+    (λ c. search needs)  -- enum-told
+    (λ c κs. search needs)  -- ungathered-requires
     returns
     add-keep-more
     keep-more-requires
     keep-group-requires
     added-requires
-    octet-at-requires
-    gathered-requires
+    (λ c κs. search needs)  -- octet-at-requires
+    (λ c κs. search needs)  -- gathered-requires
     returns-2
     add-p
     loop-less

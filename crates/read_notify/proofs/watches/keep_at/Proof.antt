@@ -9,42 +9,15 @@ use Rattle.octets.specs.Rows.{in-text}
 use Rattle.read_notify.proofs.watches.keep_at.Statement.{statement}
 use Rattle.read_notify.proofs.watches.keep_at.Tie as tie
 
-run-end-requires : tie.Need-run-end-requires
-run-end-requires c κs = search needs
-
-slice-aggregate-is-word : tie.Need-slice-aggregate-is-word
-slice-aggregate-is-word c = search needs
-
-is-word-requires : tie.Need-is-word-requires
-is-word-requires c κs = search needs
-
-bare-requires : tie.Need-bare-requires
-bare-requires c κs = search needs
-
 returns : tie.Need-returns
 returns c =
     keeps-as (notify-none (c .before .before .before .before .before .before .args .text .now) (c .before .before .before .before .before .before .args .at) (c .before .before .before .before .run-end .ensures .exact) (sym (c .before .before .is-word .ensures) ∙ c .before .if1 .taken))
     (keeps-none (c .before .before .before .before .before .before .args .text .now) (c .before .before .before .before .before .before .args .at) (c .before .before .before .before .run-end .result) (c .before .before .before .before .run-end .ensures .from) (c .before .before .before .before .run-end .ensures .within) (c .bare .ensures))
 
-slice-aggregate-is-word-2 : tie.Need-slice-aggregate-is-word-2
-slice-aggregate-is-word-2 c = search needs
-
-is-word-requires-2 : tie.Need-is-word-requires-2
-is-word-requires-2 c κs = search needs
-
-unkept-requires : tie.Need-unkept-requires
-unkept-requires c κs = search needs
-
 returns-2 : tie.Need-returns-2
 returns-2 c =
     keeps-as (notify-unknown (c .before .before .before .before .before .before .before .before .before .args .text .now) (c .before .before .before .before .before .before .before .before .before .args .at) (c .before .before .before .before .before .before .before .run-end .ensures .exact) (sym (c .before .before .before .before .before .is-word .ensures) ∙ c .before .before .before .before .if1 .left) (sym (c .before .before .is-word2 .ensures) ∙ not-true (c .before .before .is-word2 .result) (c .before .if2 .taken)))
     (keeps-bad (c .before .before .before .before .before .before .before .before .before .args .text .now) (c .before .before .before .before .before .before .before .before .before .args .at) (c .unkept .ensures))
-
-octet-at-requires : tie.Need-octet-at-requires
-octet-at-requires c κs = search needs
-
-unkept-requires-2 : tie.Need-unkept-requires-2
-unkept-requires-2 c κs = search needs
 
 returns-3 : tie.Need-returns-3
 returns-3 c =
@@ -53,9 +26,6 @@ returns-3 c =
 
 add-set-at : tie.Need-add-set-at
 add-set-at c = let i = in-text (c .before .before .before .before .before .before .before .before .before .before .args .text .now) (c .before .before .before .before .before .before .before .before .run-end .result) (sym (c .before .octet-at .ensures) ∙ c .if3 .left) (omega arith) in let f = c .before .before .before .before .before .before .before .before .run-end .ensures .from in omega arith
-
-set-at-requires : tie.Need-set-at-requires
-set-at-requires c κs = search needs
 
 returns-4 : tie.Need-returns-4
 returns-4 c =
@@ -68,18 +38,18 @@ pub keep-at-spec : {M : Type 1} → statement M
 keep-at-spec =
     tie.close
     (tie.spec
-    run-end-requires
-    slice-aggregate-is-word
-    is-word-requires
-    bare-requires
+    (λ c κs. search needs)  -- run-end-requires
+    (λ c. search needs)  -- slice-aggregate-is-word
+    (λ c κs. search needs)  -- is-word-requires
+    (λ c κs. search needs)  -- bare-requires
     returns
-    slice-aggregate-is-word-2
-    is-word-requires-2
-    unkept-requires
+    (λ c. search needs)  -- slice-aggregate-is-word-2
+    (λ c κs. search needs)  -- is-word-requires-2
+    (λ c κs. search needs)  -- unkept-requires
     returns-2
-    octet-at-requires
-    unkept-requires-2
+    (λ c κs. search needs)  -- octet-at-requires
+    (λ c κs. search needs)  -- unkept-requires-2
     returns-3
     add-set-at
-    set-at-requires
+    (λ c κs. search needs)  -- set-at-requires
     returns-4)

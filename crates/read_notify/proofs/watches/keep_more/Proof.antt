@@ -9,11 +9,13 @@ use Rattle.read_notify.proofs.watches.keep_more.Tie as tie
 returns : tie.Need-returns
 returns c = record { exact = λ q f e n. more-none (c .before .before .args .kept) f (n ∙ c .if1 .taken) }
 
-keep-filter-requires : tie.Need-keep-filter-requires
-keep-filter-requires c κs = search needs
-
 returns-2 : tie.Need-returns-2
 returns-2 c = record { exact = λ q f e n. more-kept (c .before .before .before .before .args .kept) (c .before .keep-filter .result) (filterAt (c .before .before .before .before .args .text .now) (c .before .before .before .before .args .at)) e (c .before .keep-filter .ensures .exact) }
 
 pub keep-more-spec : {M : Type 1} → statement M
-keep-more-spec = tie.close (tie.spec returns keep-filter-requires returns-2)
+keep-more-spec =
+    tie.close
+    (tie.spec
+    returns
+    (λ c κs. search needs)  -- keep-filter-requires
+    returns-2)

@@ -3,11 +3,12 @@ use borrow.Author.Needs.{needs}
 use Rattle.read_notify.proofs.watches.settled.Statement.{statement}
 use Rattle.read_notify.proofs.watches.settled.Tie as tie
 
-low-requires : tie.Need-low-requires
-low-requires c κs = search needs
-
 returns : tie.Need-returns
 returns c = rw (c .low .ensures)
 
 pub settled-spec : {M : Type 1} → statement M
-settled-spec = tie.close (tie.spec low-requires returns)
+settled-spec =
+    tie.close
+    (tie.spec
+    (λ c κs. search needs)  -- low-requires
+    returns)

@@ -5,26 +5,11 @@ use Rattle.read_notify.proofs.Watching.{watched-silent, watched-unread,
 use Rattle.read_notify.proofs.watches.watch_by.Statement.{statement}
 use Rattle.read_notify.proofs.watches.watch_by.Tie as tie
 
-enum-told : tie.Need-enum-told
-enum-told c = search needs
-
-silence-requires : tie.Need-silence-requires
-silence-requires c κs = search needs
-
-enum-known-read : tie.Need-enum-known-read
-enum-known-read c = search needs
-
 returns : tie.Need-returns
 returns c = λ x k. watched-many x (c .before .before .before .before .before .args .session) (sym (c .before .before .before .read .given .1) ∙ k .exact) (c .if1 .taken)
 
 returns-2 : tie.Need-returns-2
 returns-2 c = λ x k. watched-named x (c .before .before .before .before .before .before .before .args .session) (sym (c .before .before .before .before .before .read .given .1) ∙ k .exact) (c .if2 .taken)
-
-settled-requires : tie.Need-settled-requires
-settled-requires c κs = search needs
-
-enum-told-2 : tie.Need-enum-told-2
-enum-told-2 c = search needs
 
 returns-3 : tie.Need-returns-3
 returns-3 c = λ x k. c .silence .ensures ∙ watched-silent x (c .before .before .before .args .session) (sym (c .before .enum-told .given .1) ∙ k .exact)
@@ -39,13 +24,13 @@ pub watch-by-spec : {M : Type 1} → statement M
 watch-by-spec =
     tie.close
     (tie.spec
-    enum-told
-    silence-requires
-    enum-known-read
+    (λ c. search needs)  -- enum-told
+    (λ c κs. search needs)  -- silence-requires
+    (λ c. search needs)  -- enum-known-read
     returns
     returns-2
-    settled-requires
-    enum-told-2
+    (λ c κs. search needs)  -- settled-requires
+    (λ c. search needs)  -- enum-told-2
     returns-3
     returns-4
     returns-5)

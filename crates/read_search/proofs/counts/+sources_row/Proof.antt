@@ -34,15 +34,6 @@ sources-row-below t =
 abbrev sources-row-calls : ℕ → sources-row-lts.Claims
 sources-row-calls t = (filter-at-reads.Asked, filter-at-reads.Learnt, octet-at-reads.Asked, octet-at-reads.Learnt, sources-row-below t, sources-row.Post, put-source-reads.Asked, put-source-reads.Learnt, no-sources-reads.Asked, no-sources-reads.Learnt, with-source-reads.Asked, with-source-reads.Learnt)
 
-sources-row-filter-at-requires : (t : ℕ) → sources-row-lts.Need-filter-at-requires (sources-row-calls t) (sources-row-at t) sources-row.Post
-sources-row-filter-at-requires t c κs = search needs
-
-sources-row-enum-known-scope : (t : ℕ) → sources-row-lts.Need-enum-known-scope (sources-row-calls t) (sources-row-at t) sources-row.Post
-sources-row-enum-known-scope t c = search needs
-
-sources-row-octet-at-requires : (t : ℕ) → sources-row-lts.Need-octet-at-requires (sources-row-calls t) (sources-row-at t) sources-row.Post
-sources-row-octet-at-requires t c κs = search needs
-
 sources-row-add-sources-row : (t : ℕ) → sources-row-lts.Need-add-sources-row (sources-row-calls t) (sources-row-at t) sources-row.Post
 sources-row-add-sources-row t c = let w = rw (c .before .before .before .scope .given .1) at (c .before .before .before .before .before .filter-at .ensures .within) in let i = in-text (c .before .before .before .before .before .before .before .args .text .now) (c .before .before .before .scope .given .0 .1 .1 .0) (sym (c .before .octet-at .ensures) ∙ c .if1 .taken) (omega arith) in omega arith
 
@@ -52,17 +43,11 @@ sources-row-sources-row-requires t c κs = let w = rw (c .before .before .before
 sources-row-put-source-requires : (t : ℕ) → sources-row-lts.Need-put-source-requires (sources-row-calls t) (sources-row-at t) sources-row.Post
 sources-row-put-source-requires t c κs = let w = rw (c .before .before .before .before .scope .given .1) at (c .before .before .before .before .before .before .filter-at .ensures .within) in room (c .before .before .before .before .before .before .before .before .args .text .now) (c .before .before .before .before .scope .given .0 .1 .0) (c .before .before .before .before .before .before .before .before .args .at) (c .before .before .before .before .scope .given .0 .1 .1 .0) (c .sources-row .result) (omega arith) (omega arith) (c .sources-row .ensures .within)
 
-sources-row-no-sources-requires : (t : ℕ) → sources-row-lts.Need-no-sources-requires (sources-row-calls t) (sources-row-at t) sources-row.Post
-sources-row-no-sources-requires t c κs = search needs
-
 sources-row-with-source-requires : (t : ℕ) → sources-row-lts.Need-with-source-requires (sources-row-calls t) (sources-row-at t) sources-row.Post
 sources-row-with-source-requires t c κs = let w = rw (c .before .before .before .before .before .scope .given .1) at (c .before .before .before .before .before .before .before .filter-at .ensures .within) in rw (c .no-sources .ensures) (room-none (c .before .before .before .before .before .before .before .before .before .args .text .now) (c .before .before .before .before .before .scope .given .0 .1 .0) (c .before .before .before .before .before .before .before .before .before .args .at) (c .before .before .before .before .before .scope .given .0 .1 .1 .0) (omega arith) (omega arith) (omega arith))
 
 sources-row-add-t17 : (t : ℕ) → sources-row-lts.Need-add-t17 (sources-row-calls t) (sources-row-at t) sources-row.Post
 sources-row-add-t17 t c = let w = rw (c .before .before .before .before .before .before .scope .given .1) at (c .before .before .before .before .before .before .before .before .filter-at .ensures .within) in let i = in-text (c .before .before .before .before .before .before .before .before .before .before .args .text .now) (c .before .before .before .before .before .before .scope .given .0 .1 .1 .0) (sym (c .before .before .before .before .octet-at .ensures) ∙ c .before .before .if2 .taken) (omega arith) in omega arith
-
-sources-row-enum-told : (t : ℕ) → sources-row-lts.Need-enum-told (sources-row-calls t) (sources-row-at t) sources-row.Post
-sources-row-enum-told t c = search needs
 
 sources-row-returns : (t : ℕ) → sources-row-lts.Need-returns (sources-row-calls t) (sources-row-at t) sources-row.Post
 sources-row-returns t c = let w = rw (c .before .before .before .before .before .scope .given .1) at (c .before .before .before .before .before .before .before .filter-at .ensures .within) in let i = in-text (c .before .before .before .before .before .before .before .before .before .args .text .now) (c .before .before .before .before .before .scope .given .0 .1 .1 .0) (sym (c .before .before .before .octet-at .ensures) ∙ c .before .before .if1 .taken) (omega arith) in record { exact = λ n h. c .put-source .ensures ∙ ap (putAhead (c .before .before .before .before .before .scope .given .0 .0) (c .before .before .before .before .before .scope .given .0 .1 .0)) (c .before .sources-row .ensures .exact (n - 1) (omega arith)) ∙ row-more (c .before .before .before .before .before .before .before .before .before .args .text .now) (c .before .before .before .before .before .before .before .before .before .args .at) n (omega arith) (sym (c .before .before .before .before .before .scope .given .1) ∙ c .before .before .before .before .before .before .before .filter-at .ensures .exact) (sym (c .before .before .before .octet-at .ensures) ∙ c .before .before .if1 .taken); within = rw (c .put-source .ensures) (within-more (c .before .before .before .before .before .before .before .before .before .args .text .now) (c .before .before .before .before .before .scope .given .0 .0) (c .before .before .before .before .before .scope .given .0 .1 .0) (c .before .before .before .before .before .before .before .before .before .args .at) (c .before .before .before .before .before .scope .given .0 .1 .1 .0) (c .before .sources-row .result) (omega arith) (c .before .sources-row .ensures .within)) }
@@ -80,16 +65,16 @@ pub +sources-row-spec : {M : Type 1} → statement M
 +sources-row-spec = close μ-sources-row λ t. sources-row-lts.spec (sources-row-calls t)
     (sources-row-at t)
     sources-row.Post
-    (sources-row-filter-at-requires t)
-    (sources-row-enum-known-scope t)
-    (sources-row-octet-at-requires t)
+    (λ c κs. search needs)  -- sources-row-filter-at-requires
+    (λ c. search needs)  -- sources-row-enum-known-scope
+    (λ c κs. search needs)  -- sources-row-octet-at-requires
     (sources-row-add-sources-row t)
     (sources-row-sources-row-requires t)
     (sources-row-put-source-requires t)
-    (sources-row-no-sources-requires t)
+    (λ c κs. search needs)  -- sources-row-no-sources-requires
     (sources-row-with-source-requires t)
     (sources-row-add-t17 t)
-    (sources-row-enum-told t)
+    (λ c. search needs)  -- sources-row-enum-told
     (sources-row-returns t)
     (sources-row-returns-2 t)
     (sources-row-returns-3 t)

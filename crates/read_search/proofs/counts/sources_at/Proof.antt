@@ -8,21 +8,21 @@ use Rattle.read_search.proofs.counts.sources_at.Statement.{statement}
 use Rattle.read_search.proofs.counts.sources_at.Tie as tie
 use Rattle.octets.specs.Rows.{in-text}
 
-octet-at-requires : tie.Need-octet-at-requires
-octet-at-requires c κs = search needs
-
 returns : tie.Need-returns
 returns c = record { exact = sources-none (c .before .before .before .args .text .now) (c .before .before .before .args .at) (λ e. c .if1 .taken (c .before .octet-at .ensures ∙ e)); within = tt }
 
 add-sources-row : tie.Need-add-sources-row
 add-sources-row c = let i = in-text (c .before .before .before .args .text .now) (c .before .before .before .args .at) (sym (c .before .octet-at .ensures) ∙ c .if1 .left) (omega arith) in omega arith
 
-sources-row-requires : tie.Need-sources-row-requires
-sources-row-requires c κs = search needs
-
 returns-2 : tie.Need-returns-2
 returns-2 c = let i = in-text (c .before .before .before .before .args .text .now) (c .before .before .before .before .args .at) (sym (c .before .before .octet-at .ensures) ∙ c .before .if1 .left) (omega arith) in record { exact = c .sources-row .ensures .exact (length (c .before .before .before .before .args .text .now)) (omega arith) ∙ sources-row (c .before .before .before .before .args .text .now) (c .before .before .before .before .args .at) (sym (c .before .before .octet-at .ensures) ∙ c .before .if1 .left); within = within-from (c .before .before .before .before .args .text .now) (c .before .before .before .before .args .at) (c .sources-row .result) (c .sources-row .ensures .within) }
 
 pub sources-at-spec : {M : Type 1} → statement M
 sources-at-spec =
-    tie.close (tie.spec octet-at-requires returns add-sources-row sources-row-requires returns-2)
+    tie.close
+    (tie.spec
+    (λ c κs. search needs)  -- octet-at-requires
+    returns
+    add-sources-row
+    (λ c κs. search needs)  -- sources-row-requires
+    returns-2)

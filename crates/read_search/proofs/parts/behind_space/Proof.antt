@@ -7,9 +7,6 @@ use Rattle.read_search.proofs.parts.behind_space.Statement.{statement}
 use Rattle.read_search.proofs.parts.behind_space.Tie as tie
 use Rattle.octets.specs.Rows.{in-text}
 
-octet-at-requires : tie.Need-octet-at-requires
-octet-at-requires c κs = search needs
-
 add-t5 : tie.Need-add-t5
 add-t5 c = let i = in-text (c .before .before .before .args .text .now) (c .before .before .before .args .at) (sym (c .before .octet-at .ensures) ∙ c .if1 .taken) (omega arith) in omega arith
 
@@ -20,4 +17,10 @@ returns-2 : tie.Need-returns-2
 returns-2 c = space-missing (c .before .before .before .args .text .now) (c .before .before .before .args .at) (λ e. c .if1 .left (c .before .octet-at .ensures ∙ e))
 
 pub behind-space-spec : {M : Type 1} → statement M
-behind-space-spec = tie.close (tie.spec octet-at-requires add-t5 returns returns-2)
+behind-space-spec =
+    tie.close
+    (tie.spec
+    (λ c κs. search needs)  -- octet-at-requires
+    add-t5
+    returns
+    returns-2)

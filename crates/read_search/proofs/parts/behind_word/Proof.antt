@@ -5,14 +5,13 @@ use borrow.Author.Needs.{needs}
 use Rattle.read_search.proofs.parts.behind_word.Statement.{statement}
 use Rattle.read_search.proofs.parts.behind_word.Tie as tie
 
-run-end-requires : tie.Need-run-end-requires
-run-end-requires c κs = search needs
-
-behind-space-requires : tie.Need-behind-space-requires
-behind-space-requires c κs = search needs
-
 returns : tie.Need-returns
 returns c = c .behind-space .ensures ∙ ap (spaceAt (c .before .before .before .args .text .now)) (c .before .run-end .ensures .exact)
 
 pub behind-word-spec : {M : Type 1} → statement M
-behind-word-spec = tie.close (tie.spec run-end-requires behind-space-requires returns)
+behind-word-spec =
+    tie.close
+    (tie.spec
+    (λ c κs. search needs)  -- run-end-requires
+    (λ c κs. search needs)  -- behind-space-requires
+    returns)

@@ -5,15 +5,6 @@ use borrow.Author.Needs.{needs}
 use Rattle.read_search.proofs.parts.charset_part_at.Statement.{statement}
 use Rattle.read_search.proofs.parts.charset_part_at.Tie as tie
 
-slice-aggregate-word-at : tie.Need-slice-aggregate-word-at
-slice-aggregate-word-at c = search needs
-
-word-at-requires : tie.Need-word-at-requires
-word-at-requires c κs = search needs
-
-charset-by-requires : tie.Need-charset-by-requires
-charset-by-requires c κs = search needs
-
 returns : tie.Need-returns
 returns c = c .charset-by .ensures ∙ charset-given (c .before .before .before .before .before .args .text .now) (c .before .before .before .before .before .args .at) (sym (c .before .before .word-at .ensures) ∙ c .before .if1 .taken)
 
@@ -23,4 +14,9 @@ returns-2 c = charset-left (c .before .before .before .before .args .text .now) 
 pub charset-part-at-spec : {M : Type 1} → statement M
 charset-part-at-spec =
     tie.close
-    (tie.spec slice-aggregate-word-at word-at-requires charset-by-requires returns returns-2)
+    (tie.spec
+    (λ c. search needs)  -- slice-aggregate-word-at
+    (λ c κs. search needs)  -- word-at-requires
+    (λ c κs. search needs)  -- charset-by-requires
+    returns
+    returns-2)

@@ -6,23 +6,8 @@ use borrow.Author.Needs.{needs}
 use Rattle.read_search.proofs.stored.keep_sources.Statement.{statement}
 use Rattle.read_search.proofs.stored.keep_sources.Tie as tie
 
-slice-aggregate-word-at : tie.Need-slice-aggregate-word-at
-slice-aggregate-word-at c = search needs
-
-word-at-requires : tie.Need-word-at-requires
-word-at-requires c κs = search needs
-
-list-by-requires : tie.Need-list-by-requires
-list-by-requires c κs = search needs
-
 returns : tie.Need-returns
 returns c = c .list-by .ensures ∙ sources-given (c .before .before .before .before .before .args .text .now) (c .before .before .before .before .before .args .at) (sym (c .before .before .word-at .ensures) ∙ c .before .if1 .taken)
-
-nothing-listed-requires : tie.Need-nothing-listed-requires
-nothing-listed-requires c κs = search needs
-
-keep-nothing-requires : tie.Need-keep-nothing-requires
-keep-nothing-requires c κs = search needs
 
 put-listed-requires : tie.Need-put-listed-requires
 put-listed-requires c κs = rw (c .before .nothing-listed .ensures) (omega arith)
@@ -34,11 +19,11 @@ pub keep-sources-spec : {M : Type 1} → statement M
 keep-sources-spec =
     tie.close
     (tie.spec
-    slice-aggregate-word-at
-    word-at-requires
-    list-by-requires
+    (λ c. search needs)  -- slice-aggregate-word-at
+    (λ c κs. search needs)  -- word-at-requires
+    (λ c κs. search needs)  -- list-by-requires
     returns
-    nothing-listed-requires
-    keep-nothing-requires
+    (λ c κs. search needs)  -- nothing-listed-requires
+    (λ c κs. search needs)  -- keep-nothing-requires
     put-listed-requires
     returns-2)

@@ -6,44 +6,14 @@ use borrow.Author.Needs.{needs}
 use Rattle.read_search.proofs.stored.list_by.Statement.{statement}
 use Rattle.read_search.proofs.stored.list_by.Tie as tie
 
-behind-word-requires : tie.Need-behind-word-requires
-behind-word-requires c κs = search needs
-
-enum-known-q : tie.Need-enum-known-q
-enum-known-q c = search needs
-
-enum-told : tie.Need-enum-told
-enum-told c = search needs
-
-unlisted-requires : tie.Need-unlisted-requires
-unlisted-requires c κs = search needs
-
 returns : tie.Need-returns
 returns c = c .unlisted .ensures ∙ listed-closed (c .before .before .before .before .before .args .text .now) (c .before .before .before .before .before .args .at) nothingListed (sym (c .before .enum-told .given .1) ∙ c .before .before .before .behind-word .ensures)
-
-list-at-requires : tie.Need-list-at-requires
-list-at-requires c κs = search needs
-
-behind-space-requires : tie.Need-behind-space-requires
-behind-space-requires c κs = search needs
-
-enum-known-next : tie.Need-enum-known-next
-enum-known-next c = search needs
-
-enum-told-2 : tie.Need-enum-told-2
-enum-told-2 c = search needs
-
-unlisted-requires-2 : tie.Need-unlisted-requires-2
-unlisted-requires-2 c κs = search needs
 
 returns-2 : tie.Need-returns-2
 returns-2 c = c .unlisted2 .ensures ∙ listed-unspaced (c .before .before .before .before .before .before .before .before .before .before .before .args .text .now) (c .before .before .before .before .before .before .before .before .before .before .before .args .at) nothingListed (sym (c .before .before .before .before .before .before .before .q .given .1) ∙ c .before .before .before .before .before .before .before .before .before .behind-word .ensures) (c .before .before .before .before .before .list-at .ensures) (c .before .before .before .before .if1 .taken) (sym (c .before .enum-told2 .given .1) ∙ c .before .before .before .behind-space .ensures)
 
 returns-3 : tie.Need-returns-3
 returns-3 c = listed-whole (c .before .before .before .before .before .before .before .before .before .before .before .before .args .text .now) (c .before .before .before .before .before .before .before .before .before .before .before .before .args .at) nothingListed (sym (c .before .before .before .before .before .before .before .before .q .given .1) ∙ c .before .before .before .before .before .before .before .before .before .before .behind-word .ensures) (c .before .before .before .before .before .before .list-at .ensures) (c .before .before .before .before .before .if1 .taken) (sym (c .before .before .next .given .1) ∙ c .before .before .before .before .behind-space .ensures)
-
-unlisted-requires-3 : tie.Need-unlisted-requires-3
-unlisted-requires-3 c κs = search needs
 
 returns-4 : tie.Need-returns-4
 returns-4 c = c .unlisted3 .ensures ∙ listed-unfit (c .before .before .before .before .before .before .before .before .args .text .now) (c .before .before .before .before .before .before .before .before .args .at) nothingListed (sym (c .before .before .before .before .q .given .1) ∙ c .before .before .before .before .before .before .behind-word .ensures) (c .before .before .list-at .ensures) (c .before .if1 .left)
@@ -52,17 +22,17 @@ pub list-by-spec : {M : Type 1} → statement M
 list-by-spec =
     tie.close
     (tie.spec
-    behind-word-requires
-    enum-known-q
-    enum-told
-    unlisted-requires
+    (λ c κs. search needs)  -- behind-word-requires
+    (λ c. search needs)  -- enum-known-q
+    (λ c. search needs)  -- enum-told
+    (λ c κs. search needs)  -- unlisted-requires
     returns
-    list-at-requires
-    behind-space-requires
-    enum-known-next
-    enum-told-2
-    unlisted-requires-2
+    (λ c κs. search needs)  -- list-at-requires
+    (λ c κs. search needs)  -- behind-space-requires
+    (λ c. search needs)  -- enum-known-next
+    (λ c. search needs)  -- enum-told-2
+    (λ c κs. search needs)  -- unlisted-requires-2
     returns-2
     returns-3
-    unlisted-requires-3
+    (λ c κs. search needs)  -- unlisted-requires-3
     returns-4)

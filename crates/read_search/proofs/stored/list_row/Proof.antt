@@ -18,35 +18,17 @@ abbrev μ-loop : tie.MeasureT-loop
 loop-holds : tie.Need-loop-holds Inv-loop μ-loop
 loop-holds c = goes-start (c .before .args .text .now) (c .before .args .at) (c .before .args .listed) (c .before .pre .0) (c .before .pre .1)
 
-filter-at-requires : tie.Need-filter-at-requires Inv-loop μ-loop
-filter-at-requires c κs = search needs
-
-enum-known-scope : tie.Need-enum-known-scope Inv-loop μ-loop
-enum-known-scope c = search needs
-
-enum-told : tie.Need-enum-told Inv-loop μ-loop
-enum-told c = search needs
-
-unlisted-requires : tie.Need-unlisted-requires Inv-loop μ-loop
-unlisted-requires c κs = search needs
-
 returns : tie.Need-returns Inv-loop μ-loop
 returns c = λ n h. c .unlisted .ensures ∙ goes-none (c .before .before .before .before .before .before .args .text .now) (c .before .before .before .before .before .before .args .at) (c .before .before .before .before .before .before .args .listed) (c .before .before .before .before .loop .more) (c .before .before .before .before .loop .p) (c .before .before .before .before .loop .inv) (sym (c .before .enum-told .given .1) ∙ c .before .before .before .filter-at .ensures .exact) n h
 
 list-one-requires : tie.Need-list-one-requires Inv-loop μ-loop
 list-one-requires c κs = let w = rw (c .before .scope .given .1) at (c .before .before .before .filter-at .ensures .within) in record { sources = omega (arith, c .before .before .before .before .loop .inv .few); names = c .before .before .before .before .loop .inv .names }
 
-octet-at-requires : tie.Need-octet-at-requires Inv-loop μ-loop
-octet-at-requires c κs = search needs
-
 add-t12 : tie.Need-add-t12 Inv-loop μ-loop
 add-t12 c = let w = rw (c .before .before .before .before .scope .given .1) at (c .before .before .before .before .before .before .filter-at .ensures .within) in let i = in-text (c .before .before .before .before .before .before .before .before .before .args .text .now) (c .before .before .before .before .scope .given .0 .1 .1 .0) (sym (c .before .octet-at .ensures) ∙ c .if1 .taken) (omega arith) in omega arith
 
 returns-2 : tie.Need-returns-2 Inv-loop μ-loop
 returns-2 c = λ n h. goes-last (c .before .before .before .before .before .before .before .before .before .args .text .now) (c .before .before .before .before .before .before .before .before .before .args .at) (c .before .before .before .before .before .before .before .before .before .args .listed) (c .before .before .before .before .before .before .before .loop .more) (c .before .before .before .before .before .before .before .loop .p) (c .before .before .before .before .before .before .before .loop .inv) (sym (c .before .before .before .before .scope .given .1) ∙ c .before .before .before .before .before .before .filter-at .ensures .exact) (c .before .before .list-one .result) (c .before .before .list-one .ensures) (sym (c .before .octet-at .ensures) ∙ c .if1 .taken) n h
-
-unlisted-requires-2 : tie.Need-unlisted-requires-2 Inv-loop μ-loop
-unlisted-requires-2 c κs = search needs
 
 returns-3 : tie.Need-returns-3 Inv-loop μ-loop
 returns-3 c = λ n h. c .unlisted2 .ensures ∙ goes-wrong (c .before .before .before .before .before .before .before .before .before .before .before .args .text .now) (c .before .before .before .before .before .before .before .before .before .before .before .args .at) (c .before .before .before .before .before .before .before .before .before .before .before .args .listed) (c .before .before .before .before .before .before .before .before .before .loop .more) (c .before .before .before .before .before .before .before .before .before .loop .p) (c .before .before .before .before .before .before .before .before .before .loop .inv) (sym (c .before .before .before .before .before .before .scope .given .1) ∙ c .before .before .before .before .before .before .before .before .filter-at .ensures .exact) (λ e. c .before .if2 .taken (c .before .before .before .octet-at .ensures ∙ e)) (λ e. c .before .before .if1 .left (c .before .before .before .octet-at .ensures ∙ e)) n h
@@ -67,16 +49,16 @@ list-row-spec =
     Inv-loop
     μ-loop
     loop-holds
-    filter-at-requires
-    enum-known-scope
-    enum-told
-    unlisted-requires
+    (λ c κs. search needs)  -- filter-at-requires
+    (λ c. search needs)  -- enum-known-scope
+    (λ c. search needs)  -- enum-told
+    (λ c κs. search needs)  -- unlisted-requires
     returns
     list-one-requires
-    octet-at-requires
+    (λ c κs. search needs)  -- octet-at-requires
     add-t12
     returns-2
-    unlisted-requires-2
+    (λ c κs. search needs)  -- unlisted-requires-2
     returns-3
     add-p
     loop-less

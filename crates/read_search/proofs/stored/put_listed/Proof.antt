@@ -6,24 +6,16 @@ use borrow.Author.Needs.{needs}
 use Rattle.read_search.proofs.stored.put_listed.Statement.{statement}
 use Rattle.read_search.proofs.stored.put_listed.Tie as tie
 
-mul-sources : tie.Need-mul-sources
-mul-sources c = search needs
-
-array-set-from-sources : tie.Need-array-set-from-sources
-array-set-from-sources c = search needs
-
-add-t11 : tie.Need-add-t11
-add-t11 c = search needs
-
-returns : tie.Need-returns
-returns c = search needs
-
-add-t13 : tie.Need-add-t13
-add-t13 c = search needs
-
 returns-2 : tie.Need-returns-2
 returns-2 c = let l = mapped _ (c .before .before .args .listed .sources) (c .before .before .good .0 .1 .1 .1 .0 .1 .0 .1) in one-dropped (c .before .before .args .listed) (c .before .before .args .one) (c .before .before .args .kept) (omega arith)
 
 pub put-listed-spec : {M : Type 1} → statement M
 put-listed-spec =
-    tie.close (tie.spec mul-sources array-set-from-sources add-t11 returns add-t13 returns-2)
+    tie.close
+    (tie.spec
+    (λ c. search needs)  -- mul-sources
+    (λ c. search needs)  -- array-set-from-sources
+    (λ c. search needs)  -- add-t11
+    (λ c. search needs)  -- returns
+    (λ c. search needs)  -- add-t13
+    returns-2)

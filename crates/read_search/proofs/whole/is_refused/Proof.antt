@@ -4,12 +4,6 @@ use borrow.Author.Needs.{needs}
 use Rattle.read_search.proofs.whole.is_refused.Statement.{statement}
 use Rattle.read_search.proofs.whole.is_refused.Tie as tie
 
-returns : tie.Need-returns
-returns c = search needs
-
-returns-2 : tie.Need-returns-2
-returns-2 c = search needs
-
 returns-3 : tie.Need-returns-3
 returns-3 c = refused-none (c .before .before .before .before .args .selected) (c .before .before .before .before .args .sources) (c .before .before .before .if1 .left) (c .before .before .if2 .left) (c .if3 .taken)
 
@@ -17,4 +11,10 @@ returns-4 : tie.Need-returns-4
 returns-4 c = refused-some (c .before .before .before .before .args .selected) (c .before .before .before .before .args .sources) (c .before .before .before .if1 .left) (c .before .before .if2 .left) (c .if3 .left)
 
 pub is-refused-spec : {M : Type 1} → statement M
-is-refused-spec = tie.close (tie.spec returns returns-2 returns-3 returns-4)
+is-refused-spec =
+    tie.close
+    (tie.spec
+    (λ c. search needs)  -- returns
+    (λ c. search needs)  -- returns-2
+    returns-3
+    returns-4)

@@ -5,9 +5,6 @@ use borrow.Author.Needs.{needs}
 use Rattle.read_search.proofs.whole.reply_for.Statement.{statement}
 use Rattle.read_search.proofs.whole.reply_for.Tie as tie
 
-is-refused-requires : tie.Need-is-refused-requires
-is-refused-requires c κs = search needs
-
 returns : tie.Need-returns
 returns c = reply-refused (c .before .before .before .args .l) (c .before .before .before .args .selected) (c .before .before .before .args .a) (sym (c .before .is-refused .ensures) ∙ c .if1 .taken)
 
@@ -16,9 +13,6 @@ returns-2 c = reply-unsupported (c .before .before .before .before .args .l) (c 
 
 returns-3 : tie.Need-returns-3
 returns-3 c = reply-charset (c .before .before .before .before .before .args .l) (c .before .before .before .before .before .args .selected) (c .before .before .before .before .before .args .a) (sym (c .before .before .before .is-refused .ensures) ∙ c .before .before .if1 .left) (c .before .if2 .left) (c .if3 .taken)
-
-is-too-large-requires : tie.Need-is-too-large-requires
-is-too-large-requires c κs = search needs
 
 returns-4 : tie.Need-returns-4
 returns-4 c = reply-large (c .before .before .before .before .before .before .before .args .l) (c .before .before .before .before .before .before .before .args .selected) (c .before .before .before .before .before .before .before .args .a) (sym (c .before .before .before .before .before .is-refused .ensures) ∙ c .before .before .before .before .if1 .left) (c .before .before .before .if2 .left) (c .before .before .if3 .left) (sym (c .before .is-too-large .ensures) ∙ c .if4 .taken)
@@ -30,10 +24,10 @@ pub reply-for-spec : {M : Type 1} → statement M
 reply-for-spec =
     tie.close
     (tie.spec
-    is-refused-requires
+    (λ c κs. search needs)  -- is-refused-requires
     returns
     returns-2
     returns-3
-    is-too-large-requires
+    (λ c κs. search needs)  -- is-too-large-requires
     returns-4
     returns-5)

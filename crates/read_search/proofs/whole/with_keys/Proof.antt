@@ -6,23 +6,8 @@ use borrow.Author.Needs.{needs}
 use Rattle.read_search.proofs.whole.with_keys.Statement.{statement}
 use Rattle.read_search.proofs.whole.with_keys.Tie as tie
 
-program-at-requires : tie.Need-program-at-requires
-program-at-requires c κs = search needs
-
-enum-known-next : tie.Need-enum-known-next
-enum-known-next c = search needs
-
-enum-told : tie.Need-enum-told
-enum-told c = search needs
-
-same-length : tie.Need-same-length
-same-length c = search needs
-
 returns : tie.Need-returns
 returns c = let w = rw (c .before .next .given .1) at (c .before .before .before .before .before .program-at .ensures .within) in record { exact = keys-found (c .before .before .before .before .before .before .before .before .before .args .sources) (c .before .before .before .before .before .before .before .before .before .args .returns) (c .before .before .before .before .before .before .before .before .before .args .unknown) (c .before .before .before .before .before .before .before .before .before .args .cells .now) (c .before .before .before .before .before .program-at .last .1 .1 .0) (c .before .next .given .0 .0) (c .before .next .given .0 .1 .0) (c .before .next .given .0 .1 .1 .0) (c .before .next .given .0 .1 .1 .1 .0) (c .before .next .given .0 .1 .1 .1 .1 .0) (c .before .next .given .0 .1 .1 .1 .1 .1 .0) (programAt (c .before .before .before .before .before .before .before .before .before .args .text .now) (c .before .before .before .before .before .before .before .before .before .args .at)) (c .before .next .given .1) (c .before .before .before .before .before .program-at .ensures .exact); within = record { inside = w .inside; short = omega arith } }
-
-same-length-2 : tie.Need-same-length-2
-same-length-2 c = search needs
 
 returns-2 : tie.Need-returns-2
 returns-2 c = record { exact = keys-missing (c .before .before .before .before .before .before .before .before .args .sources) (c .before .before .before .before .before .before .before .before .args .returns) (c .before .before .before .before .before .before .before .before .args .unknown) (c .before .before .before .before .before .before .before .before .args .cells .now) (c .before .before .before .before .program-at .last .1 .1 .0) (programAt (c .before .before .before .before .before .before .before .before .args .text .now) (c .before .before .before .before .before .before .before .before .args .at)) (c .enum-told .given .1) (c .before .before .before .before .program-at .ensures .exact); within = tt }
@@ -31,10 +16,10 @@ pub with-keys-spec : {M : Type 1} → statement M
 with-keys-spec =
     tie.close
     (tie.spec
-    program-at-requires
-    enum-known-next
-    enum-told
-    same-length
+    (λ c κs. search needs)  -- program-at-requires
+    (λ c. search needs)  -- enum-known-next
+    (λ c. search needs)  -- enum-told
+    (λ c. search needs)  -- same-length
     returns
-    same-length-2
+    (λ c. search needs)  -- same-length-2
     returns-2)

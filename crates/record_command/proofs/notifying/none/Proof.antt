@@ -13,28 +13,10 @@ use Rattle.record_command.specs.Sized.{none-fits, none-not}
 say-reply-requires : tie.Need-say-reply-requires
 say-reply-requires c κs = let z = sizes _ _ (c .before .before .before .args .s) (c .before .before .before .pre) in (omega arith, omega arith)
 
-ending-at-requires : tie.Need-ending-at-requires
-ending-at-requires c κs = search needs
-
-watched-requires : tie.Need-watched-requires
-watched-requires c κs = search needs
-
-unmoved-requires : tie.Need-unmoved-requires
-unmoved-requires c κs = search needs
-
-same-length : tie.Need-same-length
-same-length c = search needs
-
 returns : tie.Need-returns
 returns c =
     let a = c .before .before .before .before .before .before .before .before .before .before .args in
     λ m ws lent p e. none-fits m ws (a .counts) (a .s) (a .queue .now) (a .text .now) lent (c .before .before .before .before .before .before .before .before .before .before .pre) p e (c .before .before .before .before .before .before .say-reply .ensures) (c .before .before .before .if1 .taken) _ (c .before .watched .ensures) _ (c .unmoved .ensures ∙ ap (λ (k : Counts). quiet Done k (c .before .watched .result)) (c .before .before .ending-at .ensures))
-
-refused-requires : tie.Need-refused-requires
-refused-requires c κs = search needs
-
-same-length-2 : tie.Need-same-length-2
-same-length-2 c = search needs
 
 returns-2 : tie.Need-returns-2
 returns-2 c =
@@ -46,11 +28,11 @@ none-spec =
     tie.close
     (tie.spec
     say-reply-requires
-    ending-at-requires
-    watched-requires
-    unmoved-requires
-    same-length
+    (λ c κs. search needs)  -- ending-at-requires
+    (λ c κs. search needs)  -- watched-requires
+    (λ c κs. search needs)  -- unmoved-requires
+    (λ c. search needs)  -- same-length
     returns
-    refused-requires
-    same-length-2
+    (λ c κs. search needs)  -- refused-requires
+    (λ c. search needs)  -- same-length-2
     returns-2)

@@ -20,23 +20,8 @@ use Rattle.record_command.specs.Verbs.{nothing-is, groups-are, unread-re
 use Rattle.record_command.proofs.notifying.notify.Statement.{statement}
 use Rattle.record_command.proofs.notifying.notify.Tie as tie
 
-keep-notify-requires : tie.Need-keep-notify-requires
-keep-notify-requires c κs = search needs
-
-limits-requires : tie.Need-limits-requires
-limits-requires c κs = search needs
-
-notify-reply-requires : tie.Need-notify-reply-requires
-notify-reply-requires c κs = search needs
-
-is-accepted-requires : tie.Need-is-accepted-requires
-is-accepted-requires c κs = search needs
-
 refuse-requires : tie.Need-refuse-requires
 refuse-requires c κs = let z = sizes _ _ (c .before .before .before .before .before .before .before .before .before .args .s) (c .before .before .before .before .before .before .before .before .before .pre .room) in (omega arith, omega arith)
-
-same-length : tie.Need-same-length
-same-length c = search needs
 
 returns : tie.Need-returns
 returns c =
@@ -48,41 +33,14 @@ returns c =
     let no = sym (c .before .before .before .before .before .is-accepted .ensures) ∙ not-true _ (c .before .before .before .before .if1 .taken) in
     λ m lent law laid sel head. c .before .before .refuse .ensures m (a .words .now) lent (verb-judged m (a .words .now) (a .counts) (a .s) (a .queue .now) (a .text .now) lent (c .before .before .before .before .before .before .notify-reply .result) (e head)) (reply-judged m (a .words .now) (a .counts) (a .s) (a .queue .now) (a .text .now) lent (c .before .before .before .before .before .before .notify-reply .result) (e head) no) no
 
-enum-told : tie.Need-enum-told
-enum-told c = search needs
-
-none-requires : tie.Need-none-requires
-none-requires c κs = search needs
-
-enum-known-read : tie.Need-enum-known-read
-enum-known-read c = search needs
-
-settled-requires : tie.Need-settled-requires
-settled-requires c κs = search needs
-
 set-requires : tie.Need-set-requires
 set-requires c κs = c .before .before .before .before .before .before .before .before .before .before .before .before .before .before .before .before .pre
-
-enum-told-2 : tie.Need-enum-told-2
-enum-told-2 c = search needs
-
-refused-requires : tie.Need-refused-requires
-refused-requires c κs = search needs
-
-same-length-2 : tie.Need-same-length-2
-same-length-2 c = search needs
 
 returns-2 : tie.Need-returns-2
 returns-2 c =
     let a = c .before .before .before .before .before .before .before .before .before .before .before .before .before .before .args in
     let k = c .before .before .before .before .before .before .before .before .before .before .keep-notify in
     λ m lent law laid sel head. c .before .before .none .ensures m (a .words .now) lent _ (nothing-is (commandOf (a .text .now)) (sym (c .before .before .before .before .enum-told .given .1) ∙ (k .ensures .exact ∙ ap readNotify head)))
-
-same-length-3 : tie.Need-same-length-3
-same-length-3 c = search needs
-
-same-length-4 : tie.Need-same-length-4
-same-length-4 c = search needs
 
 returns-3 : tie.Need-returns-3
 returns-3 c =
@@ -112,23 +70,23 @@ pub notify-spec : {M : Type 1} → statement M
 notify-spec =
     tie.close
     (tie.spec
-    keep-notify-requires
-    limits-requires
-    notify-reply-requires
-    is-accepted-requires
+    (λ c κs. search needs)  -- keep-notify-requires
+    (λ c κs. search needs)  -- limits-requires
+    (λ c κs. search needs)  -- notify-reply-requires
+    (λ c κs. search needs)  -- is-accepted-requires
     refuse-requires
-    same-length
+    (λ c. search needs)  -- same-length
     returns
-    enum-told
-    none-requires
-    enum-known-read
-    settled-requires
+    (λ c. search needs)  -- enum-told
+    (λ c κs. search needs)  -- none-requires
+    (λ c. search needs)  -- enum-known-read
+    (λ c κs. search needs)  -- settled-requires
     set-requires
-    enum-told-2
-    refused-requires
-    same-length-2
+    (λ c. search needs)  -- enum-told-2
+    (λ c κs. search needs)  -- refused-requires
+    (λ c. search needs)  -- same-length-2
     returns-2
-    same-length-3
-    same-length-4
+    (λ c. search needs)  -- same-length-3
+    (λ c. search needs)  -- same-length-4
     returns-3
     returns-4)

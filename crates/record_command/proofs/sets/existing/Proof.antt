@@ -4,9 +4,6 @@ use Rattle.model.specs.Laws.{tf}
 use Rattle.record_command.proofs.sets.existing.Statement.{statement}
 use Rattle.record_command.proofs.sets.existing.Tie as tie
 
-count-requires : tie.Need-count-requires
-count-requires c κs = search needs
-
 returns : tie.Need-returns
 returns c = λ e. c .count .ensures
 
@@ -17,6 +14,6 @@ pub existing-spec : {M : Type 1} → statement M
 existing-spec =
     tie.close
     (tie.spec
-    count-requires
+    (λ c κs. search needs)  -- count-requires
     returns
     returns-2)

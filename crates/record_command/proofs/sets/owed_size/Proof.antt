@@ -14,29 +14,11 @@ returns c =
     let a = c .before .before .before .args in
     (λ m lent law e. owed-none m (a .words .now) (a .counts) (a .s) (a .queue .now) lent law (sym e ∙ not-true _ (c .if1 .taken)), omega arith, refl)
 
-cast-id : tie.Need-cast-id
-cast-id c = search needs
-
-cast-told : tie.Need-cast-told
-cast-told c = search needs
-
-slice-aggregate-by-uid : tie.Need-slice-aggregate-by-uid
-slice-aggregate-by-uid c = search needs
-
-by-uid-requires : tie.Need-by-uid-requires
-by-uid-requires c κs = search needs
-
-slice-aggregate-put-owed : tie.Need-slice-aggregate-put-owed
-slice-aggregate-put-owed c = search needs
-
 put-owed-requires : tie.Need-put-owed-requires
 put-owed-requires c κs =
     let a = c .before .before .before .before .before .before .before .before .before .before .args in
     let n = order-short (messages (a .words .now)) _ (c .before .before .before .by-uid .result) (a .counts .messages) (a .s .selected) (c .before .before .before .by-uid .ensures) in
     (omega arith, omega arith, omega arith, omega arith)
-
-same-length : tie.Need-same-length
-same-length c = search needs
 
 returns-2 : tie.Need-returns-2
 returns-2 c =
@@ -49,11 +31,11 @@ owed-size-spec =
     tie.close
     (tie.spec
     returns
-    cast-id
-    cast-told
-    slice-aggregate-by-uid
-    by-uid-requires
-    slice-aggregate-put-owed
+    (λ c. search needs)  -- cast-id
+    (λ c. search needs)  -- cast-told
+    (λ c. search needs)  -- slice-aggregate-by-uid
+    (λ c κs. search needs)  -- by-uid-requires
+    (λ c. search needs)  -- slice-aggregate-put-owed
     put-owed-requires
-    same-length
+    (λ c. search needs)  -- same-length
     returns-2)

@@ -5,15 +5,6 @@ use Rattle.line_put.specs.Put.{_then_}
 use Rattle.record_command.proofs.sets.put_work.Statement.{statement}
 use Rattle.record_command.proofs.sets.put_work.Tie as tie
 
-put-listing-requires : tie.Need-put-listing-requires
-put-listing-requires c κs = search needs
-
-put-reply-requires : tie.Need-put-reply-requires
-put-reply-requires c κs = search needs
-
-same-length : tie.Need-same-length
-same-length c = search needs
-
 returns : tie.Need-returns
 returns c = (
   λ m s wanted d. _then_ (c .before .before .before .before .before .before .put-listing .ensures .0 m s wanted (d .long) (d .shown) (d .ordered) (d .tells)) (c .before .before .put-reply .ensures .0),
@@ -24,7 +15,7 @@ pub put-work-spec : {M : Type 1} → statement M
 put-work-spec =
     tie.close
     (tie.spec
-    put-listing-requires
-    put-reply-requires
-    same-length
+    (λ c κs. search needs)  -- put-listing-requires
+    (λ c κs. search needs)  -- put-reply-requires
+    (λ c. search needs)  -- same-length
     returns)

@@ -10,30 +10,6 @@ use Rattle.record_command.specs.Setting.{noted-set}
 use Rattle.record_command.proofs.sets.set.Statement.{statement}
 use Rattle.record_command.proofs.sets.set.Tie as tie
 
-slice-aggregate-note-rows : tie.Need-slice-aggregate-note-rows
-slice-aggregate-note-rows c = search needs
-
-slice-aggregate-note-rows-2 : tie.Need-slice-aggregate-note-rows-2
-slice-aggregate-note-rows-2 c = search needs
-
-note-rows-requires : tie.Need-note-rows-requires
-note-rows-requires c κs = search needs
-
-slice-aggregate-by-name : tie.Need-slice-aggregate-by-name
-slice-aggregate-by-name c = search needs
-
-slice-aggregate-by-name-2 : tie.Need-slice-aggregate-by-name-2
-slice-aggregate-by-name-2 c = search needs
-
-by-name-requires : tie.Need-by-name-requires
-by-name-requires c κs = search needs
-
-existing-requires : tie.Need-existing-requires
-existing-requires c κs = search needs
-
-both-requires : tie.Need-both-requires
-both-requires c κs = search needs
-
 set-noted-requires : tie.Need-set-noted-requires
 set-noted-requires c κs =
     let z = sizes _ _ (c .before .before .before .before .before .before .before .before .before .before .before .before .before .before .before .before .before .before .before .before .args .s) (c .before .before .before .before .before .before .before .before .before .before .before .before .before .before .before .before .before .before .before .before .pre .room) in
@@ -42,12 +18,6 @@ set-noted-requires c κs =
     let w = c .before .before .before .before .before .before .before .before .before .before .before .before .before .before .before .before .before .before .before .before .pre .words in
     let x = c .before .before .before .before .before .before .before .before .before .by-name .ensures .1 in
     (omega arith, omega arith, omega arith, omega arith, omega arith, omega arith)
-
-same-length : tie.Need-same-length
-same-length c = search needs
-
-same-length-2 : tie.Need-same-length-2
-same-length-2 c = search needs
 
 returns : tie.Need-returns
 returns c =
@@ -63,15 +33,15 @@ pub set-spec : {M : Type 1} → statement M
 set-spec =
     tie.close
     (tie.spec
-    slice-aggregate-note-rows
-    slice-aggregate-note-rows-2
-    note-rows-requires
-    slice-aggregate-by-name
-    slice-aggregate-by-name-2
-    by-name-requires
-    existing-requires
-    both-requires
+    (λ c. search needs)  -- slice-aggregate-note-rows
+    (λ c. search needs)  -- slice-aggregate-note-rows-2
+    (λ c κs. search needs)  -- note-rows-requires
+    (λ c. search needs)  -- slice-aggregate-by-name
+    (λ c. search needs)  -- slice-aggregate-by-name-2
+    (λ c κs. search needs)  -- by-name-requires
+    (λ c κs. search needs)  -- existing-requires
+    (λ c κs. search needs)  -- both-requires
     set-noted-requires
-    same-length
-    same-length-2
+    (λ c. search needs)  -- same-length
+    (λ c. search needs)  -- same-length-2
     returns)

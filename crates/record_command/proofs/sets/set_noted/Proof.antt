@@ -13,27 +13,6 @@ use Rattle.record_command.specs.Setting.{set-verb, set-large, set-roomle
 use Rattle.record_command.proofs.sets.set_noted.Statement.{statement}
 use Rattle.record_command.proofs.sets.set_noted.Tie as tie
 
-sub-limit : tie.Need-sub-limit
-sub-limit c = search needs
-
-owed-size-requires : tie.Need-owed-size-requires
-owed-size-requires c κs = search needs
-
-put-work-requires : tie.Need-put-work-requires
-put-work-requires c κs = search needs
-
-add-if1 : tie.Need-add-if1
-add-if1 c = search needs
-
-refuse-requires : tie.Need-refuse-requires
-refuse-requires c κs = search needs
-
-same-length : tie.Need-same-length
-same-length c = search needs
-
-same-length-2 : tie.Need-same-length-2
-same-length-2 c = search needs
-
 returns : tie.Need-returns
 returns c =
     let a = c .before .before .before .before .before .before .before .before .before .before .before .before .before .before .before .before .before .args in
@@ -47,21 +26,6 @@ returns c =
     c .before .before .refuse .ensures m (a .words .now) (subst (λ (q : List ℕ). Lends m (a .words .now) (a .counts) (a .s) q) (sym same) lent)
     (set-verb m (a .text .now) p wanted gs is first)
     (set-large m (a .text .now) p wanted gs is first (o .result) (c .before .before .before .before .before .before .before .put-work .result) (o .ensures .0 m lent law right) (omega arith) (omega arith)) refl
-
-add-if2 : tie.Need-add-if2
-add-if2 c = search needs
-
-add-if2-2 : tie.Need-add-if2-2
-add-if2-2 c = search needs
-
-refused-requires : tie.Need-refused-requires
-refused-requires c κs = search needs
-
-same-length-3 : tie.Need-same-length-3
-same-length-3 c = search needs
-
-same-length-4 : tie.Need-same-length-4
-same-length-4 c = search needs
 
 returns-2 : tie.Need-returns-2
 returns-2 c =
@@ -78,18 +42,6 @@ returns-2 c =
     rw same (comes-roomless m (a .words .now) (a .counts) (a .s) (a .queue .now) (a .text .now) lent
     (set-roomless m (a .text .now) p wanted gs is first (o .result) (c .before .before .before .before .before .put-work .result) (o .ensures .0 m lent law right) (omega arith) (omega arith) (omega arith))
     _ (c .refused .ensures))
-
-add-write-set : tie.Need-add-write-set
-add-write-set c = search needs
-
-write-set-requires : tie.Need-write-set-requires
-write-set-requires c κs = search needs
-
-same-length-5 : tie.Need-same-length-5
-same-length-5 c = search needs
-
-same-length-6 : tie.Need-same-length-6
-same-length-6 c = search needs
 
 returns-3 : tie.Need-returns-3
 returns-3 c =
@@ -109,22 +61,22 @@ pub set-noted-spec : {M : Type 1} → statement M
 set-noted-spec =
     tie.close
     (tie.spec
-    sub-limit
-    owed-size-requires
-    put-work-requires
-    add-if1
-    refuse-requires
-    same-length
-    same-length-2
+    (λ c. search needs)  -- sub-limit
+    (λ c κs. search needs)  -- owed-size-requires
+    (λ c κs. search needs)  -- put-work-requires
+    (λ c. search needs)  -- add-if1
+    (λ c κs. search needs)  -- refuse-requires
+    (λ c. search needs)  -- same-length
+    (λ c. search needs)  -- same-length-2
     returns
-    add-if2
-    add-if2-2
-    refused-requires
-    same-length-3
-    same-length-4
+    (λ c. search needs)  -- add-if2
+    (λ c. search needs)  -- add-if2-2
+    (λ c κs. search needs)  -- refused-requires
+    (λ c. search needs)  -- same-length-3
+    (λ c. search needs)  -- same-length-4
     returns-2
-    add-write-set
-    write-set-requires
-    same-length-5
-    same-length-6
+    (λ c. search needs)  -- add-write-set
+    (λ c κs. search needs)  -- write-set-requires
+    (λ c. search needs)  -- same-length-5
+    (λ c. search needs)  -- same-length-6
     returns-3)

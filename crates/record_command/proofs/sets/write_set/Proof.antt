@@ -11,32 +11,8 @@ use Rattle.record_command.specs.Setting.{set-comes, asked-view}
 use Rattle.record_command.proofs.sets.write_set.Statement.{statement}
 use Rattle.record_command.proofs.sets.write_set.Tie as tie
 
-sub-limit : tie.Need-sub-limit
-sub-limit c = search needs
-
-slice-aggregate-end-command : tie.Need-slice-aggregate-end-command
-slice-aggregate-end-command c = search needs
-
-end-command-requires : tie.Need-end-command-requires
-end-command-requires c κs = search needs
-
-put-work-requires : tie.Need-put-work-requires
-put-work-requires c κs = search needs
-
-with-counts-requires : tie.Need-with-counts-requires
-with-counts-requires c κs = search needs
-
-viewed-requires : tie.Need-viewed-requires
-viewed-requires c κs = search needs
-
-unmoved-requires : tie.Need-unmoved-requires
-unmoved-requires c κs = search needs
-
 same-length : tie.Need-same-length
 same-length c = c .before .before .before .before .before .before .before .before .before .before .before .before .words .given
-
-same-length-2 : tie.Need-same-length-2
-same-length-2 c = search needs
 
 returns : tie.Need-returns
 returns c =
@@ -51,13 +27,13 @@ pub write-set-spec : {M : Type 1} → statement M
 write-set-spec =
     tie.close
     (tie.spec
-    sub-limit
-    slice-aggregate-end-command
-    end-command-requires
-    put-work-requires
-    with-counts-requires
-    viewed-requires
-    unmoved-requires
+    (λ c. search needs)  -- sub-limit
+    (λ c. search needs)  -- slice-aggregate-end-command
+    (λ c κs. search needs)  -- end-command-requires
+    (λ c κs. search needs)  -- put-work-requires
+    (λ c κs. search needs)  -- with-counts-requires
+    (λ c κs. search needs)  -- viewed-requires
+    (λ c κs. search needs)  -- unmoved-requires
     same-length
-    same-length-2
+    (λ c. search needs)  -- same-length-2
     returns)

@@ -7,18 +7,9 @@ use Rattle.model.specs.Memory.{boxes}
 use Rattle.record_mailbox.specs.Putting.{counted}
 use Rattle.record_mailbox.specs.Creating.{create-known, create-held, create-full, create-comes}
 
-refused-requires : tie.Need-refused-requires
-refused-requires c κs = search needs
-
 returns : tie.Need-returns
 returns c = λ m ws x lent l law w p d e v. let a = c .before .before .before .before .before .args in
     create-known m ws (a .counts) (a .s) (a .queue .now) lent law (a .id) (a .k) x w (a .a) (a .quiet) (a .validity) (a .counter) (a .name .now) _ (c .before .if1 .taken) (c .refused .ensures)
-
-is-taken-requires : tie.Need-is-taken-requires
-is-taken-requires c κs = search needs
-
-refused-requires-2 : tie.Need-refused-requires-2
-refused-requires-2 c κs = search needs
 
 returns-2 : tie.Need-returns-2
 returns-2 c = λ m ws x lent l law w p d e v. let a = c .before .before .before .before .before .before .before .args in
@@ -26,20 +17,11 @@ returns-2 c = λ m ws x lent l law w p d e v. let a = c .before .before .before 
     create-held m ws (a .counts) (a .s) (a .queue .now) lent law (a .id) (a .k) x w (a .a) (a .quiet) (a .validity) (a .counter) (a .name .now) _ (c .before .before .before .if1 .left)
     (sym held ∙ c .before .if2 .taken) (c .refused2 .ensures)
 
-refused-requires-3 : tie.Need-refused-requires-3
-refused-requires-3 c κs = search needs
-
 returns-3 : tie.Need-returns-3
 returns-3 c = λ m ws x lent l law w p d e v. let a = c .before .before .before .before .before .before .before .before .before .args in
     let held = c .before .before .before .before .is-taken .ensures (boxes m) (counted m ws (a .counts) (a .s) (a .queue .now) lent law) p d e v in
     create-full m ws (a .counts) (a .s) (a .queue .now) lent law (a .id) (a .k) x w (a .a) (a .quiet) (a .validity) (a .counter) (a .name .now) _ (a .lent) l (c .before .before .before .before .before .if1 .left)
     (sym held ∙ c .before .before .before .if2 .left) (c .before .if3 .taken) (c .refused3 .ensures)
-
-add-requires : tie.Need-add-requires
-add-requires c κs = search needs
-
-same-length : tie.Need-same-length
-same-length c = search needs
 
 returns-4 : tie.Need-returns-4
 returns-4 c = λ m ws x lent l law w p d e v. let a = c .before .before .before .before .before .before .before .before .before .before .before .before .args in
@@ -51,13 +33,13 @@ pub create-spec : {M : Type 1} → statement M
 create-spec =
     tie.close
     (tie.spec
-    refused-requires
+    (λ c κs. search needs)  -- refused-requires
     returns
-    is-taken-requires
-    refused-requires-2
+    (λ c κs. search needs)  -- is-taken-requires
+    (λ c κs. search needs)  -- refused-requires-2
     returns-2
-    refused-requires-3
+    (λ c κs. search needs)  -- refused-requires-3
     returns-3
-    add-requires
-    same-length
+    (λ c κs. search needs)  -- add-requires
+    (λ c. search needs)  -- same-length
     returns-4)

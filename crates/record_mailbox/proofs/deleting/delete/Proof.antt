@@ -5,32 +5,14 @@ use Rattle.record_mailbox.proofs.deleting.delete.Tie as tie
 use mathlib.Core.Path.{sym, _∙_}
 use Rattle.record_mailbox.specs.Deleting.{delete-unknown, delete-selected, delete-comes}
 
-refused-requires : tie.Need-refused-requires
-refused-requires c κs = search needs
-
 returns : tie.Need-returns
 returns c = λ m lent law w. let a = c .before .before .before .before .before .args in
     delete-unknown m (a .words .now) (a .counts) (a .s) (a .queue .now) lent law (a .id) (a .k) (a .x) w (a .quiet) _ (c .before .if1 .taken) (c .refused .ensures)
-
-is-selected-requires : tie.Need-is-selected-requires
-is-selected-requires c κs = search needs
-
-refused-requires-2 : tie.Need-refused-requires-2
-refused-requires-2 c κs = search needs
 
 returns-2 : tie.Need-returns-2
 returns-2 c = λ m lent law w. let a = c .before .before .before .before .before .before .before .args in
     delete-selected m (a .words .now) (a .counts) (a .s) (a .queue .now) lent law (a .id) (a .k) (a .x) w (a .quiet) _ (c .before .before .before .if1 .left)
     (sym (c .before .before .is-selected .ensures) ∙ c .before .if2 .taken) (c .refused2 .ensures)
-
-take-out-requires : tie.Need-take-out-requires
-take-out-requires c κs = search needs
-
-same-length : tie.Need-same-length
-same-length c = search needs
-
-same-length-2 : tie.Need-same-length-2
-same-length-2 c = search needs
 
 returns-3 : tie.Need-returns-3
 returns-3 c = λ m lent law w. let a = c .before .before .before .before .before .before .before .before .before .before .before .before .before .args in
@@ -41,12 +23,12 @@ pub delete-spec : {M : Type 1} → statement M
 delete-spec =
     tie.close
     (tie.spec
-    refused-requires
+    (λ c κs. search needs)  -- refused-requires
     returns
-    is-selected-requires
-    refused-requires-2
+    (λ c κs. search needs)  -- is-selected-requires
+    (λ c κs. search needs)  -- refused-requires-2
     returns-2
-    take-out-requires
-    same-length
-    same-length-2
+    (λ c κs. search needs)  -- take-out-requires
+    (λ c. search needs)  -- same-length
+    (λ c. search needs)  -- same-length-2
     returns-3)

@@ -7,11 +7,13 @@ use borrow.Author.Tests.{eq-eqb, ne-eqb}
 returns : tie.Need-returns
 returns c = rw (eq-eqb _ 0 (c .if1 .taken))
 
-cast-result : tie.Need-cast-result
-cast-result c = search needs
-
 returns-2 : tie.Need-returns-2
 returns-2 c = rw (ne-eqb _ 0 (c .before .if1 .left))
 
 pub is-selected-spec : {M : Type 1} → statement M
-is-selected-spec = tie.close (tie.spec returns cast-result returns-2)
+is-selected-spec =
+    tie.close
+    (tie.spec
+    returns
+    (λ c. search needs)  -- cast-result
+    returns-2)

@@ -4,24 +4,6 @@ use Rattle.record_mailbox.proofs.deleting.take_out.Statement.{statement
 use Rattle.record_mailbox.proofs.deleting.take_out.Tie as tie
 use Rattle.record_mailbox.specs.Deleting.{taken-out}
 
-cast-delete : tie.Need-cast-delete
-cast-delete c = search needs
-
-delete-requires : tie.Need-delete-requires
-delete-requires c κs = search needs
-
-settle-requires : tie.Need-settle-requires
-settle-requires c κs = search needs
-
-sub-left : tie.Need-sub-left
-sub-left c = search needs
-
-same-length : tie.Need-same-length
-same-length c = search needs
-
-same-length-2 : tie.Need-same-length-2
-same-length-2 c = search needs
-
 returns : tie.Need-returns
 returns c = let a = c .before .before .before .before .before .before .before .before .before .before .before .before .args in
     taken-out (a .words .now) (a .queue .now) (a .counts) (a .s) (a .k) (a .x) (a .id) (a .quiet) (c .before .before .before .before .settle .result) (c .before .before .before .before .before .before .before .before .delete .result .session) (c .before .before .before .before .before .before .before .before .delete .result .filled)
@@ -31,10 +13,10 @@ pub take-out-spec : {M : Type 1} → statement M
 take-out-spec =
     tie.close
     (tie.spec
-    cast-delete
-    delete-requires
-    settle-requires
-    sub-left
-    same-length
-    same-length-2
+    (λ c. search needs)  -- cast-delete
+    (λ c κs. search needs)  -- delete-requires
+    (λ c κs. search needs)  -- settle-requires
+    (λ c. search needs)  -- sub-left
+    (λ c. search needs)  -- same-length
+    (λ c. search needs)  -- same-length-2
     returns)

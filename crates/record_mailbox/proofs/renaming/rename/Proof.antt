@@ -7,36 +7,15 @@ use Rattle.model.specs.Memory.{boxes}
 use Rattle.record_mailbox.specs.Putting.{counted}
 use Rattle.record_mailbox.specs.Renaming.{rename-unknown, rename-held, rename-comes}
 
-refused-requires : tie.Need-refused-requires
-refused-requires c κs = search needs
-
 returns : tie.Need-returns
 returns c = λ m ws lent law w p d e v. let a = c .before .before .before .before .before .args in
     rename-unknown m ws (a .counts) (a .s) (a .queue .now) lent law (a .id) (a .k) (a .x) w (a .quiet) (a .name .now) _ (c .before .if1 .taken) (c .refused .ensures)
-
-is-taken-requires : tie.Need-is-taken-requires
-is-taken-requires c κs = search needs
-
-refused-requires-2 : tie.Need-refused-requires-2
-refused-requires-2 c κs = search needs
 
 returns-2 : tie.Need-returns-2
 returns-2 c = λ m ws lent law w p d e v. let a = c .before .before .before .before .before .before .before .args in
     let held = c .before .before .is-taken .ensures (boxes m) (counted m ws (a .counts) (a .s) (a .queue .now) lent law) p d e v in
     rename-held m ws (a .counts) (a .s) (a .queue .now) lent law (a .id) (a .k) (a .x) w (a .quiet) (a .name .now) _ (c .before .before .before .if1 .left)
     (sym held ∙ c .before .if2 .taken) (c .refused2 .ensures)
-
-cast-rename : tie.Need-cast-rename
-cast-rename c = search needs
-
-rename-requires : tie.Need-rename-requires
-rename-requires c κs = search needs
-
-put-requires : tie.Need-put-requires
-put-requires c κs = search needs
-
-same-length : tie.Need-same-length
-same-length c = search needs
 
 returns-3 : tie.Need-returns-3
 returns-3 c = λ m ws lent law w p d e v. let a = c .before .before .before .before .before .before .before .before .before .before .before .args in
@@ -48,13 +27,13 @@ pub rename-spec : {M : Type 1} → statement M
 rename-spec =
     tie.close
     (tie.spec
-    refused-requires
+    (λ c κs. search needs)  -- refused-requires
     returns
-    is-taken-requires
-    refused-requires-2
+    (λ c κs. search needs)  -- is-taken-requires
+    (λ c κs. search needs)  -- refused-requires-2
     returns-2
-    cast-rename
-    rename-requires
-    put-requires
-    same-length
+    (λ c. search needs)  -- cast-rename
+    (λ c κs. search needs)  -- rename-requires
+    (λ c κs. search needs)  -- put-requires
+    (λ c. search needs)  -- same-length
     returns-3)

@@ -4,27 +4,9 @@ use Rattle.record_mailbox.proofs.subscriptions.subscribe.Statement.{sta
 use Rattle.record_mailbox.proofs.subscriptions.subscribe.Tie as tie
 use Rattle.record_mailbox.specs.Subscriptions.{subscribe-unknown, subscribe-comes}
 
-refused-requires : tie.Need-refused-requires
-refused-requires c κs = search needs
-
 returns : tie.Need-returns
 returns c = λ m ws lent law w. let a = c .before .before .before .before .args in
     subscribe-unknown m ws (a .counts) (a .s) (a .queue .now) lent law (a .id) (a .k) (a .x) w (a .b) (a .quiet) _ (c .before .if1 .taken) (c .refused .ensures)
-
-cast-subscribe : tie.Need-cast-subscribe
-cast-subscribe c = search needs
-
-cast-subscribe-2 : tie.Need-cast-subscribe-2
-cast-subscribe-2 c = search needs
-
-subscribe-requires : tie.Need-subscribe-requires
-subscribe-requires c κs = search needs
-
-put-requires : tie.Need-put-requires
-put-requires c κs = search needs
-
-same-length : tie.Need-same-length
-same-length c = search needs
 
 returns-2 : tie.Need-returns-2
 returns-2 c = λ m ws lent law w. let a = c .before .before .before .before .before .before .before .before .args in
@@ -34,11 +16,11 @@ pub subscribe-spec : {M : Type 1} → statement M
 subscribe-spec =
     tie.close
     (tie.spec
-    refused-requires
+    (λ c κs. search needs)  -- refused-requires
     returns
-    cast-subscribe
-    cast-subscribe-2
-    subscribe-requires
-    put-requires
-    same-length
+    (λ c. search needs)  -- cast-subscribe
+    (λ c. search needs)  -- cast-subscribe-2
+    (λ c κs. search needs)  -- subscribe-requires
+    (λ c κs. search needs)  -- put-requires
+    (λ c. search needs)  -- same-length
     returns-2)

@@ -18,38 +18,8 @@ abbrev μ-loop : tie.MeasureT-loop
 loop-holds : tie.Need-loop-holds Inv-loop μ-loop
 loop-holds c = (passed-none (c .before .args .o .now) (take (c .before .args .count) (c .before .args .t2)), omega arith)
 
-array-read-field-of : tie.Need-array-read-field-of Inv-loop μ-loop
-array-read-field-of c = search needs
-
-field-of-requires : tie.Need-field-of-requires Inv-loop μ-loop
-field-of-requires c κs = search needs
-
-width-of-requires : tie.Need-width-of-requires Inv-loop μ-loop
-width-of-requires c κs = search needs
-
 number-at-requires : tie.Need-number-at-requires Inv-loop μ-loop
 number-at-requires c κs = (omega arith, c .width-of .ensures .2)
-
-in-range-requires : tie.Need-in-range-requires Inv-loop μ-loop
-in-range-requires c κs = search needs
-
-both-requires : tie.Need-both-requires Inv-loop μ-loop
-both-requires c κs = search needs
-
-mul-values : tie.Need-mul-values Inv-loop μ-loop
-mul-values c = search needs
-
-array-write-values : tie.Need-array-write-values Inv-loop μ-loop
-array-write-values c = search needs
-
-add-end : tie.Need-add-end Inv-loop μ-loop
-add-end c = search needs
-
-add-i : tie.Need-add-i Inv-loop μ-loop
-add-i c = search needs
-
-loop-less : tie.Need-loop-less Inv-loop μ-loop
-loop-less c = search needs
 
 loop-again : tie.Need-loop-again Inv-loop μ-loop
 loop-again c =
@@ -78,16 +48,16 @@ fields-at-spec =
     Inv-loop
     μ-loop
     loop-holds
-    array-read-field-of
-    field-of-requires
-    width-of-requires
+    (λ c. search needs)  -- array-read-field-of
+    (λ c κs. search needs)  -- field-of-requires
+    (λ c κs. search needs)  -- width-of-requires
     number-at-requires
-    in-range-requires
-    both-requires
-    mul-values
-    array-write-values
-    add-end
-    add-i
-    loop-less
+    (λ c κs. search needs)  -- in-range-requires
+    (λ c κs. search needs)  -- both-requires
+    (λ c. search needs)  -- mul-values
+    (λ c. search needs)  -- array-write-values
+    (λ c. search needs)  -- add-end
+    (λ c. search needs)  -- add-i
+    (λ c. search needs)  -- loop-less
     loop-again
     returns)

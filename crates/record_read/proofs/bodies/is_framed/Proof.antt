@@ -7,14 +7,14 @@ use Rattle.record_read.proofs.Frames.{frame-short, frame-long}
 returns : tie.Need-returns
 returns c = frame-short (c .before .before .args .o .now) (c .if1 .taken)
 
-little-requires : tie.Need-little-requires
-little-requires c κs = search needs
-
-sub-result : tie.Need-sub-result
-sub-result c = search needs
-
 returns-2 : tie.Need-returns-2
 returns-2 c = frame-long (c .before .before .before .args .o .now) (c .before .if1 .left) (c .little .ensures)
 
 pub is-framed-spec : {M : Type 1} → statement M
-is-framed-spec = tie.close (tie.spec returns little-requires sub-result returns-2)
+is-framed-spec =
+    tie.close
+    (tie.spec
+    returns
+    (λ c κs. search needs)  -- little-requires
+    (λ c. search needs)  -- sub-result
+    returns-2)

@@ -6,9 +6,6 @@ use mathlib.Core.Path.{sym, _∙_}
 use borrow.Author.Tests.{not-true, not-false}
 use Rattle.record_read.proofs.Frames.{whole-unframed, whole-short, whole-tail}
 
-is-framed-requires : tie.Need-is-framed-requires
-is-framed-requires c κs = search needs
-
 returns : tie.Need-returns
 returns c =
     let args = c .before .before .before .args in
@@ -20,9 +17,6 @@ returns-2 c =
     let framed = sym (c .before .before .is-framed .ensures) ∙ not-false _ (c .before .if1 .left) in
     whole-short (args .o .now) (args .end) _ framed (c .if2 .taken)
 
-tail-ok-requires : tie.Need-tail-ok-requires
-tail-ok-requires c κs = search needs
-
 returns-3 : tie.Need-returns-3
 returns-3 c =
     let args = c .before .before .before .before .before .args in
@@ -31,4 +25,10 @@ returns-3 c =
 
 pub is-whole-spec : {M : Type 1} → statement M
 is-whole-spec =
-    tie.close (tie.spec is-framed-requires returns returns-2 tail-ok-requires returns-3)
+    tie.close
+    (tie.spec
+    (λ c κs. search needs)  -- is-framed-requires
+    returns
+    returns-2
+    (λ c κs. search needs)  -- tail-ok-requires
+    returns-3)

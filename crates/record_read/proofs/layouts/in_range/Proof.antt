@@ -5,60 +5,6 @@ use Rattle.record_read.proofs.layouts.in_range.Tie as tie
 use mathlib.Core.Path.{_∙_}
 use Rattle.record_read.proofs.Letters.{range-as}
 
-enum-told : tie.Need-enum-told
-enum-told c = search needs
-
-between-requires : tie.Need-between-requires
-between-requires c κs = search needs
-
-enum-told-2 : tie.Need-enum-told-2
-enum-told-2 c = search needs
-
-enum-told-3 : tie.Need-enum-told-3
-enum-told-3 c = search needs
-
-enum-told-4 : tie.Need-enum-told-4
-enum-told-4 c = search needs
-
-enum-told-5 : tie.Need-enum-told-5
-enum-told-5 c = search needs
-
-between-requires-2 : tie.Need-between-requires-2
-between-requires-2 c κs = search needs
-
-enum-told-6 : tie.Need-enum-told-6
-enum-told-6 c = search needs
-
-enum-told-7 : tie.Need-enum-told-7
-enum-told-7 c = search needs
-
-is-rights-requires : tie.Need-is-rights-requires
-is-rights-requires c κs = search needs
-
-enum-told-8 : tie.Need-enum-told-8
-enum-told-8 c = search needs
-
-between-requires-3 : tie.Need-between-requires-3
-between-requires-3 c κs = search needs
-
-enum-told-9 : tie.Need-enum-told-9
-enum-told-9 c = search needs
-
-enum-told-10 : tie.Need-enum-told-10
-enum-told-10 c = search needs
-
-enum-told-11 : tie.Need-enum-told-11
-enum-told-11 c = search needs
-
-enum-told-12 : tie.Need-enum-told-12
-enum-told-12 c = search needs
-
-enum-told-13 : tie.Need-enum-told-13
-enum-told-13 c = search needs
-
-between-requires-4 : tie.Need-between-requires-4
-between-requires-4 c κs = search needs
-
 returns : tie.Need-returns
 returns c = c .between .ensures ∙ range-as (c .before .before .before .args .v) (c .before .enum-told .given .1)
 
@@ -102,24 +48,24 @@ pub in-range-spec : {M : Type 1} → statement M
 in-range-spec =
     tie.close
     (tie.spec
-    enum-told
-    between-requires
-    enum-told-2
-    enum-told-3
-    enum-told-4
-    enum-told-5
-    between-requires-2
-    enum-told-6
-    enum-told-7
-    is-rights-requires
-    enum-told-8
-    between-requires-3
-    enum-told-9
-    enum-told-10
-    enum-told-11
-    enum-told-12
-    enum-told-13
-    between-requires-4
+    (λ c. search needs)  -- enum-told
+    (λ c κs. search needs)  -- between-requires
+    (λ c. search needs)  -- enum-told-2
+    (λ c. search needs)  -- enum-told-3
+    (λ c. search needs)  -- enum-told-4
+    (λ c. search needs)  -- enum-told-5
+    (λ c κs. search needs)  -- between-requires-2
+    (λ c. search needs)  -- enum-told-6
+    (λ c. search needs)  -- enum-told-7
+    (λ c κs. search needs)  -- is-rights-requires
+    (λ c. search needs)  -- enum-told-8
+    (λ c κs. search needs)  -- between-requires-3
+    (λ c. search needs)  -- enum-told-9
+    (λ c. search needs)  -- enum-told-10
+    (λ c. search needs)  -- enum-told-11
+    (λ c. search needs)  -- enum-told-12
+    (λ c. search needs)  -- enum-told-13
+    (λ c κs. search needs)  -- between-requires-4
     returns
     returns-2
     returns-3

@@ -5,12 +5,6 @@ use Rattle.search_answer.proofs.gathering.find.Tie as tie
 use native.Mathlib.Omega.{arith}
 use Rattle.search_answer.specs.Finding.{gathers}
 
-read-requires : tie.Need-read-requires
-read-requires c κs = search needs
-
-choose-requires : tie.Need-choose-requires
-choose-requires c κs = search needs
-
 find-runs-requires : tie.Need-find-runs-requires
 find-runs-requires c κs =
     let f = c .before .before .before .before .before .before .before .before .before .before .before .choose .ensures .few in
@@ -19,30 +13,6 @@ find-runs-requires c κs =
     let p₁ = c .before .before .before .before .before .before .before .before .before .before .before .before .before .before .before .before .before .before .before .before .before .before .before .before .before .before .before .before .before .pre .1 in
     let p₂ = c .before .before .before .before .before .before .before .before .before .before .before .before .before .before .before .before .before .before .before .before .before .before .before .before .before .before .before .before .before .pre .2 in
     ((p₀ .1, (p₀ .2, c .before .before .before .before .before .before .before .before .before .before .before .before .before .before .before .before .before .read .ensures .room)), (omega arith, omega arith, p₂ .1), (omega arith, omega arith, omega arith), omega arith)
-
-same-length : tie.Need-same-length
-same-length c = search needs
-
-same-length-2 : tie.Need-same-length-2
-same-length-2 c = search needs
-
-same-length-3 : tie.Need-same-length-3
-same-length-3 c = search needs
-
-same-length-4 : tie.Need-same-length-4
-same-length-4 c = search needs
-
-same-length-5 : tie.Need-same-length-5
-same-length-5 c = search needs
-
-same-length-6 : tie.Need-same-length-6
-same-length-6 c = search needs
-
-same-length-7 : tie.Need-same-length-7
-same-length-7 c = search needs
-
-same-length-8 : tie.Need-same-length-8
-same-length-8 c = search needs
 
 returns : tie.Need-returns
 returns c =
@@ -54,15 +24,15 @@ pub find-spec : {M : Type 1} → statement M
 find-spec =
     tie.close
     (tie.spec
-    read-requires
-    choose-requires
+    (λ c κs. search needs)  -- read-requires
+    (λ c κs. search needs)  -- choose-requires
     find-runs-requires
-    same-length
-    same-length-2
-    same-length-3
-    same-length-4
-    same-length-5
-    same-length-6
-    same-length-7
-    same-length-8
+    (λ c. search needs)  -- same-length
+    (λ c. search needs)  -- same-length-2
+    (λ c. search needs)  -- same-length-3
+    (λ c. search needs)  -- same-length-4
+    (λ c. search needs)  -- same-length-5
+    (λ c. search needs)  -- same-length-6
+    (λ c. search needs)  -- same-length-7
+    (λ c. search needs)  -- same-length-8
     returns)

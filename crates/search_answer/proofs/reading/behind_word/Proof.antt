@@ -4,21 +4,6 @@ use Rattle.search_answer.proofs.reading.behind_word.Statement.{statemen
 use Rattle.search_answer.proofs.reading.behind_word.Tie as tie
 use Rattle.search_answer.specs.Headed.{behind-found, behind-none}
 
-tag-end-requires : tie.Need-tag-end-requires
-tag-end-requires c κs = search needs
-
-add-verb-at : tie.Need-add-verb-at
-add-verb-at c = search needs
-
-verb-at-requires : tie.Need-verb-at-requires
-verb-at-requires c κs = search needs
-
-enum-known-at : tie.Need-enum-known-at
-enum-known-at c = search needs
-
-enum-told : tie.Need-enum-told
-enum-told c = search needs
-
 returns : tie.Need-returns
 returns c = behind-found (c .before .before .before .before .before .before .args .text .now) (c .before .before .before .before .tag-end .result) (c .before .before .before .before .tag-end .ensures .exact) (c .before .before .before .verb-at .ensures) (c .before .at .given .1)
 
@@ -29,10 +14,10 @@ pub behind-word-spec : {M : Type 1} → statement M
 behind-word-spec =
     tie.close
     (tie.spec
-    tag-end-requires
-    add-verb-at
-    verb-at-requires
-    enum-known-at
-    enum-told
+    (λ c κs. search needs)  -- tag-end-requires
+    (λ c. search needs)  -- add-verb-at
+    (λ c κs. search needs)  -- verb-at-requires
+    (λ c. search needs)  -- enum-known-at
+    (λ c. search needs)  -- enum-told
     returns
     returns-2)

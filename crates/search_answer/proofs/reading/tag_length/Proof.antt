@@ -4,11 +4,12 @@ use Rattle.search_answer.proofs.reading.tag_length.Statement.{statement
 use Rattle.search_answer.proofs.reading.tag_length.Tie as tie
 use Rattle.search_answer.specs.Headed.{tags-by}
 
-tag-length-requires : tie.Need-tag-length-requires
-tag-length-requires c κs = search needs
-
 returns : tie.Need-returns
 returns c = tags-by (c .before .before .args .text .now) (c .tag-length .result) (c .tag-length .ensures)
 
 pub tag-length-spec : {M : Type 1} → statement M
-tag-length-spec = tie.close (tie.spec tag-length-requires returns)
+tag-length-spec =
+    tie.close
+    (tie.spec
+    (λ c κs. search needs)  -- tag-length-requires
+    returns)

@@ -11,9 +11,6 @@ use lib.Seq.{length-take-le}
 use Rattle.line_put.specs.Put.{put-as}
 use Rattle.line_found.specs.Telling.{texts}
 
-tag-length-requires : tie.Need-tag-length-requires
-tag-length-requires c κs = search needs
-
 slice-aggregate-put-rows : tie.Need-slice-aggregate-put-rows
 slice-aggregate-put-rows c = sym (length-take-le _ _ (c .before .before .before .tag-length .ensures .within))
 
@@ -26,9 +23,6 @@ put-rows-requires c κs =
     let r = c .before .before .before .before .before .before .before .before .before .before .pre .1 in
     ((c .before .before .before .before .before .before .before .before .before .before .pre .0 .0, (c .before .before .before .before .before .before .before .before .before .before .pre .0 .1, w)), ((r .few, r .in-rows), (r .in-starts, r .in-counts)), (r .room, r .bounded))
 
-same-length : tie.Need-same-length
-same-length c = search needs
-
 returns : tie.Need-returns
 returns c =
     let a = c .before .before .before .before .before .before .before .before .before .before .before .before .before .args in
@@ -39,4 +33,9 @@ returns c =
 pub put-lines-spec : {M : Type 1} → statement M
 put-lines-spec =
     tie.close
-    (tie.spec tag-length-requires slice-aggregate-put-rows put-rows-requires same-length returns)
+    (tie.spec
+    (λ c κs. search needs)  -- tag-length-requires
+    slice-aggregate-put-rows
+    put-rows-requires
+    (λ c. search needs)  -- same-length
+    returns)

@@ -4,17 +4,14 @@ use Rattle.search_answer.proofs.saying.put_whole.Statement.{statement}
 use Rattle.search_answer.proofs.saying.put_whole.Tie as tie
 use Rattle.line_put.specs.Put.{_then_}
 
-put-lines-requires : tie.Need-put-lines-requires
-put-lines-requires c κs = search needs
-
-put-reply-requires : tie.Need-put-reply-requires
-put-reply-requires c κs = search needs
-
-same-length : tie.Need-same-length
-same-length c = search needs
-
 returns : tie.Need-returns
 returns c = _then_ (c .before .before .before .before .before .before .put-lines .ensures .0) (c .before .before .put-reply .ensures .0)
 
 pub put-whole-spec : {M : Type 1} → statement M
-put-whole-spec = tie.close (tie.spec put-lines-requires put-reply-requires same-length returns)
+put-whole-spec =
+    tie.close
+    (tie.spec
+    (λ c κs. search needs)  -- put-lines-requires
+    (λ c κs. search needs)  -- put-reply-requires
+    (λ c. search needs)  -- same-length
+    returns)

@@ -13,32 +13,8 @@ use Rattle.model.specs.declared.Reply.the-variants.{Accepted}
 use Rattle.search_answer.specs.Lines.{linesBy, taggedLine, whole-some}
 use Rattle.search_answer.specs.Coming.{said-large, said-whole, said-not}
 
-sub-limit : tie.Need-sub-limit
-sub-limit c = search needs
-
-measure-requires : tie.Need-measure-requires
-measure-requires c κs = search needs
-
-sub-reply-within : tie.Need-sub-reply-within
-sub-reply-within c = search needs
-
-reply-within-requires : tie.Need-reply-within-requires
-reply-within-requires c κs = search needs
-
-is-accepted-requires : tie.Need-is-accepted-requires
-is-accepted-requires c κs = search needs
-
-say-reply-requires : tie.Need-say-reply-requires
-say-reply-requires c κs = search needs
-
-same-length : tie.Need-same-length
-same-length c = search needs
-
 returns : tie.Need-returns
 returns c = said-large (c .before .before .before .before .before .before .before .before .before .before .before .before .before .before .before .before .before .args .text .now) (c .before .before .before .before .before .before .before .before .before .measure .ensures) (c .before .before .before .before .before .before .reply-within .result) (c .before .before .before .before .before .before .reply-within .ensures) (sym (c .before .before .before .before .before .is-accepted .ensures) ∙ not-true _ (c .before .before .before .before .if1 .taken)) (c .before .before .say-reply .ensures)
-
-same-length-2 : tie.Need-same-length-2
-same-length-2 c = search needs
 
 returns-2 : tie.Need-returns-2
 returns-2 c =
@@ -57,9 +33,6 @@ put-whole-requires c κs =
     let l = length-append (linesBy (a .text .now) (a .lens .now) (a .names .now) (a .validities .now) (a .rows .now) (a .uids .now) (a .starts .now) (a .counts .now) (a .hits)) (taggedLine (a .text .now)) in
     ((omega arith, p .2), c .before .before .before .before .before .before .before .before .before .before .before .before .before .before .before .pre .1, omega arith)
 
-same-length-3 : tie.Need-same-length-3
-same-length-3 c = search needs
-
 returns-3 : tie.Need-returns-3
 returns-3 c = said-whole (c .before .before .before .before .before .before .before .before .before .before .before .before .before .before .before .before .before .before .args .text .now) (c .before .before .before .before .before .before .before .before .before .before .measure .ensures) (c .before .before .before .before .before .before .before .reply-within .result) (c .before .before .before .before .before .before .before .reply-within .ensures) (sym (c .before .before .before .before .before .before .is-accepted .ensures) ∙ not-false _ (c .before .before .before .before .before .if1 .left)) (c .before .before .put-whole .ensures) refl (omega arith)
 
@@ -67,16 +40,16 @@ pub say-spec : {M : Type 1} → statement M
 say-spec =
     tie.close
     (tie.spec
-    sub-limit
-    measure-requires
-    sub-reply-within
-    reply-within-requires
-    is-accepted-requires
-    say-reply-requires
-    same-length
+    (λ c. search needs)  -- sub-limit
+    (λ c κs. search needs)  -- measure-requires
+    (λ c. search needs)  -- sub-reply-within
+    (λ c κs. search needs)  -- reply-within-requires
+    (λ c κs. search needs)  -- is-accepted-requires
+    (λ c κs. search needs)  -- say-reply-requires
+    (λ c. search needs)  -- same-length
     returns
-    same-length-2
+    (λ c. search needs)  -- same-length-2
     returns-2
     put-whole-requires
-    same-length-3
+    (λ c. search needs)  -- same-length-3
     returns-3)

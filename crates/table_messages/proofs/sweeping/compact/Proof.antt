@@ -1,8 +1,5 @@
 use Rattle.table_messages.proofs.sweeping.compact.Statement.{statement}
 use Rattle.table_messages.proofs.sweeping.compact.Tie as tie
-use Rattle.table_messages.proofs.sweeping.compact.Reads as reads
-use Rattle.table_messages.proofs.sweeping.compact.Lts as lts
-use Rattle.table_messages.proofs.sweeping.move_one.Reads as move-one-reads
 use mathlib.Core.Path.{_≡_}
 use Prim.Native.Nat.{_≤_, _-_}
 use native.Mathlib.Omega.{arith}
@@ -23,19 +20,10 @@ loop-holds c = (search needs, search needs, passing-start (c .before .args .swee
 move-one-requires : tie.Need-move-one-requires Inv-loop μ-loop
 move-one-requires c κs = (c .before .before .loop .inv .2 .most, search needs)
 
-add-i : tie.Need-add-i Inv-loop μ-loop
-add-i c = search needs
-
-loop-less : tie.Need-loop-less Inv-loop μ-loop
-loop-less c = search needs
-
 loop-again : tie.Need-loop-again Inv-loop μ-loop
 loop-again c = let a = c .before .before .before .before .before .before .before .args in
     let k = messages-length (a .used) (a .words .now) (c .before .before .before .before .before .before .before .pre) in
     (search needs, search needs, c .before .before .move-one .ensures .moved (a .words .now) (omega arith) (c .before .before .before .before .before .loop .inv .2))
-
-same-length : tie.Need-same-length Inv-loop μ-loop
-same-length c = search needs
 
 returns : tie.Need-returns Inv-loop μ-loop
 returns c = let a = c .before .before .before .args in
@@ -50,8 +38,8 @@ compact-spec =
     μ-loop
     loop-holds
     move-one-requires
-    add-i
-    loop-less
+    (λ c. search needs)  -- add-i
+    (λ c. search needs)  -- loop-less
     loop-again
-    same-length
+    (λ c. search needs)  -- same-length
     returns)

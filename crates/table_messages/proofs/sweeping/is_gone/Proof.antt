@@ -1,30 +1,11 @@
 use borrow.Author.Needs.{needs}
 use Rattle.table_messages.proofs.sweeping.is_gone.Statement.{statement}
 use Rattle.table_messages.proofs.sweeping.is_gone.Tie as tie
-use Rattle.table_messages.proofs.sweeping.is_gone.Reads as reads
-use Rattle.table_messages.proofs.sweeping.is_gone.Lts as lts
-use Rattle.table_messages.proofs.sweeping.both.Reads as both-reads
-use Rattle.table_messages.proofs.sweeping.is_below.Reads as is-below-reads
 use mathlib.Core.Path.{sym, _∙_, ap}
 use mathlib.Core.Bool.{Bool, _&&_}
 use Rattle.model.specs.Memory.{expunged}
 use Rattle.table_messages.specs.Swept.{goes}
 use Rattle.table_messages.specs.declared.Sweep.{Sweep}
-
-enum-told : tie.Need-enum-told
-enum-told c = search needs
-
-enum-known-sweep : tie.Need-enum-known-sweep
-enum-known-sweep c = search needs
-
-is-below-requires : tie.Need-is-below-requires
-is-below-requires c κs = search needs
-
-both-requires : tie.Need-both-requires
-both-requires c κs = search needs
-
-enum-known-sweep-2 : tie.Need-enum-known-sweep-2
-enum-known-sweep-2 c = search needs
 
 returns : tie.Need-returns
 returns c = ap (λ (k : Sweep). goes k (c .before .before .before .args .e)) (sym (c .before .enum-told .given .1))
@@ -40,11 +21,11 @@ pub is-gone-spec : {M : Type 1} → statement M
 is-gone-spec =
     tie.close
     (tie.spec
-    enum-told
-    enum-known-sweep
-    is-below-requires
-    both-requires
-    enum-known-sweep-2
+    (λ c. search needs)  -- enum-told
+    (λ c. search needs)  -- enum-known-sweep
+    (λ c κs. search needs)  -- is-below-requires
+    (λ c κs. search needs)  -- both-requires
+    (λ c. search needs)  -- enum-known-sweep-2
     returns
     returns-2
     returns-3)

@@ -5,18 +5,6 @@ use Rattle.table_messages.specs.Swept.{idle}
 use Rattle.table_messages.proofs.sweeping.is_idle.Statement.{statement}
 use Rattle.table_messages.proofs.sweeping.is_idle.Tie as tie
 
-enum-told : tie.Need-enum-told
-enum-told c = search needs
-
-enum-known-sweep : tie.Need-enum-known-sweep
-enum-known-sweep c = search needs
-
-both-requires : tie.Need-both-requires
-both-requires c κs = search needs
-
-enum-told-2 : tie.Need-enum-told-2
-enum-told-2 c = search needs
-
 returns : tie.Need-returns
 returns c = ap idle (sym (c .enum-told .given .1))
 
@@ -29,4 +17,11 @@ returns-3 c = ap idle (sym (c .enum-told2 .given .1))
 pub is-idle-spec : {M : Type 1} → statement M
 is-idle-spec =
     tie.close
-    (tie.spec enum-told enum-known-sweep both-requires enum-told-2 returns returns-2 returns-3)
+    (tie.spec
+    (λ c. search needs)  -- enum-told
+    (λ c. search needs)  -- enum-known-sweep
+    (λ c κs. search needs)  -- both-requires
+    (λ c. search needs)  -- enum-told-2
+    returns
+    returns-2
+    returns-3)

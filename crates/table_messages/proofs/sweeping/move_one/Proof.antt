@@ -9,30 +9,9 @@ use borrow.Author.Tests.{eqb-true}
 use Rattle.model.specs.Laws.{and-l, and-r}
 use Rattle.table_messages.specs.Swept.{passing-go, passing-rest, passing-stay}
 
-get-requires : tie.Need-get-requires
-get-requires c κs = search needs
-
-is-gone-requires : tie.Need-is-gone-requires
-is-gone-requires c κs = search needs
-
-same-length : tie.Need-same-length
-same-length c = search needs
-
 returns : tie.Need-returns
 returns c = let a = c .before .before .before .before .before .args in
     record { moved = λ vs h p. passing-go (a .sweep) vs (a .words .now) (a .i) (a .o) p h (c .before .before .get .result) (c .before .before .get .ensures) (sym (c .before .is-gone .ensures) ∙ c .if1 .taken) }
-
-calmed-requires : tie.Need-calmed-requires
-calmed-requires c κs = search needs
-
-both-requires : tie.Need-both-requires
-both-requires c κs = search needs
-
-add-result : tie.Need-add-result
-add-result c = search needs
-
-same-length-2 : tie.Need-same-length-2
-same-length-2 c = search needs
 
 returns-2 : tie.Need-returns-2
 returns-2 c = let a = c .before .before .before .before .before .before .before .before .before .before .args in
@@ -44,15 +23,6 @@ returns-2 c = let a = c .before .before .before .before .before .before .before 
           (eqb-true (a .o) (a .i) (and-l (eqb (a .o) (a .i)) _ t)) (eqb-true (x .result .states) (e .result .states) (and-r (eqb (a .o) (a .i)) _ t)) (omega (arith, c .before .before .before .before .before .before .before .before .before .before .pre .0, c .before .before .before .before .before .before .before .before .before .before .pre .1));
     }
 
-put-requires : tie.Need-put-requires
-put-requires c κs = search needs
-
-add-result-2 : tie.Need-add-result-2
-add-result-2 c = search needs
-
-same-length-3 : tie.Need-same-length-3
-same-length-3 c = search needs
-
 returns-3 : tie.Need-returns-3
 returns-3 c = let a = c .before .before .before .before .before .before .before .before .before .before .before .before .before .before .args in
     record { moved = λ vs h p. rw (c .before .before .put .ensures) (passing-stay (a .sweep) vs (a .words .now) (a .i) (a .o) p h (c .before .before .before .before .before .before .before .before .before .before .before .get .result) (c .before .before .before .before .before .before .before .before .before .before .before .get .ensures) (c .before .before .before .before .before .before .before .before .calmed .result) (c .before .before .before .before .before .before .before .before .calmed .ensures) (sym (c .before .before .before .before .before .before .before .before .before .before .is-gone .ensures) ∙ c .before .before .before .before .before .before .before .before .before .if1 .left) (omega arith)) }
@@ -61,16 +31,16 @@ pub move-one-spec : {M : Type 1} → statement M
 move-one-spec =
     tie.close
     (tie.spec
-    get-requires
-    is-gone-requires
-    same-length
+    (λ c κs. search needs)  -- get-requires
+    (λ c κs. search needs)  -- is-gone-requires
+    (λ c. search needs)  -- same-length
     returns
-    calmed-requires
-    both-requires
-    add-result
-    same-length-2
+    (λ c κs. search needs)  -- calmed-requires
+    (λ c κs. search needs)  -- both-requires
+    (λ c. search needs)  -- add-result
+    (λ c. search needs)  -- same-length-2
     returns-2
-    put-requires
-    add-result-2
-    same-length-3
+    (λ c κs. search needs)  -- put-requires
+    (λ c. search needs)  -- add-result-2
+    (λ c. search needs)  -- same-length-3
     returns-3)

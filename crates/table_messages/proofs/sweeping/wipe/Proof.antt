@@ -1,9 +1,5 @@
 use Rattle.table_messages.proofs.sweeping.wipe.Statement.{statement}
 use Rattle.table_messages.proofs.sweeping.wipe.Tie as tie
-use Rattle.table_messages.proofs.sweeping.wipe.Reads as reads
-use Rattle.table_messages.proofs.sweeping.wipe.Lts as lts
-use Rattle.table_messages.proofs.nothing.Reads as nothing-reads
-use Rattle.table_messages.proofs.put.Reads as put-reads
 use mathlib.Core.Path.{_≡_}
 use Prim.Native.Nat.{_≤_, _-_}
 use native.Mathlib.Omega.{arith}
@@ -21,26 +17,11 @@ abbrev μ-loop : tie.MeasureT-loop
 loop-holds : tie.Need-loop-holds Inv-loop μ-loop
 loop-holds c = (search needs, search needs, search needs, wiping-start (c .before .args .words .now) (c .before .args .from))
 
-nothing-requires : tie.Need-nothing-requires Inv-loop μ-loop
-nothing-requires c κs = search needs
-
-put-requires : tie.Need-put-requires Inv-loop μ-loop
-put-requires c κs = search needs
-
-add-j : tie.Need-add-j Inv-loop μ-loop
-add-j c = search needs
-
-loop-less : tie.Need-loop-less Inv-loop μ-loop
-loop-less c = search needs
-
 loop-again : tie.Need-loop-again Inv-loop μ-loop
 loop-again c = let a = c .before .before .before .before .before .before .before .before .args in
     let o = c .before .before .before .before .before .before .loop in
     let k = messages-length (a .upto) (a .words .now) (c .before .before .before .before .before .before .before .before .pre .1) in
     (search needs, search needs, search needs, rw (c .before .before .put .ensures) (wiping-next (a .words .now) (a .from) (o .words) (o .j) (c .before .before .before .nothing .result) (o .inv .0) (omega arith) (o .inv .3) (c .before .before .before .nothing .ensures) (omega arith)))
-
-same-length : tie.Need-same-length Inv-loop μ-loop
-same-length c = search needs
 
 returns : tie.Need-returns Inv-loop μ-loop
 returns c = let a = c .before .before .before .args in
@@ -54,10 +35,10 @@ wipe-spec =
     Inv-loop
     μ-loop
     loop-holds
-    nothing-requires
-    put-requires
-    add-j
-    loop-less
+    (λ c κs. search needs)  -- nothing-requires
+    (λ c κs. search needs)  -- put-requires
+    (λ c. search needs)  -- add-j
+    (λ c. search needs)  -- loop-less
     loop-again
-    same-length
+    (λ c. search needs)  -- same-length
     returns)

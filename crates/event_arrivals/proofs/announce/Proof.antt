@@ -10,13 +10,20 @@ use Rattle.event_arrivals.proofs.announce.Statement.{statement}
 use Rattle.event_arrivals.proofs.announce.Tie as tie
 
 say-news-requires : tie.Need-say-news-requires
-say-news-requires c κs = let a = c .before .before .before .before .before .before .before .before .before .before .args in
-    let n = order-short (messages (a .words .now)) _ (c .before .before .before .before .by-uid .result) (a .used) (a .s .selected) (c .before .before .before .before .by-uid .ensures) in
-    (search needs, omega arith, c .before .before .before .before .before .before .before .before .before .before .pre .2, c .before .before .before .before .before .before .before .before .before .before .pre .3, c .before .before .before .before .before .before .before .before .before .before .pre .4)
+say-news-requires c κs =
+    let b = c .before .before .before .before in let by-uid = b .by-uid in
+    let b = b .before .before .before .before .before .before in let a = b .args in
+    let pre = b .pre in
+    let n = order-short (messages (a .words .now)) _ (by-uid .result) (a .used) (a .s .selected) (by-uid .ensures) in
+    (search needs, omega arith, pre .2, pre .3, pre .4)
 
 returns : tie.Need-returns
-returns c = let a = c .before .before .before .before .before .before .before .before .before .before .before .before .before .before .args in
-    announces (a .queue .now) (a .s) (a .filled) (a .next) _ _ _ (c .before .before .before .say-news .result .fits) (c .before .before .before .say-news .result .end) _ (ap₂ (newsText (a .s .told)) (c .before .before .before .before .before .before .before .before .before .before .before .shows .ensures) (c .before .before .before .before .before .before .before .before .by-uid .ensures)) (c .before .before .before .say-news .ensures) (c .announced .ensures)
+returns c =
+    let b = c .before .before .before in let say-news = b .say-news in
+    let b = b .before .before .before .before .before in let by-uid = b .by-uid in
+    let b = b .before .before .before in let shows = b .shows in
+    let b = b .before .before .before in let a = b .args in
+    announces (a .queue .now) (a .s) (a .filled) (a .next) _ _ _ (say-news .result .fits) (say-news .result .end) _ (ap₂ (newsText (a .s .told)) (shows .ensures) (by-uid .ensures)) (say-news .ensures) (c .announced .ensures)
 
 pub announce-spec : {M : Type 1} → statement M
 announce-spec =

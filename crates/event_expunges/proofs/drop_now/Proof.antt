@@ -5,8 +5,12 @@ use Rattle.table_messages.specs.Words.{messages}
 use Rattle.event_message.specs.After.{once-leaves}
 
 returns : tie.Need-returns
-returns c = let a = c .before .before .before .before .before .before .before .before .before .before .before .before .args in
-    once-leaves (messages (a .words .now)) (a .used) (a .queue .now) (a .s) (a .filled) (a .k) (a .words .now) _ (a .n .0) (c .before .before .before .before .take-out .result) (c .before .before .before .before .before .before .before .before .say-expunge .result .fits) _ (c .before .before .before .before .before .before .before .before .say-expunge .result .end) _ _ (c .before .before .before .before .take-out .ensures .0) (c .before .before .before .before .take-out .ensures .1) (c .before .before .before .before .before .before .before .before .say-expunge .ensures) (c .before .hear .ensures .0) (c .before .hear .ensures .1)
+returns c =
+    let b = c .before in let hear = b .hear in
+    let b = b .before .before .before in let take-out = b .take-out in
+    let b = b .before .before .before .before in let say-expunge = b .say-expunge in
+    let b = b .before .before .before .before in let a = b .args in
+    once-leaves (messages (a .words .now)) (a .used) (a .queue .now) (a .s) (a .filled) (a .k) (a .words .now) _ (a .n .0) (take-out .result) (say-expunge .result .fits) _ (say-expunge .result .end) _ _ (take-out .ensures .0) (take-out .ensures .1) (say-expunge .ensures) (hear .ensures .0) (hear .ensures .1)
 
 pub drop-now-spec : {M : Type 1} → statement M
 drop-now-spec =

@@ -11,18 +11,34 @@ use Rattle.event_flags.proofs.flag.Statement.{statement}
 use Rattle.event_flags.proofs.flag.Tie as tie
 
 flag-now-requires : tie.Need-flag-now-requires
-flag-now-requires c κs = let pre = c .before .before .before .before .before .before .before .before .before .before .before .before .before .before .before .before .before .pre in
-    (omega (arith, pre .0, pre .1), pre .2, pre .3, pre .5 (told-some (c .before .before .before .before .before .before .before .before .before .before .before .before .before .before .before .before .before .args .s) (c .before .before .before .before .before .before .is-soon .result) (c .before .before .before .before .before .before .before .both .result) (bothRights (c .before .before .before .before .before .before .before .before .before .before .before .before .before .before .before .before .before .args .x)) _ (c .before .before .before .before .before .before .is-soon .ensures) (c .before .before .before .before .before .if1 .taken)))
+flag-now-requires c κs =
+    let b = c .before .before .before .before .before in let if1 = b .if1 in
+    let b = b .before in let is-soon = b .is-soon in
+    let b = b .before in let both = b .both in
+    let b = b .before .before .before .before .before .before .before .before .before .before in let args = b .args in
+    let pre = b .pre in
+    (omega (arith, pre .0, pre .1), pre .2, pre .3, pre .5 (told-some (args .s) (is-soon .result) (both .result) (bothRights (args .x)) _ (is-soon .ensures) (if1 .taken)))
 
 returns : tie.Need-returns
-returns c = let a = c .before .before .before .before .before .before .before .before .before .before .before .before .before .before .before .before .before .before .before .before .before .before .args in
-    reflag-tells (messages (a .words .now)) (a .used) (a .queue .now) (a .s) (a .filled) (a .k) (a .x) (c .before .before .before .before .before .before .before .before .before .before .before .before .before .before .before .before .before .before .get .result) (c .before .before .before .before .before .before .before .before .before .before .before .before .before .before .before .before .before .before .get .ensures) (c .before .before .before .before .before .before .before .before .before .before .before .before .before .before .before .is-chosen .result) (c .before .before .before .before .before .before .before .before .before .before .before .before .both .result) (c .before .before .before .before .before .before .before .before .before .before .before .before .before .before .before .is-chosen .ensures) (c .before .before .before .before .before .before .before .before .before .before .before .before .both .ensures) (a .words .now) _ _ _ _ _
-    (a .flags) (a .counter) (c .before .before .before .before .before .before .before .before .before .before .before .is-soon .result) (c .before .before .before .before .before .before .before .before .before .before .before .is-soon .ensures) (c .before .before .before .before .before .before .before .place-of .result .0) (c .before .before .before .before .before .before .before .place-of .ensures) (c .before .before .before .before .before .before .before .before .before .before .if1 .taken) (c .before .before .before .before .flag-now .ensures)
+returns c =
+    let b = c .before .before .before .before in let flag-now = b .flag-now in
+    let b = b .before .before .before in let place-of = b .place-of in
+    let b = b .before .before .before in let if1 = b .if1 in
+    let b = b .before in let is-soon = b .is-soon in
+    let b = b .before in let both = b .both in
+    let b = b .before .before .before in let is-chosen = b .is-chosen in
+    let b = b .before .before .before in let get = b .get in
+    let b = b .before .before .before .before in let a = b .args in
+    reflag-tells (messages (a .words .now)) (a .used) (a .queue .now) (a .s) (a .filled) (a .k) (a .x) (get .result) (get .ensures) (is-chosen .result) (both .result) (is-chosen .ensures) (both .ensures) (a .words .now) _ _ _ _ _
+    (a .flags) (a .counter) (is-soon .result) (is-soon .ensures) (place-of .result .0) (place-of .ensures) (if1 .taken) (flag-now .ensures)
 
 flag-kept-requires : tie.Need-flag-kept-requires
-flag-kept-requires c κs = let a = c .before .before .before .before .before .before .before .before .before .before .before .before .before .before .before .before .before .before .before .before .args in
-    let pre = c .before .before .before .before .before .before .before .before .before .before .before .before .before .before .before .before .before .before .before .before .pre in
-    (omega (arith, pre .0, pre .1), pre .2, pre .3, pre .4, λ z. pre .5 (told-some (a .s) (c .before .before .is-told .result) (not (c .before .before .before .before .before .before .before .before .before .before .before .before .before .is-chosen .result)) (bothRights (a .x)) _ (c .before .before .is-told .ensures) z))
+flag-kept-requires c κs =
+    let b = c .before .before in let is-told = b .is-told in
+    let b = b .before .before .before .before .before .before .before .before .before .before .before in let is-chosen = b .is-chosen in
+    let b = b .before .before .before .before .before .before .before in let a = b .args in
+    let pre = b .pre in
+    (omega (arith, pre .0, pre .1), pre .2, pre .3, pre .4, λ z. pre .5 (told-some (a .s) (is-told .result) (not (is-chosen .result)) (bothRights (a .x)) _ (is-told .ensures) z))
 
 returns-2 : tie.Need-returns-2
 returns-2 c = let a = c .before .before .before .before .before .before .before .before .before .before .before .before .before .before .before .before .before .before .before .before .before .before .before .before .before .args in

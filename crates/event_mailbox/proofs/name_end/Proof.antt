@@ -7,7 +7,9 @@ use native.Mathlib.Omega.{arith}
 use lib.ListN.{length}
 
 returns : tie.Need-returns
-returns c = let lx : length (c .before .args .x .name) ≡ 64 = search needs in (omega arith, lx, c .clip .ensures .1 (c .before .args .x .name) lx)
+returns c =
+    let b = c .before in let args = b .args in
+    let lx : length (args .x .name) ≡ 64 = search needs in (omega arith, lx, c .clip .ensures .1 (args .x .name) lx)
 
 pub name-end-spec : {M : Type 1} → statement M
 name-end-spec =

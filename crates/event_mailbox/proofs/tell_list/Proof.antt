@@ -13,18 +13,26 @@ returns c = let a = c .before .before .before .args in
     hears-none (a .queue .now) (a .s) (a .filled) (a .on) (render (list (markOf (a .mark)) (a .name .now))) (not-true _ (c .if1 .taken))
 
 say-list-requires : tie.Need-say-list-requires
-say-list-requires c κs = let f = c .before .before .before .before .pre .3 (not-false _ (c .before .if1 .left)) in omega arith
+say-list-requires c κs =
+    let b = c .before .before .before .before in let pre = b .pre in
+    let f = pre .3 (not-false _ (c .before .if1 .left)) in omega arith
 
 returns-2 : tie.Need-returns-2
-returns-2 c = let a = c .before .before .before .before .before .before .before .before .args in
+returns-2 c =
+    let b = c .before .before .before in let say-list = b .say-list in
+    let b = b .before .before in let if1 = b .if1 in
+    let b = b .before .before .before in let a = b .args in
     hears-fits (a .queue .now) (a .s) (a .filled) (a .on) (render (list (markOf (a .mark)) (a .name .now))) _ _
-    (not-false _ (c .before .before .before .before .before .if1 .left)) (rw (c .if2 .taken) at (c .before .before .before .say-list .ensures))
+    (not-false _ (if1 .left)) (rw (c .if2 .taken) at (say-list .ensures))
 
 returns-3 : tie.Need-returns-3
-returns-3 c = let a = c .before .before .before .before .before .before .before .before .before .args in
+returns-3 c =
+    let b = c .before .before .before .before in let say-list = b .say-list in
+    let b = b .before .before in let if1 = b .if1 in
+    let b = b .before .before .before in let a = b .args in
     rw (c .silence .ensures)
     (hears-over (a .queue .now) (a .s) (a .filled) (a .on) (render (list (markOf (a .mark)) (a .name .now))) _ _
-    (not-false _ (c .before .before .before .before .before .before .if1 .left)) (rw (c .before .if2 .left) at (c .before .before .before .before .say-list .ensures)))
+    (not-false _ (if1 .left)) (rw (c .before .if2 .left) at (say-list .ensures)))
 
 pub tell-list-spec : {M : Type 1} → statement M
 tell-list-spec =

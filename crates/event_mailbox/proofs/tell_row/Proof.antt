@@ -14,10 +14,12 @@ slice-aggregate-tell-list : tie.Need-slice-aggregate-tell-list
 slice-aggregate-tell-list c = let lx = c .before .before .name-end .ensures .1 in sym (length-take-le _ _ (omega arith))
 
 tell-list-requires : tie.Need-tell-list-requires
-tell-list-requires c κs = let a = c .before .before .before .before .before .args in
-    let lx = c .before .before .name-end .ensures .1 in let lt : length (take (c .before .before .name-end .result) (a .x .name)) ≡ c .before .before
-    .name-end .result = length-take-le (c .before .before .name-end .result) (a .x .name) (omega arith) in
-    (omega arith, omega arith, omega arith, λ e. c .before .before .before .before .before .pre .3 e, omega arith)
+tell-list-requires c κs =
+    let b = c .before .before in let name-end = b .name-end in
+    let b = b .before .before .before in let a = b .args in
+    let pre = b .pre in
+    let lx = name-end .ensures .1 in let lt : length (take (name-end .result) (a .x .name)) ≡ name-end .result = length-take-le (name-end .result) (a .x .name) (omega arith) in
+    (omega arith, omega arith, omega arith, λ e. pre .3 e, omega arith)
 
 returns : tie.Need-returns
 returns c = rw (← c .before .before .before .before .before .name-end .ensures .2) (c .before .before .tell-list .ensures)

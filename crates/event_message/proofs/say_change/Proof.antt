@@ -14,9 +14,13 @@ slice-aggregate-say-flag-status : tie.Need-slice-aggregate-say-flag-status
 slice-aggregate-say-flag-status c = let l = c .before .before .name-end .ensures .1 in sym (length-take-le _ _ (omega arith))
 
 say-flag-status-requires : tie.Need-say-flag-status-requires
-say-flag-status-requires c κs = let l = c .before .before .name-end .ensures .1 in
-    let pre = c .before .before .before .before .before .before .before .pre in
-    let t : length (take (c .before .before .name-end .result) (c .before .before .before .before .before .before .before .args .x .name)) ≡ c .before .before .name-end .result = length-take-le (c .before .before .name-end .result) (c .before .before .before .before .before .before .before .args .x .name) (omega arith) in
+say-flag-status-requires c κs =
+    let b = c .before .before in let name-end = b .name-end in
+    let b = b .before .before .before .before .before in let args = b .args in
+    let at-pre = b .pre in
+    let l = name-end .ensures .1 in
+    let pre = at-pre in
+    let t : length (take (name-end .result) (args .x .name)) ≡ name-end .result = length-take-le (name-end .result) (args .x .name) (omega arith) in
     (pre .0, pre .1, pre .2, omega arith)
 
 returns : tie.Need-returns

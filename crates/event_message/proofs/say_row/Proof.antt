@@ -14,9 +14,13 @@ slice-aggregate-say-status : tie.Need-slice-aggregate-say-status
 slice-aggregate-say-status c = let l = c .before .before .name-end .ensures .1 in sym (length-take-le _ _ (omega arith))
 
 say-status-requires : tie.Need-say-status-requires
-say-status-requires c κs = let l = c .before .before .name-end .ensures .1 in
-    let t : length (take (c .before .before .name-end .result) (c .before .before .before .before .before .before .before .before .before .before .args .x .name)) ≡ c .before .before .name-end .result = length-take-le (c .before .before .name-end .result) (c .before .before .before .before .before .before .before .before .before .before .args .x .name) (omega arith) in
-    (c .before .before .before .before .before .before .before .before .before .before .pre .1, c .before .before .before .before .before .before .before .before .before .before .pre .2, c .before .before .before .before .before .before .before .before .before .before .pre .3, omega arith)
+say-status-requires c κs =
+    let b = c .before .before in let name-end = b .name-end in
+    let b = b .before .before .before .before .before .before .before .before in let args = b .args in
+    let pre = b .pre in
+    let l = name-end .ensures .1 in
+    let t : length (take (name-end .result) (args .x .name)) ≡ name-end .result = length-take-le (name-end .result) (args .x .name) (omega arith) in
+    (pre .1, pre .2, pre .3, omega arith)
 
 returns : tie.Need-returns
 returns c = rw (← c .before .before .before .before .before .name-end .ensures .2, ← c .before .before .before .before .before .before .before .before .before .count .ensures, ← c .before .before .before .before .before .before .counter-of .ensures) (c .before .before .say-status .ensures)

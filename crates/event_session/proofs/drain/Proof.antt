@@ -18,10 +18,18 @@ loop-holds : tie.Need-loop-holds Inv-loop μ-loop
 loop-holds c = (search needs, refl, wrote-none _ _ (omega arith))
 
 loop-again : tie.Need-loop-again Inv-loop μ-loop
-loop-again c = (search needs, search needs, shift-next (c .before .before .before .args .queue .now) (c .before .before .before .args .filled) (c .before .before .before .args .n) (c .before .before .before .pre .0) (c .before .before .before .pre .1) (c .before .before .loop .queue) (c .before .before .loop .i) (c .before .loop-test .taken) (c .before .before .loop .inv .2))
+loop-again c =
+    let b = c .before .before in let loop = b .loop in
+    let b = b .before in let args = b .args in
+    let pre = b .pre in
+    (search needs, search needs, shift-next (args .queue .now) (args .filled) (args .n) (pre .0) (pre .1) (loop .queue) (loop .i) (c .before .loop-test .taken) (loop .inv .2))
 
 returns : tie.Need-returns Inv-loop μ-loop
-returns c = (shift-end (c .before .before .args .queue .now) (c .before .before .args .filled) (c .before .before .args .n) (c .before .before .pre .0) (c .before .before .pre .1) (c .before .loop .queue) (c .before .loop .i) (c .loop-test .left) (c .before .loop .inv .0) (c .before .loop .inv .2), refl)
+returns c =
+    let b = c .before in let loop = b .loop in
+    let b = b .before in let args = b .args in
+    let pre = b .pre in
+    (shift-end (args .queue .now) (args .filled) (args .n) (pre .0) (pre .1) (loop .queue) (loop .i) (c .loop-test .left) (loop .inv .0) (loop .inv .2), refl)
 
 pub drain-spec : {M : Type 1} → statement M
 drain-spec =

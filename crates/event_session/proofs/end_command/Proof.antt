@@ -15,13 +15,20 @@ returns c =
     rw (not-true (c .before .before .before .before .args .rights) (c .if1 .taken)) (leaves-none (messages (a .words .now)) (a .used) (a .queue .now) (a .s) (a .filled) (a .class) (a .next) (a .words .now) (laid-own (a .words .now)))
 
 speak-requires : tie.Need-speak-requires
-speak-requires c κs = let n = order-short (messages (c .before .before .before .before .before .before .before .before .before .before .before .before .before .before .args .words .now)) _ (c .before .before .before .before .before .by-uid .result) (c .before .before .before .before .before .before .before .before .before .before .before .before .before .before .args .used) (c .before .before .before .before .before .before .before .before .before .before .before .before .before .before .args .s .selected) (c .before .before .before .before .before .by-uid .ensures) in (omega arith, omega arith, omega arith, omega arith, omega arith, omega arith)
+speak-requires c κs =
+    let b = c .before .before .before .before .before in let by-uid = b .by-uid in
+    let b = b .before .before .before .before .before .before .before .before .before in let args = b .args in
+    let n = order-short (messages (args .words .now)) _ (by-uid .result) (args .used) (args .s .selected) (by-uid .ensures) in (omega arith, omega arith, omega arith, omega arith, omega arith, omega arith)
 
 returns-2 : tie.Need-returns-2
 returns-2 c =
-    let a = c .before .before .before .before .before .before .before .before .before .before .before .before .before .before .before .before .before .before .before .before .before .before .before .before .args in
-    rw (not-false (c .before .before .before .before .before .before .before .before .before .before .before .before .before .before .before .before .before .before .before .before .before .before .before .before .args .rights) (c .before .before .before .before .before .before .before .before .before .before .before .before .before .before .before .before .before .before .before .before .if1 .left))
-    (leaves-some (messages (a .words .now)) (a .used) (a .queue .now) (a .s) (a .filled) (a .class) (a .next) _ (c .before .before .before .before .before .before .before .before .before .before .before .before .before .before .before .by-uid .ensures) _ (c .before .before .before .before .before .before .before .before .before .speak .result) (c .before .before .before .before .before .before .before .before .before .speak .ensures) (a .words .now) _ (c .before .before .before .settle .result) (c .before .before .before .settle .ensures) (c .announced .result) (c .announced .ensures))
+    let b = c .before .before .before in let settle = b .settle in
+    let b = b .before .before .before .before .before .before in let speak = b .speak in
+    let b = b .before .before .before .before .before .before in let by-uid = b .by-uid in
+    let b = b .before .before .before .before .before in let if1 = b .if1 in
+    let b = b .before .before .before .before in let a = b .args in
+    rw (not-false (a .rights) (if1 .left))
+    (leaves-some (messages (a .words .now)) (a .used) (a .queue .now) (a .s) (a .filled) (a .class) (a .next) _ (by-uid .ensures) _ (speak .result) (speak .ensures) (a .words .now) _ (settle .result) (settle .ensures) (c .announced .result) (c .announced .ensures))
 
 pub end-command-spec : {M : Type 1} → statement M
 end-command-spec =

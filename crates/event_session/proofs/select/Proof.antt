@@ -13,9 +13,10 @@ use Rattle.event_session.specs.After.{kept-rests}
 
 returns : tie.Need-returns
 returns c =
-    let a = c .before .before .before .before .before .before .args in
+    let b = c .before .before .before in let settle = b .settle in
+    let b = b .before .before .before in let a = b .args in
     let k = kept-rests (take (a .used) (messages (a .words .now))) in
-    (c .before .before .before .settle .ensures .0 ∙ ap (λ (l : List Message). laid (a .words .now) (refill noMessage (messages (a .words .now)) (a .used) l)) k, c .before .before .before .settle .ensures .1 ∙ ap length k, c .viewed .ensures)
+    (settle .ensures .0 ∙ ap (λ (l : List Message). laid (a .words .now) (refill noMessage (messages (a .words .now)) (a .used) l)) k, settle .ensures .1 ∙ ap length k, c .viewed .ensures)
 
 pub select-spec : {M : Type 1} → statement M
 select-spec =

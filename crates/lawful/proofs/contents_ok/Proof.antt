@@ -31,13 +31,17 @@ returns-3 c =
 
 returns-4 : tie.Need-returns-4
 returns-4 c =
-    let args = c .before .before .before .before .before .before .before .before .before .before .args in
+    let b = c .before .before .before in let if2 = b .if2 in
+    let b = b .before in let view-ok = b .view-ok in
+    let b = b .before .before .before in let if1 = b .if1 in
+    let b = b .before in let session-ok = b .session-ok in
+    let b = b .before .before in let args = b .args in
     λ l h w.
     let ok = sym (c .before .before .rows-ok .ensures l h w) ∙ not-false _ (c .before .if3 .left) in
     c .tables-ok .ensures l h (owners w) (w .counter) (called w) ok
     ∙ tables-decide l (take (args .used) (messages (args .words .now))) (args .s) ok
-    (sym (c .before .before .before .before .before .before .before .before .session-ok .ensures) ∙ not-false _ (c .before .before .before .before .before .before .before .if1 .left))
-    (sym (c .before .before .before .before .view-ok .ensures l h (owners w)) ∙ not-false _ (c .before .before .before .if2 .left))
+    (sym (session-ok .ensures) ∙ not-false _ (if1 .left))
+    (sym (view-ok .ensures l h (owners w)) ∙ not-false _ (if2 .left))
 
 pub contents-ok-spec : {M : Type 1} → statement M
 contents-ok-spec =

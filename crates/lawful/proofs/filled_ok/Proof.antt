@@ -5,13 +5,19 @@ use Prim.Native.Nat.{_-_}
 use Rattle.lawful.specs.Lent.{too-full, none-stands, one-stands}
 
 returns : tie.Need-returns
-returns c = too-full (c .before .args .room) (c .before .args .filled) (c .before .args .groups) (c .if1 .taken)
+returns c =
+    let b = c .before in let args = b .args in
+    too-full (args .room) (args .filled) (args .groups) (c .if1 .taken)
 
 returns-2 : tie.Need-returns-2
-returns-2 c = none-stands (c .before .before .args .room) (c .before .before .args .filled) (c .before .before .args .groups) (c .before .if1 .left) (c .if2 .taken)
+returns-2 c =
+    let b = c .before .before in let args = b .args in
+    none-stands (args .room) (args .filled) (args .groups) (c .before .if1 .left) (c .if2 .taken)
 
 returns-3 : tie.Need-returns-3
-returns-3 c = one-stands (c .before .before .args .room) (c .before .before .args .filled) (c .before .before .args .groups) (c .before .if1 .left) (c .if2 .left)
+returns-3 c =
+    let b = c .before .before in let args = b .args in
+    one-stands (args .room) (args .filled) (args .groups) (c .before .if1 .left) (c .if2 .left)
 
 pub filled-ok-spec : {M : Type 1} → statement M
 filled-ok-spec =

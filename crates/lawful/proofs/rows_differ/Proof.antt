@@ -11,7 +11,9 @@ use Rattle.lawful.proofs.rows_differ.Statement.{statement}
 use Rattle.lawful.proofs.rows_differ.Tie as tie
 
 returns : tie.Need-returns
-returns c = (λ l h v ok. c .rows-apart .ensures l h v, c .before .before .differ .ensures .1, c .before .before .differ .ensures .2)
+returns c =
+    let b = c .before .before in let at-differ = b .differ in
+    (λ l h v ok. c .rows-apart .ensures l h v, at-differ .ensures .1, at-differ .ensures .2)
 
 returns-2 : tie.Need-returns-2
 returns-2 c =

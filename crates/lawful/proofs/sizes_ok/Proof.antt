@@ -45,15 +45,21 @@ returns-7 c =
 
 returns-8 : tie.Need-returns-8
 returns-8 c =
-    let args = c .before .before .before .before .before .before .before .before .before .before .args in
+    let b = c .before .before .before in let if5 = b .if5 in
+    let b = b .before .before in let if4 = b .if4 in
+    let b = b .before in let if3 = b .if3 in
+    let b = b .before in let filled-ok = b .filled-ok in
+    let b = b .before in let if2 = b .if2 in
+    let b = b .before in let if1 = b .if1 in
+    let b = b .before in let args = b .args in
     sym (all-hold (sizesBy (args .room) (args .lent) (args .entries) (args .counts) (args .groups)) (
-      right-size (args .room) (c .before .before .before .before .before .before .before .before .before .if1 .left) (c .before .before .before .before .before .before .before .before .if2 .left),
+      right-size (args .room) (if1 .left) (if2 .left),
       (
-        sym (c .before .before .before .before .before .before .before .filled-ok .ensures) ∙ not-false _ (c .before .before .before .before .before .before .if3 .left),
+        sym (filled-ok .ensures) ∙ not-false _ (if3 .left),
         (
-          le-leb (args .lent) 64 (c .before .before .before .before .before .if4 .left),
+          le-leb (args .lent) 64 (if4 .left),
           (
-            le-leb (args .counts .mailboxes) (args .lent) (c .before .before .before .if5 .left),
+            le-leb (args .counts .mailboxes) (args .lent) (if5 .left),
             (
               le-leb (args .entries) 1024 (c .before .before .if6 .left),
               (le-leb (args .counts .messages) (args .entries) (c .if7 .left), tt),

@@ -26,16 +26,16 @@ loop-holds c = (search needs, λ l h w. refl)
 
 returns : tie.Need-returns Inv-loop μ-loop
 returns c =
-    let args = c .before .before .before .before .args in
-    let turn = c .before .before .before .loop in
+    let b = c .before .before .before in let turn = b .loop in
+    let b = b .before in let args = b .args in
     λ l h w.
     let at = row-at (args .ids .now) (args .attributes .now) (args .lens .now) (args .validities .now) (args .nexts .now) (args .counters .now) (args .names .now) (turn .i) l w (omega arith) in
     sym (turn .inv .1 l h w ∙ all-broken mailboxOk l (turn .i) noMailbox (omega arith) (sym (c .before .row-ok .ensures ∙ at) ∙ not-true _ (c .if1 .taken)))
 
 loop-again : tie.Need-loop-again Inv-loop μ-loop
 loop-again c =
-    let args = c .before .before .before .before .args in
-    let turn = c .before .before .before .loop in (
+    let b = c .before .before .before in let turn = b .loop in
+    let b = b .before in let args = b .args in (
       search needs,
       λ l h w.
           let at = row-at (args .ids .now) (args .attributes .now) (args .lens .now) (args .validities .now) (args .nexts .now) (args .counters .now) (args .names .now) (turn .i) l w (omega arith) in
@@ -43,7 +43,9 @@ loop-again c =
     )
 
 returns-2 : tie.Need-returns-2 Inv-loop μ-loop
-returns-2 c = λ l h w. sym (c .before .loop .inv .1 l h w ∙ all-over mailboxOk l (c .before .loop .i) (omega arith))
+returns-2 c =
+    let b = c .before in let loop = b .loop in
+    λ l h w. sym (loop .inv .1 l h w ∙ all-over mailboxOk l (loop .i) (omega arith))
 
 pub rows-ok-spec : {M : Type 1} → statement M
 rows-ok-spec =

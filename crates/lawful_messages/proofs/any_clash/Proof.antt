@@ -24,16 +24,16 @@ loop-holds c = (search needs, search needs, λ l h w. refl)
 
 returns : tie.Need-returns Inv-loop μ-loop
 returns c =
-    let args = c .before .before .before .before .args in
-    let turn = c .before .before .before .loop in
+    let b = c .before .before .before in let turn = b .loop in
+    let b = b .before in let args = b .args in
     λ l h w.
     let at = clash-at l (args .ids .now) (args .lens .now) (args .names .now) w (args .j) (turn .i) (omega arith) (omega arith) in
     sym (turn .inv .2 l h w ∙ any-found (clash (getD l (args .j) noMailbox)) l (turn .i) noMailbox (omega arith) (sym (c .before .do-clash .ensures ∙ at) ∙ c .if1 .taken))
 
 loop-again : tie.Need-loop-again Inv-loop μ-loop
 loop-again c =
-    let args = c .before .before .before .before .args in
-    let turn = c .before .before .before .loop in (
+    let b = c .before .before .before in let turn = b .loop in
+    let b = b .before in let args = b .args in (
       search needs,
       search needs,
       λ l h w.
@@ -42,7 +42,9 @@ loop-again c =
     )
 
 returns-2 : tie.Need-returns-2 Inv-loop μ-loop
-returns-2 c = λ l h w. sym (c .before .loop .inv .2 l h w ∙ any-over (clash (getD l (c .before .before .args .j) noMailbox)) l (c .before .loop .i) (omega arith))
+returns-2 c =
+    let b = c .before in let loop = b .loop in
+    λ l h w. sym (loop .inv .2 l h w ∙ any-over (clash (getD l (c .before .before .args .j) noMailbox)) l (loop .i) (omega arith))
 
 pub any-clash-spec : {M : Type 1} → statement M
 any-clash-spec =

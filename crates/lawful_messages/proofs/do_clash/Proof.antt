@@ -14,9 +14,10 @@ returns c =
 
 returns-2 : tie.Need-returns-2
 returns-2 c =
-    let args = c .before .before .before .before .before .before .before .args in
+    let b = c .before .before .before .before in let if1 = b .if1 in
+    let b = b .before .before .before in let args = b .args in
     let long : length (args .names .now) ≡ 4096 = search needs in
-    rw (ne-eqb (getD (args .ids .now) (args .j) 0) (getD (args .ids .now) (args .k) 0) (c .before .before .before .before .if1 .left))
+    rw (ne-eqb (getD (args .ids .now) (args .j) 0) (getD (args .ids .now) (args .k) 0) (if1 .left))
     (c .has-name .ensures ∙ ap (same (nameAt (args .lens .now) (args .names .now) (args .j))) (c .before .before .name-end .ensures .name (args .names .now) long))
 
 pub do-clash-spec : {M : Type 1} → statement M

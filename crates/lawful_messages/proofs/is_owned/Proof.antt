@@ -5,17 +5,21 @@ use native.Mathlib.Omega.{arith}
 use Rattle.lawful_messages.specs.Owning.{owner-unknown, owner-passed, owner-known}
 
 returns : tie.Need-returns
-returns c = λ l h w v. owner-unknown l (c .before .before .args .e) (c .before .find .result) 0 (c .before .find .ensures .0 l h (w .id)) (omega arith)
+returns c =
+    let b = c .before in let at-find = b .find in
+    λ l h w v. owner-unknown l (c .before .before .args .e) (at-find .result) 0 (at-find .ensures .0 l h (w .id)) (omega arith)
 
 returns-2 : tie.Need-returns-2
 returns-2 c =
-    let find = c .before .before .before .before .find in
-    λ l h w v. owner-passed l (c .before .before .before .before .before .args .e) (find .result) _ (find .ensures .0 l h (w .id)) (omega arith) (w .next (find .result) (omega arith)) (c .if2 .taken)
+    let b = c .before .before .before .before in let find = b .find in
+    let b = b .before in let args = b .args in
+    λ l h w v. owner-passed l (args .e) (find .result) _ (find .ensures .0 l h (w .id)) (omega arith) (w .next (find .result) (omega arith)) (c .if2 .taken)
 
 returns-3 : tie.Need-returns-3
 returns-3 c =
-    let find = c .before .before .before .before .before .before .find in
-    λ l h w v. owner-known l (c .before .before .before .before .before .before .before .args .e) (find .result) _ (find .ensures .0 l h (w .id)) _ (omega arith) (w .next (find .result) (omega arith)) (c .before .before .if2 .left) (v (find .result) (omega arith))
+    let b = c .before .before .before .before .before .before in let find = b .find in
+    let b = b .before in let args = b .args in
+    λ l h w v. owner-known l (args .e) (find .result) _ (find .ensures .0 l h (w .id)) _ (omega arith) (w .next (find .result) (omega arith)) (c .before .before .if2 .left) (v (find .result) (omega arith))
 
 pub is-owned-spec : {M : Type 1} → statement M
 is-owned-spec =

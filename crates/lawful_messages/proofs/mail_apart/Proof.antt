@@ -23,21 +23,24 @@ loop-holds c = (search needs, refl)
 
 returns : tie.Need-returns Inv-loop μ-loop
 returns c =
-    let args = c .before .before .before .before .before .before .args in
-    let turn = c .before .before .before .before .loop in
-    let k = messages-length (args .n) (args .words .now) (c .before .before .before .before .before .before .pre) in sym (turn .inv .1 ∙ apart-here twin (messages (args .words .now)) (args .n) (turn .i) (omega arith) noMessage (omega arith) (ap (λ (d : Message). anyb (twin d) (drop (turn .i + 1) (take (args .n) (messages (args .words .now))))) (sym (c .before .before .get .ensures)) ∙ sym (c .before .any-twin .ensures) ∙ c .if1 .taken))
+    let b = c .before .before .before .before in let turn = b .loop in
+    let b = b .before .before in let args = b .args in
+    let pre = b .pre in
+    let k = messages-length (args .n) (args .words .now) pre in sym (turn .inv .1 ∙ apart-here twin (messages (args .words .now)) (args .n) (turn .i) (omega arith) noMessage (omega arith) (ap (λ (d : Message). anyb (twin d) (drop (turn .i + 1) (take (args .n) (messages (args .words .now))))) (sym (c .before .before .get .ensures)) ∙ sym (c .before .any-twin .ensures) ∙ c .if1 .taken))
 
 loop-again : tie.Need-loop-again Inv-loop μ-loop
 loop-again c =
-    let args = c .before .before .before .before .before .before .args in
-    let turn = c .before .before .before .before .loop in
-    let k = messages-length (args .n) (args .words .now) (c .before .before .before .before .before .before .pre) in (search needs, turn .inv .1 ∙ apart-next twin (messages (args .words .now)) (args .n) (turn .i) (omega arith) noMessage (omega arith) (ap (λ (d : Message). anyb (twin d) (drop (turn .i + 1) (take (args .n) (messages (args .words .now))))) (sym (c .before .before .get .ensures)) ∙ sym (c .before .any-twin .ensures) ∙ c .if1 .left))
+    let b = c .before .before .before .before in let turn = b .loop in
+    let b = b .before .before in let args = b .args in
+    let pre = b .pre in
+    let k = messages-length (args .n) (args .words .now) pre in (search needs, turn .inv .1 ∙ apart-next twin (messages (args .words .now)) (args .n) (turn .i) (omega arith) noMessage (omega arith) (ap (λ (d : Message). anyb (twin d) (drop (turn .i + 1) (take (args .n) (messages (args .words .now))))) (sym (c .before .before .get .ensures)) ∙ sym (c .before .any-twin .ensures) ∙ c .if1 .left))
 
 returns-2 : tie.Need-returns-2 Inv-loop μ-loop
 returns-2 c =
-    let args = c .before .before .before .args in
-    let turn = c .before .loop in
-    let k = messages-length (args .n) (args .words .now) (c .before .before .before .pre) in sym (turn .inv .1 ∙ apart-past twin (messages (args .words .now)) (args .n) (turn .i) (omega arith) (omega arith))
+    let b = c .before in let turn = b .loop in
+    let b = b .before .before in let args = b .args in
+    let pre = b .pre in
+    let k = messages-length (args .n) (args .words .now) pre in sym (turn .inv .1 ∙ apart-past twin (messages (args .words .now)) (args .n) (turn .i) (omega arith) (omega arith))
 
 pub mail-apart-spec : {M : Type 1} → statement M
 mail-apart-spec =

@@ -26,30 +26,33 @@ loop-holds c = (search needs, λ l h w v. refl)
 
 returns : tie.Need-returns Inv-loop μ-loop
 returns c =
-    let args = c .before .before .before .before .before .before .args in
-    let turn = c .before .before .before .before .loop in
+    let b = c .before .before .before .before in let turn = b .loop in
+    let b = b .before .before in let args = b .args in
+    let pre = b .pre in
     λ l h w v.
-    let many = messages-length (args .used) (args .words .now) (c .before .before .before .before .before .before .pre .1) in
+    let many = messages-length (args .used) (args .words .now) (pre .1) in
     let p = entryOk l (args .selected) (args .told .0) in
     sym (turn .inv .1 l h w v ∙ all-here p (messages (args .words .now)) (args .used) (turn .i) many noMessage (omega arith) (sym (c .before .entry-ok .ensures l h w v ∙ ap p (c .before .before .get .ensures)) ∙ not-true _ (c .if1 .taken)))
 
 loop-again : tie.Need-loop-again Inv-loop μ-loop
 loop-again c =
-    let args = c .before .before .before .before .before .before .args in
-    let turn = c .before .before .before .before .loop in (
+    let b = c .before .before .before .before in let turn = b .loop in
+    let b = b .before .before in let args = b .args in
+    let pre = b .pre in (
       search needs,
       λ l h w v.
-          let many = messages-length (args .used) (args .words .now) (c .before .before .before .before .before .before .pre .1) in
+          let many = messages-length (args .used) (args .words .now) (pre .1) in
           let p = entryOk l (args .selected) (args .told .0) in
           turn .inv .1 l h w v ∙ all-next p (messages (args .words .now)) (args .used) (turn .i) many noMessage (omega arith) (sym (c .before .entry-ok .ensures l h w v ∙ ap p (c .before .before .get .ensures)) ∙ not-false _ (c .if1 .left)),
     )
 
 returns-2 : tie.Need-returns-2 Inv-loop μ-loop
 returns-2 c =
-    let args = c .before .before .before .args in
-    let turn = c .before .loop in
+    let b = c .before in let turn = b .loop in
+    let b = b .before .before in let args = b .args in
+    let pre = b .pre in
     λ l h w v.
-    let many = messages-length (args .used) (args .words .now) (c .before .before .before .pre .1) in
+    let many = messages-length (args .used) (args .words .now) (pre .1) in
     sym (turn .inv .1 l h w v ∙ all-past (entryOk l (args .selected) (args .told .0)) (messages (args .words .now)) (args .used) (turn .i) many (omega arith))
 
 pub mail-ok-spec : {M : Type 1} → statement M

@@ -21,7 +21,9 @@ returns-2 : tie.Need-returns-2
 returns-2 c = simp (le-leb _ _ (c .before .before .if1 .left), lt-leb _ _ (c .if2 .taken))
 
 returns-3 : tie.Need-returns-3
-returns-3 c = simp (le-leb _ _ (c .before .before .before .before .if1 .left), le-leb _ _ (c .before .before .if2 .left), lt-leb _ _ (c .if3 .taken))
+returns-3 c =
+    let b = c .before .before .before .before in let if1 = b .if1 in
+    simp (le-leb _ _ (if1 .left), le-leb _ _ (c .before .before .if2 .left), lt-leb _ _ (c .if3 .taken))
 
 returns-4 : tie.Need-returns-4
 returns-4 c = no-at (tests (c .before .before .before .before .before .before .before .before .args .e)) 4 (rw (lt-leb _ _ (c .if4 .taken)))

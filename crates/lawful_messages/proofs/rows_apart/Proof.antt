@@ -34,7 +34,9 @@ loop-again c =
     (search needs, λ l h w. turn .inv .1 l h w ∙ apart-on clash l (turn .i) noMailbox (omega arith) (sym (c .before .any-clash .ensures l h w) ∙ c .if1 .left))
 
 returns-2 : tie.Need-returns-2 Inv-loop μ-loop
-returns-2 c = λ l h w. sym (c .before .loop .inv .1 l h w ∙ apart-over clash l (c .before .loop .i) (omega arith))
+returns-2 c =
+    let b = c .before in let loop = b .loop in
+    λ l h w. sym (loop .inv .1 l h w ∙ apart-over clash l (loop .i) (omega arith))
 
 pub rows-apart-spec : {M : Type 1} → statement M
 rows-apart-spec =

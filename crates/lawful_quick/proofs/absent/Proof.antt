@@ -21,7 +21,10 @@ returns : tie.Need-returns Inv-loop μ-loop
 returns c = λ z. tf false z refl
 
 loop-again : tie.Need-loop-again Inv-loop μ-loop
-loop-again c = absent-next (c .before .before .before .before .args .d .now) (c .before .before .before .loop .j) (c .before .before .before .before .args .x) (c .before .before .before .loop .inv) (c .if1 .left)
+loop-again c =
+    let b = c .before .before .before in let loop = b .loop in
+    let b = b .before in let args = b .args in
+    absent-next (args .d .now) (loop .j) (args .x) (loop .inv) (c .if1 .left)
 
 returns-2 : tie.Need-returns-2 Inv-loop μ-loop
 returns-2 c = λ z k h e. c .before .loop .inv k (omega arith) e

@@ -144,14 +144,20 @@ loop-less c = omega arith
 
 loop-again : tie.Need-loop-again Inv-loop μ-loop
 loop-again c =
+    let b = c .before .before .before .before .before .before .before in let if3 = b .if3 in
+    let b = b .before in let entry-fits = b .entry-fits in
+    let b = b .before .before .before in let owner = b .owner in
+    let b = b .before .before in let if2 = b .if2 in
+    let b = b .before .before in let loop = b .loop in
+    let b = b .before .before .before in let if1 = b .if1 in
     let start = c .before .before .before .before .before .before .before .before .before .before .before .before .before .before .before .before .before .before .before .before in
     let args = start .args in
-    let turn = c .before .before .before .before .before .before .before .before .before .before .before .before .before .before .before .loop in
-    let fits = c .before .before .before .before .before .before .before .before .entry-fits .ensures (not-false _ (c .before .before .before .before .before .before .before .if3 .left)) in
-    let k = c .before .before .before .before .before .before .before .before .before .before .before .owner .result in
-    let row = c .before .before .before .before .before .before .before .before .before .before .before .owner .ensures in
-    let some = c .before .before .before .before .before .before .before .before .before .before .before .before .before .before .before .before .before .before .if1 .left in
-    let more = c .before .before .before .before .before .before .before .before .before .before .before .before .before .if2 .taken in
+    let turn = loop in
+    let fits = entry-fits .ensures (not-false _ (if3 .left)) in
+    let k = owner .result in
+    let row = owner .ensures in
+    let some = if1 .left in
+    let more = if2 .taken in
     let size = turn .inv .0 in
     let inside = turn .inv .1 in
     let whole = turn .inv .2 in
@@ -176,12 +182,13 @@ returns-4 c = λ l h w v ok a z. tf false z refl
 
 returns-5 : tie.Need-returns-5 Inv-loop μ-loop
 returns-5 c =
-    let args = c .before .before .before .before .before .before .before .before .before .before .before .before .before .args in
-    let turn = c .before .before .before .before .before .before .before .before .loop in
+    let b = c .before .before .before .before in let if4 = b .if4 in
+    let b = b .before .before .before .before in let turn = b .loop in
+    let b = b .before .before .before .before .before in let args = b .args in
     λ l h w v ok a z.
     let below : Below (turn .last) (args .nexts .now) (length l) = rw h (c .below .ensures z) in
     let e : turn .p .at / 6 ≡ args .used = omega arith in
-    gone l (args .ids .now) (args .nexts .now) (args .counters .now) w v a (args .selected) (args .told .0) (turn .last) below ok (take (args .used) (messages (args .words .now))) (turn .p .flags) (turn .p .size) (c .before .before .before .before .if4 .left) (c .before .before .if5 .left) (rw e at (turn .inv .4 l h w v a))
+    gone l (args .ids .now) (args .nexts .now) (args .counters .now) w v a (args .selected) (args .told .0) (turn .last) below ok (take (args .used) (messages (args .words .now))) (turn .p .flags) (turn .p .size) (if4 .left) (c .before .before .if5 .left) (rw e at (turn .inv .4 l h w v a))
 
 pub all-fit-spec : {M : Type 1} → statement M
 all-fit-spec =

@@ -34,14 +34,19 @@ is-new-requires : tie.Need-is-new-requires Inv-loop μ-loop
 is-new-requires c κs = (omega arith, c .before .before .loop .inv .7)
 
 returns : tie.Need-returns Inv-loop μ-loop
-returns c = (λ z. tf false z refl, c .before .before .before .before .loop .inv .5, c .before .before .before .before .loop .inv .6)
+returns c =
+    let b = c .before .before .before .before in let loop = b .loop in
+    (λ z. tf false z refl, loop .inv .5, loop .inv .6)
 
 loop-again : tie.Need-loop-again Inv-loop μ-loop
 loop-again c =
-    let args = c .before .before .before .before .before .before .before .before .before .args in
-    let turn = c .before .before .before .before .before .before .before .before .loop in
-    let new = c .before .before .before .before .before .is-new .ensures (not-false _ (c .before .before .before .before .if1 .left)) in
-    let at = c .before .before .slot .result in
+    let b = c .before .before in let slot = b .slot in
+    let b = b .before .before in let if1 = b .if1 in
+    let b = b .before in let is-new = b .is-new in
+    let b = b .before .before .before in let turn = b .loop in
+    let b = b .before in let args = b .args in
+    let new = is-new .ensures (not-false _ (if1 .left)) in
+    let at = slot .result in
     let wide = turn .inv .2 in
     let long = turn .inv .3 in
     let e : c .octet .result ≡ turn .i = omega arith in (
@@ -52,11 +57,13 @@ loop-again c =
       all-below (λ (k : ℕ). Absent (args .d .now) k (getD (args .d .now) k 0)) (turn .i) (turn .inv .4) new,
       rw e (low-next (turn .slots) (turn .i) at (omega arith) (args .n) (omega arith) (turn .inv .5)),
       low-next (turn .chain) (getD (turn .slots) at 0) (turn .i) (omega arith) (args .n) (turn .inv .5 (omega arith) at) (turn .inv .6),
-      rw e (taken-next (turn .slots) (turn .i) at (omega arith) (args .d .now) (turn .inv .0) (c .before .before .slot .ensures .0) (turn .inv .7)),
+      rw e (taken-next (turn .slots) (turn .i) at (omega arith) (args .d .now) (turn .inv .0) (slot .ensures .0) (turn .inv .7)),
     )
 
 returns-2 : tie.Need-returns-2 Inv-loop μ-loop
-returns-2 c = (λ z k h. c .before .loop .inv .4 k (omega arith), c .before .loop .inv .5, c .before .loop .inv .6)
+returns-2 c =
+    let b = c .before in let loop = b .loop in
+    (λ z k h. loop .inv .4 k (omega arith), loop .inv .5, loop .inv .6)
 
 pub differ-spec : {M : Type 1} → statement M
 differ-spec =

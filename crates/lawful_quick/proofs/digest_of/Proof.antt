@@ -20,9 +20,10 @@ loop-holds c = (search needs, refl)
 
 loop-again : tie.Need-loop-again Inv-loop μ-loop
 loop-again c =
-    let args = c .before .before .before .before .before .args in
-    let turn = c .before .before .before .loop in
-    (search needs, mixed-next (args .names .now) (args .k) (turn .i) (turn .d) (c .before .word .result) (c .mix .result) (omega arith) (turn .inv .1) (c .before .word .ensures) (c .mix .ensures))
+    let b = c .before in let word = b .word in
+    let b = b .before .before in let turn = b .loop in
+    let b = b .before .before in let args = b .args in
+    (search needs, mixed-next (args .names .now) (args .k) (turn .i) (turn .d) (word .result) (c .mix .result) (omega arith) (turn .inv .1) (word .ensures) (c .mix .ensures))
 
 returns : tie.Need-returns Inv-loop μ-loop
 returns c =

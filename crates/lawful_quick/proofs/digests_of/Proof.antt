@@ -19,8 +19,9 @@ loop-holds c = (search needs, search needs, λ k h. absurd (let z : ⊥ = omega 
 
 loop-again : tie.Need-loop-again Inv-loop μ-loop
 loop-again c =
-    let turn = c .before .before .loop in
-    (search needs, simp length-set (turn .inv .1), digested-next (c .before .before .before .before .args .names .now) (turn .digests) (turn .i) (c .digest-of .result) (omega arith) (c .digest-of .ensures) (turn .inv .2))
+    let b = c .before .before in let turn = b .loop in
+    let b = b .before .before in let args = b .args in
+    (search needs, simp length-set (turn .inv .1), digested-next (args .names .now) (turn .digests) (turn .i) (c .digest-of .result) (omega arith) (c .digest-of .ensures) (turn .inv .2))
 
 returns : tie.Need-returns Inv-loop μ-loop
 returns c = λ k h. c .before .loop .inv .2 k (omega arith)

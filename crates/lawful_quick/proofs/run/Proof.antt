@@ -15,13 +15,19 @@ abbrev μ-loop : tie.MeasureT-loop
 μ-loop words end ids counters slots last₀ selected told b₀ flags₀ size₀ last b flags size = end - b
 
 loop-holds : tie.Need-loop-holds Inv-loop μ-loop
-loop-holds c = record { on = search needs; inside = search needs; whole = c .before .pre .1; long = c .before .pre .4; kept = λ l nexts w v a o s g. g }
+loop-holds c =
+    let b = c .before in let pre = b .pre in
+    record { on = search needs; inside = search needs; whole = pre .1; long = pre .4; kept = λ l nexts w v a o s g. g }
 
 mul-entry-fits : tie.Need-mul-entry-fits Inv-loop μ-loop
-mul-entry-fits c = let z = c .before .before .before .before .before .before .before .pre .5 (omega arith) (c .before .before .slot .result) in search needs
+mul-entry-fits c =
+    let b = c .before .before .before .before .before .before .before in let pre = b .pre in
+    let z = pre .5 (omega arith) (c .before .before .slot .result) in search needs
 
 element-copy-out-entry-fits : tie.Need-element-copy-out-entry-fits Inv-loop μ-loop
-element-copy-out-entry-fits c = let z = c .before .before .before .before .before .before .before .pre .5 (omega arith) (c .before .before .slot .result) in search needs
+element-copy-out-entry-fits c =
+    let b = c .before .before .before .before .before .before .before in let pre = b .pre in
+    let z = pre .5 (omega arith) (c .before .before .slot .result) in search needs
 
 mul-entry-fits-2 : tie.Need-mul-entry-fits-2 Inv-loop μ-loop
 mul-entry-fits-2 c = let z = c .before .before .before .before .before .before .before .before .pre .5 (omega arith) (c .before .before .before .slot .result) in search needs
@@ -39,10 +45,16 @@ returns : tie.Need-returns Inv-loop μ-loop
 returns c = c .before .before .before .before .before .before .before .before .before .before .loop .inv
 
 mul-last-2 : tie.Need-mul-last-2 Inv-loop μ-loop
-mul-last-2 c = let z = c .before .before .before .before .before .before .before .before .before .before .before .before .before .pre .5 (omega arith) (c .before .before .before .before .before .before .before .before .slot .result) in search needs
+mul-last-2 c =
+    let b = c .before .before .before .before .before .before .before .before in let slot = b .slot in
+    let b = b .before .before .before .before .before in let pre = b .pre in
+    let z = pre .5 (omega arith) (slot .result) in search needs
 
 element-write-last : tie.Need-element-write-last Inv-loop μ-loop
-element-write-last c = let z = c .before .before .before .before .before .before .before .before .before .before .before .before .before .pre .5 (omega arith) (c .before .before .before .before .before .before .before .before .slot .result) in search needs
+element-write-last c =
+    let b = c .before .before .before .before .before .before .before .before in let slot = b .slot in
+    let b = b .before .before .before .before .before in let pre = b .pre in
+    let z = pre .5 (omega arith) (slot .result) in search needs
 
 loop-again : tie.Need-loop-again Inv-loop μ-loop
 loop-again c =

@@ -4,7 +4,9 @@ use Rattle.lawful_session.proofs.attributes_ok.Tie as tie
 use Prim.Native.Nat.{_-_}
 
 returns : tie.Need-returns
-returns c = rw (c .both2 .ensures, c .before .either .ensures, c .before .before .both .ensures, c .before .before .before .has .ensures)
+returns c =
+    let b = c .before .before .before in let has = b .has in
+    rw (c .both2 .ensures, c .before .either .ensures, c .before .before .both .ensures, has .ensures)
 
 pub attributes-ok-spec : {M : Type 1} → statement M
 attributes-ok-spec =

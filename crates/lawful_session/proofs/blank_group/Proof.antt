@@ -7,7 +7,11 @@ use lib.Dec.{eqb}
 use Rattle.lawful_session.specs.Tests.{blank-is}
 
 returns : tie.Need-returns
-returns c = rw (c .both4 .ensures, c .before .both3 .ensures, c .before .before .before .both2 .ensures, c .before .before .before .before .before .before .both .ensures) (sym (blank-is (eqb (c .before .before .before .before .before .before .before .before .before .args .g .selector) 0) (eqb (c .before .before .before .before .before .before .before .before .before .args .g .first) 0) (eqb (c .before .before .before .before .before .before .before .before .before .args .g .count) 0) (eqb (c .before .before .before .before .before .before .before .before .before .args .g .events) 0) (eqb (c .before .before .before .before .before .before .before .before .before .args .g .attributes) 0)))
+returns c =
+    let b = c .before .before .before in let both2 = b .both2 in
+    let b = b .before .before .before in let both = b .both in
+    let b = b .before .before .before in let args = b .args in
+    rw (c .both4 .ensures, c .before .both3 .ensures, both2 .ensures, both .ensures) (sym (blank-is (eqb (args .g .selector) 0) (eqb (args .g .first) 0) (eqb (args .g .count) 0) (eqb (args .g .events) 0) (eqb (args .g .attributes) 0)))
 
 pub blank-group-spec : {M : Type 1} → statement M
 blank-group-spec =

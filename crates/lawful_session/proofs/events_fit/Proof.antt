@@ -4,7 +4,9 @@ use Rattle.lawful_session.proofs.events_fit.Tie as tie
 use Prim.Native.Nat.{_-_}
 
 returns : tie.Need-returns
-returns c = rw (c .either .ensures, c .before .both .ensures, c .before .before .before .has .ensures, c .before .before .has2 .ensures)
+returns c =
+    let b = c .before .before .before in let has = b .has in
+    rw (c .either .ensures, c .before .both .ensures, has .ensures, c .before .before .has2 .ensures)
 
 pub events-fit-spec : {M : Type 1} → statement M
 events-fit-spec =

@@ -4,7 +4,14 @@ use Rattle.lawful_session.proofs.events_ok.Tie as tie
 use Prim.Native.Nat.{_-_}
 
 returns : tie.Need-returns
-returns c = rw (c .both3 .ensures, c .before .both2 .ensures, c .before .before .both .ensures, c .before .before .before .events-fit .ensures, c .before .before .before .before .either .ensures, c .before .before .before .before .before .before .alike .ensures, c .before .before .before .before .before .has3 .ensures, c .before .before .before .before .before .before .before .has2 .ensures, c .before .before .before .before .before .before .before .before .has .ensures)
+returns c =
+    let b = c .before .before .before in let events-fit = b .events-fit in
+    let b = b .before in let either = b .either in
+    let b = b .before in let has3 = b .has3 in
+    let b = b .before in let alike = b .alike in
+    let b = b .before in let has2 = b .has2 in
+    let b = b .before in let has = b .has in
+    rw (c .both3 .ensures, c .before .both2 .ensures, c .before .before .both .ensures, events-fit .ensures, either .ensures, alike .ensures, has3 .ensures, has2 .ensures, has .ensures)
 
 pub events-ok-spec : {M : Type 1} → statement M
 events-ok-spec =

@@ -23,8 +23,9 @@ loop-holds c = (search needs, search needs, refl)
 
 loop-again : tie.Need-loop-again Inv-loop μ-loop
 loop-again c =
-    let turn = c .before .before .before .loop in
-    (search needs, search needs, rw (c .octet-if .ensures .0) (filled-next (c .before .before .before .before .before .args .octets .now) (turn .i) (turn .sum) (omega arith) (turn .inv .2)))
+    let b = c .before .before .before in let turn = b .loop in
+    let b = b .before .before in let args = b .args in
+    (search needs, search needs, rw (c .octet-if .ensures .0) (filled-next (args .octets .now) (turn .i) (turn .sum) (omega arith) (turn .inv .2)))
 
 returns : tie.Need-returns Inv-loop μ-loop
 returns c = let turn = c .before .loop in sum-past (c .before .before .before .args .octets .now) (turn .i) (turn .sum) 0 (omega arith) (turn .inv .2)

@@ -5,7 +5,12 @@ use Prim.Native.Nat.{_-_}
 use Rattle.lawful_session.specs.Tests.{group-is}
 
 returns : tie.Need-returns
-returns c = rw (group-is (c .before .before .before .before .before .before .before .before .args .first) (c .before .before .before .before .before .before .before .before .args .g), c .both3 .ensures, c .before .both2 .ensures, c .before .before .both .ensures, c .before .before .before .range-ok .ensures, c .before .before .before .before .before .before .events-ok .ensures, c .before .before .before .before .before .attributes-ok .ensures)
+returns c =
+    let b = c .before .before .before in let range-ok = b .range-ok in
+    let b = b .before .before in let attributes-ok = b .attributes-ok in
+    let b = b .before in let events-ok = b .events-ok in
+    let b = b .before .before in let args = b .args in
+    rw (group-is (args .first) (args .g), c .both3 .ensures, c .before .both2 .ensures, c .before .before .both .ensures, range-ok .ensures, events-ok .ensures, attributes-ok .ensures)
 
 pub group-ok-spec : {M : Type 1} → statement M
 group-ok-spec =

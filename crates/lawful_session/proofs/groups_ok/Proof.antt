@@ -21,13 +21,22 @@ loop-holds : tie.Need-loop-holds Inv-loop μ-loop
 loop-holds c = (search needs, (search needs, refl))
 
 returns : tie.Need-returns Inv-loop μ-loop
-returns c = let long : length (c .before .before .before .before .before .args .t1) ≡ 8 = search (needs, mapped-length) in sym (c .before .before .before .before .loop .inv .1 .1 ∙ groups-here (c .before .before .before .before .before .args .t1) (c .before .before .before .before .before .args .n) (c .before .before .before .before .loop .i) (c .before .before .before .before .loop .first) noGroup (omega arith) (omega arith) (sym (c .before .group-ok .ensures) ∙ not-true _ (c .if1 .taken)))
+returns c =
+    let b = c .before .before .before .before in let loop = b .loop in
+    let b = b .before in let args = b .args in
+    let long : length (args .t1) ≡ 8 = search (needs, mapped-length) in sym (loop .inv .1 .1 ∙ groups-here (args .t1) (args .n) (loop .i) (loop .first) noGroup (omega arith) (omega arith) (sym (c .before .group-ok .ensures) ∙ not-true _ (c .if1 .taken)))
 
 loop-again : tie.Need-loop-again Inv-loop μ-loop
-loop-again c = let long : length (c .before .before .before .before .before .before .args .t1) ≡ 8 = search (needs, mapped-length) in (search needs, (search needs, rw (c .wide-octet .ensures .0) (c .before .before .before .before .before .loop .inv .1 .1 ∙ groups-next (c .before .before .before .before .before .before .args .t1) (c .before .before .before .before .before .before .args .n) (c .before .before .before .before .before .loop .i) (c .before .before .before .before .before .loop .first) noGroup (omega arith) (omega arith) (sym (c .before .before .group-ok .ensures) ∙ not-false _ (c .before .if1 .left)))))
+loop-again c =
+    let b = c .before .before .before .before .before in let loop = b .loop in
+    let b = b .before in let args = b .args in
+    let long : length (args .t1) ≡ 8 = search (needs, mapped-length) in (search needs, (search needs, rw (c .wide-octet .ensures .0) (loop .inv .1 .1 ∙ groups-next (args .t1) (args .n) (loop .i) (loop .first) noGroup (omega arith) (omega arith) (sym (c .before .before .group-ok .ensures) ∙ not-false _ (c .before .if1 .left)))))
 
 returns-2 : tie.Need-returns-2 Inv-loop μ-loop
-returns-2 c = let long : length (c .before .before .args .t1) ≡ 8 = search (needs, mapped-length) in sym (c .before .loop .inv .1 .1 ∙ groups-past (c .before .before .args .t1) (c .before .before .args .n) (c .before .loop .i) (c .before .loop .first) noGroup (omega arith) (omega arith))
+returns-2 c =
+    let b = c .before in let loop = b .loop in
+    let b = b .before in let args = b .args in
+    let long : length (args .t1) ≡ 8 = search (needs, mapped-length) in sym (loop .inv .1 .1 ∙ groups-past (args .t1) (args .n) (loop .i) (loop .first) noGroup (omega arith) (omega arith))
 
 pub groups-ok-spec : {M : Type 1} → statement M
 groups-ok-spec =

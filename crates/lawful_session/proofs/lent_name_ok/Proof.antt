@@ -19,7 +19,10 @@ is-kept-requires : tie.Need-is-kept-requires
 is-kept-requires c κs = let lx : length (c .before .before .before .before .before .before .args .x .octets) ≡ 64 = search needs in (omega arith, omega arith)
 
 returns-3 : tie.Need-returns-3
-returns-3 c = c .is-kept .ensures ∙ name-kept (c .before .before .before .before .before .before .before .args .x) (c .before .before .before .before .before .if1 .left) (c .before .before .if2 .left)
+returns-3 c =
+    let b = c .before .before .before .before .before in let if1 = b .if1 in
+    let b = b .before .before in let args = b .args in
+    c .is-kept .ensures ∙ name-kept (args .x) (if1 .left) (c .before .before .if2 .left)
 
 pub lent-name-ok-spec : {M : Type 1} → statement M
 lent-name-ok-spec =

@@ -7,10 +7,14 @@ use Rattle.model.specs.Laws.{all-hold}
 use Rattle.lawful_session.specs.Tests.{groupTests, sessionTests, no-at, many-selected, few-selected, names-last}
 
 returns : tie.Need-returns
-returns c = no-at (sessionTests (c .before .before .args .s)) 0 (lt-leb (c .before .before .args .s .notified) 1 (c .if1 .taken))
+returns c =
+    let b = c .before .before in let args = b .args in
+    no-at (sessionTests (args .s)) 0 (lt-leb (args .s .notified) 1 (c .if1 .taken))
 
 returns-2 : tie.Need-returns-2
-returns-2 c = no-at (sessionTests (c .before .before .before .before .args .s)) 1 (lt-leb (c .before .before .before .before .args .s .groupcount) 8 (c .if2 .taken))
+returns-2 c =
+    let b = c .before .before .before .before in let args = b .args in
+    no-at (sessionTests (args .s)) 1 (lt-leb (args .s .groupcount) 8 (c .if2 .taken))
 
 returns-3 : tie.Need-returns-3
 returns-3 c = no-at (sessionTests (c .before .before .before .before .before .before .before .before .args .s)) 2 (sym (c .before .either .ensures) ∙ not-true _ (c .if3 .taken))
@@ -19,7 +23,10 @@ returns-4 : tie.Need-returns-4
 returns-4 c = no-at (sessionTests (c .before .before .before .before .before .before .before .before .before .before .before .before .args .s)) 3 (sym (c .before .groups-ok .ensures) ∙ not-true _ (c .if4 .taken))
 
 returns-5 : tie.Need-returns-5
-returns-5 c = no-at (sessionTests (c .before .before .before .before .before .before .before .before .before .before .before .before .before .before .args .s)) 4 (many-selected (c .before .before .before .before .before .before .before .before .before .before .before .before .before .before .args .s) (c .before .selected-count .result) (c .before .selected-count .ensures) (c .if5 .taken))
+returns-5 c =
+    let b = c .before in let selected-count = b .selected-count in
+    let b = b .before .before .before .before .before .before .before .before .before .before .before .before .before in let args = b .args in
+    no-at (sessionTests (args .s)) 4 (many-selected (args .s) (selected-count .result) (selected-count .ensures) (c .if5 .taken))
 
 returns-6 : tie.Need-returns-6
 returns-6 c = no-at (sessionTests (c .before .before .before .before .before .before .before .before .before .before .before .before .before .before .before .before .args .s)) 5 (rw (← c .before .name-count .ensures) (lt-leb (c .before .name-count .result) 16 (c .if6 .taken)))

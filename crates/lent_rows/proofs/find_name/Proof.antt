@@ -19,20 +19,22 @@ abbrev μ-loop : tie.MeasureT-loop
 μ-loop n name t i₀ i = n - i
 
 loop-holds : tie.Need-loop-holds Inv-loop μ-loop
-loop-holds c = (search needs, (let z : 0 + placeNamed (c .before .args .name .now) (take (c .before .args .n) (c .before .args .t1)) ≡ placeNamed (c .before .args .name .now) (take (c .before .args .n) (c .before .args .t1)) = omega arith in sym z))
+loop-holds c =
+    let b = c .before in let at-args = b .args in
+    (search needs, (let z : 0 + placeNamed (at-args .name .now) (take (at-args .n) (at-args .t1)) ≡ placeNamed (at-args .name .now) (take (at-args .n) (at-args .t1)) = omega arith in sym z))
 
 returns : tie.Need-returns Inv-loop μ-loop
 returns c =
-    let args = c .before .before .before .before .before .before .args in
-    let turn = c .before .before .before .before .loop in
+    let b = c .before .before .before .before in let turn = b .loop in
+    let b = b .before .before in let args = b .args in
     let long : length (args .t1) ≡ 64 = search (needs, mapped-length) in
     let few = length-take-le (args .n) (args .t1) (omega arith) in
     sym (named-found (args .name .now) (take (args .n) (args .t1)) (turn .i) vacant (omega arith) (ap (λ (x : Mailbox). same (nameOf x) (args .name .now)) (getD-take (args .n) (args .t1) (turn .i) vacant (omega arith)) ∙ (sym (c .before .is-named .ensures) ∙ c .if1 .taken)) (turn .inv .1))
 
 loop-again : tie.Need-loop-again Inv-loop μ-loop
 loop-again c =
-    let args = c .before .before .before .before .before .before .args in
-    let turn = c .before .before .before .before .loop in
+    let b = c .before .before .before .before in let turn = b .loop in
+    let b = b .before .before in let args = b .args in
     let long : length (args .t1) ≡ 64 = search (needs, mapped-length) in
     let few = length-take-le (args .n) (args .t1) (omega arith) in (
       search needs,
@@ -41,8 +43,8 @@ loop-again c =
 
 returns-2 : tie.Need-returns-2 Inv-loop μ-loop
 returns-2 c =
-    let args = c .before .before .before .args in
-    let turn = c .before .loop in
+    let b = c .before in let turn = b .loop in
+    let b = b .before .before in let args = b .args in
     let long : length (args .t1) ≡ 64 = search (needs, mapped-length) in
     let few = length-take-le (args .n) (args .t1) (omega arith) in
     let e : turn .i ≡ args .n = omega arith in

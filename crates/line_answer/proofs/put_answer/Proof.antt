@@ -9,12 +9,12 @@ use Rattle.line_answer.specs.Tagged.{answer-text}
 
 returns : tie.Need-returns
 returns c =
-    let a = c .before .before .before .before .before .before .before .before .before .before .before .before .before .before .before .before .before .before .before .before .args in
-    let pre = c .before .before .before .before .before .before .before .before .before .before .before .before .before .before .before .before .before .before .before .before .pre in
-    let put = c .before .before .before .before .before .before .before .before .before .before .before .before .before .before .before .before .put in
-    let put2 = c .before .before .before .before .before .before .before .before .before .before .before .put2 in
-    let put-words = c .before .before .before .before .before .before .before .put-words in
-    let put3 = c .before .before .put3 in
+    let b = c .before .before in let put3 = b .put3 in
+    let b = b .before .before .before .before .before in let put-words = b .put-words in
+    let b = b .before .before .before .before in let put2 = b .put2 in
+    let b = b .before .before .before .before .before in let put = b .put in
+    let b = b .before .before .before .before in let a = b .args in
+    let pre = b .pre in
     let text = _then_ (_then_ (_then_ (put .ensures) (put2 .ensures)) (put-words .ensures .0)) (put3 .ensures) in (
       put-as text (answer-text (a .tag .now) (wordOf (a .verb)) (a .reply)),
       omega (arith, pre, put .ensures .next, put2 .ensures .next, put-words .ensures .1, put3 .ensures .next),

@@ -14,20 +14,20 @@ enum-told c = search needs
 
 returns : tie.Need-returns
 returns c =
-    let enum-told = c .before .before .before .before .before .enum-told in
-    let put = c .before .before .put in
+    let b = c .before .before in let put = b .put in
+    let b = b .before .before .before in let enum-told = b .enum-told in
     (put-as (put .ensures) (ap (λ (k : Verb). doneText (wordOf k)) (sym (enum-told .given .1))), omega (arith, put .ensures .next))
 
 returns-2 : tie.Need-returns-2
 returns-2 c =
-    let enum-told2 = c .before .before .before .before .before .enum-told2 in
-    let put2 = c .before .before .put2 in
+    let b = c .before .before in let put2 = b .put2 in
+    let b = b .before .before .before in let enum-told2 = b .enum-told2 in
     (put-as (put2 .ensures) (ap (λ (k : Verb). doneText (wordOf k)) (sym (enum-told2 .given .1))), omega (arith, put2 .ensures .next))
 
 returns-3 : tie.Need-returns-3
 returns-3 c =
-    let enum-told3 = c .before .before .before .before .before .enum-told3 in
-    let put3 = c .before .before .put3 in
+    let b = c .before .before in let put3 = b .put3 in
+    let b = b .before .before .before in let enum-told3 = b .enum-told3 in
     (put-as (put3 .ensures) (ap (λ (k : Verb). doneText (wordOf k)) (sym (enum-told3 .given .1))), omega (arith, put3 .ensures .next))
 
 pub put-done-spec : {M : Type 1} → statement M

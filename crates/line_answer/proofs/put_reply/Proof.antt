@@ -15,10 +15,10 @@ use Rattle.line_answer.specs.Tagged.{tag-none, tag-some, tag-short}
 
 returns : tie.Need-returns
 returns c =
-    let a = c .before .before .before .before .before .before .before .before .before .args in
-    let is-tagged = c .before .before .before .before .before .before .is-tagged in
-    let if1 = c .before .before .before .before .before .if1 in
-    let put-answer = c .before .before .put-answer in
+    let b = c .before .before in let put-answer = b .put-answer in
+    let b = b .before .before .before in let if1 = b .if1 in
+    let b = b .before in let is-tagged = b .is-tagged in
+    let b = b .before .before .before in let a = b .args in
     let e = tag-none (a .text .now) (sym (is-tagged .ensures) ∙ not-true _ (if1 .taken)) in
     (put-as (put-answer .ensures .0) (ap (λ (t : List ℕ). render (answer t (wordOf (a .verb)) (a .reply))) e), put-answer .ensures .1)
 
@@ -26,20 +26,25 @@ slice-aggregate-put-answer-2 : tie.Need-slice-aggregate-put-answer-2
 slice-aggregate-put-answer-2 c = sym (length-take-le _ _ (c .before .before .tag-end .ensures .within))
 
 put-answer-requires-2 : tie.Need-put-answer-requires-2
-put-answer-requires-2 c κs = let a = c .before .before .before .before .before .before .before .args in
-    let w = c .before .before .tag-end .ensures in
-    let s = tag-short (a .text .now) (sym (c .before .before .before .before .is-tagged .ensures) ∙ not-false _ (c .before .before .before .if1 .left)) in
+put-answer-requires-2 c κs =
+    let b = c .before .before in let at-tag-end = b .tag-end in
+    let b = b .before in let at-if1 = b .if1 in
+    let b = b .before in let at-is-tagged = b .is-tagged in
+    let b = b .before .before .before in let a = b .args in
+    let pre = b .pre in
+    let w = at-tag-end .ensures in
+    let s = tag-short (a .text .now) (sym (at-is-tagged .ensures) ∙ not-false _ (at-if1 .left)) in
     let e = w .exact in
-    let l = length-take-le (c .before .before .tag-end .result) (a .text .now) (w .within) in
-    omega (arith, l, e, s, c .before .before .before .before .before .before .before .pre)
+    let l = length-take-le (at-tag-end .result) (a .text .now) (w .within) in
+    omega (arith, l, e, s, pre)
 
 returns-2 : tie.Need-returns-2
 returns-2 c =
-    let a = c .before .before .before .before .before .before .before .before .before .before .args in
-    let is-tagged = c .before .before .before .before .before .before .before .is-tagged in
-    let if1 = c .before .before .before .before .before .before .if1 in
-    let tag-end = c .before .before .before .before .before .tag-end in
-    let put-answer2 = c .before .before .put-answer2 in
+    let b = c .before .before in let put-answer2 = b .put-answer2 in
+    let b = b .before .before .before in let tag-end = b .tag-end in
+    let b = b .before in let if1 = b .if1 in
+    let b = b .before in let is-tagged = b .is-tagged in
+    let b = b .before .before .before in let a = b .args in
     let e = tag-some (a .text .now) _ (tag-end .ensures .exact) (sym (is-tagged .ensures) ∙ not-false _ (if1 .left)) in
     (put-as (put-answer2 .ensures .0) (ap (λ (t : List ℕ). render (answer t (wordOf (a .verb)) (a .reply))) e), put-answer2 .ensures .1)
 

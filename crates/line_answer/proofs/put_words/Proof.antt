@@ -13,44 +13,44 @@ enum-told c = search needs
 
 returns : tie.Need-returns
 returns c =
-    let a = c .before .before .before .before .before .before .before .before .args in
-    let enum-told = c .before .before .before .before .before .enum-told in
-    let put = c .before .before .put in
+    let b = c .before .before in let put = b .put in
+    let b = b .before .before .before in let enum-told = b .enum-told in
+    let b = b .before .before .before in let a = b .args in
     (put-as (put .ensures) (ap (replyText (wordOf (a .verb))) (sym (enum-told .given .1))), omega (arith, put .ensures .next))
 
 returns-2 : tie.Need-returns-2
 returns-2 c =
-    let a = c .before .before .before .before .before .before .before .before .args in
-    let enum-told2 = c .before .before .before .before .before .enum-told2 in
-    let put2 = c .before .before .put2 in
+    let b = c .before .before in let put2 = b .put2 in
+    let b = b .before .before .before in let enum-told2 = b .enum-told2 in
+    let b = b .before .before .before in let a = b .args in
     (put-as (put2 .ensures) (ap (replyText (wordOf (a .verb))) (sym (enum-told2 .given .1))), omega (arith, put2 .ensures .next))
 
 returns-3 : tie.Need-returns-3
 returns-3 c =
-    let a = c .before .before .before .before .before .before .before .before .args in
-    let enum-told3 = c .before .before .before .before .before .enum-told3 in
-    let put3 = c .before .before .put3 in
+    let b = c .before .before in let put3 = b .put3 in
+    let b = b .before .before .before in let enum-told3 = b .enum-told3 in
+    let b = b .before .before .before in let a = b .args in
     (put-as (put3 .ensures) (ap (replyText (wordOf (a .verb))) (sym (enum-told3 .given .1))), omega (arith, put3 .ensures .next))
 
 returns-4 : tie.Need-returns-4
 returns-4 c =
-    let a = c .before .before .before .before .before .before .before .before .args in
-    let enum-told4 = c .before .before .before .before .before .enum-told4 in
-    let put4 = c .before .before .put4 in
+    let b = c .before .before in let put4 = b .put4 in
+    let b = b .before .before .before in let enum-told4 = b .enum-told4 in
+    let b = b .before .before .before in let a = b .args in
     (put-as (put4 .ensures) (ap (replyText (wordOf (a .verb))) (sym (enum-told4 .given .1))), omega (arith, put4 .ensures .next))
 
 returns-5 : tie.Need-returns-5
 returns-5 c =
-    let a = c .before .before .before .before .before .before .before .args in
-    let enum-told5 = c .before .before .before .before .enum-told5 in
-    let put-too-large = c .before .before .put-too-large in
+    let b = c .before .before in let put-too-large = b .put-too-large in
+    let b = b .before .before in let enum-told5 = b .enum-told5 in
+    let b = b .before .before .before in let a = b .args in
     (put-as (put-too-large .ensures .0) (ap (replyText (wordOf (a .verb))) (sym (enum-told5 .given .1))), omega (arith, put-too-large .ensures .1))
 
 returns-6 : tie.Need-returns-6
 returns-6 c =
-    let a = c .before .before .before .before .before .before .before .args in
-    let enum-told6 = c .before .before .before .before .enum-told6 in
-    let put-done = c .before .before .put-done in
+    let b = c .before .before in let put-done = b .put-done in
+    let b = b .before .before in let enum-told6 = b .enum-told6 in
+    let b = b .before .before .before in let a = b .args in
     (put-as (put-done .ensures .0) (ap (replyText (wordOf (a .verb))) (sym (enum-told6 .given .1))), omega (arith, put-done .ensures .1))
 
 pub put-words-spec : {M : Type 1} → statement M

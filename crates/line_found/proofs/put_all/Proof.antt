@@ -12,10 +12,18 @@ use lib.ListN.{take}
 use Rattle.line_found.specs.Writing.{asked-not, asked}
 
 returns : tie.Need-returns
-returns c = (put-as (put-none (c .before .before .before .args .queue .now) (c .before .before .before .args .at) (c .before .before .before .args .limit) (c .before .before .before .pre .0 .0)) (asked-not (c .before .before .before .args .on) (octets " ALL " ++ setText (uidsOf (take (c .before .before .before .args .n) (c .before .before .before .args .uids .now)))) (not-true _ (c .if1 .taken))), omega arith)
+returns c =
+    let b = c .before .before .before in let args = b .args in
+    let pre = b .pre in
+    (put-as (put-none (args .queue .now) (args .at) (args .limit) (pre .0 .0)) (asked-not (args .on) (octets " ALL " ++ setText (uidsOf (take (args .n) (args .uids .now)))) (not-true _ (c .if1 .taken))), omega arith)
 
 returns-2 : tie.Need-returns-2
-returns-2 c = (put-as (_then_ (c .before .before .before .before .before .before .put .ensures) (c .before .before .put-set .ensures .0)) (asked (c .before .before .before .before .before .before .before .before .before .before .before .before .args .on) (octets " ALL " ++ setText (uidsOf (take (c .before .before .before .before .before .before .before .before .before .before .before .before .args .n) (c .before .before .before .before .before .before .before .before .before .before .before .before .args .uids .now)))) (not-false _ (c .before .before .before .before .before .before .before .before .before .if1 .left))), omega (arith, c .before .before .before .before .before .before .put .ensures .next, c .before .before .put-set .ensures .1))
+returns-2 c =
+    let b = c .before .before in let put-set = b .put-set in
+    let b = b .before .before .before .before in let put = b .put in
+    let b = b .before .before .before in let if1 = b .if1 in
+    let b = b .before .before .before in let args = b .args in
+    (put-as (_then_ (put .ensures) (put-set .ensures .0)) (asked (args .on) (octets " ALL " ++ setText (uidsOf (take (args .n) (args .uids .now)))) (not-false _ (if1 .left))), omega (arith, put .ensures .next, put-set .ensures .1))
 
 pub put-all-spec : {M : Type 1} → statement M
 put-all-spec =

@@ -7,7 +7,12 @@ use Rattle.line_found.specs.Line.{boxText}
 
 returns : tie.Need-returns
 unfolding boxText
-returns c = (_then_ (_then_ (_then_ (c .before .before .before .before .before .before .before .before .before .before .before .before .before .before .before .before .put-quoted .ensures .0) (c .before .before .before .before .before .before .before .before .before .before .before .put .ensures)) (c .before .before .before .before .before .before .before .put-number .ensures .0)) (c .before .before .put2 .ensures), omega (arith, c .before .before .before .before .before .before .before .before .before .before .before .before .before .before .before .before .put-quoted .ensures .1, c .before .before .before .before .before .before .before .before .before .before .before .put .ensures .next, c .before .before .before .before .before .before .before .put-number .ensures .1, c .before .before .put2 .ensures .next))
+returns c =
+    let b = c .before .before in let put2 = b .put2 in
+    let b = b .before .before .before .before .before in let put-number = b .put-number in
+    let b = b .before .before .before .before in let put = b .put in
+    let b = b .before .before .before .before .before in let put-quoted = b .put-quoted in
+    (_then_ (_then_ (_then_ (put-quoted .ensures .0) (put .ensures)) (put-number .ensures .0)) (put2 .ensures), omega (arith, put-quoted .ensures .1, put .ensures .next, put-number .ensures .1, put2 .ensures .next))
 
 pub put-box-spec : {M : Type 1} → statement M
 put-box-spec =

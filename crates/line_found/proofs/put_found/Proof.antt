@@ -6,7 +6,14 @@ use Rattle.line_put.specs.Put.{_then_, put-as}
 use Rattle.line_found.specs.Writing.{line-pieces}
 
 returns : tie.Need-returns
-returns c = (put-as (_then_ (_then_ (_then_ (c .before .before .before .before .before .before .before .before .before .before .before .before .before .before .before .put-tag .ensures .0) (c .before .before .before .before .before .before .before .before .before .before .before .put-box .ensures .0)) (c .before .before .before .before .before .before .before .put-results .ensures .0)) (c .before .before .put .ensures)) (line-pieces (c .before .before .before .before .before .before .before .before .before .before .before .before .before .before .before .before .before .before .before .before .before .args .tag .now) (c .before .before .before .before .before .before .before .before .before .before .before .before .before .before .before .before .before .before .before .before .before .args .name .now) (c .before .before .before .before .before .before .before .before .before .before .before .before .before .before .before .before .before .before .before .before .before .args .validity) (c .before .before .before .before .before .before .before .before .before .before .before .before .before .before .before .before .before .before .before .before .before .args .w) (c .before .before .before .before .before .before .before .before .before .before .before .before .before .before .before .before .before .before .before .before .before .args .uids .now) (c .before .before .before .before .before .before .before .before .before .before .before .before .before .before .before .before .before .before .before .before .before .args .n) (c .before .before .before .before .before .before .before .before .before .before .before .before .before .before .before .before .before .before .before .before .before .pre .1 .0) (c .before .before .before .before .before .before .before .before .before .before .before .before .before .before .before .before .before .before .before .before .before .pre .1 .1 .0)), omega (arith, c .before .before .before .before .before .before .before .before .before .before .before .before .before .before .before .put-tag .ensures .1, c .before .before .before .before .before .before .before .before .before .before .before .put-box .ensures .1, c .before .before .before .before .before .before .before .put-results .ensures .1, c .before .before .put .ensures .next))
+returns c =
+    let b = c .before .before in let put = b .put in
+    let b = b .before .before .before .before .before in let put-results = b .put-results in
+    let b = b .before .before .before .before in let put-box = b .put-box in
+    let b = b .before .before .before .before in let put-tag = b .put-tag in
+    let b = b .before .before .before .before .before .before in let args = b .args in
+    let pre = b .pre in
+    (put-as (_then_ (_then_ (_then_ (put-tag .ensures .0) (put-box .ensures .0)) (put-results .ensures .0)) (put .ensures)) (line-pieces (args .tag .now) (args .name .now) (args .validity) (args .w) (args .uids .now) (args .n) (pre .1 .0) (pre .1 .1 .0)), omega (arith, put-tag .ensures .1, put-box .ensures .1, put-results .ensures .1, put .ensures .next))
 
 pub put-found-spec : {M : Type 1} → statement M
 put-found-spec =

@@ -9,10 +9,18 @@ use Rattle.model.specs.Text.{decimal}
 use Rattle.line_found.specs.Writing.{asked-not, asked}
 
 returns : tie.Need-returns
-returns c = (put-as (put-none (c .before .before .before .args .queue .now) (c .before .before .before .args .at) (c .before .before .before .args .limit) (c .before .before .before .pre .0)) (asked-not (c .before .before .before .args .on) (c .before .before .before .args .label .now ++ decimal (c .before .before .before .args .n)) (not-true _ (c .if1 .taken))), omega arith)
+returns c =
+    let b = c .before .before .before in let args = b .args in
+    let pre = b .pre in
+    (put-as (put-none (args .queue .now) (args .at) (args .limit) (pre .0)) (asked-not (args .on) (args .label .now ++ decimal (args .n)) (not-true _ (c .if1 .taken))), omega arith)
 
 returns-2 : tie.Need-returns-2
-returns-2 c = (put-as (_then_ (c .before .before .before .before .before .before .put .ensures) (c .before .before .put-number .ensures .0)) (asked (c .before .before .before .before .before .before .before .before .before .before .before .args .on) (c .before .before .before .before .before .before .before .before .before .before .before .args .label .now ++ decimal (c .before .before .before .before .before .before .before .before .before .before .before .args .n)) (not-false _ (c .before .before .before .before .before .before .before .before .if1 .left))), omega (arith, c .before .before .before .before .before .before .put .ensures .next, c .before .before .put-number .ensures .1))
+returns-2 c =
+    let b = c .before .before in let put-number = b .put-number in
+    let b = b .before .before .before .before in let put = b .put in
+    let b = b .before .before in let if1 = b .if1 in
+    let b = b .before .before .before in let args = b .args in
+    (put-as (_then_ (put .ensures) (put-number .ensures .0)) (asked (args .on) (args .label .now ++ decimal (args .n)) (not-false _ (if1 .left))), omega (arith, put .ensures .next, put-number .ensures .1))
 
 pub put-labelled-spec : {M : Type 1} → statement M
 put-labelled-spec =

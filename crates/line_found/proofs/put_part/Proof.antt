@@ -5,7 +5,10 @@ use native.Mathlib.Omega.{arith}
 use Rattle.line_put.specs.Put.{_then_}
 
 returns : tie.Need-returns
-returns c = (_then_ (c .before .before .before .before .before .before .put-run .ensures .0) (c .before .before .put-byte .ensures), omega (arith, c .before .before .before .before .before .before .put-run .ensures .1, c .before .before .put-byte .ensures .next))
+returns c =
+    let b = c .before .before in let put-byte = b .put-byte in
+    let b = b .before .before .before .before in let put-run = b .put-run in
+    (_then_ (put-run .ensures .0) (put-byte .ensures), omega (arith, put-run .ensures .1, put-byte .ensures .next))
 
 pub put-part-spec : {M : Type 1} → statement M
 put-part-spec =

@@ -8,10 +8,15 @@ use borrow.Author.Needs.{needs}
 
 returns : tie.Need-returns
 returns c =
-    let a = c .before .before .before .before .before .before .before .before .before .before .before .before .before .before .before .before .before .before .before .before .before .before .before .args in
-    let p = c .before .before .before .before .before .before .before .before .before .before .before .before .before .before .before .before .before .before .before .before .before .before .before .pre .1 in (
-      put-as (_then_ (_then_ (_then_ (c .before .before .before .before .before .before .before .before .before .before .before .before .before .before .before .before .put-uid .ensures .0) (c .before .before .before .before .before .before .before .before .before .before .before .put-uid2 .ensures .0)) (c .before .before .before .before .before .before .before .put-all .ensures .0)) (c .before .before .put-labelled .ensures .0)) (pieces-are (a .w) (a .uids .now) (a .n) (p .0) (p .1 .0)),
-      omega (arith, c .before .before .before .before .before .before .before .before .before .before .before .before .before .before .before .before .put-uid .ensures .1, c .before .before .before .before .before .before .before .before .before .before .before .put-uid2 .ensures .1, c .before .before .before .before .before .before .before .put-all .ensures .1, c .before .before .put-labelled .ensures .1),
+    let b = c .before .before in let put-labelled = b .put-labelled in
+    let b = b .before .before .before .before .before in let put-all = b .put-all in
+    let b = b .before .before .before .before in let put-uid2 = b .put-uid2 in
+    let b = b .before .before .before .before .before in let put-uid = b .put-uid in
+    let b = b .before .before .before .before .before .before .before in let a = b .args in
+    let pre = b .pre in
+    let p = pre .1 in (
+      put-as (_then_ (_then_ (_then_ (put-uid .ensures .0) (put-uid2 .ensures .0)) (put-all .ensures .0)) (put-labelled .ensures .0)) (pieces-are (a .w) (a .uids .now) (a .n) (p .0) (p .1 .0)),
+      omega (arith, put-uid .ensures .1, put-uid2 .ensures .1, put-all .ensures .1, put-labelled .ensures .1),
     )
 
 pub put-results-spec : {M : Type 1} → statement M

@@ -13,7 +13,10 @@ use Rattle.line_found.specs.Line.{uidsOf, lineText}
 use Rattle.line_found.specs.Telling.{line-none, run-part}
 
 returns : tie.Need-returns
-returns c = (put-as (put-none (c .before .before .before .before .before .args .queue .now) (c .before .before .before .before .before .args .at) (c .before .before .before .before .before .args .limit) (c .before .before .before .before .before .pre .0 .0)) (line-none (c .before .before .before .before .before .args .tag .now) (nameAt (c .before .before .before .before .before .args .names .now) (c .before .before .before .before .before .args .k) (c .before .before .before .before .before .args .len)) (c .before .before .before .before .before .args .validity) (c .before .before .before .before .before .args .w) (drop (c .before .before .before .before .before .args .from) (c .before .before .before .before .before .args .uids .now)) (c .before .before .before .before .before .args .n) (c .if1 .taken)), omega arith)
+returns c =
+    let b = c .before .before .before .before .before in let args = b .args in
+    let pre = b .pre in
+    (put-as (put-none (args .queue .now) (args .at) (args .limit) (pre .0 .0)) (line-none (args .tag .now) (nameAt (args .names .now) (args .k) (args .len)) (args .validity) (args .w) (drop (args .from) (args .uids .now)) (args .n) (c .if1 .taken)), omega arith)
 
 returns-2 : tie.Need-returns-2
 returns-2 c =

@@ -45,10 +45,13 @@ loop-again c =
 
 returns : tie.Need-returns Inv-loop μ-loop
 returns c =
-    let e = c .before .loop .inv .2 in
-    let l = c .before .loop .inv .1 in
-    let v = c .before .before .before .before .before .before .before .before .pre .0 .0 in
-    (goes-end (c .before .before .before .before .before .before .before .before .args .tag .now) (c .before .before .before .before .before .before .before .before .args .lens .now) (c .before .before .before .before .before .before .before .before .args .names .now) (c .before .before .before .before .before .before .before .before .args .validities .now) (c .before .before .before .before .before .before .before .before .args .rows .now) (c .before .before .before .before .before .before .before .before .args .w) (c .before .before .before .before .before .before .before .before .args .uids .now) (c .before .before .before .before .before .before .before .before .args .starts .now) (c .before .before .before .before .before .before .before .before .args .counts .now) (c .before .before .before .before .before .before .before .before .args .queue .now) (c .before .before .before .before .before .before .before .before .args .at) (c .before .before .before .before .before .before .before .before .args .limit) (c .before .before .before .before .before .before .before .before .args .n) (c .before .loop .queue) (c .before .loop .end) (c .before .loop .i) (omega arith) (omega arith) (c .before .loop .inv .3), omega arith)
+    let b = c .before in let loop = b .loop in
+    let b = b .before .before .before .before .before .before .before in let args = b .args in
+    let pre = b .pre in
+    let e = loop .inv .2 in
+    let l = loop .inv .1 in
+    let v = pre .0 .0 in
+    (goes-end (args .tag .now) (args .lens .now) (args .names .now) (args .validities .now) (args .rows .now) (args .w) (args .uids .now) (args .starts .now) (args .counts .now) (args .queue .now) (args .at) (args .limit) (args .n) (loop .queue) (loop .end) (loop .i) (omega arith) (omega arith) (loop .inv .3), omega arith)
 
 pub put-rows-spec : {M : Type 1} → statement M
 put-rows-spec =

@@ -14,22 +14,33 @@ abbrev μ-loop : tie.MeasureT-loop
 μ-loop queue₀ at limit uids n from₀ upto₀ o₀ i₀ queue from upto o i = n - i
 
 loop-holds : tie.Need-loop-holds Inv-loop μ-loop
-loop-holds c = writing-start (c .before .before .before .args .queue .now) (c .before .before .before .args .at) (c .before .before .before .args .limit) (c .before .before .before .args .uids .now) (c .before .before .before .args .n) (c .before .before .before .pre .1 .1 .0) (c .before .before .before .pre .0 .0) (c .before .before .before .pre .1 .0)
+loop-holds c =
+    let b = c .before .before .before in let args = b .args in
+    let pre = b .pre in
+    writing-start (args .queue .now) (args .at) (args .limit) (args .uids .now) (args .n) (pre .1 .1 .0) (pre .0 .0) (pre .1 .0)
 
 loop-again : tie.Need-loop-again Inv-loop μ-loop
 loop-again c =
-    let a = c .before .before .before .before .before .before .before .before .args in
-    let l = c .before .before .before .before .loop in
-    writing-joined (a .queue .now) (a .at) (a .limit) (a .uids .now) (a .n) (c .before .before .before .before .before .before .before .before .pre .1 .1 .0) (l .queue) (l .o) (l .from .0) (l .upto .0) (l .i) (l .inv) (c .before .before .before .loop-test .taken) (c .before .follows .result) (c .before .follows .ensures) (c .if1 .taken)
+    let b = c .before in let follows = b .follows in
+    let b = b .before .before in let loop-test = b .loop-test in
+    let b = b .before in let l = b .loop in
+    let b = b .before .before .before .before in let a = b .args in
+    let pre = b .pre in
+    writing-joined (a .queue .now) (a .at) (a .limit) (a .uids .now) (a .n) (pre .1 .1 .0) (l .queue) (l .o) (l .from .0) (l .upto .0) (l .i) (l .inv) (loop-test .taken) (follows .result) (follows .ensures) (c .if1 .taken)
 
 put-part-requires : tie.Need-put-part-requires Inv-loop μ-loop
 put-part-requires c κs = let a = c .before .before .before .before .before .loop .inv .short in let b = c .before .before .before .before .before .loop .inv .put .same in (omega arith, omega arith)
 
 loop-again-2 : tie.Need-loop-again-2 Inv-loop μ-loop
 loop-again-2 c =
-    let a = c .before .before .before .before .before .before .before .before .before .before .before .before .args in
-    let l = c .before .before .before .before .before .before .before .before .loop in
-    writing-apart (a .queue .now) (a .at) (a .limit) (a .uids .now) (a .n) (c .before .before .before .before .before .before .before .before .before .before .before .before .pre .1 .1 .0) (l .queue) (l .o) (l .from .0) (l .upto .0) (l .i) (l .inv) (c .before .before .before .before .before .before .before .loop-test .taken) (c .before .before .before .before .before .follows .result) (c .before .before .before .before .before .follows .ensures) (c .before .before .before .before .if1 .left) _ (c .before .before .put-part .result) (c .before .before .put-part .ensures .0) (c .before .before .put-part .ensures .1)
+    let b = c .before .before in let put-part = b .put-part in
+    let b = b .before .before in let if1 = b .if1 in
+    let b = b .before in let follows = b .follows in
+    let b = b .before .before in let loop-test = b .loop-test in
+    let b = b .before in let l = b .loop in
+    let b = b .before .before .before .before in let a = b .args in
+    let pre = b .pre in
+    writing-apart (a .queue .now) (a .at) (a .limit) (a .uids .now) (a .n) (pre .1 .1 .0) (l .queue) (l .o) (l .from .0) (l .upto .0) (l .i) (l .inv) (loop-test .taken) (follows .result) (follows .ensures) (if1 .left) _ (put-part .result) (put-part .ensures .0) (put-part .ensures .1)
 
 put-run-requires : tie.Need-put-run-requires Inv-loop μ-loop
 put-run-requires c κs = let a = c .before .before .loop .inv .short in let b = c .before .before .loop .inv .put .same in let d = c .before .before .loop .inv .inside in (omega arith, omega arith)
@@ -39,9 +50,12 @@ same-length c = c .before .before .put-run .ensures .0 .same ∙ c .before .befo
 
 returns : tie.Need-returns Inv-loop μ-loop
 returns c =
-    let a = c .before .before .before .before .before .before .before .before .before .args in
-    let l = c .before .before .before .before .before .loop in
-    writing-end (a .queue .now) (a .at) (a .limit) (a .uids .now) (a .n) (c .before .before .before .before .before .before .before .before .before .pre .1 .1 .0) (l .queue) (l .o) (l .from .0) (l .upto .0) (l .i) (l .inv) (c .before .before .before .before .loop-test .left) _ (c .before .before .put-run .result) (c .before .before .put-run .ensures .0) (c .before .before .put-run .ensures .1)
+    let b = c .before .before in let put-run = b .put-run in
+    let b = b .before .before in let loop-test = b .loop-test in
+    let b = b .before in let l = b .loop in
+    let b = b .before .before .before .before in let a = b .args in
+    let pre = b .pre in
+    writing-end (a .queue .now) (a .at) (a .limit) (a .uids .now) (a .n) (pre .1 .1 .0) (l .queue) (l .o) (l .from .0) (l .upto .0) (l .i) (l .inv) (loop-test .left) _ (put-run .result) (put-run .ensures .0) (put-run .ensures .1)
 
 pub put-set-spec : {M : Type 1} → statement M
 put-set-spec =

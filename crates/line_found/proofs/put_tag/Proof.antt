@@ -7,7 +7,11 @@ use Rattle.line_found.specs.Line.{tagText}
 
 returns : tie.Need-returns
 unfolding tagText
-returns c = (_then_ (_then_ (c .before .before .before .before .before .before .before .before .before .before .before .put .ensures) (c .before .before .before .before .before .before .before .put2 .ensures)) (c .before .before .put3 .ensures), omega (arith, c .before .before .before .before .before .before .before .before .before .before .before .put .ensures .next, c .before .before .before .before .before .before .before .put2 .ensures .next, c .before .before .put3 .ensures .next))
+returns c =
+    let b = c .before .before in let put3 = b .put3 in
+    let b = b .before .before .before .before .before in let put2 = b .put2 in
+    let b = b .before .before .before .before in let put = b .put in
+    (_then_ (_then_ (put .ensures) (put2 .ensures)) (put3 .ensures), omega (arith, put .ensures .next, put2 .ensures .next, put3 .ensures .next))
 
 pub put-tag-spec : {M : Type 1} → statement M
 put-tag-spec =

@@ -26,12 +26,13 @@ put-row-requires c κs = (omega arith, omega arith, omega arith)
 
 loop-again : tie.Need-loop-again Inv-loop μ-loop
 loop-again c =
-    let args = c .before .before .before .before .before .before .before .before .before .before .before .args in
-    let turn = c .before .before .before .before .before .before .before .before .loop in (
+    let b = c .before .before in let put-row = b .put-row in
+    let b = b .before .before .before .before .before .before in let turn = b .loop in
+    let b = b .before .before .before in let args = b .args in (
       search needs,
-      c .before .before .put-row .ensures .0 .same ∙ turn .inv .1,
-      omega (arith, c .before .before .put-row .ensures .1),
-      goes-next (args .attributes .now) (args .lens .now) (args .validities .now) (args .nexts .now) (args .counters .now) (args .names .now) (args .order .now) (args .counts .now) (args .asks .now) (args .queue .now) (args .at) (args .limit) _ (turn .queue) (turn .end) (turn .i) _ _ (omega arith) (turn .inv .3) (c .before .before .put-row .ensures .0),
+      put-row .ensures .0 .same ∙ turn .inv .1,
+      omega (arith, put-row .ensures .1),
+      goes-next (args .attributes .now) (args .lens .now) (args .validities .now) (args .nexts .now) (args .counters .now) (args .names .now) (args .order .now) (args .counts .now) (args .asks .now) (args .queue .now) (args .at) (args .limit) _ (turn .queue) (turn .end) (turn .i) _ _ (omega arith) (turn .inv .3) (put-row .ensures .0),
     )
 
 returns : tie.Need-returns Inv-loop μ-loop

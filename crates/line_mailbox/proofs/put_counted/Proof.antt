@@ -5,7 +5,10 @@ use native.Mathlib.Omega.{arith}
 use Rattle.line_put.specs.Put.{_then_}
 
 returns : tie.Need-returns
-returns c = (_then_ (c .before .before .before .before .before .before .put .ensures) (c .before .before .put-number .ensures .0), omega (arith, c .before .before .before .before .before .before .put .ensures .next, c .before .before .put-number .ensures .1))
+returns c =
+    let b = c .before .before in let put-number = b .put-number in
+    let b = b .before .before .before .before in let put = b .put in
+    (_then_ (put .ensures) (put-number .ensures .0), omega (arith, put .ensures .next, put-number .ensures .1))
 
 pub put-counted-spec : {M : Type 1} → statement M
 put-counted-spec =

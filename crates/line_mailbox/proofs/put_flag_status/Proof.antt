@@ -8,9 +8,11 @@ use Rattle.line_mailbox.specs.Texts.{flag-text}
 
 returns : tie.Need-returns
 returns c =
-    let args = c .before .before .before .before .before .before .before .before .before .before .before .before .before .before .before .args in
-    let opened = c .before .before .before .before .before .before .before .before .before .before .before .put-opening .ensures in
-    let validity = c .before .before .before .before .before .before .put-counted .ensures in
+    let b = c .before .before .before .before .before .before in let put-counted = b .put-counted in
+    let b = b .before .before .before .before .before in let put-opening = b .put-opening in
+    let b = b .before .before .before .before in let args = b .args in
+    let opened = put-opening .ensures in
+    let validity = put-counted .ensures in
     let ended = c .before .before .put-highest .ensures in
     (put-as (_then_ (_then_ (opened .0) (validity .0)) (ended .0)) (flag-text (args .name .now) (args .validity) (args .highest)), omega (arith, opened .1, validity .1, ended .1))
 

@@ -6,7 +6,11 @@ use Rattle.line_put.specs.Put.{_then_, put-as}
 use Rattle.line_mailbox.specs.Texts.{markOf, list-text}
 
 returns : tie.Need-returns
-returns c = (put-as (_then_ (c .before .before .before .before .before .before .before .put-listed .ensures .0) (c .before .before .put .ensures)) (list-text (markOf (c .before .before .before .before .before .before .before .before .before .before .before .args .mark)) (c .before .before .before .before .before .before .before .before .before .before .before .args .name .now)), omega (arith, c .before .before .before .before .before .before .before .put-listed .ensures .1, c .before .before .put .ensures .next))
+returns c =
+    let b = c .before .before in let put = b .put in
+    let b = b .before .before .before .before .before in let put-listed = b .put-listed in
+    let b = b .before .before .before .before in let args = b .args in
+    (put-as (_then_ (put-listed .ensures .0) (put .ensures)) (list-text (markOf (args .mark)) (args .name .now)), omega (arith, put-listed .ensures .1, put .ensures .next))
 
 pub put-list-spec : {M : Type 1} → statement M
 put-list-spec =

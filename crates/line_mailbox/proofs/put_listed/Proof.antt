@@ -7,7 +7,13 @@ use Rattle.line_mailbox.specs.Texts.{listed}
 
 returns : tie.Need-returns
 unfolding listed
-returns c = (_then_ (_then_ (_then_ (c .before .before .before .before .before .before .before .before .before .before .before .before .before .before .before .put .ensures) (c .before .before .before .before .before .before .before .before .before .before .before .put-mark .ensures .0)) (c .before .before .before .before .before .before .put2 .ensures)) (c .before .before .put-quoted .ensures .0), omega (arith, c .before .before .before .before .before .before .before .before .before .before .before .before .before .before .before .before .before .before .before .before .pre, c .before .before .before .before .before .before .before .before .before .before .before .before .before .before .before .put .ensures .next, c .before .before .before .before .before .before .before .before .before .before .before .put-mark .ensures .1, c .before .before .before .before .before .before .put2 .ensures .next, c .before .before .put-quoted .ensures .1))
+returns c =
+    let b = c .before .before in let put-quoted = b .put-quoted in
+    let b = b .before .before .before .before in let put2 = b .put2 in
+    let b = b .before .before .before .before .before in let put-mark = b .put-mark in
+    let b = b .before .before .before .before in let put = b .put in
+    let b = b .before .before .before .before .before in let pre = b .pre in
+    (_then_ (_then_ (_then_ (put .ensures) (put-mark .ensures .0)) (put2 .ensures)) (put-quoted .ensures .0), omega (arith, pre, put .ensures .next, put-mark .ensures .1, put2 .ensures .next, put-quoted .ensures .1))
 
 pub put-listed-spec : {M : Type 1} → statement M
 put-listed-spec =

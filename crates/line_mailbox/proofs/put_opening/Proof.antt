@@ -9,10 +9,13 @@ use Rattle.line_mailbox.specs.Texts.{opening}
 returns : tie.Need-returns
 unfolding opening
 returns c =
-    let word = c .before .before .before .before .before .before .before .before .before .before .before .put .ensures in
-    let name = c .before .before .before .before .before .before .before .put-quoted .ensures in
+    let b = c .before .before .before .before .before .before .before in let put-quoted = b .put-quoted in
+    let b = b .before .before .before .before in let put = b .put in
+    let b = b .before .before .before .before .before in let pre = b .pre in
+    let word = put .ensures in
+    let name = put-quoted .ensures in
     let paren = c .before .before .put2 .ensures in
-    (_then_ (_then_ word (name .0)) paren, omega (arith, c .before .before .before .before .before .before .before .before .before .before .before .before .before .before .before .before .pre, word .next, name .1, paren .next))
+    (_then_ (_then_ word (name .0)) paren, omega (arith, pre, word .next, name .1, paren .next))
 
 pub put-opening-spec : {M : Type 1} → statement M
 put-opening-spec =

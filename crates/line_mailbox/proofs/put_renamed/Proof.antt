@@ -6,7 +6,14 @@ use Rattle.line_put.specs.Put.{_then_, put-as}
 use Rattle.line_mailbox.specs.Texts.{markOf, renamed-text}
 
 returns : tie.Need-returns
-returns c = (put-as (_then_ (_then_ (_then_ (c .before .before .before .before .before .before .before .before .before .before .before .before .before .before .before .before .put-listed .ensures .0) (c .before .before .before .before .before .before .before .before .before .before .before .put .ensures)) (c .before .before .before .before .before .before .before .put-quoted .ensures .0)) (c .before .before .put2 .ensures)) (renamed-text (markOf (c .before .before .before .before .before .before .before .before .before .before .before .before .before .before .before .before .before .before .before .before .before .args .mark)) (c .before .before .before .before .before .before .before .before .before .before .before .before .before .before .before .before .before .before .before .before .before .args .new .now) (c .before .before .before .before .before .before .before .before .before .before .before .before .before .before .before .before .before .before .before .before .before .args .old .now)), omega (arith, c .before .before .before .before .before .before .before .before .before .before .before .before .before .before .before .before .before .before .before .before .before .pre, c .before .before .before .before .before .before .before .before .before .before .before .before .before .before .before .before .put-listed .ensures .1, c .before .before .before .before .before .before .before .before .before .before .before .put .ensures .next, c .before .before .before .before .before .before .before .put-quoted .ensures .1, c .before .before .put2 .ensures .next))
+returns c =
+    let b = c .before .before in let put2 = b .put2 in
+    let b = b .before .before .before .before .before in let put-quoted = b .put-quoted in
+    let b = b .before .before .before .before in let put = b .put in
+    let b = b .before .before .before .before .before in let put-listed = b .put-listed in
+    let b = b .before .before .before .before .before in let args = b .args in
+    let pre = b .pre in
+    (put-as (_then_ (_then_ (_then_ (put-listed .ensures .0) (put .ensures)) (put-quoted .ensures .0)) (put2 .ensures)) (renamed-text (markOf (args .mark)) (args .new .now) (args .old .now)), omega (arith, pre, put-listed .ensures .1, put .ensures .next, put-quoted .ensures .1, put2 .ensures .next))
 
 pub put-renamed-spec : {M : Type 1} → statement M
 put-renamed-spec =

@@ -8,10 +8,13 @@ use Rattle.line_mailbox.specs.Texts.{mail-text}
 
 returns : tie.Need-returns
 returns c =
-    let args = c .before .before .before .before .before .before .before .before .before .before .before .before .before .before .before .before .before .before .before .before .args in
-    let opened = c .before .before .before .before .before .before .before .before .before .before .before .before .before .before .before .before .put-opening .ensures in
-    let next = c .before .before .before .before .before .before .before .before .before .before .before .put-counted .ensures in
-    let messages = c .before .before .before .before .before .before .put-counted2 .ensures in
+    let b = c .before .before .before .before .before .before in let put-counted2 = b .put-counted2 in
+    let b = b .before .before .before .before .before in let put-counted = b .put-counted in
+    let b = b .before .before .before .before .before in let put-opening = b .put-opening in
+    let b = b .before .before .before .before in let args = b .args in
+    let opened = put-opening .ensures in
+    let next = put-counted .ensures in
+    let messages = put-counted2 .ensures in
     let ended = c .before .before .put-highest .ensures in
     (put-as (_then_ (_then_ (_then_ (opened .0) (next .0)) (messages .0)) (ended .0)) (mail-text (args .name .now) (args .next) (args .messages) (args .highest)), omega (arith, opened .1, next .1, messages .1, ended .1))
 

@@ -10,7 +10,11 @@ returns : tie.Need-returns
 returns c = let a = c .before .before .args in (put-as (put-none _ _ _ (c .before .before .pre .0)) (exists-none (a .has) (a .new) (c .if1 .taken)), omega arith)
 
 returns-2 : tie.Need-returns-2
-returns-2 c = let a = c .before .before .before .before .before .before .before .args in (put-as (c .before .before .put-count .ensures .0) (exists-some (a .has) (a .new) (c .before .before .before .before .before .if1 .left)), omega (arith, c .before .before .put-count .ensures .1))
+returns-2 c =
+    let b = c .before .before in let put-count = b .put-count in
+    let b = b .before .before .before in let if1 = b .if1 in
+    let b = b .before .before in let a = b .args in
+    (put-as (put-count .ensures .0) (exists-some (a .has) (a .new) (if1 .left)), omega (arith, put-count .ensures .1))
 
 pub put-exists-spec : {M : Type 1} → statement M
 put-exists-spec =

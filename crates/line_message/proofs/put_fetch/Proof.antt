@@ -8,25 +8,37 @@ use Rattle.line_message.specs.Fetch.{fetchText}
 
 put-requires-3 : tie.Need-put-requires-3
 put-requires-3 c κs =
+    let b = c .before .before .before .before in let put-modseq = b .put-modseq in
+    let b = b .before .before .before .before in let put-flag-item = b .put-flag-item in
+    let b = b .before .before .before .before in let put-number2 = b .put-number2 in
+    let b = b .before .before .before .before in let put2 = b .put2 in
+    let b = b .before .before .before .before .before in let put-number = b .put-number in
+    let b = b .before .before .before .before in let put = b .put in
     let start = c .before .before .before .before .before .before .before .before .before .before .before .before .before .before .before .before .before .before .before .before .before .before .before .before .before .before .before .before .before in
-    let word = c .before .before .before .before .before .before .before .before .before .before .before .before .before .before .before .before .before .before .before .before .before .before .before .before .before .put .ensures in
-    let place = c .before .before .before .before .before .before .before .before .before .before .before .before .before .before .before .before .before .before .before .before .before .put-number .ensures in
-    let fetch = c .before .before .before .before .before .before .before .before .before .before .before .before .before .before .before .before .put2 .ensures in
-    let uid = c .before .before .before .before .before .before .before .before .before .before .before .before .put-number2 .ensures in
-    let flags = c .before .before .before .before .before .before .before .before .put-flag-item .ensures in
-    let counter = c .before .before .before .before .put-modseq .ensures in
+    let word = put .ensures in
+    let place = put-number .ensures in
+    let fetch = put2 .ensures in
+    let uid = put-number2 .ensures in
+    let flags = put-flag-item .ensures in
+    let counter = put-modseq .ensures in
     omega (arith, start .pre, word .next, place .1, fetch .next, uid .1, flags .1, counter .1, word .same, place .0 .same, fetch .same, uid .0 .same, flags .0 .same, counter .0 .same)
 
 returns : tie.Need-returns
 unfolding fetchText
 returns c =
+    let b = c .before .before .before .before .before .before .before in let put-modseq = b .put-modseq in
+    let b = b .before .before .before .before in let put-flag-item = b .put-flag-item in
+    let b = b .before .before .before .before in let put-number2 = b .put-number2 in
+    let b = b .before .before .before .before in let put2 = b .put2 in
+    let b = b .before .before .before .before .before in let put-number = b .put-number in
+    let b = b .before .before .before .before in let put = b .put in
     let start = c .before .before .before .before .before .before .before .before .before .before .before .before .before .before .before .before .before .before .before .before .before .before .before .before .before .before .before .before .before .before .before .before in
-    let word = c .before .before .before .before .before .before .before .before .before .before .before .before .before .before .before .before .before .before .before .before .before .before .before .before .before .before .before .before .put .ensures in
-    let place = c .before .before .before .before .before .before .before .before .before .before .before .before .before .before .before .before .before .before .before .before .before .before .before .before .put-number .ensures in
-    let fetch = c .before .before .before .before .before .before .before .before .before .before .before .before .before .before .before .before .before .before .before .put2 .ensures in
-    let uid = c .before .before .before .before .before .before .before .before .before .before .before .before .before .before .before .put-number2 .ensures in
-    let flags = c .before .before .before .before .before .before .before .before .before .before .before .put-flag-item .ensures in
-    let counter = c .before .before .before .before .before .before .before .put-modseq .ensures in
+    let word = put .ensures in
+    let place = put-number .ensures in
+    let fetch = put2 .ensures in
+    let uid = put-number2 .ensures in
+    let flags = put-flag-item .ensures in
+    let counter = put-modseq .ensures in
     let closed = c .before .before .put3 .ensures in
     (_then_ (_then_ (_then_ (_then_ (_then_ (_then_ word (place .0)) fetch) (uid .0)) (flags .0)) (counter .0)) closed, omega (arith, start .pre, word .next, place .1, fetch .next, uid .1, flags .1, counter .1, closed .next))
 

@@ -8,7 +8,13 @@ use Rattle.line_message.specs.Whole.{owedText, exists-as}
 
 returns : tie.Need-returns
 unfolding owedText
-returns c = (_then_ (_then_ (c .before .before .before .before .before .before .before .before .before .before .before .before .put-part .ensures .0) (put-as (c .before .before .before .before .before .before .put-exists .ensures .0) (exists-as _ _ _ _ (c .before .before .before .before .before .before .before .before .before .staying .ensures .0) (c .before .before .before .before .before .before .before .before .unseen .ensures .0)))) (c .before .before .put-part2 .ensures .0), omega (arith, c .before .before .before .before .before .before .before .before .before .before .before .before .put-part .ensures .1, c .before .before .before .before .before .before .put-exists .ensures .1, c .before .before .put-part2 .ensures .1))
+returns c =
+    let b = c .before .before in let put-part2 = b .put-part2 in
+    let b = b .before .before .before .before in let put-exists = b .put-exists in
+    let b = b .before .before in let unseen = b .unseen in
+    let b = b .before in let staying = b .staying in
+    let b = b .before .before .before in let put-part = b .put-part in
+    (_then_ (_then_ (put-part .ensures .0) (put-as (put-exists .ensures .0) (exists-as _ _ _ _ (staying .ensures .0) (unseen .ensures .0)))) (put-part2 .ensures .0), omega (arith, put-part .ensures .1, put-exists .ensures .1, put-part2 .ensures .1))
 
 pub put-owed-spec : {M : Type 1} → statement M
 put-owed-spec =

@@ -30,7 +30,10 @@ put-number-returns : (t : ℕ) → put-number-lts.Need-returns (
   put-number-below t,
   put-number.Post,
 ) (put-number-at t) put-number.Post
-put-number-returns t c = let w = rw (← decimal-small (c .before .before .before .before .before .before .args .n) (c .before .before .before .before .if1 .taken)) at (c .before .before .put-byte .ensures) in let l = decimal-short 19 (c .before .before .before .before .before .before .args .n) (omega arith) in let x = w .next in (w, omega arith)
+put-number-returns t c =
+    let b = c .before .before .before .before in let if1 = b .if1 in
+    let b = b .before .before in let args = b .args in
+    let w = rw (← decimal-small (args .n) (if1 .taken)) at (c .before .before .put-byte .ensures) in let l = decimal-short 19 (args .n) (omega arith) in let x = w .next in (w, omega arith)
 
 put-number-returns-2 : (t : ℕ) → put-number-lts.Need-returns-2 (
   put-byte-reads.Asked,
@@ -38,7 +41,11 @@ put-number-returns-2 : (t : ℕ) → put-number-lts.Need-returns-2 (
   put-number-below t,
   put-number.Post,
 ) (put-number-at t) put-number.Post
-put-number-returns-2 t c = let p = _then_ (c .before .before .before .before .before .before .put-number .ensures .0) (c .before .before .put-byte2 .ensures) in let w = rw (← decimal-more (c .before .before .before .before .before .before .before .before .before .before .args .n) (c .before .before .before .before .before .before .before .before .if1 .left)) at p in let l = decimal-short 19 (c .before .before .before .before .before .before .before .before .before .before .args .n) (omega arith) in let x = w .next in (w, omega arith)
+put-number-returns-2 t c =
+    let b = c .before .before .before .before .before .before in let at-put-number = b .put-number in
+    let b = b .before .before in let if1 = b .if1 in
+    let b = b .before .before in let args = b .args in
+    let p = _then_ (at-put-number .ensures .0) (c .before .before .put-byte2 .ensures) in let w = rw (← decimal-more (args .n) (if1 .left)) at p in let l = decimal-short 19 (args .n) (omega arith) in let x = w .next in (w, omega arith)
 
 pub +put-number-spec : {M : Type 1} → statement M
 +put-number-spec = close μ-put-number λ t. put-number-lts.spec (

@@ -19,8 +19,9 @@ loop-holds : tie.Need-loop-holds Inv-loop μ-loop
 loop-holds c = (search needs, search needs, refl, wrote-none _ _ (omega arith))
 
 loop-again : tie.Need-loop-again Inv-loop μ-loop
-loop-again c = let a = c .before .before .before .args in
-    let v = c .before .before .loop in
+loop-again c =
+    let b = c .before .before in let v = b .loop in
+    let b = b .before in let a = b .args in
     let h : v .i < length (a .text .now) = omega arith in
     let k : v .o < length (v .queue) = omega arith in (
       search needs,
@@ -30,7 +31,9 @@ loop-again c = let a = c .before .before .before .args in
     )
 
 returns : tie.Need-returns Inv-loop μ-loop
-returns c = wrote-as (c .before .loop .inv .3) (take-all (c .before .loop .i) (c .before .before .args .text .now) (c .loop-test .left))
+returns c =
+    let b = c .before in let loop = b .loop in
+    wrote-as (loop .inv .3) (take-all (loop .i) (c .before .before .args .text .now) (c .loop-test .left))
 
 pub copy-spec : {M : Type 1} → statement M
 copy-spec =

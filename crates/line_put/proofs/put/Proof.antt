@@ -9,7 +9,9 @@ returns : tie.Need-returns
 returns c = put-past _ _ _ _ _ (omega arith) refl (omega arith)
 
 returns-2 : tie.Need-returns-2
-returns-2 c = put-wrote _ (omega arith) (let n = c .before .before .copy .ensures .next in omega arith) (c .before .before .copy .ensures)
+returns-2 c =
+    let b = c .before .before in let copy = b .copy in
+    put-wrote _ (omega arith) (let n = copy .ensures .next in omega arith) (copy .ensures)
 
 pub put-spec : {M : Type 1} → statement M
 put-spec =

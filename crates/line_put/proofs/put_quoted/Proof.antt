@@ -22,8 +22,9 @@ unfolding escape
 loop-holds c = (search needs, search needs, refl, put-none _ _ _ (search needs))
 
 loop-again : tie.Need-loop-again Inv-loop μ-loop
-loop-again c = let a = c .before .before .before .before .before .before .before .before .before .before .before .before .before .args in
-    let v = c .before .before .before .before .before .before .loop in
+loop-again c =
+    let b = c .before .before .before .before .before .before in let v = b .loop in
+    let b = b .before .before .before .before .before .before .before in let a = b .args in
     let e = c .before .before .put-escaped .ensures in
     let h : v .i < length (a .text .now) = omega arith in (
       search needs,
@@ -34,9 +35,12 @@ loop-again c = let a = c .before .before .before .before .before .before .before
 
 returns : tie.Need-returns Inv-loop μ-loop
 unfolding quoted
-returns c = let a = c .before .before .before .before .before .before .before .before .before .before .before .before .args in
-    let v = c .before .before .before .before .before .loop in
-    (rw (← take-all (v .i) (a .text .now) (c .before .before .before .before .loop-test .left)) (_then_ (_then_ (c .before .before .before .before .before .before .before .before .put-byte .ensures) (v .inv .3)) (c .before .before .put-byte2 .ensures)), omega arith)
+returns c =
+    let b = c .before .before .before .before in let loop-test = b .loop-test in
+    let b = b .before in let v = b .loop in
+    let b = b .before .before .before in let put-byte = b .put-byte in
+    let b = b .before .before .before .before in let a = b .args in
+    (rw (← take-all (v .i) (a .text .now) (loop-test .left)) (_then_ (_then_ (put-byte .ensures) (v .inv .3)) (c .before .before .put-byte2 .ensures)), omega arith)
 
 pub put-quoted-spec : {M : Type 1} → statement M
 put-quoted-spec =

@@ -22,10 +22,10 @@ loop-holds c = refl
 
 returns : tie.Need-returns Inv-loop μ-loop
 returns c =
-    let a = c .before .before .before .before .before .before .before .before .args in
-    let reach = c .before .before .before .before .before .before .reach in
-    let wide = c .before .before .before .before .before .wide in
-    let loop = c .before .before .before .before .loop in
+    let b = c .before .before .before .before in let loop = b .loop in
+    let b = b .before in let wide = b .wide in
+    let b = b .before in let reach = b .reach in
+    let b = b .before .before in let a = b .args in
     let long : length (a .t1 .names) ≡ 16 = search (needs, mapped-length) in
     let p = hitBy (a .deep) (a .name .now) in
     let end = reach .result in
@@ -35,21 +35,24 @@ returns c =
 
 loop-again : tie.Need-loop-again Inv-loop μ-loop
 loop-again c =
-    let a = c .before .before .before .before .before .before .before .before .args in
-    let reach = c .before .before .before .before .before .before .reach in
-    let loop = c .before .before .before .before .loop in
+    let b = c .before .before .before .before in let loop = b .loop in
+    let b = b .before .before in let reach = b .reach in
+    let b = b .before .before in let a = b .args in
     let long : length (a .t1 .names) ≡ 16 = search (needs, mapped-length) in
     loop .inv ∙ any-next (hitBy (a .deep) (a .name .now)) (a .t1 .names) (reach .result) (loop .i) (omega arith) vacantName (omega arith)
     (sym (c .before .hits .ensures) ∙ c .if1 .left)
 
 returns-2 : tie.Need-returns-2 Inv-loop μ-loop
-returns-2 c = let a = c .before .before .before .before .before .args in
+returns-2 c =
+    let b = c .before in let at-loop = b .loop in
+    let b = b .before .before in let at-reach = b .reach in
+    let b = b .before .before in let a = b .args in
     let long : length (a .t1 .names) ≡ 16 = search (needs, mapped-length) in
     let p = hitBy (a .deep) (a .name .now) in
-    let end = c .before .before .before .reach .result in
-    sym (names-run (λ (t : Name). hit (a .deep) t (a .name .now)) (a .t1) (a .range) end (c .before .before .before .reach .ensures .1 (a .t1 .names) long)
+    let end = at-reach .result in
+    sym (names-run (λ (t : Name). hit (a .deep) t (a .name .now)) (a .t1) (a .range) end (at-reach .ensures .1 (a .t1 .names) long)
     ∙ (ap (λ (k : ℕ). anyb p (drop k (take end (a .t1 .names)))) (sym (c .before .before .wide .ensures .0))
-    ∙ (c .before .loop .inv ∙ any-past p (a .t1 .names) end (c .before .loop .i) (omega arith) (omega arith))))
+    ∙ (at-loop .inv ∙ any-past p (a .t1 .names) end (at-loop .i) (omega arith) (omega arith))))
 
 pub any-name-spec : {M : Type 1} → statement M
 any-name-spec =

@@ -6,7 +6,9 @@ use mathlib.Core.Path.{_∙_}
 use Rattle.match_groups.specs.Asking.{immediate-stands}
 
 returns : tie.Need-returns
-returns c = c .any-standing .ensures ∙ immediate-stands (c .before .args .s) (c .before .args .k)
+returns c =
+    let b = c .before in let args = b .args in
+    c .any-standing .ensures ∙ immediate-stands (args .s) (args .k)
 
 pub immediate-asks-spec : {M : Type 1} → statement M
 immediate-asks-spec =

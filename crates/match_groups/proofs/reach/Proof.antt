@@ -14,7 +14,9 @@ returns c =
     (omega arith, λ l e. let z : c .before .before .wide .result + c .before .wide2 .result ≡ a .first + a .count = omega arith in ap (λ (n : ℕ). take n l) z)
 
 returns-2 : tie.Need-returns-2
-returns-2 c = (omega arith, λ l e. take-within (c .before .before .before .args .first + c .before .before .before .args .count) 16 l e (omega arith))
+returns-2 c =
+    let b = c .before .before .before in let args = b .args in
+    (omega arith, λ l e. take-within (args .first + args .count) 16 l e (omega arith))
 
 pub reach-spec : {M : Type 1} → statement M
 reach-spec =

@@ -66,7 +66,13 @@ key-at-returns-2 : (t : ℕ) → key-at-lts.Need-returns-2 (
   agree-reads.Asked,
   agree-reads.Learnt,
 ) (key-at-at t) key-at.Post
-key-at-returns-2 t c = answers-nest (c .before .before .before .before .before .before .args .cells .now) (c .before .before .before .before .before .before .args .at) (c .before .before .before .before .cell .result) (c .before .before .before .before .cell .ensures) (c .before .before .before .before .before .before .args .stop) (c .before .before .before .before .before .before .args .facts .now) (record { holds = c .agree .result; after = c .before .before .behind .result }) (c .before .before .before .if1 .left) (c .before .before .behind .ensures) (c .before .keys-hold .result) (c .before .keys-hold .ensures) (c .agree .ensures)
+key-at-returns-2 t c =
+    let b = c .before in let at-keys-hold = b .keys-hold in
+    let b = b .before in let behind = b .behind in
+    let b = b .before in let if1 = b .if1 in
+    let b = b .before in let cell = b .cell in
+    let b = b .before .before in let args = b .args in
+    answers-nest (args .cells .now) (args .at) (cell .result) (cell .ensures) (args .stop) (args .facts .now) (record { holds = c .agree .result; after = behind .result }) (if1 .left) (behind .ensures) (at-keys-hold .result) (at-keys-hold .ensures) (c .agree .ensures)
 
 abbrev keys-hold-Inv-loop : keys-hold-lts.InvT-loop
 keys-hold-Inv-loop cells at stop any facts i₀ some₀ on₀ i some on = (at ≤ i) × Going cells at stop any facts i some on
@@ -86,7 +92,9 @@ keys-hold-loop-holds : (t : ℕ) → keys-hold-lts.Need-loop-holds (
   negated-reads.Asked,
   negated-reads.Learnt,
 ) (keys-hold-at t) keys-hold.Post keys-hold-Inv-loop keys-hold-μ-loop
-keys-hold-loop-holds t c = (omega arith, going-start (c .before .args .cells .now) (c .before .args .at) (c .before .args .stop) (c .before .args .any) (c .before .args .facts .now))
+keys-hold-loop-holds t c =
+    let b = c .before in let args = b .args in
+    (omega arith, going-start (args .cells .now) (args .at) (args .stop) (args .any) (args .facts .now))
 
 keys-hold-loop-again : (t : ℕ) → keys-hold-lts.Need-loop-again (
   last-nest-reads.Asked,
@@ -100,7 +108,13 @@ keys-hold-loop-again : (t : ℕ) → keys-hold-lts.Need-loop-again (
   negated-reads.Asked,
   negated-reads.Learnt,
 ) (keys-hold-at t) keys-hold.Post keys-hold-Inv-loop keys-hold-μ-loop
-keys-hold-loop-again t c = let n = c .before .before .before .last-nest .ensures (c .before .before .if1 .taken) in (omega arith, going-in (c .before .before .before .before .before .before .before .args .cells .now) (c .before .before .before .before .before .before .before .args .at) (c .before .before .before .before .before .before .before .args .stop) (c .before .before .before .before .before .before .before .args .any) (c .before .before .before .before .before .before .before .args .facts .now) (c .before .before .before .before .before .loop .i) (c .before .before .before .before .before .loop .some) (c .before .before .before .before .before .loop .on) (c .before .before .before .before .before .loop .inv .1) (c .before .before .before .before .loop-test .taken) (c .before .cell .result) (c .before .cell .ensures) (let q = c .before .cell .ensures in omega (arith, n .0)) (n .1) (c .agree .result) (c .agree .ensures))
+keys-hold-loop-again t c =
+    let b = c .before in let cell = b .cell in
+    let b = b .before .before in let last-nest = b .last-nest in
+    let b = b .before in let loop-test = b .loop-test in
+    let b = b .before in let loop = b .loop in
+    let b = b .before .before in let args = b .args in
+    let n = last-nest .ensures (c .before .before .if1 .taken) in (omega arith, going-in (args .cells .now) (args .at) (args .stop) (args .any) (args .facts .now) (loop .i) (loop .some) (loop .on) (loop .inv .1) (loop-test .taken) (cell .result) (cell .ensures) (let q = cell .ensures in omega (arith, n .0)) (n .1) (c .agree .result) (c .agree .ensures))
 
 keys-hold-key-at-requires : (t : ℕ) → keys-hold-lts.Need-key-at-requires (
   last-nest-reads.Asked,
@@ -128,7 +142,12 @@ keys-hold-returns : (t : ℕ) → keys-hold-lts.Need-returns (
   negated-reads.Asked,
   negated-reads.Learnt,
 ) (keys-hold-at t) keys-hold.Post keys-hold-Inv-loop keys-hold-μ-loop
-keys-hold-returns t c = going-decided (c .before .before .before .before .before .before .before .before .before .args .cells .now) (c .before .before .before .before .before .before .before .before .before .args .at) (c .before .before .before .before .before .before .before .before .before .args .stop) (c .before .before .before .before .before .before .before .before .before .args .any) (c .before .before .before .before .before .before .before .before .before .args .facts .now) (c .before .before .before .before .before .before .before .loop .i) (c .before .before .before .before .before .before .before .loop .some) (c .before .before .before .before .before .before .before .loop .on) (c .before .before .before .before .before .before .before .loop .inv .1) (c .before .before .before .before .before .before .loop-test .taken) (c .before .before .before .key-at .result) (c .before .before .before .key-at .ensures) (sym (c .before .before .agree2 .ensures) ∙ c .before .if2 .taken) (c .agree3 .result) (c .agree3 .ensures)
+keys-hold-returns t c =
+    let b = c .before .before .before in let at-key-at = b .key-at in
+    let b = b .before .before .before in let loop-test = b .loop-test in
+    let b = b .before in let loop = b .loop in
+    let b = b .before .before in let args = b .args in
+    going-decided (args .cells .now) (args .at) (args .stop) (args .any) (args .facts .now) (loop .i) (loop .some) (loop .on) (loop .inv .1) (loop-test .taken) (at-key-at .result) (at-key-at .ensures) (sym (c .before .before .agree2 .ensures) ∙ c .before .if2 .taken) (c .agree3 .result) (c .agree3 .ensures)
 
 keys-hold-loop-less-2 : (t : ℕ) → keys-hold-lts.Need-loop-less-2 (
   last-nest-reads.Asked,
@@ -156,7 +175,12 @@ keys-hold-loop-again-2 : (t : ℕ) → keys-hold-lts.Need-loop-again-2 (
   negated-reads.Asked,
   negated-reads.Learnt,
 ) (keys-hold-at t) keys-hold.Post keys-hold-Inv-loop keys-hold-μ-loop
-keys-hold-loop-again-2 t c = let a = c .before .before .key-at .ensures .after in (omega arith, going-next (c .before .before .before .before .before .before .before .before .args .cells .now) (c .before .before .before .before .before .before .before .before .args .at) (c .before .before .before .before .before .before .before .before .args .stop) (c .before .before .before .before .before .before .before .before .args .any) (c .before .before .before .before .before .before .before .before .args .facts .now) (c .before .before .before .before .before .before .loop .i) (c .before .before .before .before .before .before .loop .some) (c .before .before .before .before .before .before .loop .on) (c .before .before .before .before .before .before .loop .inv .1) (c .before .before .before .before .before .loop-test .taken) (c .before .before .key-at .result) (c .before .before .key-at .ensures) (sym (c .before .agree2 .ensures) ∙ c .if2 .left))
+keys-hold-loop-again-2 t c =
+    let b = c .before .before in let at-key-at = b .key-at in
+    let b = b .before .before .before in let loop-test = b .loop-test in
+    let b = b .before in let loop = b .loop in
+    let b = b .before .before in let args = b .args in
+    let a = at-key-at .ensures .after in (omega arith, going-next (args .cells .now) (args .at) (args .stop) (args .any) (args .facts .now) (loop .i) (loop .some) (loop .on) (loop .inv .1) (loop-test .taken) (at-key-at .result) (at-key-at .ensures) (sym (c .before .agree2 .ensures) ∙ c .if2 .left))
 
 keys-hold-returns-2 : (t : ℕ) → keys-hold-lts.Need-returns-2 (
   last-nest-reads.Asked,
@@ -170,7 +194,10 @@ keys-hold-returns-2 : (t : ℕ) → keys-hold-lts.Need-returns-2 (
   negated-reads.Asked,
   negated-reads.Learnt,
 ) (keys-hold-at t) keys-hold.Post keys-hold-Inv-loop keys-hold-μ-loop
-keys-hold-returns-2 t c = going-end (c .before .before .before .before .before .args .cells .now) (c .before .before .before .before .before .args .at) (c .before .before .before .before .before .args .stop) (c .before .before .before .before .before .args .any) (c .before .before .before .before .before .args .facts .now) (c .before .before .before .loop .i) (c .before .before .before .loop .some) (c .before .before .before .loop .on) (c .before .before .before .loop .inv .1) (c .before .before .loop-test .left) (c .agree4 .result) (c .agree4 .ensures ∙ ap (agrees (c .before .before .before .loop .on)) (c .before .negated .ensures))
+keys-hold-returns-2 t c =
+    let b = c .before .before .before in let loop = b .loop in
+    let b = b .before .before in let args = b .args in
+    going-end (args .cells .now) (args .at) (args .stop) (args .any) (args .facts .now) (loop .i) (loop .some) (loop .on) (loop .inv .1) (c .before .before .loop-test .left) (c .agree4 .result) (c .agree4 .ensures ∙ ap (agrees (loop .on)) (c .before .negated .ensures))
 
 pub +key-at+keys-hold-spec : {M : Type 1} → statement M
 +key-at+keys-hold-spec = close μ-key-at μ-keys-hold (λ t. key-at-lts.spec (

@@ -4,7 +4,10 @@ use Rattle.match_keys.proofs.all_hold.Tie as tie
 use Rattle.match_keys.specs.Laws.{all-is}
 
 returns : tie.Need-returns
-returns c = all-is (c .before .before .before .args .cells .now) (c .before .before .before .args .used) (c .before .before .before .args .p) (c .keys-hold .result) (c .before .before .before .pre) (c .keys-hold .ensures)
+returns c =
+    let b = c .before .before .before in let args = b .args in
+    let pre = b .pre in
+    all-is (args .cells .now) (args .used) (args .p) (c .keys-hold .result) pre (c .keys-hold .ensures)
 
 pub all-hold-spec : {M : Type 1} → statement M
 all-hold-spec =

@@ -6,10 +6,22 @@ use mathlib.Core.Path.{refl}
 use Prim.Native.Nat.{_-_}
 
 returns : tie.Need-returns
-returns c = behind-all (c .before .before .before .before .before .args .cells .now) (c .before .before .before .before .before .args .at) (c .before .before .before .before .before .args .stop) (c .before .before .before .cell .result) (c .before .before .cell2 .result) (c .before .before .before .before .before .args .stop - c .before .before .before .before .before .args .at) (c .before .before .before .cell .ensures) (c .before .before .cell2 .ensures) refl (c .before .before .before .before .before .pre .0 .0) (c .before .width .result) (c .before .before .before .before .before .pre .1) (c .before .width .ensures .0) (c .before .width .ensures .1) (c .if1 .taken)
+returns c =
+    let b = c .before in let width = b .width in
+    let b = b .before in let cell2 = b .cell2 in
+    let b = b .before in let cell = b .cell in
+    let b = b .before .before in let args = b .args in
+    let pre = b .pre in
+    behind-all (args .cells .now) (args .at) (args .stop) (cell .result) (cell2 .result) (args .stop - args .at) (cell .ensures) (cell2 .ensures) refl (pre .0 .0) (width .result) (pre .1) (width .ensures .0) (width .ensures .1) (c .if1 .taken)
 
 returns-2 : tie.Need-returns-2
-returns-2 c = behind-part (c .before .before .before .before .before .args .cells .now) (c .before .before .before .before .before .args .at) (c .before .before .before .before .before .args .stop) (c .before .before .before .cell .result) (c .before .before .cell2 .result) (c .before .before .before .before .before .args .stop - c .before .before .before .before .before .args .at) (c .before .before .before .cell .ensures) (c .before .before .cell2 .ensures) refl (c .before .before .before .before .before .pre .0 .0) (c .before .width .result) (c .before .before .before .before .before .pre .1) (c .before .width .ensures .0) (c .before .width .ensures .1) (c .if1 .left)
+returns-2 c =
+    let b = c .before in let width = b .width in
+    let b = b .before in let cell2 = b .cell2 in
+    let b = b .before in let cell = b .cell in
+    let b = b .before .before in let args = b .args in
+    let pre = b .pre in
+    behind-part (args .cells .now) (args .at) (args .stop) (cell .result) (cell2 .result) (args .stop - args .at) (cell .ensures) (cell2 .ensures) refl (pre .0 .0) (width .result) (pre .1) (width .ensures .0) (width .ensures .1) (c .if1 .left)
 
 pub behind-spec : {M : Type 1} → statement M
 behind-spec =

@@ -4,10 +4,14 @@ use Rattle.match_keys.proofs.bit_of.Tie as tie
 use Rattle.match_keys.specs.Laws.{bit-shifted, bit-none}
 
 returns : tie.Need-returns
-returns c = bit-none (c .before .args .k) (c .before .args .n) (c .if1 .taken) (c .before .fits .n .fits)
+returns c =
+    let b = c .before in let args = b .args in
+    bit-none (args .k) (args .n) (c .if1 .taken) (c .before .fits .n .fits)
 
 returns-2 : tie.Need-returns-2
-returns-2 c = bit-shifted (c .before .args .k) (c .before .args .n)
+returns-2 c =
+    let b = c .before in let args = b .args in
+    bit-shifted (args .k) (args .n)
 
 pub bit-of-spec : {M : Type 1} → statement M
 bit-of-spec =

@@ -4,7 +4,9 @@ use Rattle.match_keys.proofs.cell.Tie as tie
 use Rattle.match_keys.specs.Laws.{past-end}
 
 returns-2 : tie.Need-returns-2
-returns-2 c = past-end (c .before .args .cells .now) (c .before .args .i) (c .if1 .left)
+returns-2 c =
+    let b = c .before in let args = b .args in
+    past-end (args .cells .now) (args .i) (c .if1 .left)
 
 pub cell-spec : {M : Type 1} → statement M
 cell-spec =

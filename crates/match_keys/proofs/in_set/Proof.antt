@@ -12,16 +12,31 @@ abbrev μ-loop : tie.MeasureT-loop
 μ-loop cells at stop last n i₀ i = stop - i
 
 loop-holds : tie.Need-loop-holds Inv-loop μ-loop
-loop-holds c = (omega arith, set-start (c .before .args .cells .now) (c .before .args .at) (c .before .args .stop) (c .before .args .last) (c .before .args .n))
+loop-holds c =
+    let b = c .before in let args = b .args in
+    (omega arith, set-start (args .cells .now) (args .at) (args .stop) (args .last) (args .n))
 
 returns : tie.Need-returns Inv-loop μ-loop
-returns c = set-hit (c .before .before .before .before .before .before .before .args .cells .now) (c .before .before .before .before .before .before .before .args .at) (c .before .before .before .before .before .before .before .args .stop) (c .before .before .before .before .before .before .before .args .last) (c .before .before .before .before .before .before .before .args .n) (c .before .before .before .before .before .loop .i) (c .before .in-part .result) (c .before .in-part .ensures) (c .before .before .before .before .loop-test .taken) (c .before .before .before .before .before .loop .inv .1) (c .if1 .taken)
+returns c =
+    let b = c .before in let in-part = b .in-part in
+    let b = b .before .before .before in let loop-test = b .loop-test in
+    let b = b .before in let loop = b .loop in
+    let b = b .before .before in let args = b .args in
+    set-hit (args .cells .now) (args .at) (args .stop) (args .last) (args .n) (loop .i) (in-part .result) (in-part .ensures) (loop-test .taken) (loop .inv .1) (c .if1 .taken)
 
 loop-again : tie.Need-loop-again Inv-loop μ-loop
-loop-again c = (omega arith, set-next (c .before .before .before .before .before .before .before .args .cells .now) (c .before .before .before .before .before .before .before .args .at) (c .before .before .before .before .before .before .before .args .stop) (c .before .before .before .before .before .before .before .args .last) (c .before .before .before .before .before .before .before .args .n) (c .before .before .before .before .before .loop .i) (c .before .in-part .result) (c .before .in-part .ensures) (c .before .before .before .before .loop-test .taken) (c .before .before .before .before .before .loop .inv .1) (c .if1 .left))
+loop-again c =
+    let b = c .before in let in-part = b .in-part in
+    let b = b .before .before .before in let loop-test = b .loop-test in
+    let b = b .before in let loop = b .loop in
+    let b = b .before .before in let args = b .args in
+    (omega arith, set-next (args .cells .now) (args .at) (args .stop) (args .last) (args .n) (loop .i) (in-part .result) (in-part .ensures) (loop-test .taken) (loop .inv .1) (c .if1 .left))
 
 returns-2 : tie.Need-returns-2 Inv-loop μ-loop
-returns-2 c = set-end (c .before .before .before .args .cells .now) (c .before .before .before .args .at) (c .before .before .before .args .stop) (c .before .before .before .args .last) (c .before .before .before .args .n) (c .before .loop .i) (c .loop-test .left) (c .before .loop .inv .1)
+returns-2 c =
+    let b = c .before in let loop = b .loop in
+    let b = b .before .before in let args = b .args in
+    set-end (args .cells .now) (args .at) (args .stop) (args .last) (args .n) (loop .i) (c .loop-test .left) (loop .inv .1)
 
 pub in-set-spec : {M : Type 1} → statement M
 in-set-spec =

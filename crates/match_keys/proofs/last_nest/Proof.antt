@@ -4,10 +4,15 @@ use Rattle.match_keys.proofs.last_nest.Tie as tie
 use Rattle.match_keys.specs.Laws.{nest-not, nest-by}
 
 returns : tie.Need-returns
-returns c = nest-not (c .before .before .before .args .cells .now) (c .before .before .before .args .at) (c .before .before .before .args .stop)
+returns c =
+    let b = c .before .before .before in let args = b .args in
+    nest-not (args .cells .now) (args .at) (args .stop)
 
 returns-2 : tie.Need-returns-2
-returns-2 c = nest-by (c .before .before .before .before .args .cells .now) (c .before .before .before .before .args .at) (c .before .before .before .before .args .stop) (c .before .before .cell .result) (c .behind .result) (c .before .before .cell .ensures) (c .before .if1 .left) (c .behind .ensures)
+returns-2 c =
+    let b = c .before .before in let cell = b .cell in
+    let b = b .before .before in let args = b .args in
+    nest-by (args .cells .now) (args .at) (args .stop) (cell .result) (c .behind .result) (cell .ensures) (c .before .if1 .left) (c .behind .ensures)
 
 pub last-nest-spec : {M : Type 1} → statement M
 last-nest-spec =

@@ -10,22 +10,54 @@ use mathlib.Core.Path.{refl, ap, _∙_}
 use native.Mathlib.Omega.{arith}
 
 returns : tie.Need-returns
-returns c = answers-uids (c .before .before .before .before .before .before .args .cells .now) (c .before .before .before .before .before .before .args .at) (c .before .before .before .before .cell .result) (c .before .before .before .before .cell .ensures) (c .before .before .before .before .before .before .args .stop) (c .before .before .before .before .before .before .args .facts .now) (c .set-at .result) (omega arith) (c .before .before .before .if1 .taken) (c .set-at .ensures .0) (c .set-at .ensures .1)
+returns c =
+    let b = c .before .before .before in let if1 = b .if1 in
+    let b = b .before in let cell = b .cell in
+    let b = b .before .before in let args = b .args in
+    answers-uids (args .cells .now) (args .at) (cell .result) (cell .ensures) (args .stop) (args .facts .now) (c .set-at .result) (omega arith) (if1 .taken) (c .set-at .ensures .0) (c .set-at .ensures .1)
 
 returns-2 : tie.Need-returns-2
-returns-2 c = answers-numbers (c .before .before .before .before .before .before .before .args .cells .now) (c .before .before .before .before .before .before .before .args .at) (c .before .before .before .before .before .cell .result) (c .before .before .before .before .before .cell .ensures) (c .before .before .before .before .before .before .before .args .stop) (c .before .before .before .before .before .before .before .args .facts .now) (c .set-at2 .result) (omega arith) (c .before .before .before .if2 .taken) (c .set-at2 .ensures .0) (c .set-at2 .ensures .1)
+returns-2 c =
+    let b = c .before .before .before in let if2 = b .if2 in
+    let b = b .before .before in let cell = b .cell in
+    let b = b .before .before in let args = b .args in
+    answers-numbers (args .cells .now) (args .at) (cell .result) (cell .ensures) (args .stop) (args .facts .now) (c .set-at2 .result) (omega arith) (if2 .taken) (c .set-at2 .ensures .0) (c .set-at2 .ensures .1)
 
 returns-3 : tie.Need-returns-3
-returns-3 c = answers-kind (c .before .before .before .before .before .before .before .before .before .before .args .cells .now) (c .before .before .before .before .before .before .before .before .before .before .args .at) (c .before .before .before .before .before .before .before .before .cell .result) (c .before .before .before .before .before .before .before .before .cell .ensures) (c .before .before .before .before .before .before .before .before .before .before .args .stop) (c .before .before .before .before .before .before .before .before .before .before .args .facts .now) (record { holds = c .agree .result; after = c .before .before .before .before .before .before .before .before .before .before .args .at + 3 }) (omega arith) (c .before .before .before .before .before .before .before .before .before .before .pre .0 .0) (c .before .before .before .before .before .cell2 .result) (c .before .before .before .cell3 .result) (c .before .before .before .before .before .cell2 .ensures) (c .before .before .before .cell3 .ensures) 2 (c .before .before .before .before .if3 .taken) (omega arith) refl (omega arith) (c .agree .ensures ∙ ap (agrees (eqb (c .before .before .before .cell3 .result) 1)) (c .before .bit-of .ensures))
+returns-3 c =
+    let b = c .before .before .before in let cell3 = b .cell3 in
+    let b = b .before in let if3 = b .if3 in
+    let b = b .before in let cell2 = b .cell2 in
+    let b = b .before .before .before in let cell = b .cell in
+    let b = b .before .before in let args = b .args in
+    let pre = b .pre in
+    answers-kind (args .cells .now) (args .at) (cell .result) (cell .ensures) (args .stop) (args .facts .now) (record { holds = c .agree .result; after = args .at + 3 }) (omega arith) (pre .0 .0) (cell2 .result) (cell3 .result) (cell2 .ensures) (cell3 .ensures) 2 (if3 .taken) (omega arith) refl (omega arith) (c .agree .ensures ∙ ap (agrees (eqb (cell3 .result) 1)) (c .before .bit-of .ensures))
 
 returns-4 : tie.Need-returns-4
-returns-4 c = answers-kind (c .before .before .before .before .before .before .before .before .args .cells .now) (c .before .before .before .before .before .before .before .before .args .at) (c .before .before .before .before .before .before .cell .result) (c .before .before .before .before .before .before .cell .ensures) (c .before .before .before .before .before .before .before .before .args .stop) (c .before .before .before .before .before .before .before .before .args .facts .now) (record { holds = ltb (c .before .before .before .cell2 .result) (getD (c .before .before .before .before .before .before .before .before .args .facts .now) 1 0); after = c .before .before .before .before .before .before .before .before .args .at + 2 }) (omega arith) (c .before .before .before .before .before .before .before .before .pre .0 .0) (c .before .before .before .cell2 .result) (getD (c .before .before .before .before .before .before .before .before .args .cells .now) (c .before .before .before .before .before .before .before .before .args .at + 2) 0) (c .before .before .before .cell2 .ensures) refl 3 (c .before .if4 .taken) (omega arith) refl (omega arith) refl
+returns-4 c =
+    let b = c .before .before .before in let cell2 = b .cell2 in
+    let b = b .before .before .before in let cell = b .cell in
+    let b = b .before .before in let args = b .args in
+    let pre = b .pre in
+    answers-kind (args .cells .now) (args .at) (cell .result) (cell .ensures) (args .stop) (args .facts .now) (record { holds = ltb (cell2 .result) (getD (args .facts .now) 1 0); after = args .at + 2 }) (omega arith) (pre .0 .0) (cell2 .result) (getD (args .cells .now) (args .at + 2) 0) (cell2 .ensures) refl 3 (c .before .if4 .taken) (omega arith) refl (omega arith) refl
 
 returns-5 : tie.Need-returns-5
-returns-5 c = answers-kind (c .before .before .before .before .before .before .before .before .before .args .cells .now) (c .before .before .before .before .before .before .before .before .before .args .at) (c .before .before .before .before .before .before .before .cell .result) (c .before .before .before .before .before .before .before .cell .ensures) (c .before .before .before .before .before .before .before .before .before .args .stop) (c .before .before .before .before .before .before .before .before .before .args .facts .now) (record { holds = ltb (getD (c .before .before .before .before .before .before .before .before .before .args .facts .now) 1 0) (c .before .before .before .before .cell2 .result); after = c .before .before .before .before .before .before .before .before .before .args .at + 2 }) (omega arith) (c .before .before .before .before .before .before .before .before .before .pre .0 .0) (c .before .before .before .before .cell2 .result) (getD (c .before .before .before .before .before .before .before .before .before .args .cells .now) (c .before .before .before .before .before .before .before .before .before .args .at + 2) 0) (c .before .before .before .before .cell2 .ensures) refl 4 (c .before .if5 .taken) (omega arith) refl (omega arith) refl
+returns-5 c =
+    let b = c .before .before .before .before in let cell2 = b .cell2 in
+    let b = b .before .before .before in let cell = b .cell in
+    let b = b .before .before in let args = b .args in
+    let pre = b .pre in
+    answers-kind (args .cells .now) (args .at) (cell .result) (cell .ensures) (args .stop) (args .facts .now) (record { holds = ltb (getD (args .facts .now) 1 0) (cell2 .result); after = args .at + 2 }) (omega arith) (pre .0 .0) (cell2 .result) (getD (args .cells .now) (args .at + 2) 0) (cell2 .ensures) refl 4 (c .before .if5 .taken) (omega arith) refl (omega arith) refl
 
 returns-6 : tie.Need-returns-6
-returns-6 c = answers-bare (c .before .before .before .before .before .before .before .before .args .cells .now) (c .before .before .before .before .before .before .before .before .args .at) (c .before .before .before .before .before .before .cell .result) (c .before .before .before .before .before .before .cell .ensures) (c .before .before .before .before .before .before .before .before .args .stop) (c .before .before .before .before .before .before .before .before .args .facts .now) (record { holds = eqb (c .before .before .before .before .before .before .cell .result) 1; after = c .before .before .before .before .before .before .before .before .args .at + 1 }) (omega arith) (c .before .before .before .before .before .before .before .before .pre .0 .0) (c .before .before .before .cell2 .result) (getD (c .before .before .before .before .before .before .before .before .args .cells .now) (c .before .before .before .before .before .before .before .before .args .at + 2) 0) (c .before .before .before .cell2 .ensures) refl (c .before .before .before .before .before .if1 .left) (c .before .before .before .before .if2 .left) (c .before .before .if3 .left) (c .before .if4 .left) (c .if5 .left) refl refl
+returns-6 c =
+    let b = c .before .before .before in let cell2 = b .cell2 in
+    let b = b .before in let if2 = b .if2 in
+    let b = b .before in let if1 = b .if1 in
+    let b = b .before in let cell = b .cell in
+    let b = b .before .before in let args = b .args in
+    let pre = b .pre in
+    answers-bare (args .cells .now) (args .at) (cell .result) (cell .ensures) (args .stop) (args .facts .now) (record { holds = eqb (cell .result) 1; after = args .at + 1 }) (omega arith) (pre .0 .0) (cell2 .result) (getD (args .cells .now) (args .at + 2) 0) (cell2 .ensures) refl (if1 .left) (if2 .left) (c .before .before .if3 .left) (c .before .if4 .left) (c .if5 .left) refl refl
 
 pub test-at-spec : {M : Type 1} → statement M
 test-at-spec =

@@ -21,20 +21,32 @@ loop-holds : tie.Need-loop-holds Inv-loop μ-loop
 loop-holds c = refl
 
 returns : tie.Need-returns Inv-loop μ-loop
-returns c = let long : length (c .before .before .before .before .before .before .before .before .args .t1 .sources) ≡ 8 = search (needs, mapped-length) in
-    let p = admitsIn (c .before .before .before .before .before .before .before .before .args .t1 .kept .names) (c .before .before .before .before .before .before .before .before .args .attributes) (c .before .before .before .before .before .before .before .before .args .name .now) (c .before .before .before .before .before .before .before .before .args .selected) in
-    sym (any-here p (c .before .before .before .before .before .before .before .before .args .t1 .sources) (c .before .before .before .before .before .listed-count .result) (c .before .before .before .before .loop .i) (omega arith) vacantSource (omega arith) (sym (c .before .is-admitted .ensures) ∙ c .if1 .taken))
-    ∙ (sym (c .before .before .before .before .loop .inv) ∙ ap (λ (l : List Source). anyb p l) (c .before .before .before .before .before .listed-count .ensures .1 (c .before .before .before .before .before .before .before .before .args .t1 .sources) long))
+returns c =
+    let b = c .before .before .before .before in let loop = b .loop in
+    let b = b .before in let listed-count = b .listed-count in
+    let b = b .before .before .before in let args = b .args in
+    let long : length (args .t1 .sources) ≡ 8 = search (needs, mapped-length) in
+    let p = admitsIn (args .t1 .kept .names) (args .attributes) (args .name .now) (args .selected) in
+    sym (any-here p (args .t1 .sources) (listed-count .result) (loop .i) (omega arith) vacantSource (omega arith) (sym (c .before .is-admitted .ensures) ∙ c .if1 .taken))
+    ∙ (sym (loop .inv) ∙ ap (λ (l : List Source). anyb p l) (listed-count .ensures .1 (args .t1 .sources) long))
 
 loop-again : tie.Need-loop-again Inv-loop μ-loop
-loop-again c = let long : length (c .before .before .before .before .before .before .before .before .args .t1 .sources) ≡ 8 = search (needs, mapped-length) in
-    c .before .before .before .before .loop .inv ∙ any-next (admitsIn (c .before .before .before .before .before .before .before .before .args .t1 .kept .names) (c .before .before .before .before .before .before .before .before .args .attributes) (c .before .before .before .before .before .before .before .before .args .name .now) (c .before .before .before .before .before .before .before .before .args .selected)) (c .before .before .before .before .before .before .before .before .args .t1 .sources) (c .before .before .before .before .before .listed-count .result) (c .before .before .before .before .loop .i) (omega arith) vacantSource (omega arith) (sym (c .before .is-admitted .ensures) ∙ c .if1 .left)
+loop-again c =
+    let b = c .before .before .before .before in let loop = b .loop in
+    let b = b .before in let listed-count = b .listed-count in
+    let b = b .before .before .before in let args = b .args in
+    let long : length (args .t1 .sources) ≡ 8 = search (needs, mapped-length) in
+    loop .inv ∙ any-next (admitsIn (args .t1 .kept .names) (args .attributes) (args .name .now) (args .selected)) (args .t1 .sources) (listed-count .result) (loop .i) (omega arith) vacantSource (omega arith) (sym (c .before .is-admitted .ensures) ∙ c .if1 .left)
 
 returns-2 : tie.Need-returns-2 Inv-loop μ-loop
-returns-2 c = let long : length (c .before .before .before .before .before .args .t1 .sources) ≡ 8 = search (needs, mapped-length) in
-    let p = admitsIn (c .before .before .before .before .before .args .t1 .kept .names) (c .before .before .before .before .before .args .attributes) (c .before .before .before .before .before .args .name .now) (c .before .before .before .before .before .args .selected) in
-    sym (any-past p (c .before .before .before .before .before .args .t1 .sources) (c .before .before .listed-count .result) (c .before .loop .i) (omega arith) (omega arith))
-    ∙ (sym (c .before .loop .inv) ∙ ap (λ (l : List Source). anyb p l) (c .before .before .listed-count .ensures .1 (c .before .before .before .before .before .args .t1 .sources) long))
+returns-2 c =
+    let b = c .before in let loop = b .loop in
+    let b = b .before in let listed-count = b .listed-count in
+    let b = b .before .before .before in let args = b .args in
+    let long : length (args .t1 .sources) ≡ 8 = search (needs, mapped-length) in
+    let p = admitsIn (args .t1 .kept .names) (args .attributes) (args .name .now) (args .selected) in
+    sym (any-past p (args .t1 .sources) (listed-count .result) (loop .i) (omega arith) (omega arith))
+    ∙ (sym (loop .inv) ∙ ap (λ (l : List Source). anyb p l) (listed-count .ensures .1 (args .t1 .sources) long))
 
 pub any-admits-spec : {M : Type 1} → statement M
 any-admits-spec =

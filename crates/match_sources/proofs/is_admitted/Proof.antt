@@ -5,7 +5,9 @@ use mathlib.Core.Path.{ap, _∙_}
 use Rattle.match_sources.specs.Admitting.{admitsBy}
 
 returns : tie.Need-returns
-returns c = c .admits .ensures ∙ ap (admitsBy (c .before .before .before .args .one .scope) (c .before .before .before .args .attributes) (c .before .before .before .args .selected)) (c .before .is-named .ensures)
+returns c =
+    let b = c .before .before .before in let args = b .args in
+    c .admits .ensures ∙ ap (admitsBy (args .one .scope) (args .attributes) (args .selected)) (c .before .is-named .ensures)
 
 pub is-admitted-spec : {M : Type 1} → statement M
 is-admitted-spec =

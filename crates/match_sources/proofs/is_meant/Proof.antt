@@ -14,7 +14,10 @@ slice-aggregate-in-subtree : tie.Need-slice-aggregate-in-subtree
 slice-aggregate-in-subtree c = let lx : length (c .before .before .before .before .before .args .x .octets) ≡ 64 = search needs in sym (length-take-le _ _ (omega arith))
 
 returns : tie.Need-returns
-returns c = let lx : length (c .before .before .before .before .before .before .args .x .octets) ≡ 64 = search needs in c .in-subtree .ensures ∙ meant-tree (c .before .before .before .before .before .before .args .scope) (c .before .before .before .before .before .before .args .name .now) (c .before .before .before .clip .ensures .1 (c .before .before .before .before .before .before .args .x .octets) lx) (c .before .before .if1 .taken)
+returns c =
+    let b = c .before .before .before in let clip = b .clip in
+    let b = b .before .before .before in let args = b .args in
+    let lx : length (args .x .octets) ≡ 64 = search needs in c .in-subtree .ensures ∙ meant-tree (args .scope) (args .name .now) (clip .ensures .1 (args .x .octets) lx) (c .before .before .if1 .taken)
 
 array-share-prefix-o-2 : tie.Need-array-share-prefix-o-2
 array-share-prefix-o-2 c = let lx : length (c .before .before .before .before .before .args .x .octets) ≡ 64 = search needs in omega arith
@@ -23,7 +26,11 @@ slice-aggregate-in-one-level : tie.Need-slice-aggregate-in-one-level
 slice-aggregate-in-one-level c = let lx : length (c .before .before .before .before .before .before .args .x .octets) ≡ 64 = search needs in sym (length-take-le _ _ (omega arith))
 
 returns-2 : tie.Need-returns-2
-returns-2 c = let lx : length (c .before .before .before .before .before .before .before .args .x .octets) ≡ 64 = search needs in c .in-one-level .ensures ∙ meant-level (c .before .before .before .before .before .before .before .args .scope) (c .before .before .before .before .before .before .before .args .name .now) (c .before .before .before .before .clip .ensures .1 (c .before .before .before .before .before .before .before .args .x .octets) lx) (c .before .before .before .if1 .left) (c .before .before .if2 .taken)
+returns-2 c =
+    let b = c .before .before .before in let if1 = b .if1 in
+    let b = b .before in let clip = b .clip in
+    let b = b .before .before .before in let args = b .args in
+    let lx : length (args .x .octets) ≡ 64 = search needs in c .in-one-level .ensures ∙ meant-level (args .scope) (args .name .now) (clip .ensures .1 (args .x .octets) lx) (if1 .left) (c .before .before .if2 .taken)
 
 array-share-prefix-o-3 : tie.Need-array-share-prefix-o-3
 array-share-prefix-o-3 c = let lx : length (c .before .before .before .before .before .args .x .octets) ≡ 64 = search needs in omega arith
@@ -32,7 +39,11 @@ slice-aggregate-same : tie.Need-slice-aggregate-same
 slice-aggregate-same c = let lx : length (c .before .before .before .before .before .before .args .x .octets) ≡ 64 = search needs in sym (length-take-le _ _ (omega arith))
 
 returns-3 : tie.Need-returns-3
-returns-3 c = let lx : length (c .before .before .before .before .before .before .before .args .x .octets) ≡ 64 = search needs in c .same .ensures ∙ meant-same (c .before .before .before .before .before .before .before .args .scope) (c .before .before .before .before .before .before .before .args .name .now) (c .before .before .before .before .clip .ensures .1 (c .before .before .before .before .before .before .before .args .x .octets) lx) (c .before .before .before .if1 .left) (c .before .before .if2 .left)
+returns-3 c =
+    let b = c .before .before .before in let if1 = b .if1 in
+    let b = b .before in let clip = b .clip in
+    let b = b .before .before .before in let args = b .args in
+    let lx : length (args .x .octets) ≡ 64 = search needs in c .same .ensures ∙ meant-same (args .scope) (args .name .now) (clip .ensures .1 (args .x .octets) lx) (if1 .left) (c .before .before .if2 .left)
 
 pub is-meant-spec : {M : Type 1} → statement M
 is-meant-spec =

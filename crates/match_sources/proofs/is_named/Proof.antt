@@ -21,18 +21,30 @@ loop-holds : tie.Need-loop-holds Inv-loop μ-loop
 loop-holds c = refl
 
 returns : tie.Need-returns Inv-loop μ-loop
-returns c = let long : length (c .before .before .before .before .before .before .before .args .t1 .names) ≡ 16 = search (needs, mapped-length) in
-    sym (any-here (λ (x : LentName). meant (c .before .before .before .before .before .before .before .args .one .scope) (lentName x) (c .before .before .before .before .before .before .before .args .name .now)) (c .before .before .before .before .before .before .before .args .t1 .names) (c .before .before .before .before .before .run-end .result) (c .before .before .before .before .loop .i) (omega arith) vacantName (omega arith) (sym (c .before .is-meant .ensures) ∙ c .if1 .taken))
-    ∙ (sym (c .before .before .before .before .loop .inv) ∙ named-run (c .before .before .before .before .before .before .before .args .t1 .names) (c .before .before .before .before .before .before .before .args .name .now) (c .before .before .before .before .before .before .before .args .one) (c .before .before .before .before .before .run-end .result) (c .before .before .before .before .before .run-end .ensures .1 (c .before .before .before .before .before .before .before .args .t1 .names) long))
+returns c =
+    let b = c .before .before .before .before in let loop = b .loop in
+    let b = b .before in let run-end = b .run-end in
+    let b = b .before .before in let args = b .args in
+    let long : length (args .t1 .names) ≡ 16 = search (needs, mapped-length) in
+    sym (any-here (λ (x : LentName). meant (args .one .scope) (lentName x) (args .name .now)) (args .t1 .names) (run-end .result) (loop .i) (omega arith) vacantName (omega arith) (sym (c .before .is-meant .ensures) ∙ c .if1 .taken))
+    ∙ (sym (loop .inv) ∙ named-run (args .t1 .names) (args .name .now) (args .one) (run-end .result) (run-end .ensures .1 (args .t1 .names) long))
 
 loop-again : tie.Need-loop-again Inv-loop μ-loop
-loop-again c = let long : length (c .before .before .before .before .before .before .before .args .t1 .names) ≡ 16 = search (needs, mapped-length) in
-    c .before .before .before .before .loop .inv ∙ any-next (λ (x : LentName). meant (c .before .before .before .before .before .before .before .args .one .scope) (lentName x) (c .before .before .before .before .before .before .before .args .name .now)) (c .before .before .before .before .before .before .before .args .t1 .names) (c .before .before .before .before .before .run-end .result) (c .before .before .before .before .loop .i) (omega arith) vacantName (omega arith) (sym (c .before .is-meant .ensures) ∙ c .if1 .left)
+loop-again c =
+    let b = c .before .before .before .before in let loop = b .loop in
+    let b = b .before in let run-end = b .run-end in
+    let b = b .before .before in let args = b .args in
+    let long : length (args .t1 .names) ≡ 16 = search (needs, mapped-length) in
+    loop .inv ∙ any-next (λ (x : LentName). meant (args .one .scope) (lentName x) (args .name .now)) (args .t1 .names) (run-end .result) (loop .i) (omega arith) vacantName (omega arith) (sym (c .before .is-meant .ensures) ∙ c .if1 .left)
 
 returns-2 : tie.Need-returns-2 Inv-loop μ-loop
-returns-2 c = let long : length (c .before .before .before .before .args .t1 .names) ≡ 16 = search (needs, mapped-length) in
-    sym (any-past (λ (x : LentName). meant (c .before .before .before .before .args .one .scope) (lentName x) (c .before .before .before .before .args .name .now)) (c .before .before .before .before .args .t1 .names) (c .before .before .run-end .result) (c .before .loop .i) (omega arith) (omega arith))
-    ∙ (sym (c .before .loop .inv) ∙ named-run (c .before .before .before .before .args .t1 .names) (c .before .before .before .before .args .name .now) (c .before .before .before .before .args .one) (c .before .before .run-end .result) (c .before .before .run-end .ensures .1 (c .before .before .before .before .args .t1 .names) long))
+returns-2 c =
+    let b = c .before in let loop = b .loop in
+    let b = b .before in let run-end = b .run-end in
+    let b = b .before .before in let args = b .args in
+    let long : length (args .t1 .names) ≡ 16 = search (needs, mapped-length) in
+    sym (any-past (λ (x : LentName). meant (args .one .scope) (lentName x) (args .name .now)) (args .t1 .names) (run-end .result) (loop .i) (omega arith) (omega arith))
+    ∙ (sym (loop .inv) ∙ named-run (args .t1 .names) (args .name .now) (args .one) (run-end .result) (run-end .ensures .1 (args .t1 .names) long))
 
 pub is-named-spec : {M : Type 1} → statement M
 is-named-spec =

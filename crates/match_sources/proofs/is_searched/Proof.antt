@@ -8,14 +8,16 @@ use Rattle.match_sources.specs.Admitting.{searched-not, searched-by}
 
 returns : tie.Need-returns
 returns c =
-    searched-not (c .before .before .before .args .listed) (c .before .before .before .args .attributes) (c .before .before .before .args .name .now)
-    (c .before .before .before .args .selected) (sym (c .before .has .ensures) ∙ not-true _ (c .if1 .taken))
+    let b = c .before .before .before in let args = b .args in
+    searched-not (args .listed) (args .attributes) (args .name .now)
+    (args .selected) (sym (c .before .has .ensures) ∙ not-true _ (c .if1 .taken))
 
 returns-2 : tie.Need-returns-2
 returns-2 c =
+    let b = c .before .before .before .before in let args = b .args in
     c .any-admits .ensures
-    ∙ searched-by (c .before .before .before .before .args .listed) (c .before .before .before .before .args .attributes) (c .before .before .before .before .args .name .now)
-    (c .before .before .before .before .args .selected) (sym (c .before .before .has .ensures) ∙ not-false _ (c .before .if1 .left))
+    ∙ searched-by (args .listed) (args .attributes) (args .name .now)
+    (args .selected) (sym (c .before .before .has .ensures) ∙ not-false _ (c .before .if1 .left))
 
 pub is-searched-spec : {M : Type 1} → statement M
 is-searched-spec =

@@ -11,14 +11,20 @@ use Rattle.match_sources.specs.Admitting.{searchedBy}
 use Rattle.match_sources.specs.Picking.{name-part}
 
 returns : tie.Need-returns
-returns c = let d = length-drop (64 * c .before .before .before .before .before .args .k) (c .before .before .before .before .before .args .names .now) in
-    let l : length (take 64 (drop (64 * c .before .before .before .before .before .args .k) (c .before .before .before .before .before .args .names .now))) ≡ 64 = length-take-le 64 (drop (64 * c .before .before .before .before .before .args .k) (c .before .before .before .before .before .args .names .now)) (omega arith) in
-    sym (c .if1 .taken) ∙ (c .before .is-searched .ensures ∙ ap (λ n. searchedBy (c .before .before .before .before .before .args .listed) (c .before .before .before .before .before .args .attributes) n (c .before .before .before .before .before .args .here)) (name-part (c .before .before .before .before .before .args .names .now) (c .before .before .before .before .before .args .k) (c .before .before .before .before .before .args .len) (c .before .before .before .clip .result) (c .before .before .before .clip .ensures .0) (c .before .before .before .clip .ensures .1 (take 64 (drop (64 * c .before .before .before .before .before .args .k) (c .before .before .before .before .before .args .names .now))) l)))
+returns c =
+    let b = c .before .before .before in let clip = b .clip in
+    let b = b .before .before in let args = b .args in
+    let d = length-drop (64 * args .k) (args .names .now) in
+    let l : length (take 64 (drop (64 * args .k) (args .names .now))) ≡ 64 = length-take-le 64 (drop (64 * args .k) (args .names .now)) (omega arith) in
+    sym (c .if1 .taken) ∙ (c .before .is-searched .ensures ∙ ap (λ n. searchedBy (args .listed) (args .attributes) n (args .here)) (name-part (args .names .now) (args .k) (args .len) (clip .result) (clip .ensures .0) (clip .ensures .1 (take 64 (drop (64 * args .k) (args .names .now))) l)))
 
 returns-2 : tie.Need-returns-2
-returns-2 c = let d = length-drop (64 * c .before .before .before .before .before .args .k) (c .before .before .before .before .before .args .names .now) in
-    let l : length (take 64 (drop (64 * c .before .before .before .before .before .args .k) (c .before .before .before .before .before .args .names .now))) ≡ 64 = length-take-le 64 (drop (64 * c .before .before .before .before .before .args .k) (c .before .before .before .before .before .args .names .now)) (omega arith) in
-    sym (c .if1 .left) ∙ (c .before .is-searched .ensures ∙ ap (λ n. searchedBy (c .before .before .before .before .before .args .listed) (c .before .before .before .before .before .args .attributes) n (c .before .before .before .before .before .args .here)) (name-part (c .before .before .before .before .before .args .names .now) (c .before .before .before .before .before .args .k) (c .before .before .before .before .before .args .len) (c .before .before .before .clip .result) (c .before .before .before .clip .ensures .0) (c .before .before .before .clip .ensures .1 (take 64 (drop (64 * c .before .before .before .before .before .args .k) (c .before .before .before .before .before .args .names .now))) l)))
+returns-2 c =
+    let b = c .before .before .before in let clip = b .clip in
+    let b = b .before .before in let args = b .args in
+    let d = length-drop (64 * args .k) (args .names .now) in
+    let l : length (take 64 (drop (64 * args .k) (args .names .now))) ≡ 64 = length-take-le 64 (drop (64 * args .k) (args .names .now)) (omega arith) in
+    sym (c .if1 .left) ∙ (c .before .is-searched .ensures ∙ ap (λ n. searchedBy (args .listed) (args .attributes) n (args .here)) (name-part (args .names .now) (args .k) (args .len) (clip .result) (clip .ensures .0) (clip .ensures .1 (take 64 (drop (64 * args .k) (args .names .now))) l)))
 
 pub note-spec : {M : Type 1} → statement M
 note-spec =

@@ -17,11 +17,14 @@ loop-holds : tie.Need-loop-holds Inv-loop μ-loop
 loop-holds c = (omega arith, refl, λ j h. absurd (let y : ⊥ = omega arith in y))
 
 loop-again : tie.Need-loop-again Inv-loop μ-loop
-loop-again c = (
-  omega arith,
-  length-set (c .before .before .before .before .before .before .before .loop .picked) (c .before .before .before .before .before .before .before .loop .k) (c .note .result) ∙ c .before .before .before .before .before .before .before .loop .inv .1,
-  noted-next (c .before .before .before .before .before .before .before .before .before .args .listed) (c .before .before .before .before .before .before .before .before .before .args .selected) (c .before .before .before .before .before .before .before .before .before .args .ids .now) (c .before .before .before .before .before .before .before .before .before .args .attributes .now) (c .before .before .before .before .before .before .before .before .before .args .lens .now) (c .before .before .before .before .before .before .before .before .before .args .names .now) (c .before .before .before .before .before .before .before .loop .k) (c .before .before .before .before .before .before .before .loop .picked) (c .note .result) (c .before .before .before .before .is-selected .result) (c .before .before .before .before .before .before .before .loop .inv .2) (let z = c .before .before .before .before .before .before .before .loop .inv .1 in omega arith) (c .before .before .before .before .is-selected .ensures) (c .note .ensures),
-)
+loop-again c =
+    let b = c .before .before .before .before in let is-selected = b .is-selected in
+    let b = b .before .before .before in let loop = b .loop in
+    let b = b .before .before in let args = b .args in (
+      omega arith,
+      length-set (loop .picked) (loop .k) (c .note .result) ∙ loop .inv .1,
+      noted-next (args .listed) (args .selected) (args .ids .now) (args .attributes .now) (args .lens .now) (args .names .now) (loop .k) (loop .picked) (c .note .result) (is-selected .result) (loop .inv .2) (let z = loop .inv .1 in omega arith) (is-selected .ensures) (c .note .ensures),
+    )
 
 returns : tie.Need-returns Inv-loop μ-loop
 returns c = λ k h. c .before .loop .inv .2 k (omega arith)

@@ -6,10 +6,14 @@ use Rattle.match_sources.specs.Admitting.{take-within}
 use Prim.Native.Nat.{_+_}
 
 returns : tie.Need-returns
-returns c = (omega arith, λ l e. take-within (c .before .args .first + c .before .args .count) 16 l e (omega arith))
+returns c =
+    let b = c .before in let args = b .args in
+    (omega arith, λ l e. take-within (args .first + args .count) 16 l e (omega arith))
 
 returns-2 : tie.Need-returns-2
-returns-2 c = (omega arith, λ l e. take-within (c .before .before .args .first + c .before .before .args .count) 16 l e (omega arith))
+returns-2 c =
+    let b = c .before .before in let args = b .args in
+    (omega arith, λ l e. take-within (args .first + args .count) 16 l e (omega arith))
 
 pub run-end-spec : {M : Type 1} → statement M
 run-end-spec =

@@ -20,7 +20,10 @@ loop-holds : tie.Need-loop-holds Inv-loop μ-loop
 loop-holds c = (search needs, (search needs, refl))
 
 loop-again : tie.Need-loop-again Inv-loop μ-loop
-loop-again c = (search needs, (search needs, sum-next (c .before .before .before .before .before .args .s .now) (c .before .before .before .loop .i) (c .before .before .before .loop .sum) (c .wide .result) (omega arith) (c .wide .ensures .0) (c .before .before .before .loop .inv .1 .1)))
+loop-again c =
+    let b = c .before .before .before in let loop = b .loop in
+    let b = b .before .before in let args = b .args in
+    (search needs, (search needs, sum-next (args .s .now) (loop .i) (loop .sum) (c .wide .result) (omega arith) (c .wide .ensures .0) (loop .inv .1 .1)))
 
 returns : tie.Need-returns Inv-loop μ-loop
 returns c = sum-past (c .before .before .before .args .s .now) (c .before .loop .i) (c .before .loop .sum) 0 (omega arith) (c .before .loop .inv .1 .1)

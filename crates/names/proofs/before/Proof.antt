@@ -19,16 +19,28 @@ loop-holds : tie.Need-loop-holds Inv-loop μ-loop
 loop-holds c = (search needs, refl)
 
 returns : tie.Need-returns Inv-loop μ-loop
-returns c = sym (c .before .before .loop .inv .1 ∙ before-short (c .before .before .before .args .a .now) (c .before .before .before .args .b .now) (c .before .before .loop .i) (omega arith) (omega arith))
+returns c =
+    let b = c .before .before in let loop = b .loop in
+    let b = b .before in let args = b .args in
+    sym (loop .inv .1 ∙ before-short (args .a .now) (args .b .now) (loop .i) (omega arith) (omega arith))
 
 returns-2 : tie.Need-returns-2 Inv-loop μ-loop
-returns-2 c = sym (c .before .before .before .before .before .before .before .loop .inv .1 ∙ before-differs (c .before .before .before .before .before .before .before .before .args .a .now) (c .before .before .before .before .before .before .before .before .args .b .now) (c .before .before .before .before .before .before .before .loop .i) (omega arith) (omega arith) (c .before .before .if2 .taken))
+returns-2 c =
+    let b = c .before .before .before .before .before .before .before in let loop = b .loop in
+    let b = b .before in let args = b .args in
+    sym (loop .inv .1 ∙ before-differs (args .a .now) (args .b .now) (loop .i) (omega arith) (omega arith) (c .before .before .if2 .taken))
 
 loop-again : tie.Need-loop-again Inv-loop μ-loop
-loop-again c = (search needs, c .before .before .before .before .before .loop .inv .1 ∙ before-next (c .before .before .before .before .before .before .args .a .now) (c .before .before .before .before .before .before .args .b .now) (c .before .before .before .before .before .loop .i) (omega arith) (omega arith) (c .if2 .left))
+loop-again c =
+    let b = c .before .before .before .before .before in let loop = b .loop in
+    let b = b .before in let args = b .args in
+    (search needs, loop .inv .1 ∙ before-next (args .a .now) (args .b .now) (loop .i) (omega arith) (omega arith) (c .if2 .left))
 
 returns-3 : tie.Need-returns-3 Inv-loop μ-loop
-returns-3 c = sym (c .before .loop .inv .1 ∙ before-past (c .before .before .args .a .now) (c .before .before .args .b .now) (c .before .loop .i) (omega arith))
+returns-3 c =
+    let b = c .before in let loop = b .loop in
+    let b = b .before in let args = b .args in
+    sym (loop .inv .1 ∙ before-past (args .a .now) (args .b .now) (loop .i) (omega arith))
 
 pub before-spec : {M : Type 1} → statement M
 before-spec =

@@ -6,10 +6,14 @@ use Rattle.names.proofs.Answers.{beneath-empty, beneath-other}
 use borrow.Author.Needs.{needs}
 
 returns : tie.Need-returns
-returns c = sym (beneath-empty (c .before .before .before .args .top .now) (c .before .before .before .args .name .now) (c .if1 .taken))
+returns c =
+    let b = c .before .before .before in let args = b .args in
+    sym (beneath-empty (args .top .now) (args .name .now) (c .if1 .taken))
 
 returns-2 : tie.Need-returns-2
-returns-2 c = c .leads .ensures ∙ sym (beneath-other (c .before .before .before .before .args .top .now) (c .before .before .before .before .args .name .now) (c .before .if1 .left))
+returns-2 c =
+    let b = c .before .before .before .before in let args = b .args in
+    c .leads .ensures ∙ sym (beneath-other (args .top .now) (args .name .now) (c .before .if1 .left))
 
 pub beneath-spec : {M : Type 1} → statement M
 beneath-spec =

@@ -6,10 +6,14 @@ use mathlib.Core.Path.{sym, _∙_}
 use Rattle.names.proofs.Answers.{tree-same, tree-other}
 
 returns : tie.Need-returns
-returns c = sym (tree-same (c .before .before .before .before .args .top .now) (c .before .before .before .before .args .name .now) (sym (c .before .same .ensures) ∙ c .if1 .taken))
+returns c =
+    let b = c .before .before .before .before in let args = b .args in
+    sym (tree-same (args .top .now) (args .name .now) (sym (c .before .same .ensures) ∙ c .if1 .taken))
 
 returns-2 : tie.Need-returns-2
-returns-2 c = c .beneath .ensures ∙ sym (tree-other (c .before .before .before .before .before .args .top .now) (c .before .before .before .before .before .args .name .now) (sym (c .before .before .same .ensures) ∙ c .before .if1 .left))
+returns-2 c =
+    let b = c .before .before .before .before .before in let args = b .args in
+    c .beneath .ensures ∙ sym (tree-other (args .top .now) (args .name .now) (sym (c .before .before .same .ensures) ∙ c .before .if1 .left))
 
 pub in-subtree-spec : {M : Type 1} → statement M
 in-subtree-spec =

@@ -19,10 +19,16 @@ loop-holds : tie.Need-loop-holds Inv-loop μ-loop
 loop-holds c = (search needs, refl)
 
 loop-again : tie.Need-loop-again Inv-loop μ-loop
-loop-again c = (search needs, copied-next (c .before .before .before .args .name .now) (c .before .before .loop .octets) (c .before .before .loop .i) (c .before .before .before .pre) (omega arith) (c .before .before .loop .inv .1))
+loop-again c =
+    let b = c .before .before in let loop = b .loop in
+    let b = b .before in let args = b .args in
+    let pre = b .pre in
+    (search needs, copied-next (args .name .now) (loop .octets) (loop .i) pre (omega arith) (loop .inv .1))
 
 returns : tie.Need-returns Inv-loop μ-loop
-returns c = copied-all (c .before .before .args .name .now) (c .before .loop .octets) (c .before .loop .i) (omega arith) (omega arith) (c .before .loop .inv .1)
+returns c =
+    let b = c .before in let loop = b .loop in
+    copied-all (c .before .before .args .name .now) (loop .octets) (loop .i) (omega arith) (omega arith) (loop .inv .1)
 
 pub kept-spec : {M : Type 1} → statement M
 kept-spec =

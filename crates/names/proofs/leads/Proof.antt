@@ -22,13 +22,22 @@ loop-holds : tie.Need-loop-holds Inv-loop μ-loop
 loop-holds c = (search needs, search needs, refl)
 
 returns-2 : tie.Need-returns-2 Inv-loop μ-loop
-returns-2 c = sym (c .before .before .before .before .loop .inv .2 ∙ leads-differs (c .before .before .before .before .before .before .args .top .now) (c .before .before .before .before .before .before .args .name .now) (c .before .before .before .before .loop .i) (omega arith) (omega arith) (c .if2 .taken))
+returns-2 c =
+    let b = c .before .before .before .before in let loop = b .loop in
+    let b = b .before .before in let args = b .args in
+    sym (loop .inv .2 ∙ leads-differs (args .top .now) (args .name .now) (loop .i) (omega arith) (omega arith) (c .if2 .taken))
 
 loop-again : tie.Need-loop-again Inv-loop μ-loop
-loop-again c = (search needs, search needs, c .before .before .before .before .loop .inv .2 ∙ leads-next (c .before .before .before .before .before .before .args .top .now) (c .before .before .before .before .before .before .args .name .now) (c .before .before .before .before .loop .i) (omega arith) (omega arith) (c .if2 .left))
+loop-again c =
+    let b = c .before .before .before .before in let loop = b .loop in
+    let b = b .before .before in let args = b .args in
+    (search needs, search needs, loop .inv .2 ∙ leads-next (args .top .now) (args .name .now) (loop .i) (omega arith) (omega arith) (c .if2 .left))
 
 returns-3 : tie.Need-returns-3 Inv-loop μ-loop
-returns-3 c = sym (c .before .before .loop .inv .2 ∙ leads-past (c .before .before .before .before .args .top .now) (c .before .before .before .before .args .name .now) (c .before .before .loop .i) (omega arith) (omega arith))
+returns-3 c =
+    let b = c .before .before in let loop = b .loop in
+    let b = b .before .before in let args = b .args in
+    sym (loop .inv .2 ∙ leads-past (args .top .now) (args .name .now) (loop .i) (omega arith) (omega arith))
 
 pub leads-spec : {M : Type 1} → statement M
 leads-spec =

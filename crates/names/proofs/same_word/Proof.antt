@@ -16,19 +16,32 @@ abbrev μ-loop : tie.MeasureT-loop
 μ-loop a b i₀ i = length a - i
 
 returns : tie.Need-returns Inv-loop μ-loop
-returns c = sym (words-lengths (c .before .before .before .args .a .now) (c .before .before .before .args .b .now) (c .if1 .taken))
+returns c =
+    let b = c .before .before .before in let args = b .args in
+    sym (words-lengths (args .a .now) (args .b .now) (c .if1 .taken))
 
 loop-holds : tie.Need-loop-holds Inv-loop μ-loop
 loop-holds c = (search needs, search needs, refl)
 
 returns-2 : tie.Need-returns-2 Inv-loop μ-loop
-returns-2 c = sym (c .before .before .before .before .before .before .loop .inv .2 ∙ words-differ (c .before .before .before .before .before .before .before .before .before .before .args .a .now) (c .before .before .before .before .before .before .before .before .before .before .args .b .now) (c .before .before .before .before .before .before .loop .i) (omega arith) (omega arith) (λ e. c .if2 .taken (c .before .before .before .upper .ensures ∙ e ∙ sym (c .before .upper2 .ensures))))
+returns-2 c =
+    let b = c .before .before .before in let upper = b .upper in
+    let b = b .before .before .before in let loop = b .loop in
+    let b = b .before .before .before .before in let args = b .args in
+    sym (loop .inv .2 ∙ words-differ (args .a .now) (args .b .now) (loop .i) (omega arith) (omega arith) (λ e. c .if2 .taken (upper .ensures ∙ e ∙ sym (c .before .upper2 .ensures))))
 
 loop-again : tie.Need-loop-again Inv-loop μ-loop
-loop-again c = (search needs, search needs, c .before .before .before .before .before .before .loop .inv .2 ∙ words-next (c .before .before .before .before .before .before .before .before .before .before .args .a .now) (c .before .before .before .before .before .before .before .before .before .before .args .b .now) (c .before .before .before .before .before .before .loop .i) (omega arith) (omega arith) (sym (c .before .before .before .upper .ensures) ∙ c .if2 .left ∙ c .before .upper2 .ensures))
+loop-again c =
+    let b = c .before .before .before in let upper = b .upper in
+    let b = b .before .before .before in let loop = b .loop in
+    let b = b .before .before .before .before in let args = b .args in
+    (search needs, search needs, loop .inv .2 ∙ words-next (args .a .now) (args .b .now) (loop .i) (omega arith) (omega arith) (sym (upper .ensures) ∙ c .if2 .left ∙ c .before .upper2 .ensures))
 
 returns-3 : tie.Need-returns-3 Inv-loop μ-loop
-returns-3 c = sym (c .before .loop .inv .2 ∙ words-past (c .before .before .before .before .before .args .a .now) (c .before .before .before .before .before .args .b .now) (c .before .loop .i) (omega arith) (omega arith))
+returns-3 c =
+    let b = c .before in let loop = b .loop in
+    let b = b .before .before .before .before in let args = b .args in
+    sym (loop .inv .2 ∙ words-past (args .a .now) (args .b .now) (loop .i) (omega arith) (omega arith))
 
 pub same-word-spec : {M : Type 1} → statement M
 same-word-spec =

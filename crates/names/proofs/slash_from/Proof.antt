@@ -20,13 +20,21 @@ loop-holds : tie.Need-loop-holds Inv-loop μ-loop
 loop-holds c = refl
 
 returns : tie.Need-returns Inv-loop μ-loop
-returns c = sym (c .before .before .before .loop .inv ∙ slash-here (c .before .before .before .before .args .name .now) (c .before .before .before .loop .i) (omega arith) (c .if1 .taken))
+returns c =
+    let b = c .before .before .before in let loop = b .loop in
+    let b = b .before in let args = b .args in
+    sym (loop .inv ∙ slash-here (args .name .now) (loop .i) (omega arith) (c .if1 .taken))
 
 loop-again : tie.Need-loop-again Inv-loop μ-loop
-loop-again c = c .before .before .before .loop .inv ∙ slash-next (c .before .before .before .before .args .name .now) (c .before .before .before .loop .i) (omega arith) (c .if1 .left)
+loop-again c =
+    let b = c .before .before .before in let loop = b .loop in
+    let b = b .before in let args = b .args in
+    loop .inv ∙ slash-next (args .name .now) (loop .i) (omega arith) (c .if1 .left)
 
 returns-2 : tie.Need-returns-2 Inv-loop μ-loop
-returns-2 c = sym (c .before .loop .inv ∙ slash-past (c .before .before .args .name .now) (c .before .loop .i) (omega arith))
+returns-2 c =
+    let b = c .before in let loop = b .loop in
+    sym (loop .inv ∙ slash-past (c .before .before .args .name .now) (loop .i) (omega arith))
 
 pub slash-from-spec : {M : Type 1} → statement M
 slash-from-spec =

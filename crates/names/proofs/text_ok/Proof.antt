@@ -17,16 +17,29 @@ loop-holds : tie.Need-loop-holds Inv-loop μ-loop
 loop-holds c = (search needs, refl)
 
 returns : tie.Need-returns Inv-loop μ-loop
-returns c = sym (c .before .before .before .loop .inv .1 ∙ too-low (c .before .before .before .before .before .args .name .now) (c .before .before .before .loop .i) (c .before .before .before .loop .last) (omega arith) (c .if1 .taken))
+returns c =
+    let b = c .before .before .before in let loop = b .loop in
+    let b = b .before .before in let args = b .args in
+    sym (loop .inv .1 ∙ too-low (args .name .now) (loop .i) (loop .last) (omega arith) (c .if1 .taken))
 
 returns-2 : tie.Need-returns-2 Inv-loop μ-loop
-returns-2 c = sym (c .before .before .before .before .loop .inv .1 ∙ too-high (c .before .before .before .before .before .before .args .name .now) (c .before .before .before .before .loop .i) (c .before .before .before .before .loop .last) (omega arith) (c .before .if1 .left) (c .if2 .taken))
+returns-2 c =
+    let b = c .before .before .before .before in let loop = b .loop in
+    let b = b .before .before in let args = b .args in
+    sym (loop .inv .1 ∙ too-high (args .name .now) (loop .i) (loop .last) (omega arith) (c .before .if1 .left) (c .if2 .taken))
 
 returns-3 : tie.Need-returns-3 Inv-loop μ-loop
-returns-3 c = sym (c .before .before .before .before .before .before .loop .inv .1 ∙ empty-part (c .before .before .before .before .before .before .before .before .args .name .now) (c .before .before .before .before .before .before .loop .i) (c .before .before .before .before .before .before .loop .last) (omega arith) (sym (c .before .both-slashes .ensures) ∙ c .if3 .taken))
+returns-3 c =
+    let b = c .before .before .before .before .before .before in let loop = b .loop in
+    let b = b .before .before in let args = b .args in
+    sym (loop .inv .1 ∙ empty-part (args .name .now) (loop .i) (loop .last) (omega arith) (sym (c .before .both-slashes .ensures) ∙ c .if3 .taken))
 
 loop-again : tie.Need-loop-again Inv-loop μ-loop
-loop-again c = (search needs, c .before .before .before .before .before .before .loop .inv .1 ∙ text-next (c .before .before .before .before .before .before .before .before .args .name .now) (c .before .before .before .before .before .before .loop .i) (c .before .before .before .before .before .before .loop .last) (omega arith) (c .before .before .before .if1 .left) (c .before .before .if2 .left) (sym (c .before .both-slashes .ensures) ∙ c .if3 .left))
+loop-again c =
+    let b = c .before .before .before in let if1 = b .if1 in
+    let b = b .before .before .before in let loop = b .loop in
+    let b = b .before .before in let args = b .args in
+    (search needs, loop .inv .1 ∙ text-next (args .name .now) (loop .i) (loop .last) (omega arith) (if1 .left) (c .before .before .if2 .left) (sym (c .before .both-slashes .ensures) ∙ c .if3 .left))
 
 returns-4 : tie.Need-returns-4 Inv-loop μ-loop
 returns-4 c = sym (c .before .loop .inv .1 ∙ text-past (c .before .before .before .args .name .now) (c .before .loop .i) (c .before .loop .last) (omega arith))

@@ -62,19 +62,42 @@ attributes-to-close-no-attributes-requires :
 attributes-to-close-no-attributes-requires t c κs = search needs
 
 attributes-to-close-add-t16 : (t : ℕ) → attributes-to-close-lts.Need-add-t16 (attributes-to-close-calls t) (attributes-to-close-at t) attributes-to-close.Post
-attributes-to-close-add-t16 t c = let i = in-text (c .before .before .before .before .before .before .before .before .before .before .args .text .now) (c .before .before .before .before .before .before .k .given .0 .1 .0) (sym (c .before .before .before .before .octet-at .ensures) ∙ c .before .before .if2 .taken) (omega arith) in omega arith
+attributes-to-close-add-t16 t c =
+    let b = c .before .before .before .before in let octet-at = b .octet-at in
+    let b = b .before .before in let k = b .k in
+    let b = b .before .before .before .before in let args = b .args in
+    let i = in-text (args .text .now) (k .given .0 .1 .0) (sym (octet-at .ensures) ∙ c .before .before .if2 .taken) (omega arith) in omega arith
 
 attributes-to-close-returns : (t : ℕ) → attributes-to-close-lts.Need-returns (attributes-to-close-calls t) (attributes-to-close-at t) attributes-to-close.Post
-attributes-to-close-returns t c = let w = rw (c .before .before .before .before .before .k .given .1) at (c .before .before .before .before .before .before .before .attribute-at .ensures .within) in record { within = rw (c .joined .ensures) (within-joined (c .before .before .before .before .before .before .before .before .before .args .text .now) (c .before .before .before .before .before .before .before .before .before .args .at) (c .before .before .before .before .before .k .given .0 .1 .0 + 1) (c .before .before .before .before .before .k .given .0 .0) (c .before .attributes-to-close .result) (omega arith) (c .before .attributes-to-close .ensures .within)); exact = λ n h. c .joined .ensures ∙ ap (join (c .before .before .before .before .before .k .given .0 .0)) (c .before .attributes-to-close .ensures .exact (n - 1) (omega arith)) ∙ list-more (c .before .before .before .before .before .before .before .before .before .args .text .now) (c .before .before .before .before .before .before .before .before .before .args .at) n (omega arith) (sym (c .before .before .before .before .before .k .given .1) ∙ c .before .before .before .before .before .before .before .attribute-at .ensures .exact) (sym (c .before .before .before .octet-at .ensures) ∙ c .before .before .if1 .taken) }
+attributes-to-close-returns t c =
+    let b = c .before in let at-attributes-to-close = b .attributes-to-close in
+    let b = b .before .before in let octet-at = b .octet-at in
+    let b = b .before .before in let k = b .k in
+    let b = b .before .before in let attribute-at = b .attribute-at in
+    let b = b .before .before in let args = b .args in
+    let w = rw (k .given .1) at (attribute-at .ensures .within) in record { within = rw (c .joined .ensures) (within-joined (args .text .now) (args .at) (k .given .0 .1 .0 + 1) (k .given .0 .0) (at-attributes-to-close .result) (omega arith) (at-attributes-to-close .ensures .within)); exact = λ n h. c .joined .ensures ∙ ap (join (k .given .0 .0)) (at-attributes-to-close .ensures .exact (n - 1) (omega arith)) ∙ list-more (args .text .now) (args .at) n (omega arith) (sym (k .given .1) ∙ attribute-at .ensures .exact) (sym (octet-at .ensures) ∙ c .before .before .if1 .taken) }
 
 attributes-to-close-returns-2 : (t : ℕ) → attributes-to-close-lts.Need-returns-2 (attributes-to-close-calls t) (attributes-to-close-at t) attributes-to-close.Post
-attributes-to-close-returns-2 t c = let w = rw (c .before .before .before .before .before .before .k .given .1) at (c .before .before .before .before .before .before .before .before .attribute-at .ensures .within) in let i = in-text (c .before .before .before .before .before .before .before .before .before .before .args .text .now) (c .before .before .before .before .before .before .k .given .0 .1 .0) (sym (c .before .before .before .before .octet-at .ensures) ∙ c .before .before .if2 .taken) (omega arith) in record { within = (omega arith, omega arith); exact = λ n h. ap (λ (g : Attributes). Is g (c .before .before .before .before .before .before .k .given .0 .1 .0 + 1)) (c .added .ensures ∙ ap (add (c .before .before .before .before .before .before .k .given .0 .0)) (c .before .no-attributes .ensures)) ∙ list-last (c .before .before .before .before .before .before .before .before .before .before .args .text .now) (c .before .before .before .before .before .before .before .before .before .before .args .at) n (omega arith) (sym (c .before .before .before .before .before .before .k .given .1) ∙ c .before .before .before .before .before .before .before .before .attribute-at .ensures .exact) (sym (c .before .before .before .before .octet-at .ensures) ∙ c .before .before .if2 .taken) }
+attributes-to-close-returns-2 t c =
+    let b = c .before .before in let if2 = b .if2 in
+    let b = b .before .before in let octet-at = b .octet-at in
+    let b = b .before .before in let k = b .k in
+    let b = b .before .before in let attribute-at = b .attribute-at in
+    let b = b .before .before in let args = b .args in
+    let w = rw (k .given .1) at (attribute-at .ensures .within) in let i = in-text (args .text .now) (k .given .0 .1 .0) (sym (octet-at .ensures) ∙ if2 .taken) (omega arith) in record { within = (omega arith, omega arith); exact = λ n h. ap (λ (g : Attributes). Is g (k .given .0 .1 .0 + 1)) (c .added .ensures ∙ ap (add (k .given .0 .0)) (c .before .no-attributes .ensures)) ∙ list-last (args .text .now) (args .at) n (omega arith) (sym (k .given .1) ∙ attribute-at .ensures .exact) (sym (octet-at .ensures) ∙ if2 .taken) }
 
 attributes-to-close-returns-3 : (t : ℕ) → attributes-to-close-lts.Need-returns-3 (attributes-to-close-calls t) (attributes-to-close-at t) attributes-to-close.Post
-attributes-to-close-returns-3 t c = let w = rw (c .before .before .before .before .k .given .1) at (c .before .before .before .before .before .before .attribute-at .ensures .within) in record { within = tt; exact = λ n h. list-wrong (c .before .before .before .before .before .before .before .before .args .text .now) (c .before .before .before .before .before .before .before .before .args .at) n (omega arith) (sym (c .before .before .before .before .k .given .1) ∙ c .before .before .before .before .before .before .attribute-at .ensures .exact) (λ e. c .before .if1 .left (c .before .before .octet-at .ensures ∙ e)) (λ e. c .if2 .left (c .before .before .octet-at .ensures ∙ e)) }
+attributes-to-close-returns-3 t c =
+    let b = c .before .before in let octet-at = b .octet-at in
+    let b = b .before .before in let k = b .k in
+    let b = b .before .before in let attribute-at = b .attribute-at in
+    let b = b .before .before in let args = b .args in
+    let w = rw (k .given .1) at (attribute-at .ensures .within) in record { within = tt; exact = λ n h. list-wrong (args .text .now) (args .at) n (omega arith) (sym (k .given .1) ∙ attribute-at .ensures .exact) (λ e. c .before .if1 .left (octet-at .ensures ∙ e)) (λ e. c .if2 .left (octet-at .ensures ∙ e)) }
 
 attributes-to-close-returns-4 : (t : ℕ) → attributes-to-close-lts.Need-returns-4 (attributes-to-close-calls t) (attributes-to-close-at t) attributes-to-close.Post
-attributes-to-close-returns-4 t c = record { within = tt; exact = λ n h. list-none (c .before .before .before .before .args .text .now) (c .before .before .before .before .args .at) n (sym (c .enum-told .given .1) ∙ c .before .before .attribute-at .ensures .exact) }
+attributes-to-close-returns-4 t c =
+    let b = c .before .before .before .before in let args = b .args in
+    record { within = tt; exact = λ n h. list-none (args .text .now) (args .at) n (sym (c .enum-told .given .1) ∙ c .before .before .attribute-at .ensures .exact) }
 
 pub +attributes-to-close-spec : {M : Type 1} → statement M
 +attributes-to-close-spec = close μ-attributes-to-close λ t. attributes-to-close-lts.spec (attributes-to-close-calls t)

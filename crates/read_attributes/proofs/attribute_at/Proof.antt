@@ -8,22 +8,52 @@ use Rattle.read_attributes.specs.Asked.{sectioned}
 use Rattle.read_attributes.proofs.Asking.{body-section, body-alone, peek-section, attribute-none, attribute-by, within-section}
 
 returns : tie.Need-returns
-returns c = record { exact = attribute-by (c .before .before .before .before .before .before .before .before .before .args .text .now) (c .before .before .before .before .before .before .before .before .before .args .at) (sym (c .before .before .before .before .before .end .given .1) ∙ c .before .before .before .before .before .before .before .run-at .ensures .exact) (c .before .k .given .1) (c .before .before .before .label-of .ensures); within = rw (c .before .before .before .before .before .end .given .1) at (c .before .before .before .before .before .before .before .run-at .ensures .within) }
+returns c =
+    let b = c .before .before .before in let label-of = b .label-of in
+    let b = b .before .before in let end = b .end in
+    let b = b .before .before in let run-at = b .run-at in
+    let b = b .before .before in let args = b .args in
+    record { exact = attribute-by (args .text .now) (args .at) (sym (end .given .1) ∙ run-at .ensures .exact) (c .before .k .given .1) (label-of .ensures); within = rw (end .given .1) at (run-at .ensures .within) }
 
 returns-2 : tie.Need-returns-2
-returns-2 c = let w = rw (c .before .before .before .before .before .before .before .before .end .given .1) at (c .before .before .before .before .before .before .before .before .before .before .run-at .ensures .within) in record { exact = c .with-section .ensures ∙ ap sectioned (c .before .section-at .ensures .exact) ∙ body-section (c .before .before .before .before .before .before .before .before .before .before .before .before .args .text .now) (c .before .before .before .before .before .before .before .before .end .given .0 .0) (sym (c .before .before .before .octet-at .ensures) ∙ c .before .before .if1 .taken) ∙ attribute-by (c .before .before .before .before .before .before .before .before .before .before .before .before .args .text .now) (c .before .before .before .before .before .before .before .before .before .before .before .before .args .at) (sym (c .before .before .before .before .before .before .before .before .end .given .1) ∙ c .before .before .before .before .before .before .before .before .before .before .run-at .ensures .exact) (c .before .before .before .before .enum-told .given .1) (c .before .before .before .before .before .before .label-of .ensures); within = rw (c .with-section .ensures) (within-section (c .before .before .before .before .before .before .before .before .before .before .before .before .args .text .now) (c .before .before .before .before .before .before .before .before .before .before .before .before .args .at) (c .before .before .before .before .before .before .before .before .end .given .0 .0) (c .before .section-at .result) (omega arith) (c .before .section-at .ensures .within)) }
+returns-2 c =
+    let b = c .before in let section-at = b .section-at in
+    let b = b .before .before in let octet-at = b .octet-at in
+    let b = b .before in let enum-told = b .enum-told in
+    let b = b .before .before in let label-of = b .label-of in
+    let b = b .before .before in let end = b .end in
+    let b = b .before .before in let run-at = b .run-at in
+    let b = b .before .before in let args = b .args in
+    let w = rw (end .given .1) at (run-at .ensures .within) in record { exact = c .with-section .ensures ∙ ap sectioned (section-at .ensures .exact) ∙ body-section (args .text .now) (end .given .0 .0) (sym (octet-at .ensures) ∙ c .before .before .if1 .taken) ∙ attribute-by (args .text .now) (args .at) (sym (end .given .1) ∙ run-at .ensures .exact) (enum-told .given .1) (label-of .ensures); within = rw (c .with-section .ensures) (within-section (args .text .now) (args .at) (end .given .0 .0) (section-at .result) (omega arith) (section-at .ensures .within)) }
 
 returns-3 : tie.Need-returns-3
-returns-3 c = record { exact = body-alone (c .before .before .before .before .before .before .before .before .before .before .args .text .now) (c .before .before .before .before .before .before .end .given .0 .0) (λ e. c .if1 .left (c .before .octet-at .ensures ∙ e)) ∙ attribute-by (c .before .before .before .before .before .before .before .before .before .before .args .text .now) (c .before .before .before .before .before .before .before .before .before .before .args .at) (sym (c .before .before .before .before .before .before .end .given .1) ∙ c .before .before .before .before .before .before .before .before .run-at .ensures .exact) (c .before .before .enum-told .given .1) (c .before .before .before .before .label-of .ensures); within = rw (c .before .before .before .before .before .before .end .given .1) at (c .before .before .before .before .before .before .before .before .run-at .ensures .within) }
+returns-3 c =
+    let b = c .before .before .before .before in let label-of = b .label-of in
+    let b = b .before .before in let end = b .end in
+    let b = b .before .before in let run-at = b .run-at in
+    let b = b .before .before in let args = b .args in
+    record { exact = body-alone (args .text .now) (end .given .0 .0) (λ e. c .if1 .left (c .before .octet-at .ensures ∙ e)) ∙ attribute-by (args .text .now) (args .at) (sym (end .given .1) ∙ run-at .ensures .exact) (c .before .before .enum-told .given .1) (label-of .ensures); within = rw (end .given .1) at (run-at .ensures .within) }
 
 returns-4 : tie.Need-returns-4
-returns-4 c = let w = rw (c .before .before .before .before .before .before .end .given .1) at (c .before .before .before .before .before .before .before .before .run-at .ensures .within) in record { exact = c .with-section2 .ensures ∙ ap sectioned (c .before .section-at2 .ensures .exact) ∙ peek-section (c .before .before .before .before .before .before .before .before .before .before .args .text .now) (c .before .before .before .before .before .before .end .given .0 .0) ∙ attribute-by (c .before .before .before .before .before .before .before .before .before .before .args .text .now) (c .before .before .before .before .before .before .before .before .before .before .args .at) (sym (c .before .before .before .before .before .before .end .given .1) ∙ c .before .before .before .before .before .before .before .before .run-at .ensures .exact) (c .before .before .enum-told2 .given .1) (c .before .before .before .before .label-of .ensures); within = rw (c .with-section2 .ensures) (within-section (c .before .before .before .before .before .before .before .before .before .before .args .text .now) (c .before .before .before .before .before .before .before .before .before .before .args .at) (c .before .before .before .before .before .before .end .given .0 .0) (c .before .section-at2 .result) (omega arith) (c .before .section-at2 .ensures .within)) }
+returns-4 c =
+    let b = c .before in let section-at2 = b .section-at2 in
+    let b = b .before .before .before in let label-of = b .label-of in
+    let b = b .before .before in let end = b .end in
+    let b = b .before .before in let run-at = b .run-at in
+    let b = b .before .before in let args = b .args in
+    let w = rw (end .given .1) at (run-at .ensures .within) in record { exact = c .with-section2 .ensures ∙ ap sectioned (section-at2 .ensures .exact) ∙ peek-section (args .text .now) (end .given .0 .0) ∙ attribute-by (args .text .now) (args .at) (sym (end .given .1) ∙ run-at .ensures .exact) (c .before .before .enum-told2 .given .1) (label-of .ensures); within = rw (c .with-section2 .ensures) (within-section (args .text .now) (args .at) (end .given .0 .0) (section-at2 .result) (omega arith) (section-at2 .ensures .within)) }
 
 returns-5 : tie.Need-returns-5
-returns-5 c = record { exact = attribute-by (c .before .before .before .before .before .before .before .before .args .text .now) (c .before .before .before .before .before .before .before .before .args .at) (sym (c .before .before .before .before .end .given .1) ∙ c .before .before .before .before .before .before .run-at .ensures .exact) (c .enum-told3 .given .1) (c .before .before .label-of .ensures); within = tt }
+returns-5 c =
+    let b = c .before .before .before .before in let end = b .end in
+    let b = b .before .before in let run-at = b .run-at in
+    let b = b .before .before in let args = b .args in
+    record { exact = attribute-by (args .text .now) (args .at) (sym (end .given .1) ∙ run-at .ensures .exact) (c .enum-told3 .given .1) (c .before .before .label-of .ensures); within = tt }
 
 returns-6 : tie.Need-returns-6
-returns-6 c = record { exact = attribute-none (c .before .before .before .before .args .text .now) (c .before .before .before .before .args .at) (sym (c .enum-told4 .given .1) ∙ c .before .before .run-at .ensures .exact); within = tt }
+returns-6 c =
+    let b = c .before .before .before .before in let args = b .args in
+    record { exact = attribute-none (args .text .now) (args .at) (sym (c .enum-told4 .given .1) ∙ c .before .before .run-at .ensures .exact); within = tt }
 
 pub attribute-at-spec : {M : Type 1} → statement M
 attribute-at-spec =

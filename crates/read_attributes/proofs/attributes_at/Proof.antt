@@ -10,13 +10,19 @@ use Rattle.read_attributes.proofs.Asking.{list-blank, list-open, all-wi
 use Rattle.octets.specs.Rows.{in-text}
 
 returns : tie.Need-returns
-returns c = record { exact = list-blank (c .before .before .before .args .text .now) (c .before .before .before .args .at) (λ e. c .if1 .taken (c .before .octet-at .ensures ∙ e)); within = tt }
+returns c =
+    let b = c .before .before .before in let args = b .args in
+    record { exact = list-blank (args .text .now) (args .at) (λ e. c .if1 .taken (c .before .octet-at .ensures ∙ e)); within = tt }
 
 add-attributes-to-close : tie.Need-add-attributes-to-close
-add-attributes-to-close c = let i = in-text (c .before .before .before .args .text .now) (c .before .before .before .args .at) (sym (c .before .octet-at .ensures) ∙ c .if1 .left) (omega arith) in omega arith
+add-attributes-to-close c =
+    let b = c .before .before .before in let args = b .args in
+    let i = in-text (args .text .now) (args .at) (sym (c .before .octet-at .ensures) ∙ c .if1 .left) (omega arith) in omega arith
 
 returns-2 : tie.Need-returns-2
-returns-2 c = record { exact = c .attributes-to-close .ensures .exact (length (c .before .before .before .before .args .text .now)) (omega arith) ∙ list-open (c .before .before .before .before .args .text .now) (c .before .before .before .before .args .at) (sym (c .before .before .octet-at .ensures) ∙ c .before .if1 .left); within = all-within-from (c .before .before .before .before .args .text .now) (c .before .before .before .before .args .at) ((c .before .before .before .before .args .at) + 1) (c .attributes-to-close .result) (omega arith) (c .attributes-to-close .ensures .within) }
+returns-2 c =
+    let b = c .before .before .before .before in let args = b .args in
+    record { exact = c .attributes-to-close .ensures .exact (length (args .text .now)) (omega arith) ∙ list-open (args .text .now) (args .at) (sym (c .before .before .octet-at .ensures) ∙ c .before .if1 .left); within = all-within-from (args .text .now) (args .at) ((args .at) + 1) (c .attributes-to-close .result) (omega arith) (c .attributes-to-close .ensures .within) }
 
 pub attributes-at-spec : {M : Type 1} → statement M
 attributes-at-spec =

@@ -15,13 +15,39 @@ returns-3 : tie.Need-returns-3
 returns-3 c = simp (sym (c .before .before .before .before .before .before .before .is-word .ensures) ∙ c .before .before .before .before .before .before .if1 .left, sym (c .before .before .before .before .is-word2 .ensures) ∙ c .before .before .before .if2 .left, sym (c .before .is-word3 .ensures) ∙ c .if3 .taken)
 
 returns-4 : tie.Need-returns-4
-returns-4 c = simp (sym (c .before .before .before .before .before .before .before .before .before .before .is-word .ensures) ∙ c .before .before .before .before .before .before .before .before .before .if1 .left, sym (c .before .before .before .before .before .before .before .is-word2 .ensures) ∙ c .before .before .before .before .before .before .if2 .left, sym (c .before .before .before .before .is-word3 .ensures) ∙ c .before .before .before .if3 .left, sym (c .before .is-word4 .ensures) ∙ c .if4 .taken)
+returns-4 c =
+    let b = c .before .before .before in let if3 = b .if3 in
+    let b = b .before in let is-word3 = b .is-word3 in
+    let b = b .before .before in let if2 = b .if2 in
+    let b = b .before in let is-word2 = b .is-word2 in
+    let b = b .before .before in let if1 = b .if1 in
+    let b = b .before in let is-word = b .is-word in
+    simp (sym (is-word .ensures) ∙ if1 .left, sym (is-word2 .ensures) ∙ if2 .left, sym (is-word3 .ensures) ∙ if3 .left, sym (c .before .is-word4 .ensures) ∙ c .if4 .taken)
 
 returns-5 : tie.Need-returns-5
-returns-5 c = simp (sym (c .before .before .before .before .before .before .before .before .before .before .before .before .before .is-word .ensures) ∙ c .before .before .before .before .before .before .before .before .before .before .before .before .if1 .left, sym (c .before .before .before .before .before .before .before .before .before .before .is-word2 .ensures) ∙ c .before .before .before .before .before .before .before .before .before .if2 .left, sym (c .before .before .before .before .before .before .before .is-word3 .ensures) ∙ c .before .before .before .before .before .before .if3 .left, sym (c .before .before .before .before .is-word4 .ensures) ∙ c .before .before .before .if4 .left, sym (c .before .is-word5 .ensures) ∙ c .if5 .taken)
+returns-5 c =
+    let b = c .before .before .before in let if4 = b .if4 in
+    let b = b .before in let is-word4 = b .is-word4 in
+    let b = b .before .before in let if3 = b .if3 in
+    let b = b .before in let is-word3 = b .is-word3 in
+    let b = b .before .before in let if2 = b .if2 in
+    let b = b .before in let is-word2 = b .is-word2 in
+    let b = b .before .before in let if1 = b .if1 in
+    let b = b .before in let is-word = b .is-word in
+    simp (sym (is-word .ensures) ∙ if1 .left, sym (is-word2 .ensures) ∙ if2 .left, sym (is-word3 .ensures) ∙ if3 .left, sym (is-word4 .ensures) ∙ if4 .left, sym (c .before .is-word5 .ensures) ∙ c .if5 .taken)
 
 returns-6 : tie.Need-returns-6
-returns-6 c = simp (sym (c .before .before .before .before .before .before .before .before .before .before .before .before .before .before .before .is-word .ensures) ∙ c .before .before .before .before .before .before .before .before .before .before .before .before .before .before .if1 .left, sym (c .before .before .before .before .before .before .before .before .before .before .before .before .is-word2 .ensures) ∙ c .before .before .before .before .before .before .before .before .before .before .before .if2 .left, sym (c .before .before .before .before .before .before .before .before .before .is-word3 .ensures) ∙ c .before .before .before .before .before .before .before .before .if3 .left, sym (c .before .before .before .before .before .before .is-word4 .ensures) ∙ c .before .before .before .before .before .if4 .left, sym (c .before .before .before .is-word5 .ensures) ∙ c .before .before .if5 .left) (c .is-word6 .ensures ∙ sym (or-last _))
+returns-6 c =
+    let b = c .before .before .before in let is-word5 = b .is-word5 in
+    let b = b .before .before in let if4 = b .if4 in
+    let b = b .before in let is-word4 = b .is-word4 in
+    let b = b .before .before in let if3 = b .if3 in
+    let b = b .before in let is-word3 = b .is-word3 in
+    let b = b .before .before in let if2 = b .if2 in
+    let b = b .before in let is-word2 = b .is-word2 in
+    let b = b .before .before in let if1 = b .if1 in
+    let b = b .before in let is-word = b .is-word in
+    simp (sym (is-word .ensures) ∙ if1 .left, sym (is-word2 .ensures) ∙ if2 .left, sym (is-word3 .ensures) ∙ if3 .left, sym (is-word4 .ensures) ∙ if4 .left, sym (is-word5 .ensures) ∙ c .before .before .if5 .left) (c .is-word6 .ensures ∙ sym (or-last _))
 
 pub is-other-spec : {M : Type 1} → statement M
 is-other-spec =

@@ -5,7 +5,10 @@ use Rattle.read_commands.proofs.judge.Statement.{statement}
 use Rattle.read_commands.proofs.judge.Tie as tie
 
 returns : tie.Need-returns
-returns c = judges-same (rw (c .before .before .before .before .before .verb .given .1) at (c .before .before .before .before .before .before .before .head .ensures)) (c .before .before .judge-by .ensures)
+returns c =
+    let b = c .before .before .before .before .before in let verb = b .verb in
+    let b = b .before .before in let head = b .head in
+    judges-same (rw (verb .given .1) at (head .ensures)) (c .before .before .judge-by .ensures)
 
 returns-2 : tie.Need-returns-2
 returns-2 c = rw (c .unread .ensures) (judges-none (rw (c .before .enum-told .given .1) at (c .before .before .before .head .ensures)))

@@ -6,7 +6,9 @@ use Rattle.read_commands.proofs.judge_by.Statement.{statement}
 use Rattle.read_commands.proofs.judge_by.Tie as tie
 
 returns : tie.Need-returns
-returns c = rw (c .before .enum-told .given .1) (judges-notify (c .before .before .before .before .before .args .l) (c .before .before .before .before .before .args .selected) (c .before .before .before .before .before .args .text .now) (c .before .before .before .before .before .args .at) (c .judge-notify .ensures (c .before .before .before .before .before .args .selected)))
+returns c =
+    let b = c .before .before .before .before .before in let args = b .args in
+    rw (c .before .enum-told .given .1) (judges-notify (args .l) (args .selected) (args .text .now) (args .at) (c .judge-notify .ensures (args .selected)))
 
 returns-2 : tie.Need-returns-2
 returns-2 c = rw (c .before .before .before .before .enum-told2 .given .1) (c .before .before .judge-search .ensures)

@@ -7,7 +7,9 @@ use Rattle.read_commands.proofs.judge_notify.Statement.{statement}
 use Rattle.read_commands.proofs.judge_notify.Tie as tie
 
 returns : tie.Need-returns
-returns c = λ sel. c .notify-reply .ensures ∙ ap (notified (c .before .before .before .args .l)) (c .before .notify-at .ensures) ∙ notify-is (c .before .before .before .args .l) sel (c .before .before .before .args .text .now) (c .before .before .before .args .at)
+returns c =
+    let b = c .before .before .before in let args = b .args in
+    λ sel. c .notify-reply .ensures ∙ ap (notified (args .l)) (c .before .notify-at .ensures) ∙ notify-is (args .l) sel (args .text .now) (args .at)
 
 pub judge-notify-spec : {M : Type 1} → statement M
 judge-notify-spec =

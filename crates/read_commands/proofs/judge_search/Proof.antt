@@ -5,7 +5,10 @@ use Rattle.read_commands.proofs.judge_search.Statement.{statement}
 use Rattle.read_commands.proofs.judge_search.Tie as tie
 
 returns : tie.Need-returns
-returns c = judges-search (c .before .before .before .before .before .before .before .args .l) (c .before .before .before .before .before .before .before .args .selected) (c .before .before .before .before .before .before .before .args .text .now) (c .before .before .before .before .before .before .before .args .at) (c .before .before .before .search-at .ensures) (c .search-reply .ensures)
+returns c =
+    let b = c .before .before .before in let search-at = b .search-at in
+    let b = b .before .before .before .before in let args = b .args in
+    judges-search (args .l) (args .selected) (args .text .now) (args .at) (search-at .ensures) (c .search-reply .ensures)
 
 pub judge-search-spec : {M : Type 1} → statement M
 judge-search-spec =

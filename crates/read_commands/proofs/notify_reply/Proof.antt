@@ -8,7 +8,9 @@ returns : tie.Need-returns
 returns c = c .answer .ensures ∙ rw (c .before .enum-told .given .1)
 
 returns-2 : tie.Need-returns-2
-returns-2 c = c .answer2 .ensures ∙ rw (c .before .before .before .r .given .1, c .before .reply-for .ensures)
+returns-2 c =
+    let b = c .before .before .before in let r = b .r in
+    c .answer2 .ensures ∙ rw (r .given .1, c .before .reply-for .ensures)
 
 pub notify-reply-spec : {M : Type 1} → statement M
 notify-reply-spec =

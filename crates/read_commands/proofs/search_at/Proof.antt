@@ -8,13 +8,22 @@ use Rattle.read_commands.proofs.search_at.Tie as tie
 use Rattle.octets.specs.Rows.{in-text}
 
 returns : tie.Need-returns
-returns c = search-none (search-blank (c .before .before .before .before .args .text .now) (c .before .before .before .before .args .at) (λ e. c .if1 .taken (c .before .octet-at .ensures ∙ e)))
+returns c =
+    let b = c .before .before .before .before in let args = b .args in
+    search-none (search-blank (args .text .now) (args .at) (λ e. c .if1 .taken (c .before .octet-at .ensures ∙ e)))
 
 add-search-at : tie.Need-add-search-at
-add-search-at c = let i = in-text (c .before .before .before .before .args .text .now) (c .before .before .before .before .args .at) (sym (c .before .octet-at .ensures) ∙ c .if1 .left) (omega arith) in omega arith
+add-search-at c =
+    let b = c .before .before .before .before in let args = b .args in
+    let i = in-text (args .text .now) (args .at) (sym (c .before .octet-at .ensures) ∙ c .if1 .left) (omega arith) in omega arith
 
 returns-2 : tie.Need-returns-2
-returns-2 c = search-whole (c .before .before .before .before .before .before .before .before .before .args .text .now) (c .before .before .before .before .before .before .before .before .before .args .at) (sym (c .before .before .before .before .before .before .octet-at .ensures) ∙ c .before .before .before .before .before .if1 .left) (c .before .before .before .search-at .ensures .exact) (c .before .before .before .search-at .ensures .cells) (c .search-upto .ensures)
+returns-2 c =
+    let b = c .before .before .before in let search-at = b .search-at in
+    let b = b .before .before in let if1 = b .if1 in
+    let b = b .before in let octet-at = b .octet-at in
+    let b = b .before .before .before in let args = b .args in
+    search-whole (args .text .now) (args .at) (sym (octet-at .ensures) ∙ if1 .left) (search-at .ensures .exact) (search-at .ensures .cells) (c .search-upto .ensures)
 
 pub search-at-spec : {M : Type 1} → statement M
 search-at-spec =

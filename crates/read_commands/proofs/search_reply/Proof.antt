@@ -5,7 +5,9 @@ use Rattle.read_commands.proofs.search_reply.Statement.{statement}
 use Rattle.read_commands.proofs.search_reply.Tie as tie
 
 returns : tie.Need-returns
-returns c = c .answer .ensures ∙ rw (c .before .before .before .r .given .1, c .before .reply-for .ensures)
+returns c =
+    let b = c .before .before .before in let r = b .r in
+    c .answer .ensures ∙ rw (r .given .1, c .before .reply-for .ensures)
 
 pub search-reply-spec : {M : Type 1} → statement M
 search-reply-spec =

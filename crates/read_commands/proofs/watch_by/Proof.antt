@@ -8,7 +8,9 @@ returns : tie.Need-returns
 returns c = rw (c .before .enum-told .given .1) (c .watch-notify .ensures)
 
 returns-2 : tie.Need-returns-2
-returns-2 c = rw (c .enum-told2 .given .1) (esearch-watched (c .before .before .before .args .session) (c .before .before .before .args .text .now) (c .before .before .before .args .at))
+returns-2 c =
+    let b = c .before .before .before in let args = b .args in
+    rw (c .enum-told2 .given .1) (esearch-watched (args .session) (args .text .now) (args .at))
 
 pub watch-by-spec : {M : Type 1} → statement M
 watch-by-spec =

@@ -12,16 +12,31 @@ use Rattle.read_events.proofs.Gathering.{within-from, events-list, even
 use borrow.Author.Needs.{needs}
 
 add-events-to-close : tie.Need-add-events-to-close
-add-events-to-close c = let i = in-text (c .before .before .before .args .text .now) (c .before .before .before .args .at) (sym (c .before .octet-at .ensures) ∙ c .if1 .taken) (omega arith) in omega arith
+add-events-to-close c =
+    let b = c .before .before .before in let args = b .args in
+    let i = in-text (args .text .now) (args .at) (sym (c .before .octet-at .ensures) ∙ c .if1 .taken) (omega arith) in omega arith
 
 returns : tie.Need-returns
-returns c = record { exact = c .events-to-close .ensures .exact (length (c .before .before .before .before .args .text .now)) (omega arith) ∙ events-list (c .before .before .before .before .args .text .now) (c .before .before .before .before .args .at) (sym (c .before .before .octet-at .ensures) ∙ c .before .if1 .taken); within = within-from (c .before .before .before .before .args .text .now) (c .before .before .before .before .args .at) ((c .before .before .before .before .args .at) + 1) (c .events-to-close .result) (omega arith) (c .events-to-close .ensures .within) }
+returns c =
+    let b = c .before .before .before .before in let args = b .args in
+    record { exact = c .events-to-close .ensures .exact (length (args .text .now)) (omega arith) ∙ events-list (args .text .now) (args .at) (sym (c .before .before .octet-at .ensures) ∙ c .before .if1 .taken); within = within-from (args .text .now) (args .at) ((args .at) + 1) (c .events-to-close .result) (omega arith) (c .events-to-close .ensures .within) }
 
 returns-2 : tie.Need-returns-2
-returns-2 c = let i = none-inside (c .before .before .before .before .before .before .before .before .args .text .now) (c .before .before .before .before .before .before .before .before .args .at) (c .before .run-end .result) (rw (c .before .run-end .ensures .exact) (sym (c .before .before .before .word-at .ensures) ∙ c .before .before .if2 .taken)) in let f = c .before .run-end .ensures .from in let w = c .before .run-end .ensures .within in record { exact = ap (λ (e : Events). Is e (c .before .run-end .result)) (c .no-events .ensures) ∙ events-none (c .before .before .before .before .before .before .before .before .args .text .now) (c .before .before .before .before .before .before .before .before .args .at) (λ e. c .before .before .before .before .before .if1 .left (c .before .before .before .before .before .before .octet-at .ensures ∙ e)) (sym (c .before .before .before .word-at .ensures) ∙ c .before .before .if2 .taken) (c .before .run-end .ensures .exact); within = (omega arith, omega arith) }
+returns-2 c =
+    let b = c .before in let run-end = b .run-end in
+    let b = b .before in let if2 = b .if2 in
+    let b = b .before in let word-at = b .word-at in
+    let b = b .before .before in let if1 = b .if1 in
+    let b = b .before in let octet-at = b .octet-at in
+    let b = b .before .before in let args = b .args in
+    let i = none-inside (args .text .now) (args .at) (run-end .result) (rw (run-end .ensures .exact) (sym (word-at .ensures) ∙ if2 .taken)) in let f = run-end .ensures .from in let w = run-end .ensures .within in record { exact = ap (λ (e : Events). Is e (run-end .result)) (c .no-events .ensures) ∙ events-none (args .text .now) (args .at) (λ e. if1 .left (octet-at .ensures ∙ e)) (sym (word-at .ensures) ∙ if2 .taken) (run-end .ensures .exact); within = (omega arith, omega arith) }
 
 returns-3 : tie.Need-returns-3
-returns-3 c = record { exact = events-neither (c .before .before .before .before .before .before .args .text .now) (c .before .before .before .before .before .before .args .at) (λ e. c .before .before .before .if1 .left (c .before .before .before .before .octet-at .ensures ∙ e)) (sym (c .before .word-at .ensures) ∙ c .if2 .left); within = tt }
+returns-3 c =
+    let b = c .before .before .before in let if1 = b .if1 in
+    let b = b .before in let octet-at = b .octet-at in
+    let b = b .before .before in let args = b .args in
+    record { exact = events-neither (args .text .now) (args .at) (λ e. if1 .left (octet-at .ensures ∙ e)) (sym (c .before .word-at .ensures) ∙ c .if2 .left); within = tt }
 
 pub events-at-spec : {M : Type 1} → statement M
 events-at-spec =

@@ -12,10 +12,16 @@ filter-by-requires : tie.Need-filter-by-requires
 filter-by-requires c κs = let w = rw (c .before .before .p .given .1) at (c .before .before .before .before .run-at .ensures .within) in omega arith
 
 returns : tie.Need-returns
-returns c = let w = rw (c .before .before .before .p .given .1) at (c .before .before .before .before .before .run-at .ensures .within) in record { exact = filter-some (c .before .before .before .before .before .before .before .args .text .now) (c .before .before .before .before .before .before .before .args .at) (sym (c .before .before .before .p .given .1) ∙ c .before .before .before .before .before .run-at .ensures .exact) (c .filter-by .ensures .exact (scopeOf (piece (c .before .before .before .before .before .before .before .args .text .now) (c .before .before .before .before .before .before .before .args .at) (c .before .before .before .p .given .0 .0))) (plain (piece (c .before .before .before .before .before .before .before .args .text .now) (c .before .before .before .before .before .before .before .args .at) (c .before .before .before .p .given .0 .0))) (c .before .word-of .ensures)); within = within-behind (c .before .before .before .before .before .before .before .args .text .now) (c .before .before .before .before .before .before .before .args .at) (c .before .before .before .p .given .0 .0) (c .filter-by .result) (omega arith) (c .filter-by .ensures .within) }
+returns c =
+    let b = c .before .before .before in let p = b .p in
+    let b = b .before .before in let run-at = b .run-at in
+    let b = b .before .before in let args = b .args in
+    let w = rw (p .given .1) at (run-at .ensures .within) in record { exact = filter-some (args .text .now) (args .at) (sym (p .given .1) ∙ run-at .ensures .exact) (c .filter-by .ensures .exact (scopeOf (piece (args .text .now) (args .at) (p .given .0 .0))) (plain (piece (args .text .now) (args .at) (p .given .0 .0))) (c .before .word-of .ensures)); within = within-behind (args .text .now) (args .at) (p .given .0 .0) (c .filter-by .result) (omega arith) (c .filter-by .ensures .within) }
 
 returns-2 : tie.Need-returns-2
-returns-2 c = record { exact = filter-none (c .before .before .before .before .args .text .now) (c .before .before .before .before .args .at) (sym (c .enum-told .given .1) ∙ c .before .before .run-at .ensures .exact); within = tt }
+returns-2 c =
+    let b = c .before .before .before .before in let args = b .args in
+    record { exact = filter-none (args .text .now) (args .at) (sym (c .enum-told .given .1) ∙ c .before .before .run-at .ensures .exact); within = tt }
 
 pub filter-at-spec : {M : Type 1} → statement M
 filter-at-spec =

@@ -7,13 +7,19 @@ use Rattle.read_filters.proofs.filter_by.Statement.{statement}
 use Rattle.read_filters.proofs.filter_by.Tie as tie
 
 returns : tie.Need-returns
-returns c = record { exact = λ x h e. by-alone (c .before .before .before .before .args .text .now) (c .before .before .before .before .args .at) x h (sym (c .before .word .given .1) ∙ e); within = omega arith }
+returns c =
+    let b = c .before .before .before .before in let args = b .args in
+    record { exact = λ x h e. by-alone (args .text .now) (args .at) x h (sym (c .before .word .given .1) ∙ e); within = omega arith }
 
 returns-2 : tie.Need-returns-2
-returns-2 c = record { exact = λ x h e. by-named (c .before .before .before .before .before .args .text .now) (c .before .before .before .before .before .args .at) (c .named-at .ensures .exact) x (sym (c .before .before .word2 .given .1) ∙ e); within = c .named-at .ensures .within }
+returns-2 c =
+    let b = c .before .before .before .before .before in let args = b .args in
+    record { exact = λ x h e. by-named (args .text .now) (args .at) (c .named-at .ensures .exact) x (sym (c .before .before .word2 .given .1) ∙ e); within = c .named-at .ensures .within }
 
 returns-3 : tie.Need-returns-3
-returns-3 c = record { exact = λ x h e. by-unknown (c .before .before .before .args .text .now) (c .before .before .before .args .at) x (sym (c .enum-told .given .1) ∙ e); within = tt }
+returns-3 c =
+    let b = c .before .before .before in let args = b .args in
+    record { exact = λ x h e. by-unknown (args .text .now) (args .at) x (sym (c .enum-told .given .1) ∙ e); within = tt }
 
 pub filter-by-spec : {M : Type 1} → statement M
 filter-by-spec =

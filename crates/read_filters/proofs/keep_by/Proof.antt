@@ -8,13 +8,19 @@ use Rattle.read_filters.proofs.keep_by.Statement.{statement}
 use Rattle.read_filters.proofs.keep_by.Tie as tie
 
 returns : tie.Need-returns
-returns c = record { exact = λ x h e. keeps-alone (c .before .before .before .args .text .now) (c .before .before .before .args .at) (c .before .before .before .args .kept) x h (sym (c .enum-told .given .1) ∙ e); within = (omega arith, omega arith, omega arith) }
+returns c =
+    let b = c .before .before .before in let args = b .args in
+    record { exact = λ x h e. keeps-alone (args .text .now) (args .at) (args .kept) x h (sym (c .enum-told .given .1) ∙ e); within = (omega arith, omega arith, omega arith) }
 
 returns-2 : tie.Need-returns-2
-returns-2 c = record { exact = λ x h e. keeps-by (c .before .before .before .before .args .text .now) (c .before .before .before .before .args .at) (c .before .before .before .before .args .kept) (c .keep-named .ensures .exact) x (sym (c .before .enum-told2 .given .1) ∙ e); within = c .keep-named .ensures .within }
+returns-2 c =
+    let b = c .before .before .before .before in let args = b .args in
+    record { exact = λ x h e. keeps-by (args .text .now) (args .at) (args .kept) (c .keep-named .ensures .exact) x (sym (c .before .enum-told2 .given .1) ∙ e); within = c .keep-named .ensures .within }
 
 returns-3 : tie.Need-returns-3
-returns-3 c = record { exact = λ x h e. c .unread .ensures ∙ keeps-unknown (c .before .before .before .before .args .text .now) (c .before .before .before .before .args .at) (c .before .before .before .before .args .kept) x (sym (c .before .enum-told3 .given .1) ∙ e); within = rw (c .unread .ensures) tt }
+returns-3 c =
+    let b = c .before .before .before .before in let args = b .args in
+    record { exact = λ x h e. c .unread .ensures ∙ keeps-unknown (args .text .now) (args .at) (args .kept) x (sym (c .before .enum-told3 .given .1) ∙ e); within = rw (c .unread .ensures) tt }
 
 pub keep-by-spec : {M : Type 1} → statement M
 keep-by-spec =

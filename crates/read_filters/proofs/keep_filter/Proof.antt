@@ -12,13 +12,20 @@ use Rattle.read_filters.proofs.keep_filter.Statement.{statement}
 use Rattle.read_filters.proofs.keep_filter.Tie as tie
 
 returns : tie.Need-returns
-returns c = record { exact = c .unread .ensures ∙ keeps-none (c .before .before .before .before .before .args .text .now) (c .before .before .before .before .before .args .at) (c .before .before .before .before .before .args .kept) (sym (c .before .enum-told .given .1) ∙ c .before .before .before .run-at .ensures .exact); within = rw (c .unread .ensures) tt }
+returns c =
+    let b = c .before .before .before in let run-at = b .run-at in
+    let b = b .before .before in let args = b .args in
+    record { exact = c .unread .ensures ∙ keeps-none (args .text .now) (args .at) (args .kept) (sym (c .before .enum-told .given .1) ∙ run-at .ensures .exact); within = rw (c .unread .ensures) tt }
 
 keep-by-requires : tie.Need-keep-by-requires
 keep-by-requires c κs = let w = rw (c .before .before .p .given .1) at (c .before .before .before .before .run-at .ensures .within) in (omega arith, omega arith)
 
 returns-2 : tie.Need-returns-2
-returns-2 c = let w = rw (c .before .before .before .p .given .1) at (c .before .before .before .before .before .run-at .ensures .within) in record { exact = keeps-some (c .before .before .before .before .before .before .before .args .text .now) (c .before .before .before .before .before .before .before .args .at) (c .before .before .before .before .before .before .before .args .kept) (sym (c .before .before .before .p .given .1) ∙ c .before .before .before .before .before .run-at .ensures .exact) (c .keep-by .ensures .exact (scopeOf (piece (c .before .before .before .before .before .before .before .args .text .now) (c .before .before .before .before .before .before .before .args .at) (c .before .before .before .p .given .0 .0))) (plain (piece (c .before .before .before .before .before .before .before .args .text .now) (c .before .before .before .before .before .before .before .args .at) (c .before .before .before .p .given .0 .0))) (c .before .word-of .ensures)); within = fits-behind (c .keep-by .result .ok) (c .before .before .before .before .before .before .before .args .text .now) (c .before .before .before .before .before .before .before .args .at) (c .before .before .before .p .given .0 .0) (c .keep-by .result) (omega arith) (c .keep-by .ensures .within) }
+returns-2 c =
+    let b = c .before .before .before in let p = b .p in
+    let b = b .before .before in let run-at = b .run-at in
+    let b = b .before .before in let args = b .args in
+    let w = rw (p .given .1) at (run-at .ensures .within) in record { exact = keeps-some (args .text .now) (args .at) (args .kept) (sym (p .given .1) ∙ run-at .ensures .exact) (c .keep-by .ensures .exact (scopeOf (piece (args .text .now) (args .at) (p .given .0 .0))) (plain (piece (args .text .now) (args .at) (p .given .0 .0))) (c .before .word-of .ensures)); within = fits-behind (c .keep-by .result .ok) (args .text .now) (args .at) (p .given .0 .0) (c .keep-by .result) (omega arith) (c .keep-by .ensures .within) }
 
 pub keep-filter-spec : {M : Type 1} → statement M
 keep-filter-spec =

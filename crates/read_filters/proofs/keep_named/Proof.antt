@@ -13,7 +13,9 @@ returns : tie.Need-returns
 returns c = record { exact = λ o f b. c .unread .ensures ∙ keeps-unspaced (c .before .before .before .before .args .text .now) (c .before .before .before .before .args .at) (c .before .before .before .before .args .kept) o f b (λ e. c .before .if1 .taken (c .before .before .octet-at .ensures ∙ e)); within = rw (c .unread .ensures) tt }
 
 add-keep-names : tie.Need-add-keep-names
-add-keep-names c = let i = in-text (c .before .before .before .args .text .now) (c .before .before .before .args .at) (sym (c .before .octet-at .ensures) ∙ c .if1 .left) (omega arith) in omega arith
+add-keep-names c =
+    let b = c .before .before .before in let args = b .args in
+    let i = in-text (args .text .now) (args .at) (sym (c .before .octet-at .ensures) ∙ c .if1 .left) (omega arith) in omega arith
 
 returns-2 : tie.Need-returns-2
 returns-2 c = record { exact = λ o f b. c .keep-names .ensures .exact ∙ keeps-named (c .before .before .before .before .args .text .now) (c .before .before .before .before .args .at) (c .before .before .before .before .args .kept) o f b (sym (c .before .before .octet-at .ensures) ∙ c .before .if1 .left); within = fits-named (c .keep-names .result .ok) (c .before .before .before .before .args .text .now) (c .before .before .before .before .args .at) (c .keep-names .result) (c .keep-names .ensures .within) }

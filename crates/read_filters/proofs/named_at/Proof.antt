@@ -12,7 +12,9 @@ returns : tie.Need-returns
 returns c = record { exact = λ f b. named-unspaced (c .before .before .before .args .text .now) (c .before .before .before .args .at) (c .before .before .before .args .scope) f b (λ e. c .if1 .taken (c .before .octet-at .ensures ∙ e)); within = tt }
 
 add-names-at : tie.Need-add-names-at
-add-names-at c = let i = in-text (c .before .before .before .args .text .now) (c .before .before .before .args .at) (sym (c .before .octet-at .ensures) ∙ c .if1 .left) (omega arith) in omega arith
+add-names-at c =
+    let b = c .before .before .before in let args = b .args in
+    let i = in-text (args .text .now) (args .at) (sym (c .before .octet-at .ensures) ∙ c .if1 .left) (omega arith) in omega arith
 
 returns-2 : tie.Need-returns-2
 returns-2 c = let w = rw (c .before .count .given .1) at (c .before .before .before .names-at .ensures .within) in record { exact = λ f b. named-is (c .before .before .before .before .before .before .before .args .text .now) (c .before .before .before .before .before .before .before .args .at) (c .before .before .before .before .before .before .before .args .scope) f b (sym (c .before .before .before .before .before .octet-at .ensures) ∙ c .before .before .before .before .if1 .left) (sym (c .before .count .given .1) ∙ c .before .before .before .names-at .ensures .exact) (omega arith); within = omega arith }

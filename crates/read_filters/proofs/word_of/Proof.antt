@@ -7,31 +7,119 @@ use Rattle.read_filters.proofs.word_of.Statement.{statement}
 use Rattle.read_filters.proofs.word_of.Tie as tie
 
 returns : tie.Need-returns
-returns c = word-selected (piece (c .before .before .before .before .args .text .now) (c .before .before .before .before .args .from) (c .before .before .before .before .args .upto)) (sym (c .before .is-word .ensures) ∙ c .if1 .taken)
+returns c =
+    let b = c .before .before .before .before in let args = b .args in
+    word-selected (piece (args .text .now) (args .from) (args .upto)) (sym (c .before .is-word .ensures) ∙ c .if1 .taken)
 
 returns-2 : tie.Need-returns-2
-returns-2 c = word-delayed (piece (c .before .before .before .before .before .before .before .args .text .now) (c .before .before .before .before .before .before .before .args .from) (c .before .before .before .before .before .before .before .args .upto)) (sym (c .before .before .before .before .is-word .ensures) ∙ c .before .before .before .if1 .left) (sym (c .before .is-word2 .ensures) ∙ c .if2 .taken)
+returns-2 c =
+    let b = c .before .before .before in let if1 = b .if1 in
+    let b = b .before in let is-word = b .is-word in
+    let b = b .before .before .before in let args = b .args in
+    word-delayed (piece (args .text .now) (args .from) (args .upto)) (sym (is-word .ensures) ∙ if1 .left) (sym (c .before .is-word2 .ensures) ∙ c .if2 .taken)
 
 returns-3 : tie.Need-returns-3
-returns-3 c = word-inboxes (piece (c .before .before .before .before .before .before .before .before .before .before .args .text .now) (c .before .before .before .before .before .before .before .before .before .before .args .from) (c .before .before .before .before .before .before .before .before .before .before .args .upto)) (sym (c .before .before .before .before .before .before .before .is-word .ensures) ∙ c .before .before .before .before .before .before .if1 .left) (sym (c .before .before .before .before .is-word2 .ensures) ∙ c .before .before .before .if2 .left) (sym (c .before .is-word3 .ensures) ∙ c .if3 .taken)
+returns-3 c =
+    let b = c .before .before .before in let if2 = b .if2 in
+    let b = b .before in let is-word2 = b .is-word2 in
+    let b = b .before .before in let if1 = b .if1 in
+    let b = b .before in let is-word = b .is-word in
+    let b = b .before .before .before in let args = b .args in
+    word-inboxes (piece (args .text .now) (args .from) (args .upto)) (sym (is-word .ensures) ∙ if1 .left) (sym (is-word2 .ensures) ∙ if2 .left) (sym (c .before .is-word3 .ensures) ∙ c .if3 .taken)
 
 returns-4 : tie.Need-returns-4
-returns-4 c = word-personal (piece (c .before .before .before .before .before .before .before .before .before .before .before .before .before .args .text .now) (c .before .before .before .before .before .before .before .before .before .before .before .before .before .args .from) (c .before .before .before .before .before .before .before .before .before .before .before .before .before .args .upto)) (sym (c .before .before .before .before .before .before .before .before .before .before .is-word .ensures) ∙ c .before .before .before .before .before .before .before .before .before .if1 .left) (sym (c .before .before .before .before .before .before .before .is-word2 .ensures) ∙ c .before .before .before .before .before .before .if2 .left) (sym (c .before .before .before .before .is-word3 .ensures) ∙ c .before .before .before .if3 .left) (sym (c .before .is-word4 .ensures) ∙ c .if4 .taken)
+returns-4 c =
+    let b = c .before .before .before in let if3 = b .if3 in
+    let b = b .before in let is-word3 = b .is-word3 in
+    let b = b .before .before in let if2 = b .if2 in
+    let b = b .before in let is-word2 = b .is-word2 in
+    let b = b .before .before in let if1 = b .if1 in
+    let b = b .before in let is-word = b .is-word in
+    let b = b .before .before .before in let args = b .args in
+    word-personal (piece (args .text .now) (args .from) (args .upto)) (sym (is-word .ensures) ∙ if1 .left) (sym (is-word2 .ensures) ∙ if2 .left) (sym (is-word3 .ensures) ∙ if3 .left) (sym (c .before .is-word4 .ensures) ∙ c .if4 .taken)
 
 returns-5 : tie.Need-returns-5
-returns-5 c = word-subscribed (piece (c .before .before .before .before .before .before .before .before .before .before .before .before .before .before .before .before .args .text .now) (c .before .before .before .before .before .before .before .before .before .before .before .before .before .before .before .before .args .from) (c .before .before .before .before .before .before .before .before .before .before .before .before .before .before .before .before .args .upto)) (sym (c .before .before .before .before .before .before .before .before .before .before .before .before .before .is-word .ensures) ∙ c .before .before .before .before .before .before .before .before .before .before .before .before .if1 .left) (sym (c .before .before .before .before .before .before .before .before .before .before .is-word2 .ensures) ∙ c .before .before .before .before .before .before .before .before .before .if2 .left) (sym (c .before .before .before .before .before .before .before .is-word3 .ensures) ∙ c .before .before .before .before .before .before .if3 .left) (sym (c .before .before .before .before .is-word4 .ensures) ∙ c .before .before .before .if4 .left) (sym (c .before .is-word5 .ensures) ∙ c .if5 .taken)
+returns-5 c =
+    let b = c .before .before .before in let if4 = b .if4 in
+    let b = b .before in let is-word4 = b .is-word4 in
+    let b = b .before .before in let if3 = b .if3 in
+    let b = b .before in let is-word3 = b .is-word3 in
+    let b = b .before .before in let if2 = b .if2 in
+    let b = b .before in let is-word2 = b .is-word2 in
+    let b = b .before .before in let if1 = b .if1 in
+    let b = b .before in let is-word = b .is-word in
+    let b = b .before .before .before in let args = b .args in
+    word-subscribed (piece (args .text .now) (args .from) (args .upto)) (sym (is-word .ensures) ∙ if1 .left) (sym (is-word2 .ensures) ∙ if2 .left) (sym (is-word3 .ensures) ∙ if3 .left) (sym (is-word4 .ensures) ∙ if4 .left) (sym (c .before .is-word5 .ensures) ∙ c .if5 .taken)
 
 returns-6 : tie.Need-returns-6
-returns-6 c = word-subtree (piece (c .before .before .before .before .before .before .before .before .before .before .before .before .before .before .before .before .before .before .before .args .text .now) (c .before .before .before .before .before .before .before .before .before .before .before .before .before .before .before .before .before .before .before .args .from) (c .before .before .before .before .before .before .before .before .before .before .before .before .before .before .before .before .before .before .before .args .upto)) (sym (c .before .before .before .before .before .before .before .before .before .before .before .before .before .before .before .before .is-word .ensures) ∙ c .before .before .before .before .before .before .before .before .before .before .before .before .before .before .before .if1 .left) (sym (c .before .before .before .before .before .before .before .before .before .before .before .before .before .is-word2 .ensures) ∙ c .before .before .before .before .before .before .before .before .before .before .before .before .if2 .left) (sym (c .before .before .before .before .before .before .before .before .before .before .is-word3 .ensures) ∙ c .before .before .before .before .before .before .before .before .before .if3 .left) (sym (c .before .before .before .before .before .before .before .is-word4 .ensures) ∙ c .before .before .before .before .before .before .if4 .left) (sym (c .before .before .before .before .is-word5 .ensures) ∙ c .before .before .before .if5 .left) (sym (c .before .is-word6 .ensures) ∙ c .if6 .taken)
+returns-6 c =
+    let b = c .before .before .before in let if5 = b .if5 in
+    let b = b .before in let is-word5 = b .is-word5 in
+    let b = b .before .before in let if4 = b .if4 in
+    let b = b .before in let is-word4 = b .is-word4 in
+    let b = b .before .before in let if3 = b .if3 in
+    let b = b .before in let is-word3 = b .is-word3 in
+    let b = b .before .before in let if2 = b .if2 in
+    let b = b .before in let is-word2 = b .is-word2 in
+    let b = b .before .before in let if1 = b .if1 in
+    let b = b .before in let is-word = b .is-word in
+    let b = b .before .before .before in let args = b .args in
+    word-subtree (piece (args .text .now) (args .from) (args .upto)) (sym (is-word .ensures) ∙ if1 .left) (sym (is-word2 .ensures) ∙ if2 .left) (sym (is-word3 .ensures) ∙ if3 .left) (sym (is-word4 .ensures) ∙ if4 .left) (sym (is-word5 .ensures) ∙ if5 .left) (sym (c .before .is-word6 .ensures) ∙ c .if6 .taken)
 
 returns-7 : tie.Need-returns-7
-returns-7 c = word-one (piece (c .before .before .before .before .before .before .before .before .before .before .before .before .before .before .before .before .before .before .before .before .before .before .args .text .now) (c .before .before .before .before .before .before .before .before .before .before .before .before .before .before .before .before .before .before .before .before .before .before .args .from) (c .before .before .before .before .before .before .before .before .before .before .before .before .before .before .before .before .before .before .before .before .before .before .args .upto)) (sym (c .before .before .before .before .before .before .before .before .before .before .before .before .before .before .before .before .before .before .before .is-word .ensures) ∙ c .before .before .before .before .before .before .before .before .before .before .before .before .before .before .before .before .before .before .if1 .left) (sym (c .before .before .before .before .before .before .before .before .before .before .before .before .before .before .before .before .is-word2 .ensures) ∙ c .before .before .before .before .before .before .before .before .before .before .before .before .before .before .before .if2 .left) (sym (c .before .before .before .before .before .before .before .before .before .before .before .before .before .is-word3 .ensures) ∙ c .before .before .before .before .before .before .before .before .before .before .before .before .if3 .left) (sym (c .before .before .before .before .before .before .before .before .before .before .is-word4 .ensures) ∙ c .before .before .before .before .before .before .before .before .before .if4 .left) (sym (c .before .before .before .before .before .before .before .is-word5 .ensures) ∙ c .before .before .before .before .before .before .if5 .left) (sym (c .before .before .before .before .is-word6 .ensures) ∙ c .before .before .before .if6 .left) (sym (c .before .is-word7 .ensures) ∙ c .if7 .taken)
+returns-7 c =
+    let b = c .before .before .before in let if6 = b .if6 in
+    let b = b .before in let is-word6 = b .is-word6 in
+    let b = b .before .before in let if5 = b .if5 in
+    let b = b .before in let is-word5 = b .is-word5 in
+    let b = b .before .before in let if4 = b .if4 in
+    let b = b .before in let is-word4 = b .is-word4 in
+    let b = b .before .before in let if3 = b .if3 in
+    let b = b .before in let is-word3 = b .is-word3 in
+    let b = b .before .before in let if2 = b .if2 in
+    let b = b .before in let is-word2 = b .is-word2 in
+    let b = b .before .before in let if1 = b .if1 in
+    let b = b .before in let is-word = b .is-word in
+    let b = b .before .before .before in let args = b .args in
+    word-one (piece (args .text .now) (args .from) (args .upto)) (sym (is-word .ensures) ∙ if1 .left) (sym (is-word2 .ensures) ∙ if2 .left) (sym (is-word3 .ensures) ∙ if3 .left) (sym (is-word4 .ensures) ∙ if4 .left) (sym (is-word5 .ensures) ∙ if5 .left) (sym (is-word6 .ensures) ∙ if6 .left) (sym (c .before .is-word7 .ensures) ∙ c .if7 .taken)
 
 returns-8 : tie.Need-returns-8
-returns-8 c = word-mailboxes (piece (c .before .before .before .before .before .before .before .before .before .before .before .before .before .before .before .before .before .before .before .before .before .before .before .before .before .args .text .now) (c .before .before .before .before .before .before .before .before .before .before .before .before .before .before .before .before .before .before .before .before .before .before .before .before .before .args .from) (c .before .before .before .before .before .before .before .before .before .before .before .before .before .before .before .before .before .before .before .before .before .before .before .before .before .args .upto)) (sym (c .before .before .before .before .before .before .before .before .before .before .before .before .before .before .before .before .before .before .before .before .before .before .is-word .ensures) ∙ c .before .before .before .before .before .before .before .before .before .before .before .before .before .before .before .before .before .before .before .before .before .if1 .left) (sym (c .before .before .before .before .before .before .before .before .before .before .before .before .before .before .before .before .before .before .before .is-word2 .ensures) ∙ c .before .before .before .before .before .before .before .before .before .before .before .before .before .before .before .before .before .before .if2 .left) (sym (c .before .before .before .before .before .before .before .before .before .before .before .before .before .before .before .before .is-word3 .ensures) ∙ c .before .before .before .before .before .before .before .before .before .before .before .before .before .before .before .if3 .left) (sym (c .before .before .before .before .before .before .before .before .before .before .before .before .before .is-word4 .ensures) ∙ c .before .before .before .before .before .before .before .before .before .before .before .before .if4 .left) (sym (c .before .before .before .before .before .before .before .before .before .before .is-word5 .ensures) ∙ c .before .before .before .before .before .before .before .before .before .if5 .left) (sym (c .before .before .before .before .before .before .before .is-word6 .ensures) ∙ c .before .before .before .before .before .before .if6 .left) (sym (c .before .before .before .before .is-word7 .ensures) ∙ c .before .before .before .if7 .left) (sym (c .before .is-word8 .ensures) ∙ c .if8 .taken)
+returns-8 c =
+    let b = c .before .before .before in let if7 = b .if7 in
+    let b = b .before in let is-word7 = b .is-word7 in
+    let b = b .before .before in let if6 = b .if6 in
+    let b = b .before in let is-word6 = b .is-word6 in
+    let b = b .before .before in let if5 = b .if5 in
+    let b = b .before in let is-word5 = b .is-word5 in
+    let b = b .before .before in let if4 = b .if4 in
+    let b = b .before in let is-word4 = b .is-word4 in
+    let b = b .before .before in let if3 = b .if3 in
+    let b = b .before in let is-word3 = b .is-word3 in
+    let b = b .before .before in let if2 = b .if2 in
+    let b = b .before in let is-word2 = b .is-word2 in
+    let b = b .before .before in let if1 = b .if1 in
+    let b = b .before in let is-word = b .is-word in
+    let b = b .before .before .before in let args = b .args in
+    word-mailboxes (piece (args .text .now) (args .from) (args .upto)) (sym (is-word .ensures) ∙ if1 .left) (sym (is-word2 .ensures) ∙ if2 .left) (sym (is-word3 .ensures) ∙ if3 .left) (sym (is-word4 .ensures) ∙ if4 .left) (sym (is-word5 .ensures) ∙ if5 .left) (sym (is-word6 .ensures) ∙ if6 .left) (sym (is-word7 .ensures) ∙ if7 .left) (sym (c .before .is-word8 .ensures) ∙ c .if8 .taken)
 
 returns-9 : tie.Need-returns-9
-returns-9 c = word-unknown (piece (c .before .before .before .before .before .before .before .before .before .before .before .before .before .before .before .before .before .before .before .before .before .before .before .before .before .args .text .now) (c .before .before .before .before .before .before .before .before .before .before .before .before .before .before .before .before .before .before .before .before .before .before .before .before .before .args .from) (c .before .before .before .before .before .before .before .before .before .before .before .before .before .before .before .before .before .before .before .before .before .before .before .before .before .args .upto)) (sym (c .before .before .before .before .before .before .before .before .before .before .before .before .before .before .before .before .before .before .before .before .before .before .is-word .ensures) ∙ c .before .before .before .before .before .before .before .before .before .before .before .before .before .before .before .before .before .before .before .before .before .if1 .left) (sym (c .before .before .before .before .before .before .before .before .before .before .before .before .before .before .before .before .before .before .before .is-word2 .ensures) ∙ c .before .before .before .before .before .before .before .before .before .before .before .before .before .before .before .before .before .before .if2 .left) (sym (c .before .before .before .before .before .before .before .before .before .before .before .before .before .before .before .before .is-word3 .ensures) ∙ c .before .before .before .before .before .before .before .before .before .before .before .before .before .before .before .if3 .left) (sym (c .before .before .before .before .before .before .before .before .before .before .before .before .before .is-word4 .ensures) ∙ c .before .before .before .before .before .before .before .before .before .before .before .before .if4 .left) (sym (c .before .before .before .before .before .before .before .before .before .before .is-word5 .ensures) ∙ c .before .before .before .before .before .before .before .before .before .if5 .left) (sym (c .before .before .before .before .before .before .before .is-word6 .ensures) ∙ c .before .before .before .before .before .before .if6 .left) (sym (c .before .before .before .before .is-word7 .ensures) ∙ c .before .before .before .if7 .left) (sym (c .before .is-word8 .ensures) ∙ c .if8 .left)
+returns-9 c =
+    let b = c .before .before .before in let if7 = b .if7 in
+    let b = b .before in let is-word7 = b .is-word7 in
+    let b = b .before .before in let if6 = b .if6 in
+    let b = b .before in let is-word6 = b .is-word6 in
+    let b = b .before .before in let if5 = b .if5 in
+    let b = b .before in let is-word5 = b .is-word5 in
+    let b = b .before .before in let if4 = b .if4 in
+    let b = b .before in let is-word4 = b .is-word4 in
+    let b = b .before .before in let if3 = b .if3 in
+    let b = b .before in let is-word3 = b .is-word3 in
+    let b = b .before .before in let if2 = b .if2 in
+    let b = b .before in let is-word2 = b .is-word2 in
+    let b = b .before .before in let if1 = b .if1 in
+    let b = b .before in let is-word = b .is-word in
+    let b = b .before .before .before in let args = b .args in
+    word-unknown (piece (args .text .now) (args .from) (args .upto)) (sym (is-word .ensures) ∙ if1 .left) (sym (is-word2 .ensures) ∙ if2 .left) (sym (is-word3 .ensures) ∙ if3 .left) (sym (is-word4 .ensures) ∙ if4 .left) (sym (is-word5 .ensures) ∙ if5 .left) (sym (is-word6 .ensures) ∙ if6 .left) (sym (is-word7 .ensures) ∙ if7 .left) (sym (c .before .is-word8 .ensures) ∙ c .if8 .left)
 
 pub word-of-spec : {M : Type 1} → statement M
 word-of-spec =

@@ -42,19 +42,38 @@ row-at-row-at-requires : (t : ℕ) → row-at-lts.Need-row-at-requires (row-at-c
 row-at-row-at-requires t c κs = let w = rw (c .before .before .before .o .given .1) at (c .before .before .before .before .before .option-at .ensures .within) in omega arith
 
 row-at-returns : (t : ℕ) → row-at-lts.Need-returns (row-at-calls t) (row-at-at t) row-at.Post
-row-at-returns t c = let w = rw (c .before .before .before .before .before .o .given .1) at (c .before .before .before .before .before .before .before .option-at .ensures .within) in record { exact = λ n h. c .put .ensures ∙ ap (putOption (c .before .before .before .before .before .o .given .0 .0)) (c .before .row-at .ensures .exact (n - 1) (omega arith)) ∙ row-more (returnAt (c .before .before .before .before .before .before .before .before .before .args .text .now)) (nextAt closing (c .before .before .before .before .before .before .before .before .before .args .text .now)) (c .before .before .before .before .before .before .before .before .before .args .at) n (omega arith) (sym (c .before .before .before .before .before .o .given .1) ∙ c .before .before .before .before .before .before .before .option-at .ensures .exact) (next-space (c .before .before .before .before .before .before .before .before .before .args .text .now) (c .before .before .before .before .before .o .given .0 .1 .0) (sym (c .before .before .before .octet-at .ensures) ∙ c .before .before .if1 .taken)); within = rw (c .put .ensures) (put-within (c .before .before .before .before .before .before .before .before .before .args .text .now) (c .before .before .before .before .before .before .before .before .before .args .at) (c .before .before .before .before .before .o .given .0 .1 .0 + 1) (c .before .before .before .before .before .o .given .0 .0) (c .before .row-at .result) (omega arith) (c .before .row-at .ensures .within)) }
+row-at-returns t c =
+    let b = c .before in let at-row-at = b .row-at in
+    let b = b .before .before in let octet-at = b .octet-at in
+    let b = b .before .before in let o = b .o in
+    let b = b .before .before in let option-at = b .option-at in
+    let b = b .before .before in let args = b .args in
+    let w = rw (o .given .1) at (option-at .ensures .within) in record { exact = λ n h. c .put .ensures ∙ ap (putOption (o .given .0 .0)) (at-row-at .ensures .exact (n - 1) (omega arith)) ∙ row-more (returnAt (args .text .now)) (nextAt closing (args .text .now)) (args .at) n (omega arith) (sym (o .given .1) ∙ option-at .ensures .exact) (next-space (args .text .now) (o .given .0 .1 .0) (sym (octet-at .ensures) ∙ c .before .before .if1 .taken)); within = rw (c .put .ensures) (put-within (args .text .now) (args .at) (o .given .0 .1 .0 + 1) (o .given .0 .0) (at-row-at .result) (omega arith) (at-row-at .ensures .within)) }
 
 row-at-add-t13 : (t : ℕ) → row-at-lts.Need-add-t13 (row-at-calls t) (row-at-at t) row-at.Post
 row-at-add-t13 t c = let w = rw (c .before .before .before .before .before .o .given .1) at (c .before .before .before .before .before .before .before .option-at .ensures .within) in omega arith
 
 row-at-returns-2 : (t : ℕ) → row-at-lts.Need-returns-2 (row-at-calls t) (row-at-at t) row-at.Post
-row-at-returns-2 t c = let w = rw (c .before .before .before .before .before .o .given .1) at (c .before .before .before .before .before .before .before .option-at .ensures .within) in let i = in-text (c .before .before .before .before .before .before .before .before .before .args .text .now) (c .before .before .before .before .before .o .given .0 .1 .0) (sym (c .before .before .before .octet-at .ensures) ∙ c .before .if2 .taken) (omega arith) in record { exact = λ n h. ap (λ (r : Row). Is r (c .before .before .before .before .before .o .given .0 .1 .0 + 1)) (c .with .ensures) ∙ row-last (returnAt (c .before .before .before .before .before .before .before .before .before .args .text .now)) (nextAt closing (c .before .before .before .before .before .before .before .before .before .args .text .now)) (c .before .before .before .before .before .before .before .before .before .args .at) n (omega arith) (sym (c .before .before .before .before .before .o .given .1) ∙ c .before .before .before .before .before .before .before .option-at .ensures .exact) (next-close (c .before .before .before .before .before .before .before .before .before .args .text .now) (c .before .before .before .before .before .o .given .0 .1 .0) (sym (c .before .before .before .octet-at .ensures) ∙ c .before .if2 .taken)); within = (omega arith, omega arith) }
+row-at-returns-2 t c =
+    let b = c .before in let if2 = b .if2 in
+    let b = b .before .before in let octet-at = b .octet-at in
+    let b = b .before .before in let o = b .o in
+    let b = b .before .before in let option-at = b .option-at in
+    let b = b .before .before in let args = b .args in
+    let w = rw (o .given .1) at (option-at .ensures .within) in let i = in-text (args .text .now) (o .given .0 .1 .0) (sym (octet-at .ensures) ∙ if2 .taken) (omega arith) in record { exact = λ n h. ap (λ (r : Row). Is r (o .given .0 .1 .0 + 1)) (c .with .ensures) ∙ row-last (returnAt (args .text .now)) (nextAt closing (args .text .now)) (args .at) n (omega arith) (sym (o .given .1) ∙ option-at .ensures .exact) (next-close (args .text .now) (o .given .0 .1 .0) (sym (octet-at .ensures) ∙ if2 .taken)); within = (omega arith, omega arith) }
 
 row-at-returns-3 : (t : ℕ) → row-at-lts.Need-returns-3 (row-at-calls t) (row-at-at t) row-at.Post
-row-at-returns-3 t c = record { exact = λ n h. row-neither (returnAt (c .before .before .before .before .before .before .before .before .args .text .now)) (nextAt closing (c .before .before .before .before .before .before .before .before .args .text .now)) (c .before .before .before .before .before .before .before .before .args .at) n (omega arith) (sym (c .before .before .before .before .o .given .1) ∙ c .before .before .before .before .before .before .option-at .ensures .exact) (next-neither (c .before .before .before .before .before .before .before .before .args .text .now) (c .before .before .before .before .o .given .0 .1 .0) (λ e. c .before .if1 .left (c .before .before .octet-at .ensures ∙ e)) (λ e. c .if2 .left (c .before .before .octet-at .ensures ∙ e))); within = tt }
+row-at-returns-3 t c =
+    let b = c .before .before in let octet-at = b .octet-at in
+    let b = b .before .before in let o = b .o in
+    let b = b .before .before in let option-at = b .option-at in
+    let b = b .before .before in let args = b .args in
+    record { exact = λ n h. row-neither (returnAt (args .text .now)) (nextAt closing (args .text .now)) (args .at) n (omega arith) (sym (o .given .1) ∙ option-at .ensures .exact) (next-neither (args .text .now) (o .given .0 .1 .0) (λ e. c .before .if1 .left (octet-at .ensures ∙ e)) (λ e. c .if2 .left (octet-at .ensures ∙ e))); within = tt }
 
 row-at-returns-4 : (t : ℕ) → row-at-lts.Need-returns-4 (row-at-calls t) (row-at-at t) row-at.Post
-row-at-returns-4 t c = record { exact = λ n h. row-none (returnAt (c .before .before .before .before .args .text .now)) (nextAt closing (c .before .before .before .before .args .text .now)) (c .before .before .before .before .args .at) n (omega arith) (sym (c .enum-told .given .1) ∙ c .before .before .option-at .ensures .exact); within = tt }
+row-at-returns-4 t c =
+    let b = c .before .before .before .before in let args = b .args in
+    record { exact = λ n h. row-none (returnAt (args .text .now)) (nextAt closing (args .text .now)) (args .at) n (omega arith) (sym (c .enum-told .given .1) ∙ c .before .before .option-at .ensures .exact); within = tt }
 
 pub +row-at-spec : {M : Type 1} → statement M
 +row-at-spec = close μ-row-at λ t. row-at-lts.spec (row-at-calls t)

@@ -6,10 +6,16 @@ use Rattle.read_options.proofs.charset_at.Statement.{statement}
 use Rattle.read_options.proofs.charset_at.Tie as tie
 
 returns : tie.Need-returns
-returns c = record { exact = charset-found (c .before .before .before .before .before .before .args .text .now) (c .before .before .before .before .before .before .args .at) (sym (c .before .before .end .given .1) ∙ c .before .before .before .before .text-at .ensures .exact) (c .is-known .ensures); within = rw (c .before .before .end .given .1) at (c .before .before .before .before .text-at .ensures .within) }
+returns c =
+    let b = c .before .before in let end = b .end in
+    let b = b .before .before in let text-at = b .text-at in
+    let b = b .before .before in let args = b .args in
+    record { exact = charset-found (args .text .now) (args .at) (sym (end .given .1) ∙ text-at .ensures .exact) (c .is-known .ensures); within = rw (end .given .1) at (text-at .ensures .within) }
 
 returns-2 : tie.Need-returns-2
-returns-2 c = record { exact = charset-missing (c .before .before .before .before .args .text .now) (c .before .before .before .before .args .at) (sym (c .enum-told .given .1) ∙ c .before .before .text-at .ensures .exact); within = tt }
+returns-2 c =
+    let b = c .before .before .before .before in let args = b .args in
+    record { exact = charset-missing (args .text .now) (args .at) (sym (c .enum-told .given .1) ∙ c .before .before .text-at .ensures .exact); within = tt }
 
 pub charset-at-spec : {M : Type 1} → statement M
 charset-at-spec =

@@ -10,10 +10,15 @@ use Rattle.read_options.proofs.is_known.Statement.{statement}
 use Rattle.read_options.proofs.is_known.Tie as tie
 
 returns : tie.Need-returns
-returns c = let e = c .before .before .value-of .ensures .long in name-long (valueOf (textAt atomOctet (c .before .before .before .before .before .args .text .now) (c .before .before .before .before .before .args .at))) (omega arith)
+returns c =
+    let b = c .before .before .before .before .before in let args = b .args in
+    let e = c .before .before .value-of .ensures .long in name-long (valueOf (textAt atomOctet (args .text .now) (args .at))) (omega arith)
 
 returns-2 : tie.Need-returns-2
-returns-2 c = name-known (valueOf (textAt atomOctet (c .before .before .before .before .before .before .before .args .text .now) (c .before .before .before .before .before .before .before .args .at))) (replicate 8 0) (c .before .before .before .before .value-of .result) (c .known-name .ensures) (c .before .before .before .before .value-of .ensures .is) (c .before .before .before .before .value-of .ensures .long) (omega arith)
+returns-2 c =
+    let b = c .before .before .before .before in let value-of = b .value-of in
+    let b = b .before .before .before in let args = b .args in
+    name-known (valueOf (textAt atomOctet (args .text .now) (args .at))) (replicate 8 0) (value-of .result) (c .known-name .ensures) (value-of .ensures .is) (value-of .ensures .long) (omega arith)
 
 pub is-known-spec : {M : Type 1} → statement M
 is-known-spec =

@@ -14,17 +14,25 @@ use Rattle.record_command.proofs.answer.Statement.{statement}
 use Rattle.record_command.proofs.answer.Tie as tie
 
 refuse-requires : tie.Need-refuse-requires
-refuse-requires c κs = let z = sizes _ _ (c .before .before .before .before .before .before .before .args .s) (c .before .before .before .before .before .before .before .pre .0 .room) in (omega arith, omega arith)
+refuse-requires c κs =
+    let b = c .before .before .before .before .before .before .before in let args = b .args in
+    let pre = b .pre in
+    let z = sizes _ _ (args .s) (pre .0 .room) in (omega arith, omega arith)
 
 returns : tie.Need-returns
 returns c =
-    λ m lent law laid sel. c .before .before .before .before .answer-by .ensures m lent law laid sel (rw (c .before .before .before .before .before .before .before .before .verb .given .1) at (c .before .before .before .before .before .before .before .before .before .before .head .ensures))
+    let b = c .before .before .before .before in let answer-by = b .answer-by in
+    let b = b .before .before .before .before in let verb = b .verb in
+    let b = b .before .before in let head = b .head in
+    λ m lent law laid sel. answer-by .ensures m lent law laid sel (rw (verb .given .1) at (head .ensures))
 
 returns-2 : tie.Need-returns-2
 returns-2 c =
-    let a = c .before .before .before .before .before .before .before .before .before .before .args in
+    let b = c .before .before .before .before in let enum-told = b .enum-told in
+    let b = b .before .before in let head = b .head in
+    let b = b .before .before .before .before in let a = b .args in
     λ m lent law laid sel.
-    let e = ap (judgedOf limits (not (eqb (a .s .selected) 0))) (rw (c .before .before .before .before .enum-told .given .1) at (c .before .before .before .before .before .before .head .ensures)) in
+    let e = ap (judgedOf limits (not (eqb (a .s .selected) 0))) (rw (enum-told .given .1) at (head .ensures)) in
     c .before .before .refuse .ensures m (a .words .now) lent (verb-judged m (a .words .now) (a .counts) (a .s) (a .queue .now) (a .text .now) lent (answerOf Other Bad) e) (reply-judged m (a .words .now) (a .counts) (a .s) (a .queue .now) (a .text .now) lent (answerOf Other Bad) e refl) refl
 
 pub answer-spec : {M : Type 1} → statement M

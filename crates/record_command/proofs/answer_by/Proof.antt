@@ -15,23 +15,30 @@ use Rattle.record_command.proofs.answer_by.Statement.{statement}
 use Rattle.record_command.proofs.answer_by.Tie as tie
 
 refuse-requires : tie.Need-refuse-requires
-refuse-requires c κs = let z = sizes _ _ (c .before .before .before .before .before .before .args .s) (c .before .before .before .before .before .before .pre .0 .room) in (omega arith, omega arith)
+refuse-requires c κs =
+    let b = c .before .before .before .before .before .before in let args = b .args in
+    let pre = b .pre in
+    let z = sizes _ _ (args .s) (pre .0 .room) in (omega arith, omega arith)
 
 returns : tie.Need-returns
 returns c =
-    let a = c .before .before .before .before .before .before .before .before .before .before .before .before .args in
-    λ m lent law laid sel head. c .before .before .before .before .notify .ensures m lent law laid sel (rw (c .before .before .before .before .before .before .before .enum-told .given .1) at head)
+    let b = c .before .before .before .before in let notify = b .notify in
+    let b = b .before .before .before in let enum-told = b .enum-told in
+    let b = b .before .before .before .before .before in let a = b .args in
+    λ m lent law laid sel head. notify .ensures m lent law laid sel (rw (enum-told .given .1) at head)
 
 returns-2 : tie.Need-returns-2
 returns-2 c =
-    let a = c .before .before .before .before .before .before .before .before .before .before .args in
-    λ m lent law laid sel head. c .before .before .search .ensures m (a .nexts .now) (a .counters .now) lent law laid (rw (c .before .before .before .before .before .enum-told2 .given .1) at head)
+    let b = c .before .before .before .before .before in let enum-told2 = b .enum-told2 in
+    let b = b .before .before .before .before .before in let a = b .args in
+    λ m lent law laid sel head. c .before .before .search .ensures m (a .nexts .now) (a .counters .now) lent law laid (rw (enum-told2 .given .1) at head)
 
 returns-3 : tie.Need-returns-3
 returns-3 c =
-    let a = c .before .before .before .before .before .before .before .before .before .args in
+    let b = c .before .before .before .before in let enum-told3 = b .enum-told3 in
+    let b = b .before .before .before .before .before in let a = b .args in
     λ m lent law laid sel head.
-    let e = ap (judgedOf limits (not (eqb (a .s .selected) 0))) (ap (λ (v : Verb). judgedBy v (a .text .now) (a .at)) (sym (c .before .before .before .before .enum-told3 .given .1)) ∙ head) in
+    let e = ap (judgedOf limits (not (eqb (a .s .selected) 0))) (ap (λ (v : Verb). judgedBy v (a .text .now) (a .at)) (sym (enum-told3 .given .1)) ∙ head) in
     c .before .before .refuse .ensures m (a .words .now) lent (verb-judged m (a .words .now) (a .counts) (a .s) (a .queue .now) (a .text .now) lent (answerOf Other Bad) e) (reply-judged m (a .words .now) (a .counts) (a .s) (a .queue .now) (a .text .now) lent (answerOf Other Bad) e refl) refl
 
 pub answer-by-spec : {M : Type 1} → statement M

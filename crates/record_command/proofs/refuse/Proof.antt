@@ -10,13 +10,15 @@ use Rattle.record_command.specs.Left.{line-fits, line-not}
 
 returns : tie.Need-returns
 returns c =
-    let a = c .before .before .before .before .before .before .before .before .before .args in
-    λ m ws lent is says no. line-fits m ws (a .counts) (a .s) (a .queue .now) (a .text .now) lent (a .verb) (a .reply) is says no (c .before .before .before .before .before .say-reply .ensures) (c .before .before .if1 .taken) _ (c .unmoved .ensures ∙ ap (λ (k : Counts). quiet Done k (a .s)) (c .before .ending-at .ensures))
+    let b = c .before .before .before .before .before in let say-reply = b .say-reply in
+    let b = b .before .before .before .before in let a = b .args in
+    λ m ws lent is says no. line-fits m ws (a .counts) (a .s) (a .queue .now) (a .text .now) lent (a .verb) (a .reply) is says no (say-reply .ensures) (c .before .before .if1 .taken) _ (c .unmoved .ensures ∙ ap (λ (k : Counts). quiet Done k (a .s)) (c .before .ending-at .ensures))
 
 returns-2 : tie.Need-returns-2
 returns-2 c =
-    let a = c .before .before .before .before .before .before .before .before .args in
-    λ m ws lent is says no. line-not m ws (a .counts) (a .s) (a .queue .now) (a .text .now) lent (a .verb) (a .reply) is says no (c .before .before .before .before .say-reply .ensures) (c .before .if1 .left) _ (c .refused .ensures)
+    let b = c .before .before .before .before in let say-reply = b .say-reply in
+    let b = b .before .before .before .before in let a = b .args in
+    λ m ws lent is says no. line-not m ws (a .counts) (a .s) (a .queue .now) (a .text .now) lent (a .verb) (a .reply) is says no (say-reply .ensures) (c .before .if1 .left) _ (c .refused .ensures)
 
 pub refuse-spec : {M : Type 1} → statement M
 refuse-spec =

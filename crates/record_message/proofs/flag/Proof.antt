@@ -16,30 +16,44 @@ returns c = let a = c .before .before .before .before .args in
     λ m lent law w. no-mailbox m (a .words .now) (a .counts) (a .s) (a .queue .now) lent law (a .id) (a .k) (a .x) w (a .uid .0) (a .counter) (accepted m (reflag (a .id) (a .uid .0) (a .flags) (a .counter))) (c .refused .result) (c .before .if1 .taken) (c .refused .ensures)
 
 returns-2 : tie.Need-returns-2
-returns-2 c = let a = c .before .before .before .before .before .before .args in
-    λ m lent law w. not-above m (a .words .now) (a .counts) (a .s) (a .queue .now) lent law (a .id) (a .k) (a .x) w (a .uid .0) (a .counter) (c .refused2 .result) (omega (arith, c .before .before .before .if1 .left)) (accepted m (reflag (a .id) (a .uid .0) (a .flags) (a .counter))) (sym (c .before .before .is-stale .ensures) ∙ c .before .if2 .taken) (c .refused2 .ensures)
+returns-2 c =
+    let b = c .before .before .before in let if1 = b .if1 in
+    let b = b .before .before .before in let a = b .args in
+    λ m lent law w. not-above m (a .words .now) (a .counts) (a .s) (a .queue .now) lent law (a .id) (a .k) (a .x) w (a .uid .0) (a .counter) (c .refused2 .result) (omega (arith, if1 .left)) (accepted m (reflag (a .id) (a .uid .0) (a .flags) (a .counter))) (sym (c .before .before .is-stale .ensures) ∙ c .before .if2 .taken) (c .refused2 .ensures)
 
 find-requires : tie.Need-find-requires
 find-requires c κs = c .before .before .before .before .before .before .pre .words
 
 returns-3 : tie.Need-returns-3
-returns-3 c = let a = c .before .before .before .before .before .before .before .before .before .args in
-    λ m lent law w. no-message m (a .words .now) (a .counts) (a .s) (a .queue .now) lent law (a .id) (a .k) (a .x) w (a .uid .0) (a .counter) (c .refused3 .result) (omega (arith, c .before .before .before .before .before .before .if1 .left)) (c .before .before .find .result) (c .before .before .find .ensures) (accepted m (reflag (a .id) (a .uid .0) (a .flags) (a .counter))) (c .before .if3 .taken) (c .refused3 .ensures)
+returns-3 c =
+    let b = c .before .before in let find = b .find in
+    let b = b .before .before .before .before in let if1 = b .if1 in
+    let b = b .before .before .before in let a = b .args in
+    λ m lent law w. no-message m (a .words .now) (a .counts) (a .s) (a .queue .now) lent law (a .id) (a .k) (a .x) w (a .uid .0) (a .counter) (c .refused3 .result) (omega (arith, if1 .left)) (find .result) (find .ensures) (accepted m (reflag (a .id) (a .uid .0) (a .flags) (a .counter))) (c .before .if3 .taken) (c .refused3 .ensures)
 
 flag-requires : tie.Need-flag-requires
-flag-requires c κs = let a = c .before .before .before .before .before .before .before .before .before .before .before .args in
-    let pre = c .before .before .before .before .before .before .before .before .before .before .before .pre in
+flag-requires c κs =
+    let b = c .before .before .before in let if3 = b .if3 in
+    let b = b .before .before .before .before .before .before .before .before in let a = b .args in
+    let pre = b .pre in
     let z = sizes (length (a .queue .now)) (a .counts .filled) (a .s) (pre .room) in
     let low = z .low in
     let high = z .high in
     let most = z .filled in
-    (omega (arith, c .before .before .before .if3 .left), pre .words, omega (arith, low), omega (arith, high), omega (arith, high, most), some-free (length (a .queue .now)) (a .counts .filled) (a .s) (pre .room))
+    (omega (arith, if3 .left), pre .words, omega (arith, low), omega (arith, high), omega (arith, high, most), some-free (length (a .queue .now)) (a .counts .filled) (a .s) (pre .room))
 
 returns-4 : tie.Need-returns-4
-returns-4 c = let a = c .before .before .before .before .before .before .before .before .before .before .before .before .before .before .before .before .before .args in
-    let left = c .before .before .before .before .before .flag in
-    λ m lent law w. flag-done m (a .words .now) (a .counts) (a .s) (a .queue .now) lent law (a .id) (a .k) (a .x) w (a .uid .0) (a .counter) (c .put-left .result) (omega (arith, c .before .before .before .before .before .before .before .before .before .before .before .before .before .before .if1 .left)) (c .before .before .before .before .before .before .before .before .before .before .find .result) (c .before .before .before .before .before .before .before .before .before .before .find .ensures)
-    (sym (c .before .before .before .before .before .before .before .before .before .before .before .before .before .is-stale .ensures) ∙ c .before .before .before .before .before .before .before .before .before .before .before .before .if2 .left) (c .before .before .before .before .before .before .before .before .with-counter .result) (c .before .before .before .before .before .before .before .before .with-counter .ensures) _ (left .result .used) _ (left .result .session) (left .result .filled) (omega (arith, c .before .before .before .before .before .before .before .before .before .if3 .left)) (c .put-left .ensures) (a .flags) (left .ensures)
+returns-4 c =
+    let b = c .before .before .before .before .before in let left = b .flag in
+    let b = b .before .before .before in let with-counter = b .with-counter in
+    let b = b .before in let if3 = b .if3 in
+    let b = b .before in let find = b .find in
+    let b = b .before .before in let if2 = b .if2 in
+    let b = b .before in let is-stale = b .is-stale in
+    let b = b .before in let if1 = b .if1 in
+    let b = b .before .before .before in let a = b .args in
+    λ m lent law w. flag-done m (a .words .now) (a .counts) (a .s) (a .queue .now) lent law (a .id) (a .k) (a .x) w (a .uid .0) (a .counter) (c .put-left .result) (omega (arith, if1 .left)) (find .result) (find .ensures)
+    (sym (is-stale .ensures) ∙ if2 .left) (with-counter .result) (with-counter .ensures) _ (left .result .used) _ (left .result .session) (left .result .filled) (omega (arith, if3 .left)) (c .put-left .ensures) (a .flags) (left .ensures)
 
 pub flag-spec : {M : Type 1} → statement M
 flag-spec =

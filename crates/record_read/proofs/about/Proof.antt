@@ -8,7 +8,8 @@ use Rattle.record_read.proofs.Frames.{starts-as, about-none, about-shor
 
 returns : tie.Need-returns
 returns c =
-    let o = c .before .before .before .before .args .o .now in
+    let b = c .before .before .before .before in let args = b .args in
+    let o = args .o .now in
     let starts = starts-as o (c .before .before .kind-of .ensures) (c .before .starts-with-id .ensures) in
     about-none o (starts ∙ not-true _ (c .if1 .taken))
 

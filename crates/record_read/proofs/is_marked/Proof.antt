@@ -5,7 +5,9 @@ use Rattle.record_read.proofs.is_marked.Tie as tie
 use Rattle.record_read.proofs.Marks.{mark-short, mark-other, mark-second}
 
 returns : tie.Need-returns
-returns c = mark-short (c .before .args .a) (c .before .args .b) (c .before .args .o .now) (c .if1 .taken)
+returns c =
+    let b = c .before in let at-args = b .args in
+    mark-short (at-args .a) (at-args .b) (at-args .o .now) (c .if1 .taken)
 
 returns-2 : tie.Need-returns-2
 returns-2 c =
@@ -14,8 +16,9 @@ returns-2 c =
 
 returns-3 : tie.Need-returns-3
 returns-3 c =
-    let args = c .before .before .before .before .args in
-    mark-second (args .a) (args .b) (args .o .now) (c .before .before .before .if1 .left) (c .before .if2 .left)
+    let b = c .before .before .before in let if1 = b .if1 in
+    let b = b .before in let args = b .args in
+    mark-second (args .a) (args .b) (args .o .now) (if1 .left) (c .before .if2 .left)
 
 pub is-marked-spec : {M : Type 1} → statement M
 is-marked-spec =

@@ -8,19 +8,29 @@ use Rattle.record_session.proofs.end_command.Statement.{statement}
 use Rattle.record_session.proofs.end_command.Tie as tie
 
 is-owed-requires : tie.Need-is-owed-requires
-is-owed-requires c κs = c .before .before .before .before .before .pre .words
+is-owed-requires c κs =
+    let b = c .before .before .before .before .before in let pre = b .pre in
+    pre .words
 
 returns : tie.Need-returns
-returns c = λ m lent law is. let a = c .before .before .before .before .before .before .before .before .args in
-    end-unowed m (a .words .now) (a .counts) (a .s) (a .queue .now) lent law (a .x) is (a .class) _ (c .before .before .before .before .before .before .before .before .pre .words) (c .before .before .is-owed .ensures (not-true (c .before .before .is-owed .result) (c .before .if1 .taken))) (c .unmoved .ensures)
+returns c =
+    let b = c .before .before in let is-owed = b .is-owed in
+    let b = b .before .before .before .before .before .before in let args = b .args in
+    let pre = b .pre in
+    λ m lent law is. let a = args in
+    end-unowed m (a .words .now) (a .counts) (a .s) (a .queue .now) lent law (a .x) is (a .class) _ (pre .words) (is-owed .ensures (not-true (is-owed .result) (c .before .if1 .taken))) (c .unmoved .ensures)
 
 end-command-requires : tie.Need-end-command-requires
 end-command-requires c κs = let p = c .before .before .before .before .before .before .before .before .before .before .before .pre in
     let z = sizes _ _ _ (p .room) in (p .words, p .messages, search needs, omega arith, omega arith, omega arith)
 
 returns-2 : tie.Need-returns-2
-returns-2 c = λ m lent law is. let a = c .before .before .before .before .before .before .before .before .before .before .before .before .before .before .before .before .before .before .before .args in
-    end-comes m (a .words .now) (a .counts) (a .s) (a .queue .now) lent law (a .x) is (a .class) _ (c .before .before .before .before .before .before .before .before .before .before .before .both .result) (c .before .before .before .before .before .before .before .before .before .before .before .both .ensures) (c .before .before .before .before .before .before .before .end-command .result) (c .before .before .before .before .before .before .before .end-command .ensures) (c .unmoved2 .ensures)
+returns-2 c =
+    let b = c .before .before .before .before .before .before .before in let end-command = b .end-command in
+    let b = b .before .before .before .before in let both = b .both in
+    let b = b .before .before .before .before .before .before .before .before in let args = b .args in
+    λ m lent law is. let a = args in
+    end-comes m (a .words .now) (a .counts) (a .s) (a .queue .now) lent law (a .x) is (a .class) _ (both .result) (both .ensures) (end-command .result) (end-command .ensures) (c .unmoved2 .ensures)
 
 pub end-command-spec : {M : Type 1} → statement M
 end-command-spec =

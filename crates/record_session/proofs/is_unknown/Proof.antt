@@ -19,7 +19,9 @@ returns : tie.Need-returns
 returns c = rw (eq-eqb _ 0 (c .if1 .taken))
 
 returns-2 : tie.Need-returns-2
-returns-2 c = rw (ne-eqb _ 0 (c .if1 .left)) (turned (c .before .args .n) (c .before .args .k))
+returns-2 c =
+    let b = c .before in let args = b .args in
+    rw (ne-eqb _ 0 (c .if1 .left)) (turned (args .n) (args .k))
 
 pub is-unknown-spec : {M : Type 1} → statement M
 is-unknown-spec = tie.close (tie.spec returns returns-2)

@@ -3,7 +3,10 @@ use Rattle.run_lawful.proofs.judge.Statement.{statement}
 use Rattle.run_lawful.proofs.judge.Tie as tie
 
 returns : tie.Need-returns
-returns c = λ t q w e. c .is-lawful .ensures t (c .before .before .before .before .before .before .before .before .before .before .before .before .before .before .before .before .before .args .table) q w (c .before .before .before .before .before .before .before .before .lay .ensures) e
+returns c =
+    let b = c .before .before .before .before .before .before .before .before in let lay = b .lay in
+    let b = b .before .before .before .before .before .before .before .before .before in let args = b .args in
+    λ t q w e. c .is-lawful .ensures t (args .table) q w (lay .ensures) e
 
 pub judge-spec : {M : Type 1} → statement M
 judge-spec =

@@ -9,13 +9,14 @@ use Rattle.search_answer.specs.Coming.{answer-comes}
 
 tell-requires : tie.Need-tell-requires
 tell-requires c κs =
-    let a = c .before .before .before .before .before .before .args in
-    let r = c .before .before .before .before .before .before .pre .0 in
+    let b = c .before .before .before .before .before .before in let a = b .args in
+    let pre = b .pre in
+    let r = pre .0 in
     let z = sizes (length (a .queue .now)) (a .counts .filled) (a .s) (r .room) in
     let l = z .low in
     let h = z .high in
     let f = z .filled in
-    ((omega arith, h, omega arith), (c .before .before .before .before .before .before .pre .1, r .words, r .messages, r .rows))
+    ((omega arith, h, omega arith), (pre .1, r .words, r .messages, r .rows))
 
 returns : tie.Need-returns
 returns c =

@@ -7,20 +7,23 @@ use Rattle.search_answer.specs.Coming.{tells}
 
 say-requires : tie.Need-say-requires
 say-requires c κs =
-    let g = c .before .before .before .before .before .before .before .before .before .before .before .before .before .find .ensures in
+    let b = c .before .before .before .before .before .before .before .before .before .before .before .before .before in let find = b .find in
+    let b = b .before .before .before .before .before .before .before .before .before .before .before .before in let pre = b .pre in
+    let g = find .ensures in
     let f = g .few in
-    let p = c .before .before .before .before .before .before .before .before .before .before .before .before .before .before .before .before .before .before .before .before .before .before .before .before .before .pre .1 in
+    let p = pre .1 in
     let n = p .3 in
-    let kr = c .before .before .before .before .before .before .before .before .before .before .before .before .before .find .kept .1 .1 .1 .1 .1 .1 .1 .1 .1 .1 .1 .1 .0 in
-    let ku = c .before .before .before .before .before .before .before .before .before .before .before .before .before .find .kept .1 .1 .1 .1 .1 .1 .1 .1 .1 .1 .1 .1 .1 .1 .1 .0 in
-    let ks = c .before .before .before .before .before .before .before .before .before .before .before .before .before .find .kept .1 .1 .1 .1 .1 .1 .1 .1 .1 .1 .1 .1 .1 .1 .1 .1 .0 in
-    let kc = c .before .before .before .before .before .before .before .before .before .before .before .before .before .find .kept .1 .1 .1 .1 .1 .1 .1 .1 .1 .1 .1 .1 .1 .1 .1 .1 .1 .0 in
-    (c .before .before .before .before .before .before .before .before .before .before .before .before .before .before .before .before .before .before .before .before .before .before .before .before .before .pre .0, record { few = omega arith; in-rows = omega arith; in-starts = omega arith; in-counts = omega arith; room = omega arith; bounded = g .bounded })
+    let kr = find .kept .1 .1 .1 .1 .1 .1 .1 .1 .1 .1 .1 .1 .0 in
+    let ku = find .kept .1 .1 .1 .1 .1 .1 .1 .1 .1 .1 .1 .1 .1 .1 .1 .0 in
+    let ks = find .kept .1 .1 .1 .1 .1 .1 .1 .1 .1 .1 .1 .1 .1 .1 .1 .1 .0 in
+    let kc = find .kept .1 .1 .1 .1 .1 .1 .1 .1 .1 .1 .1 .1 .1 .1 .1 .1 .1 .0 in
+    (pre .0, record { few = omega arith; in-rows = omega arith; in-starts = omega arith; in-counts = omega arith; room = omega arith; bounded = g .bounded })
 
 returns : tie.Need-returns
 returns c =
-    let a = c .before .before .before .before .before .before .before .before .before .before .before .before .before .before .before .before .before .before .before .before .before .before .before .before .before .before .before .before .args in
-    tells (a .text .now) (a .words .now) (a .used) (a .selected) (a .told .0) (a .ids .now) (a .attributes .now) (a .lens .now) (a .validities .now) (a .names .now) (a .n) (c .before .before .before .before .before .before .before .before .before .before .before .before .before .before .before .before .find .last .1 .1 .1 .1 .1 .1 .1 .1 .1 .1 .1 .1 .0) (c .before .before .before .before .before .before .before .before .before .before .before .before .before .before .before .before .find .last .1 .1 .1 .1 .1 .1 .1 .1 .1 .1 .1 .1 .1 .1 .1 .0) (c .before .before .before .before .before .before .before .before .before .before .before .before .before .before .before .before .find .last .1 .1 .1 .1 .1 .1 .1 .1 .1 .1 .1 .1 .1 .1 .1 .1 .0) (c .before .before .before .before .before .before .before .before .before .before .before .before .before .before .before .before .find .last .1 .1 .1 .1 .1 .1 .1 .1 .1 .1 .1 .1 .1 .1 .1 .1 .1 .0) (c .before .before .before .before .before .before .before .before .before .before .before .before .before .before .before .before .find .result) (c .before .before .before .before .before .before .before .before .before .before .before .before .before .before .before .before .find .ensures)
+    let b = c .before .before .before .before .before .before .before .before .before .before .before .before .before .before .before .before in let find = b .find in
+    let b = b .before .before .before .before .before .before .before .before .before .before .before .before in let a = b .args in
+    tells (a .text .now) (a .words .now) (a .used) (a .selected) (a .told .0) (a .ids .now) (a .attributes .now) (a .lens .now) (a .validities .now) (a .names .now) (a .n) (find .last .1 .1 .1 .1 .1 .1 .1 .1 .1 .1 .1 .1 .0) (find .last .1 .1 .1 .1 .1 .1 .1 .1 .1 .1 .1 .1 .1 .1 .1 .0) (find .last .1 .1 .1 .1 .1 .1 .1 .1 .1 .1 .1 .1 .1 .1 .1 .1 .0) (find .last .1 .1 .1 .1 .1 .1 .1 .1 .1 .1 .1 .1 .1 .1 .1 .1 .1 .0) (find .result) (find .ensures)
     (a .queue .now) (a .filled) _ _ _ (c .before .before .say .ensures)
 
 pub tell-spec : {M : Type 1} → statement M

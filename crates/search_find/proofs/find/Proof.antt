@@ -14,10 +14,14 @@ abbrev μ-loop : tie.MeasureT-loop
 μ-loop words order n cells used uids₀ bottom last k₀ r₀ uids k r = k
 
 returns : tie.Need-returns Inv-loop μ-loop
-returns c = find-none (messages (c .before .before .before .before .before .args .words .now)) (c .before .before .before .before .before .args .order .now) (c .before .before .before .before .before .args .n) (c .before .before .before .before .before .args .cells .now) (c .before .before .before .before .before .args .used) (c .if1 .taken) (c .before .before .before .before .before .args .uids .now)
+returns c =
+    let b = c .before .before .before .before .before in let args = b .args in
+    find-none (messages (args .words .now)) (args .order .now) (args .n) (args .cells .now) (args .used) (c .if1 .taken) (args .uids .now)
 
 loop-holds : tie.Need-loop-holds Inv-loop μ-loop
-loop-holds c = sought-start (messages (c .before .before .before .before .before .before .before .before .args .words .now)) (c .before .before .before .before .before .before .before .before .args .order .now) (c .before .before .before .before .before .before .before .before .args .n) (c .before .before .before .before .before .before .before .before .args .cells .now) (c .before .before .before .before .before .before .before .before .args .used) (c .before .entry .result .uid) (c .before .before .before .before .before .before .before .before .args .uids .now)
+loop-holds c =
+    let b = c .before .before .before .before .before .before .before .before in let args = b .args in
+    sought-start (messages (args .words .now)) (args .order .now) (args .n) (args .cells .now) (args .used) (c .before .entry .result .uid) (args .uids .now)
 
 mul-i : tie.Need-mul-i Inv-loop μ-loop
 mul-i c = let f = c .before .loop .inv .few in omega arith
@@ -29,19 +33,34 @@ sub-t20 : tie.Need-sub-t20 Inv-loop μ-loop
 sub-t20 c = let f = c .before .before .before .loop .inv .few in omega arith
 
 push-requires : tie.Need-push-requires Inv-loop μ-loop
-push-requires c κs = let f = c .before .before .before .before .before .loop .inv .few in let g = c .before .before .before .before .before .loop .inv .long in omega arith
+push-requires c κs =
+    let b = c .before .before .before .before .before in let loop = b .loop in
+    let f = loop .inv .few in let g = loop .inv .long in omega arith
 
 loop-less : tie.Need-loop-less Inv-loop μ-loop
 loop-less c = omega arith
 
 loop-again : tie.Need-loop-again Inv-loop μ-loop
-loop-again c = let f = c .before .before .before .before .before .before .before .before .loop .inv .few in let g = c .before .before .before .before .before .before .before .before .loop .inv .long in sought-next (messages (c .before .before .before .before .before .before .before .before .before .before .before .before .before .before .before .before .before .args .words .now)) (c .before .before .before .before .before .before .before .before .before .before .before .before .before .before .before .before .before .args .order .now) (c .before .before .before .before .before .before .before .before .before .before .before .before .before .before .before .before .before .args .n) (c .before .before .before .before .before .before .before .before .before .before .before .before .before .before .before .before .before .args .cells .now) (c .before .before .before .before .before .before .before .before .before .before .before .before .before .before .before .before .before .args .used) (c .before .before .before .before .before .before .before .before .before .before .entry .result .uid) (c .before .before .before .before .before .before .before .before .before .before .before .before .before .before .before .before .before .args .uids .now) (c .before .before .before .before .before .before .before .before .loop .uids) (c .before .before .before .before .before .before .before .before .loop .k) (c .before .before .before .before .before .before .before .before .loop .r) (c .before .before .before .before .before .before .before .before .loop .inv) (c .before .before .before .before .before .before .before .loop-test .taken) (c .before .before .before .before .before .entry2 .result) (c .before .before .before .before .before .entry2 .ensures) (c .before .before .before .before .is-hit .result) (c .before .before .before .before .is-hit .ensures) (omega arith) _ (c .before .before .push .result) (c .before .before .push .ensures)
+loop-again c =
+    let b = c .before .before in let push = b .push in
+    let b = b .before .before in let is-hit = b .is-hit in
+    let b = b .before in let entry2 = b .entry2 in
+    let b = b .before .before in let loop-test = b .loop-test in
+    let b = b .before in let loop = b .loop in
+    let b = b .before .before in let entry = b .entry in
+    let b = b .before .before .before .before .before .before .before in let args = b .args in
+    let f = loop .inv .few in let g = loop .inv .long in sought-next (messages (args .words .now)) (args .order .now) (args .n) (args .cells .now) (args .used) (entry .result .uid) (args .uids .now) (loop .uids) (loop .k) (loop .r) (loop .inv) (loop-test .taken) (entry2 .result) (entry2 .ensures) (is-hit .result) (is-hit .ensures) (omega arith) _ (push .result) (push .ensures)
 
 same-length : tie.Need-same-length Inv-loop μ-loop
 same-length c = c .before .loop .inv .long
 
 returns-2 : tie.Need-returns-2 Inv-loop μ-loop
-returns-2 c = sought-end (messages (c .before .before .before .before .before .before .before .before .before .before .args .words .now)) (c .before .before .before .before .before .before .before .before .before .before .args .order .now) (c .before .before .before .before .before .before .before .before .before .before .args .n) (c .before .before .before .before .before .before .before .before .before .before .args .cells .now) (c .before .before .before .before .before .before .before .before .before .before .args .used) (c .before .before .before .entry .result .uid) (c .before .before .before .before .before .before .before .before .before .before .args .uids .now) (c .before .loop .uids) (c .before .loop .k) (c .before .loop .r) (c .before .loop .inv) (c .loop-test .left) (c .before .before .before .before .before .if1 .left) (ap (λ (e : Message). e .uid) (c .before .before .before .entry .ensures))
+returns-2 c =
+    let b = c .before in let loop = b .loop in
+    let b = b .before .before in let entry = b .entry in
+    let b = b .before .before in let if1 = b .if1 in
+    let b = b .before .before .before .before .before in let args = b .args in
+    sought-end (messages (args .words .now)) (args .order .now) (args .n) (args .cells .now) (args .used) (entry .result .uid) (args .uids .now) (loop .uids) (loop .k) (loop .r) (loop .inv) (c .loop-test .left) (if1 .left) (ap (λ (e : Message). e .uid) (entry .ensures))
 
 pub find-spec : {M : Type 1} → statement M
 find-spec =

@@ -18,7 +18,9 @@ abbrev μ-loop : tie.MeasureT-loop
     i
 
 link-requires : tie.Need-link-requires Inv-loop μ-loop
-link-requires c κs = (c .before .before .before .before .before .before .before .before .before .before .pre .0 .0, c .before .before .before .before .before .before .before .before .before .before .pre .0 .1 .0, refl)
+link-requires c κs =
+    let b = c .before .before .before .before .before .before .before .before .before .before in let pre = b .pre in
+    (pre .0 .0, pre .0 .1 .0, refl)
 
 loop-holds : tie.Need-loop-holds Inv-loop μ-loop
 loop-holds c =
@@ -27,10 +29,13 @@ loop-holds c =
 
 search-row-requires : tie.Need-search-row-requires Inv-loop μ-loop
 search-row-requires c κs =
-    let a = c .before .before .before .before .before .before .before .before .before .before .before .before .before .before .before .before .before .before .before .before .before .before .args in
-    let q = c .before .before .before .before .before .before .before .before .before .before .before .before .before .before .before .before .before .before .before .before .before .before .pre in
-    let v = c .before .before .before .before .before .before .before .before .before .loop in
-    let f = c .before .before .before .before .before .within .result in
+    let b = c .before .before .before .before .before in let within = b .within in
+    let b = b .before .before .before .before in let v = b .loop in
+    let b = b .before in let next2 = b .next2 in
+    let b = b .before in let link = b .link in
+    let b = b .before .before .before .before .before .before .before .before .before .before .before in let a = b .args in
+    let q = b .pre in
+    let f = within .result in
     let l = v .inv .2 in
     let lo = v .inv .1 .0 in
     let lv = v .inv .1 .1 in
@@ -38,47 +43,64 @@ search-row-requires c κs =
     let e = q .1 .1 in
     let p = q .1 .2 in
     let u = q .0 .1 .0 in
-    let w = c .before .before .before .before .before .within .ensures .0 in
+    let w = within .ensures .0 in
     let m = mid-len f (length (v .uids)) (v .uids) (omega arith) in
     let y : a .used ≤ length (take (length (v .uids) - f) (drop f (v .uids))) = omega arith in
-    ((q .0 .0, (omega arith, omega arith)), (y, q .0 .1 .1), (omega (arith, c .before .before .before .before .before .before .before .before .before .before .next2 .given), c .before .before .before .before .before .before .before .before .before .before .before .link .ensures))
+    ((q .0 .0, (omega arith, omega arith)), (y, q .0 .1 .1), (omega (arith, next2 .given), link .ensures))
 
 mul-starts : tie.Need-mul-starts Inv-loop μ-loop
-mul-starts c = omega (arith, c .before .before .before .before .before .before .before .before .before .before .before .before .before .before .before .before .before .before .before .before .before .before .before .before .before .before .before .before .before .pre .3, c .before .before .before .before .before .before .before .before .before .before .before .before .before .before .before .before .loop .inv .0)
+mul-starts c =
+    let b = c .before .before .before .before .before .before .before .before .before .before .before .before .before .before .before .before in let loop = b .loop in
+    let b = b .before .before .before .before .before .before .before .before .before .before .before .before .before in let pre = b .pre in
+    omega (arith, pre .3, loop .inv .0)
 
 slice-write-starts : tie.Need-slice-write-starts Inv-loop μ-loop
 slice-write-starts c =
-    let h = c .before .before .before .before .before .before .before .before .before .before .before .before .before .before .before .loop-test .taken in
-    let i = c .before .before .before .before .before .before .before .before .before .before .before .before .before .before .before .before .loop .inv .0 in
-    let l = c .before .before .before .before .before .before .before .before .before .before .before .before .before .before .before .before .loop .inv .3 in
-    let p = c .before .before .before .before .before .before .before .before .before .before .before .before .before .before .before .before .before .before .before .before .before .before .before .before .before .before .before .before .before .pre .2 in
+    let b = c .before .before .before .before .before .before .before .before .before .before .before .before .before .before .before in let loop-test = b .loop-test in
+    let b = b .before in let loop = b .loop in
+    let b = b .before .before .before .before .before .before .before .before .before .before .before .before .before in let pre = b .pre in
+    let h = loop-test .taken in
+    let i = loop .inv .0 in
+    let l = loop .inv .3 in
+    let p = pre .2 in
     omega arith
 
 mul-counts : tie.Need-mul-counts Inv-loop μ-loop
-mul-counts c = omega (arith, c .before .before .before .before .before .before .before .before .before .before .before .before .before .before .before .before .before .before .before .before .before .before .before .before .before .before .before .before .before .pre .3, c .before .before .before .before .before .before .before .before .before .before .before .before .before .before .before .before .loop .inv .0)
+mul-counts c =
+    let b = c .before .before .before .before .before .before .before .before .before .before .before .before .before .before .before .before in let loop = b .loop in
+    let b = b .before .before .before .before .before .before .before .before .before .before .before .before .before in let pre = b .pre in
+    omega (arith, pre .3, loop .inv .0)
 
 slice-write-counts : tie.Need-slice-write-counts Inv-loop μ-loop
 slice-write-counts c =
-    let h = c .before .before .before .before .before .before .before .before .before .before .before .before .before .before .before .loop-test .taken in
-    let i = c .before .before .before .before .before .before .before .before .before .before .before .before .before .before .before .before .loop .inv .0 in
-    let l = c .before .before .before .before .before .before .before .before .before .before .before .before .before .before .before .before .loop .inv .3 in
-    let p = c .before .before .before .before .before .before .before .before .before .before .before .before .before .before .before .before .before .before .before .before .before .before .before .before .before .before .before .before .before .pre .2 in
+    let b = c .before .before .before .before .before .before .before .before .before .before .before .before .before .before .before in let loop-test = b .loop-test in
+    let b = b .before in let loop = b .loop in
+    let b = b .before .before .before .before .before .before .before .before .before .before .before .before .before in let pre = b .pre in
+    let h = loop-test .taken in
+    let i = loop .inv .0 in
+    let l = loop .inv .3 in
+    let p = pre .2 in
     omega arith
 
 add-total : tie.Need-add-total Inv-loop μ-loop
 add-total c =
-    let w = c .before .before .before .before .before .before .before .before .before .before .before .before .within .ensures .0 in
-    let r = c .before .before .before .before .before .before .search-row .ensures .1 in
-    let u = c .before .before .before .before .before .before .before .before .before .before .before .before .before .before .before .before .before .before .before .before .before .before .before .before .before .before .before .before .before .pre .0 .1 .0 in
+    let b = c .before .before .before .before .before .before in let search-row = b .search-row in
+    let b = b .before .before .before .before .before .before in let within = b .within in
+    let b = b .before .before .before .before .before .before .before .before .before .before .before .before .before .before .before .before .before in let pre = b .pre in
+    let w = within .ensures .0 in
+    let r = search-row .ensures .1 in
+    let u = pre .0 .1 .0 in
     record { fits = omega arith }
 
 loop-again : tie.Need-loop-again Inv-loop μ-loop
 loop-again c =
-    let a = c .before .before .before .before .before .before .before .before .before .before .before .before .before .before .before .before .before .before .before .before .before .before .before .before .before .before .before .before .before .args in
-    let q = c .before .before .before .before .before .before .before .before .before .before .before .before .before .before .before .before .before .before .before .before .before .before .before .before .before .before .before .before .before .pre in
-    let v = c .before .before .before .before .before .before .before .before .before .before .before .before .before .before .before .before .loop in
-    let z = c .before .before .before .before .before .before .before .before .before .before .before .before .within in
-    let s = c .before .before .before .before .before .before .search-row in
+    let b = c .before in let at-uids = b .uids in
+    let b = b .before .before .before .before .before in let s = b .search-row in
+    let b = b .before .before .before .before .before .before in let z = b .within in
+    let b = b .before .before .before in let loop-test = b .loop-test in
+    let b = b .before in let v = b .loop in
+    let b = b .before .before .before .before .before .before .before .before .before .before .before .before .before in let a = b .args in
+    let q = b .pre in
     let es = take (a .used) (messages (a .words .now)) in
     let l = v .inv .2 in
     let w = z .ensures .0 in
@@ -90,11 +112,11 @@ loop-again c =
     let lc = v .inv .3 .1 in
     let ns = q .2 .1 in
     let nc = q .2 .2 in
-    let h = c .before .before .before .before .before .before .before .before .before .before .before .before .before .before .before .loop-test .taken in
-    let m = c .before .uids .given .0 ∙ mid-len (z .result) (length (v .uids)) (v .uids) (omega arith) in (
+    let h = loop-test .taken in
+    let m = at-uids .given .0 ∙ mid-len (z .result) (length (v .uids)) (v .uids) (omega arith) in (
       search needs,
       (search needs, search needs),
-      c .before .uids .given .1 ∙ l,
+      at-uids .given .1 ∙ l,
       (search needs, search needs),
       finding-next es (a .ids .now) (a .rows .now) (a .n) (a .selected) (a .below .0) (a .cells .now) (a .filled) (v .uids) (v .starts) (v .counts) (v .i) (v .total) (v .inv .4) h i (omega arith) (omega arith) (z .result) w (omega arith) (z .ensures .1) _ (s .result) (omega arith)
           (row-longer es (idAt (a .ids .now) (a .rows .now) (v .i - 1)) (a .selected) (a .below .0) (a .cells .now) (a .filled) _ (s .result) (s .ensures .0) (omega arith) _),
@@ -102,8 +124,9 @@ loop-again c =
 
 returns : tie.Need-returns Inv-loop μ-loop
 returns c =
-    let a = c .before .before .before .before .before .before .before .before .before .before .before .before .before .before .args in
-    finding-end (take (a .used) (messages (a .words .now))) (a .ids .now) (a .rows .now) (a .n) (a .selected) (a .below .0) (a .cells .now) (a .filled) _ _ _ (c .before .loop .i) (c .before .loop .total) (omega arith) (c .before .loop .inv .4)
+    let b = c .before in let loop = b .loop in
+    let b = b .before .before .before .before .before .before .before .before .before .before .before .before .before in let a = b .args in
+    finding-end (take (a .used) (messages (a .words .now))) (a .ids .now) (a .rows .now) (a .n) (a .selected) (a .below .0) (a .cells .now) (a .filled) _ _ _ (loop .i) (loop .total) (omega arith) (loop .inv .4)
 
 pub find-runs-spec : {M : Type 1} → statement M
 find-runs-spec =

@@ -4,10 +4,14 @@ use Rattle.search_find.proofs.push_place.Tie as tie
 use Rattle.search_find.specs.Laws.{pushed-on, pushed-off}
 
 returns : tie.Need-returns
-returns c = pushed-on (c .before .args .list .now) (c .before .args .r) (c .before .args .x) (c .before .args .on) (c .if1 .taken)
+returns c =
+    let b = c .before in let args = b .args in
+    pushed-on (args .list .now) (args .r) (args .x) (args .on) (c .if1 .taken)
 
 returns-2 : tie.Need-returns-2
-returns-2 c = pushed-off (c .before .args .list .now) (c .before .args .r) (c .before .args .x) (c .before .args .on) (c .if1 .left)
+returns-2 c =
+    let b = c .before in let args = b .args in
+    pushed-off (args .list .now) (args .r) (args .x) (args .on) (c .if1 .left)
 
 pub push-place-spec : {M : Type 1} → statement M
 push-place-spec =

@@ -7,14 +7,18 @@ use native.Mathlib.Omega.{arith}
 
 find-requires : tie.Need-find-requires
 find-requires c κs =
-    let a = c .before .before .before .before .before .before .before .before .before .before .before .args in
-    let f = order-few (messages (a .words .now)) (a .used) (a .id) _ (c .before .before .before .before .by-uid .result) (c .before .before .before .before .by-uid .ensures) in
-    (omega arith, omega arith, c .before .before .before .before .before .before .before .before .before .before .before .pre .1 .1)
+    let b = c .before .before .before .before in let by-uid = b .by-uid in
+    let b = b .before .before .before .before .before .before .before in let a = b .args in
+    let pre = b .pre in
+    let f = order-few (messages (a .words .now)) (a .used) (a .id) _ (by-uid .result) (by-uid .ensures) in
+    (omega arith, omega arith, pre .1 .1)
 
 returns : tie.Need-returns
 returns c =
-    let a = c .before .before .before .before .before .before .before .before .before .before .before .before .before .before .args in
-    box-searched (messages (a .words .now)) (a .used) (a .id) _ (c .before .before .before .before .before .before .before .by-uid .result) (c .before .before .before .before .before .before .before .by-uid .ensures) (a .cells .now) (a .filled) _ _ (c .before .before .find .result) (c .before .before .find .ensures)
+    let b = c .before .before in let find = b .find in
+    let b = b .before .before .before .before .before in let by-uid = b .by-uid in
+    let b = b .before .before .before .before .before .before .before in let a = b .args in
+    box-searched (messages (a .words .now)) (a .used) (a .id) _ (by-uid .result) (by-uid .ensures) (a .cells .now) (a .filled) _ _ (find .result) (find .ensures)
 
 pub search-box-spec : {M : Type 1} → statement M
 search-box-spec =

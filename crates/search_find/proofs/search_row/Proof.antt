@@ -7,13 +7,19 @@ use Rattle.search_find.specs.Runs.{row-viewed, row-boxed}
 
 returns : tie.Need-returns
 returns c =
-    let a = c .before .before .before .before .before .before .before .before .before .before .before .before .before .before .before .before .before .before .args in
-    (row-viewed (take (a .used) (messages (a .words .now))) (a .used) (a .id) (a .selected) (a .below .0) (a .cells .now) (a .filled) _ (c .before .before .before .before .before .before .search-view .result) (c .before .before .before .before .before .before .before .before .before .before .before .is-selected .result) (c .before .before .before .before .before .before .before .before .before .before .before .is-selected .ensures) (c .before .before .before .before .before .before .before .before .before .before .if1 .taken) (c .before .before .before .before .before .before .search-view .ensures), c .before .before .before .before .before .before .search-view .ensures .few)
+    let b = c .before .before .before .before .before .before in let search-view = b .search-view in
+    let b = b .before .before .before .before in let if1 = b .if1 in
+    let b = b .before in let is-selected = b .is-selected in
+    let b = b .before .before .before .before .before .before .before in let a = b .args in
+    (row-viewed (take (a .used) (messages (a .words .now))) (a .used) (a .id) (a .selected) (a .below .0) (a .cells .now) (a .filled) _ (search-view .result) (is-selected .result) (is-selected .ensures) (if1 .taken) (search-view .ensures), search-view .ensures .few)
 
 returns-2 : tie.Need-returns-2
 returns-2 c =
-    let a = c .before .before .before .before .before .before .before .before .before .before .before .before .before .before .before .args in
-    (row-boxed (take (a .used) (messages (a .words .now))) (a .used) (a .id) (a .selected) (a .below .0) (a .cells .now) (a .filled) _ (c .before .before .before .before .search-box .result) (c .before .before .before .before .before .before .before .before .is-selected .result) (c .before .before .before .before .before .before .before .before .is-selected .ensures) (c .before .before .before .before .before .before .before .if1 .left) (c .before .before .before .before .search-box .ensures), c .before .before .before .before .search-box .ensures .few)
+    let b = c .before .before .before .before in let search-box = b .search-box in
+    let b = b .before .before .before in let if1 = b .if1 in
+    let b = b .before in let is-selected = b .is-selected in
+    let b = b .before .before .before .before .before .before .before in let a = b .args in
+    (row-boxed (take (a .used) (messages (a .words .now))) (a .used) (a .id) (a .selected) (a .below .0) (a .cells .now) (a .filled) _ (search-box .result) (is-selected .result) (is-selected .ensures) (if1 .left) (search-box .ensures), search-box .ensures .few)
 
 pub search-row-spec : {M : Type 1} → statement M
 search-row-spec =

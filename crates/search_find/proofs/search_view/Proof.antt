@@ -7,8 +7,9 @@ use native.Mathlib.Omega.{arith}
 
 told-of-requires : tie.Need-told-of-requires
 told-of-requires c κs =
-    let a = c .before .before .before .before .before .before .before .before .before .before .before .before .args in
-    let f = order-few (messages (a .words .now)) (a .used) (a .id) _ (c .before .before .before .before .by-uid .result) (c .before .before .before .before .by-uid .ensures) in
+    let b = c .before .before .before .before in let by-uid = b .by-uid in
+    let b = b .before .before .before .before .before .before .before .before in let a = b .args in
+    let f = order-few (messages (a .words .now)) (a .used) (a .id) _ (by-uid .result) (by-uid .ensures) in
     (omega arith, omega arith)
 
 find-requires : tie.Need-find-requires
@@ -21,8 +22,11 @@ find-requires c κs =
 
 returns : tie.Need-returns
 returns c =
-    let a = c .before .before .before .before .before .before .before .before .before .before .before .before .before .before .before .before .before .before .before .before .args in
-    view-searched (messages (a .words .now)) (a .used) (a .id) _ (c .before .before .before .before .before .before .before .before .before .before .before .before .by-uid .result) (c .before .before .before .before .before .before .before .before .before .before .before .before .by-uid .ensures) (a .below .0) _ _ (c .before .before .before .before .before .before .before .told-of .result) (c .before .before .before .before .before .before .before .told-of .ensures) (a .cells .now) (a .filled) _ _ (c .before .before .find .result) (c .before .before .find .ensures)
+    let b = c .before .before in let find = b .find in
+    let b = b .before .before .before .before .before in let told-of = b .told-of in
+    let b = b .before .before .before .before .before in let by-uid = b .by-uid in
+    let b = b .before .before .before .before .before .before .before .before in let a = b .args in
+    view-searched (messages (a .words .now)) (a .used) (a .id) _ (by-uid .result) (by-uid .ensures) (a .below .0) _ _ (told-of .result) (told-of .ensures) (a .cells .now) (a .filled) _ _ (find .result) (find .ensures)
 
 pub search-view-spec : {M : Type 1} → statement M
 search-view-spec =

@@ -14,23 +14,35 @@ abbrev μ-loop : tie.MeasureT-loop
 μ-loop words order n told view₀ i₀ r₀ view i r = n - i
 
 loop-holds : tie.Need-loop-holds Inv-loop μ-loop
-loop-holds c = keeping-start (messages (c .before .before .before .args .words .now)) (c .before .before .before .args .order .now) (c .before .before .before .args .n) (c .before .before .before .args .told .0) (c .before .before .before .args .view .now)
+loop-holds c =
+    let b = c .before .before .before in let args = b .args in
+    keeping-start (messages (args .words .now)) (args .order .now) (args .n) (args .told .0) (args .view .now)
 
 push-place-requires : tie.Need-push-place-requires Inv-loop μ-loop
-push-place-requires c κs = let f = c .before .before .before .before .before .before .loop .inv .few in let g = c .before .before .before .before .before .before .loop .inv .long in omega arith
+push-place-requires c κs =
+    let b = c .before .before .before .before .before .before in let loop = b .loop in
+    let f = loop .inv .few in let g = loop .inv .long in omega arith
 
 loop-again : tie.Need-loop-again Inv-loop μ-loop
 loop-again c =
-    let f = c .before .before .before .before .before .before .before .before .before .loop .inv .few in
-    let g = c .before .before .before .before .before .before .before .before .before .loop .inv .long in
-    let a = c .before .before .before .before .before .before .before .before .before .before .before .before .before .args in
-    keeping-next (messages (a .words .now)) (a .order .now) (a .n) (a .told .0) (a .view .now) (c .before .before .before .before .before .before .before .before .before .loop .view) (c .before .before .before .before .before .before .before .before .before .loop .i) (c .before .before .before .before .before .before .before .before .before .loop .r) (c .before .before .before .before .before .before .before .before .before .loop .inv) (c .before .before .before .before .before .before .before .before .loop-test .taken) (c .before .before .before .before .before .before .entry .result) (c .before .before .before .before .before .before .entry .ensures) _ refl (omega arith) _ (c .before .before .push-place .result) (c .before .before .push-place .ensures)
+    let b = c .before .before in let push-place = b .push-place in
+    let b = b .before .before .before .before in let entry = b .entry in
+    let b = b .before .before in let loop-test = b .loop-test in
+    let b = b .before in let loop = b .loop in
+    let b = b .before .before .before .before in let args = b .args in
+    let f = loop .inv .few in
+    let g = loop .inv .long in
+    let a = args in
+    keeping-next (messages (a .words .now)) (a .order .now) (a .n) (a .told .0) (a .view .now) (loop .view) (loop .i) (loop .r) (loop .inv) (loop-test .taken) (entry .result) (entry .ensures) _ refl (omega arith) _ (push-place .result) (push-place .ensures)
 
 same-length : tie.Need-same-length Inv-loop μ-loop
 same-length c = c .before .loop .inv .long
 
 returns : tie.Need-returns Inv-loop μ-loop
-returns c = keeping-end (messages (c .before .before .before .before .before .args .words .now)) (c .before .before .before .before .before .args .order .now) (c .before .before .before .before .before .args .n) (c .before .before .before .before .before .args .told .0) (c .before .before .before .before .before .args .view .now) (c .before .loop .view) (c .before .loop .i) (c .before .loop .r) (c .before .loop .inv) (c .loop-test .left)
+returns c =
+    let b = c .before in let loop = b .loop in
+    let b = b .before .before .before .before in let args = b .args in
+    keeping-end (messages (args .words .now)) (args .order .now) (args .n) (args .told .0) (args .view .now) (loop .view) (loop .i) (loop .r) (loop .inv) (c .loop-test .left)
 
 pub told-of-spec : {M : Type 1} → statement M
 told-of-spec =

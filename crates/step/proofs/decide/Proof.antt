@@ -16,27 +16,38 @@ returns c =
 
 returns-2 : tie.Need-returns-2
 returns-2 c =
-    let a = c .before .before .before .before .before .before .before .before .before .before .args in
+    let b = c .before .before .before in let read = b .read in
+    let b = b .before in let if1 = b .if1 in
+    let b = b .before in let is-lawful = b .is-lawful in
+    let b = b .before .before .before .before .before in let a = b .args in
     λ rows seen. steps-bad rows (a .lent) (a .words .now) (a .counts) (a .s) (a .queue .now) (a .octets .now) _
-    (λ t w. sym (not-false _ (c .before .before .before .before .if1 .left)) ∙ c .before .before .before .before .before .is-lawful .ensures t rows (a .queue .now) w (seen .stands .laid) refl)
-    (read-refused (c .before .before .before .read .ensures) (not-true _ (c .before .if2 .taken)))
+    (λ t w. sym (not-false _ (if1 .left)) ∙ is-lawful .ensures t rows (a .queue .now) w (seen .stands .laid) refl)
+    (read-refused (read .ensures) (not-true _ (c .before .if2 .taken)))
     (c .refused2 .ensures)
 
 serve-requires : tie.Need-serve-requires
 serve-requires c κs =
-    let a = c .before .before .before .before .before .before .before .before .before .before .before .args in
-    let p = c .before .before .before .before .before .before .before .before .before .before .before .pre in
+    let b = c .before .before .before .before in let read = b .read in
+    let b = b .before in let if1 = b .if1 in
+    let b = b .before in let is-lawful = b .is-lawful in
+    let b = b .before .before .before .before .before in let a = b .args in
+    let p = b .pre in
     let l = law-ready (p .0) (a .lent) (a .words .now) (a .counts) (a .s) (a .queue .now) (p .1 .long)
-    (λ t w. sym (c .before .before .before .before .before .before .is-lawful .ensures t (p .0) (a .queue .now) w (p .1 .stands .laid) refl) ∙ not-false _ (c .before .before .before .before .before .if1 .left)) in
-    (l .0, l .1, c .before .before .before .before .read .ensures, not-false _ (c .before .before .if2 .left))
+    (λ t w. sym (is-lawful .ensures t (p .0) (a .queue .now) w (p .1 .stands .laid) refl) ∙ not-false _ (if1 .left)) in
+    (l .0, l .1, read .ensures, not-false _ (c .before .before .if2 .left))
 
 returns-3 : tie.Need-returns-3
 returns-3 c =
-    let a = c .before .before .before .before .before .before .before .before .before .before .before .before .before .before .before .before .args in
+    let b = c .before .before .before .before in let serve = b .serve in
+    let b = b .before .before .before in let if2 = b .if2 in
+    let b = b .before .before in let read = b .read in
+    let b = b .before in let if1 = b .if1 in
+    let b = b .before in let is-lawful = b .is-lawful in
+    let b = b .before .before .before .before .before in let a = b .args in
     λ rows seen. steps-served rows (a .lent) (a .words .now) (a .counts) (a .s) (a .queue .now) (a .octets .now) _ (seen .stands)
-    (λ t w. sym (not-false _ (c .before .before .before .before .before .before .before .before .before .before .if1 .left)) ∙ c .before .before .before .before .before .before .before .before .before .before .before .is-lawful .ensures t rows (a .queue .now) w (seen .stands .laid) refl)
-    (sym (c .before .before .before .before .before .before .before .before .before .read .ensures .valid) ∙ not-false _ (c .before .before .before .before .before .before .before .if2 .left))
-    (c .before .before .before .before .serve .ensures)
+    (λ t w. sym (not-false _ (if1 .left)) ∙ is-lawful .ensures t rows (a .queue .now) w (seen .stands .laid) refl)
+    (sym (read .ensures .valid) ∙ not-false _ (if2 .left))
+    (serve .ensures)
 
 pub decide-spec : {M : Type 1} → statement M
 decide-spec =

@@ -62,13 +62,25 @@ drain-requires c κs =
     sizes _ _ _ (p .0 .room) .filled
 
 returns : tie.Need-returns
-returns c = created (c .before .before .before .before .before .before .before .before .before .before .pre .2) (rest (c .before .before .before .before .before .before .before .before .before .before .args .octets .now) (c .before .before .before .before .before .before .before .before .before .before .args .tail)) (c .before .before .before .before .before .enum-told .given .1) (c .before .before .create .ensures)
+returns c =
+    let b = c .before .before .before .before .before in let enum-told = b .enum-told in
+    let b = b .before .before .before .before .before in let args = b .args in
+    let pre = b .pre in
+    created (pre .2) (rest (args .octets .now) (args .tail)) (enum-told .given .1) (c .before .before .create .ensures)
 
 returns-2 : tie.Need-returns-2
-returns-2 c = deleted (c .before .before .before .before .before .before .before .before .before .before .before .before .pre .2) (c .before .before .before .before .before .before .before .enum-told2 .given .1) (c .before .before .before .before .delete .ensures)
+returns-2 c =
+    let b = c .before .before .before .before in let delete = b .delete in
+    let b = b .before .before .before in let enum-told2 = b .enum-told2 in
+    let b = b .before .before .before .before .before in let pre = b .pre in
+    deleted (pre .2) (enum-told2 .given .1) (delete .ensures)
 
 returns-3 : tie.Need-returns-3
-returns-3 c = renamed (c .before .before .before .before .before .before .before .before .before .before .pre .2) (rest (c .before .before .before .before .before .before .before .before .before .before .args .octets .now) (c .before .before .before .before .before .before .before .before .before .before .args .tail)) (c .before .before .before .before .before .enum-told3 .given .1) (c .before .before .rename .ensures)
+returns-3 c =
+    let b = c .before .before .before .before .before in let enum-told3 = b .enum-told3 in
+    let b = b .before .before .before .before .before in let args = b .args in
+    let pre = b .pre in
+    renamed (pre .2) (rest (args .octets .now) (args .tail)) (enum-told3 .given .1) (c .before .before .rename .ensures)
 
 returns-4 : tie.Need-returns-4
 returns-4 c = subscribed (c .before .before .before .before .before .before .before .before .before .pre .2) (c .before .before .before .before .enum-told4 .given .1) (c .before .before .subscribe .ensures)
@@ -77,13 +89,21 @@ returns-5 : tie.Need-returns-5
 returns-5 c = granted (c .before .before .before .before .before .before .before .before .before .pre .2) (c .before .before .before .before .enum-told5 .given .1) (c .before .before .grant .ensures)
 
 returns-6 : tie.Need-returns-6
-returns-6 c = arrived (c .before .before .before .before .before .before .before .before .before .before .before .before .pre .2) (c .before .before .before .before .before .before .before .enum-told6 .given .1) (c .before .before .before .before .arrive .ensures)
+returns-6 c =
+    let b = c .before .before .before .before in let arrive = b .arrive in
+    let b = b .before .before .before in let enum-told6 = b .enum-told6 in
+    let b = b .before .before .before .before .before in let pre = b .pre in
+    arrived (pre .2) (enum-told6 .given .1) (arrive .ensures)
 
 returns-7 : tie.Need-returns-7
 returns-7 c = expunged (c .before .before .before .before .before .before .before .before .before .before .before .before .pre .2) (c .before .before .before .before .before .before .before .enum-told7 .given .1) (c .before .before .before .before .expunge .ensures)
 
 returns-8 : tie.Need-returns-8
-returns-8 c = reflagged (c .before .before .before .before .before .before .before .before .before .before .before .before .pre .2) (c .before .before .before .before .before .before .before .enum-told8 .given .1) (c .before .before .before .before .flag .ensures)
+returns-8 c =
+    let b = c .before .before .before .before in let flag = b .flag in
+    let b = b .before .before .before in let enum-told8 = b .enum-told8 in
+    let b = b .before .before .before .before .before in let pre = b .pre in
+    reflagged (pre .2) (enum-told8 .given .1) (flag .ensures)
 
 returns-9 : tie.Need-returns-9
 returns-9 c = selected (c .before .before .before .before .before .before .before .before .before .pre .2) (c .before .before .before .before .enum-told9 .given .1) (c .before .before .select .ensures)
@@ -92,7 +112,12 @@ returns-10 : tie.Need-returns-10
 returns-10 c = finished (c .before .before .before .before .before .before .before .before .before .before .before .before .pre .2) (c .before .before .before .before .before .before .before .enum-told10 .given .1) (c .before .before .before .before .end-command .ensures)
 
 returns-11 : tie.Need-returns-11
-returns-11 c = answered (c .before .before .before .before .before .before .before .before .before .before .before .before .before .pre .2) (rest (c .before .before .before .before .before .before .before .before .before .before .before .before .before .args .octets .now) (c .before .before .before .before .before .before .before .before .before .before .before .before .before .args .tail)) (c .before .before .before .before .before .before .before .before .enum-told11 .given .1) (c .before .before .before .before .answer .ensures)
+returns-11 c =
+    let b = c .before .before .before .before in let answer = b .answer in
+    let b = b .before .before .before .before in let enum-told11 = b .enum-told11 in
+    let b = b .before .before .before .before .before in let args = b .args in
+    let pre = b .pre in
+    answered (pre .2) (rest (args .octets .now) (args .tail)) (enum-told11 .given .1) (answer .ensures)
 
 returns-12 : tie.Need-returns-12
 returns-12 c = emptied (c .before .before .before .before .before .before .before .before .before .pre .2) (c .before .before .before .before .enum-told12 .given .1) (c .before .before .drain .ensures)

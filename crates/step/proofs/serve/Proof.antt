@@ -17,14 +17,15 @@ dispatch-requires c κs = let p = c .before .before .before .before .before .bef
 
 returns : tie.Need-returns
 returns c =
-    let a = c .before .before .before .before .before .before .before .before .before .before .before .before .before .before .args in
-    let id = c .before .before .before .before .before .before .before .before .before .sought-id in
-    let found = c .before .before .before .before .before .before .before .before .find in
-    let x = c .before .before .before .before .before .before .before .row-at in
+    let b = c .before .before .before .before in let dispatch = b .dispatch in
+    let b = b .before .before .before in let x = b .row-at in
+    let b = b .before in let found = b .find in
+    let b = b .before in let id = b .sought-id in
+    let b = b .before .before .before .before .before in let a = b .args in
     λ m lends law len stands.
     let long : length (boxes m) ≡ a .counts .mailboxes = boxes-long m (leb-true _ _ (law .used)) ∙ ap (λ (j : Counts). j .mailboxes) (lends .counts) in
     let w : Placed m (id .result) (found .result) (x .result) = placed m (id .result) (found .result) (x .result) (found .ensures .0 (boxes m) long (stands .laid .id)) (x .ensures (boxes m) long stands) in
-    c .before .before .before .before .dispatch .ensures m lends law len (rw (← id .ensures) w) (stands .laid)
+    dispatch .ensures m lends law len (rw (← id .ensures) w) (stands .laid)
 
 pub serve-spec : {M : Type 1} → statement M
 serve-spec =

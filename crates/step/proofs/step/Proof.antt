@@ -28,8 +28,9 @@ narrow-rows (x ∷ l) (u ∷ us) s (suc k) h = narrow-rows l us (s .1) k (omega 
 
 decide-requires : tie.Need-decide-requires
 decide-requires c κs =
+    let b = c .before .before .before .before .before .before .before .before .before in let lay = b .lay in
     let s = c .before .before .before .before .before .before .before .before .before .before .before .before .before .before .before .before .before .before .before .before in
-    (s .args .table, record { long = s .good .0 .1 .0 .1; stands = record { laid = c .before .before .before .before .before .before .before .before .before .lay .ensures; narrow = narrow-take (s .args .table) (s .args .counts .mailboxes) (narrow-rows (s .args .table) _ (s .good .0 .1 .1)) } })
+    (s .args .table, record { long = s .good .0 .1 .0 .1; stands = record { laid = lay .ensures; narrow = narrow-take (s .args .table) (s .args .counts .mailboxes) (narrow-rows (s .args .table) _ (s .good .0 .1 .1)) } })
 
 returns : tie.Need-returns
 returns c =

@@ -12,8 +12,9 @@ returns c = put-past _ _ _ _ _ (omega arith) refl (omega arith)
 
 returns-2 : tie.Need-returns-2
 returns-2 c =
-    let a = c .before .before .before .before .before .before .before .args in
-    put-part (a .out .now) (a .at) (a .text .now) (c .before .before .before .before .if1 .left) (c .before .before .put .ensures)
+    let b = c .before .before .before .before in let if1 = b .if1 in
+    let b = b .before .before .before in let a = b .args in
+    put-part (a .out .now) (a .at) (a .text .now) (if1 .left) (c .before .before .put .ensures)
 
 pub put-spec : {M : Type 1} → statement M
 put-spec =

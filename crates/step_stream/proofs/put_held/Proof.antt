@@ -9,9 +9,10 @@ use Rattle.step_stream.proofs.put_held.Tie as tie
 
 returns : tie.Need-returns
 returns c =
-    let a = c .before .before .before .before .before .before .before .args in
-    let n = c .before .before .put .ensures .next in
-    (put-as (c .before .before .put .ensures) (sym (take-all (a .filled) (a .queue .now) (omega arith))), omega arith)
+    let b = c .before .before in let put = b .put in
+    let b = b .before .before .before .before .before in let a = b .args in
+    let n = put .ensures .next in
+    (put-as (put .ensures) (sym (take-all (a .filled) (a .queue .now) (omega arith))), omega arith)
 
 slice-aggregate-put : tie.Need-slice-aggregate-put
 slice-aggregate-put c = let a = c .before .before .before .before .before .args in sym (length-take-le (a .filled) (a .queue .now) (omega arith))
@@ -24,10 +25,11 @@ put-requires-2 c κs =
 
 returns-2 : tie.Need-returns-2
 returns-2 c =
-    let a = c .before .before .before .before .before .before .before .before .args in
+    let b = c .before .before in let put2 = b .put2 in
+    let b = b .before .before .before .before .before .before in let a = b .args in
     let l = length-take-le (a .filled) (a .queue .now) (omega arith) in
-    let n = c .before .before .put2 .ensures .next in
-    (c .before .before .put2 .ensures, omega arith)
+    let n = put2 .ensures .next in
+    (put2 .ensures, omega arith)
 
 pub put-held-spec : {M : Type 1} → statement M
 put-held-spec =

@@ -17,10 +17,13 @@ returns c =
 
 returns-2 : tie.Need-returns-2
 returns-2 c =
-    let n = c .before .before .put .ensures .next in
-    let e = c .before .before .before .before .before .before .number-of in
-    let t : refusalText (e .result) ≡ refusalText (numberOf (c .before .before .before .before .before .before .before .before .args .answer)) = ap refusalText (e .ensures .0) in
-    (put-as (c .before .before .put .ensures) (refusal-text (e .result) (omega arith) (e .ensures .1) ∙ t), omega arith)
+    let b = c .before .before in let put = b .put in
+    let b = b .before .before .before .before in let number-of = b .number-of in
+    let b = b .before .before in let args = b .args in
+    let n = put .ensures .next in
+    let e = number-of in
+    let t : refusalText (e .result) ≡ refusalText (numberOf (args .answer)) = ap refusalText (e .ensures .0) in
+    (put-as (put .ensures) (refusal-text (e .result) (omega arith) (e .ensures .1) ∙ t), omega arith)
 
 pub put-refusal-spec : {M : Type 1} → statement M
 put-refusal-spec =

@@ -15,17 +15,19 @@ returns c =
 
 returns-2 : tie.Need-returns-2
 returns-2 c =
-    let a = c .before .before .before .before .args in
+    let b = c .before .before .before .before in let a = b .args in
+    let pre = b .pre in
     let l = length-drop (a .at) (a .stream .now) in
     let f = field-at (a .stream .now) (a .at) (c .before .little .ensures) in
-    cuts (a .stream .now) (a .at) _ (c .before .before .before .before .pre .0) (sym l ∙ size-torn (drop (a .at) (a .stream .now)) (omega arith) (omega arith))
+    cuts (a .stream .now) (a .at) _ (pre .0) (sym l ∙ size-torn (drop (a .at) (a .stream .now)) (omega arith) (omega arith))
 
 returns-3 : tie.Need-returns-3
 returns-3 c =
-    let a = c .before .before .before .before .args in
+    let b = c .before .before .before .before in let a = b .args in
+    let pre = b .pre in
     let l = length-drop (a .at) (a .stream .now) in
     let f = field-at (a .stream .now) (a .at) (c .before .little .ensures) in
-    cuts (a .stream .now) (a .at) _ (c .before .before .before .before .pre .0) (f ∙ size-entire (drop (a .at) (a .stream .now)) (omega arith) (omega arith))
+    cuts (a .stream .now) (a .at) _ (pre .0) (f ∙ size-entire (drop (a .at) (a .stream .now)) (omega arith) (omega arith))
 
 pub record-size-spec : {M : Type 1} → statement M
 record-size-spec =

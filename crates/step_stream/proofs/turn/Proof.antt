@@ -10,13 +10,16 @@ use Rattle.step_stream.proofs.turn.Tie as tie
 
 returns : tie.Need-returns
 returns c =
-    let a = c .before .before .before .before .before .before .before .before .before .before .before .before .before .before .before .before .before .before .before .before .before .before .before .before .args in
-    let good = c .before .before .before .before .before .before .before .before .before .before .before .before .before .before .before .before .before .before .before .before .before .before .before .before .good in
+    let b = c .before .before .before in let put-held = b .put-held in
+    let b = b .before .before .before .before .before in let put-refusal = b .put-refusal in
+    let b = b .before .before .before .before .before .before in let step = b .step in
+    let b = b .before .before .before .before .before .before .before .before .before .before in let a = b .args in
+    let good = b .good in
     let w : length (a .s .table) ≡ 64 = mapped-length _ _ _ (a .s .table) 64 (good .0 .1 .1 .0 .1 .0 .1) in
-    let o = c .before .before .before .before .before .before .before .before .before .before .before .before .before .before .step in
+    let o = step in
     let z = c .drained .ensures in
-    let p = c .before .before .before .before .before .before .before .before .put-refusal .ensures in
-    let r = c .before .before .before .put-held .ensures in
+    let p = put-refusal .ensures in
+    let r = put-held .ensures in
     let few = table-few (a .s .table) w (a .words .now) (a .s .counts) (a .s .session) (a .queue .now) (a .octets .now) (o .result) _ _ (o .ensures) in
     turns (a .s .table) w (a .words .now) (a .s .counts) (a .s .session) (a .queue .now) (a .octets .now) (o .result) _ _ (o .ensures)
     (c .drained .result .table) (c .drained .result .counts) (c .drained .result .session) (c .drained .result .end)

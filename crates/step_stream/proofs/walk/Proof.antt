@@ -26,26 +26,35 @@ loop-holds c =
     (refl, refl, running-start (a .stream .now) (a .out .now) (a .words .now) (a .queue .now) (z .0) (z .1) (z .2) (z .3))
 
 record-size-requires : tie.Need-record-size-requires Inv-loop μ-loop
-record-size-requires c κs = (c .loop-test .taken, c .before .before .before .before .before .before .before .pre .0)
+record-size-requires c κs =
+    let b = c .before .before .before .before .before .before .before in let pre = b .pre in
+    (c .loop-test .taken, pre .0)
 
 add-e : tie.Need-add-e Inv-loop μ-loop
 add-e c = let z = c .record-size .ensures .within in search needs
 
 turn-requires : tie.Need-turn-requires Inv-loop μ-loop
 turn-requires c κs =
-    let v = c .before .before .before .before .before .before .loop .inv in
+    let b = c .before .before .before .before .before .before in let loop = b .loop in
+    let b = b .before .before .before .before .before .before in let pre = b .pre in
+    let v = loop .inv in
     let n = v .2 .near in
     let w = v .2 .within in
-    let p = c .before .before .before .before .before .before .before .before .before .before .before .before .pre in
+    let p = pre in
     (omega arith, v .1 ∙ p .1)
 
 loop-less : tie.Need-loop-less Inv-loop μ-loop
-loop-less c = let z = c .before .before .before .before .before .before .before .before .before .before .before .record-size .ensures .some in let y = c .before .before .before .before .before .before .before .before .before .before .before .record-size .ensures .within in omega arith
+loop-less c =
+    let b = c .before .before .before .before .before .before .before .before .before .before .before in let record-size = b .record-size in
+    let z = record-size .ensures .some in let y = record-size .ensures .within in omega arith
 
 loop-again : tie.Need-loop-again Inv-loop μ-loop
 loop-again c =
-    let v = c .before .before .before .before .before .before .before .before .before .before .before .before .before .loop .inv in
-    (search needs, search needs, running-next (v .2) (c .before .before .before .before .before .before .before .before .before .before .before .record-size .ensures) (c .before .before .before .before .before .before .turn .ensures))
+    let b = c .before .before .before .before .before .before in let turn = b .turn in
+    let b = b .before .before .before .before .before in let record-size = b .record-size in
+    let b = b .before .before in let loop = b .loop in
+    let v = loop .inv in
+    (search needs, search needs, running-next (v .2) (record-size .ensures) (turn .ensures))
 
 returns : tie.Need-returns Inv-loop μ-loop
 returns c = running-end (c .before .loop .inv .2) (c .loop-test .left)

@@ -11,7 +11,9 @@ use Rattle.table_mailboxes.specs.Columns.{zero-at}
 use Rattle.table_counts.specs.Tally.{apart-ids, Apart}
 
 tally-all-requires : tie.Need-tally-all-requires
-tally-all-requires c κs = (c .before .before .before .before .pre .0, c .before .before .before .before .pre .1, c .before .before .before .before .pre .2, c .before .before .before .before .pre .2, λ k. zero-at 64 k)
+tally-all-requires c κs =
+    let b = c .before .before .before .before in let pre = b .pre in
+    (pre .0, pre .1, pre .2, pre .2, λ k. zero-at 64 k)
 
 returns : tie.Need-returns
 returns c =

@@ -7,21 +7,32 @@ use Rattle.table_counts.specs.Tally.{tally-gone, tally-none, tally-one}
 
 returns : tie.Need-returns
 returns c =
-    let args = c .before .before .before .before .before .args in
-    rw (← c .before .before .get .ensures) (tally-gone (args .ids .now) (args .n) (c .before .before .get .result) (args .i) (args .counts .now) (c .before .before .before .before .before .pre .4) (c .if1 .taken))
+    let b = c .before .before in let get = b .get in
+    let b = b .before .before .before in let args = b .args in
+    let pre = b .pre in
+    rw (← get .ensures) (tally-gone (args .ids .now) (args .n) (get .result) (args .i) (args .counts .now) (pre .4) (c .if1 .taken))
 
 returns-2 : tie.Need-returns-2
 returns-2 c =
-    let args = c .before .before .before .before .before .before .before .args in
-    rw (← c .before .before .before .before .get .ensures) (tally-none (args .ids .now) (args .n) (c .before .before .before .before .get .result) (args .i) (args .counts .now) (c .before .before .before .before .before .before .before .pre .4) (c .before .row-of .result) (c .before .row-of .ensures) (c .if2 .taken))
+    let b = c .before in let row-of = b .row-of in
+    let b = b .before .before .before in let get = b .get in
+    let b = b .before .before .before in let args = b .args in
+    let pre = b .pre in
+    rw (← get .ensures) (tally-none (args .ids .now) (args .n) (get .result) (args .i) (args .counts .now) (pre .4) (row-of .result) (row-of .ensures) (c .if2 .taken))
 
 add-counts : tie.Need-add-counts
-add-counts c = let z = c .before .before .before .before .before .before .before .before .pre .4 (c .before .before .row-of .result) in omega arith
+add-counts c =
+    let b = c .before .before .before .before .before .before .before .before in let pre = b .pre in
+    let z = pre .4 (c .before .before .row-of .result) in omega arith
 
 returns-3 : tie.Need-returns-3
 returns-3 c =
-    let args = c .before .before .before .before .before .before .before .before .args in
-    rw (← c .before .before .before .before .before .get .ensures) (tally-one (args .ids .now) (args .n) (c .before .before .before .before .before .get .result) (args .i) (args .counts .now) (c .before .before .before .before .before .before .before .before .pre .4) (c .before .before .row-of .result) (c .before .before .before .if1 .left) (c .before .before .row-of .ensures) (omega arith) (omega arith))
+    let b = c .before .before in let row-of = b .row-of in
+    let b = b .before in let if1 = b .if1 in
+    let b = b .before .before in let get = b .get in
+    let b = b .before .before .before in let args = b .args in
+    let pre = b .pre in
+    rw (← get .ensures) (tally-one (args .ids .now) (args .n) (get .result) (args .i) (args .counts .now) (pre .4) (row-of .result) (if1 .left) (row-of .ensures) (omega arith) (omega arith))
 
 pub tally-spec : {M : Type 1} → statement M
 tally-spec =

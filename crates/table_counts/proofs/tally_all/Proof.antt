@@ -15,21 +15,27 @@ abbrev μ-loop : tie.MeasureT-loop
 μ-loop words used slots ids n counts₀ i₀ counts i = used - i
 
 loop-holds : tie.Need-loop-holds Inv-loop μ-loop
-loop-holds c = (search needs, refl, λ k. (let z = c .before .before .pre .4 k in omega arith), λ a k h. c .before .before .pre .4 k)
+loop-holds c =
+    let b = c .before .before in let pre = b .pre in
+    (search needs, refl, λ k. (let z = pre .4 k in omega arith), λ a k h. pre .4 k)
 
 tally-requires : tie.Need-tally-requires Inv-loop μ-loop
-tally-requires c κs = (omega arith, c .before .before .before .before .before .pre .2, omega arith, omega arith, c .before .before .loop .inv .2)
+tally-requires c κs =
+    let b = c .before .before .before .before .before in let pre = b .pre in
+    (omega arith, pre .2, omega arith, omega arith, c .before .before .loop .inv .2)
 
 loop-again : tie.Need-loop-again Inv-loop μ-loop
 loop-again c =
-    let args = c .before .before .before .before .before .before .before .before .args in
-    let turn = c .before .before .before .before .before .loop in
-    (search needs, c .before .before .tally .ensures .long ∙ turn .inv .1, c .before .before .tally .ensures .below, λ a. (let z = messages-length (args .used) (args .words .now) (c .before .before .before .before .before .before .before .before .pre .0) in counted-next (args .ids .now) (args .n) (messages (args .words .now)) (turn .i) (turn .counts) _ (omega arith) (c .before .before .tally .ensures) a (turn .inv .3 a)))
+    let b = c .before .before in let tally = b .tally in
+    let b = b .before .before .before in let turn = b .loop in
+    let b = b .before .before .before in let args = b .args in
+    let pre = b .pre in
+    (search needs, tally .ensures .long ∙ turn .inv .1, tally .ensures .below, λ a. (let z = messages-length (args .used) (args .words .now) (pre .0) in counted-next (args .ids .now) (args .n) (messages (args .words .now)) (turn .i) (turn .counts) _ (omega arith) (tally .ensures) a (turn .inv .3 a)))
 
 returns : tie.Need-returns Inv-loop μ-loop
 returns c =
-    let args = c .before .before .before .before .args in
-    let turn = c .before .loop in
+    let b = c .before in let turn = b .loop in
+    let b = b .before .before .before in let args = b .args in
     λ a k h. (let e : turn .i ≡ args .used = omega arith in (rw e at (turn .inv .3 a k h)) ∙ sym (existing-count (getD (args .ids .now) k 0) (take (args .used) (messages (args .words .now)))))
 
 pub tally-all-spec : {M : Type 1} → statement M

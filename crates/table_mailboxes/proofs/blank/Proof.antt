@@ -17,13 +17,17 @@ loop-holds : tie.Need-loop-holds Inv-loop μ-loop
 loop-holds c = (search needs, refl, λ k h. absurd (let z : ⊥ = omega arith in z))
 
 loop-again : tie.Need-loop-again Inv-loop μ-loop
-loop-again c = (search needs, simp length-set (c .before .loop .inv .1), zeros-next (c .before .loop .column) (c .before .loop .i) (omega arith) (c .before .loop .inv .2))
+loop-again c =
+    let b = c .before in let loop = b .loop in
+    (search needs, simp length-set (loop .inv .1), zeros-next (loop .column) (loop .i) (omega arith) (loop .inv .2))
 
 same-length : tie.Need-same-length Inv-loop μ-loop
 same-length c = c .before .loop .inv .1
 
 returns : tie.Need-returns Inv-loop μ-loop
-returns c = (zeros-all (c .before .loop .column) (λ k h. c .before .loop .inv .2 k (omega arith)), c .before .loop .inv .1)
+returns c =
+    let b = c .before in let loop = b .loop in
+    (zeros-all (loop .column) (λ k h. loop .inv .2 k (omega arith)), loop .inv .1)
 
 pub blank-spec : {M : Type 1} → statement M
 blank-spec =

@@ -17,44 +17,63 @@ abbrev μ-loop : tie.MeasureT-loop
 
 loop-holds : tie.Need-loop-holds Inv-loop μ-loop
 loop-holds c =
+    let b = c .before .before in let blank = b .blank in
     let start = c .before .before .before .before .before .before .before .before .before .before .before in
-    (search needs, filling-start (start .args .t1) _ _ _ _ _ _ _ (start .pre .1) (start .pre .2) (start .pre .3) (start .pre .4) (c .before .before .blank .ensures .1 ∙ start .pre .5) (start .pre .6) (start .pre .7) (c .before .before .blank .ensures .0))
+    (search needs, filling-start (start .args .t1) _ _ _ _ _ _ _ (start .pre .1) (start .pre .2) (start .pre .3) (start .pre .4) (blank .ensures .1 ∙ start .pre .5) (start .pre .6) (start .pre .7) (blank .ensures .0))
 
 loop-again : tie.Need-loop-again Inv-loop μ-loop
 loop-again c =
-    let args = c .before .before .before .before .before .before .before .before .before .before .before .before .before .before .before .before .before .before .before .before .before .before .before .args in
-    let turn = c .before .before .before .before .before .before .before .before .before .before .before .loop in
-    let named = c .before .before .keep-name in
+    let b = c .before .before in let named = b .keep-name in
+    let b = b .before .before in let joined = b .joined in
+    let b = b .before in let wide-number2 = b .wide-number2 in
+    let b = b .before in let wide-number = b .wide-number in
+    let b = b .before in let wide-id = b .wide-id in
+    let b = b .before .before .before .before in let turn = b .loop in
+    let b = b .before .before .before .before .before .before .before .before .before .before .before .before in let args = b .args in
     let long : length (args .t1) ≡ 64 = search (needs, mapped-length) in
     let i = turn .i in
     let d = any-default (args .t1) i _ noMailbox (omega arith) in
-    (search needs, filling-next (args .t1) _ _ _ _ _ _ _ i (turn .inv .1) _ _ _ _ _ _ (omega arith) d (named .ensures .2) (c .before .before .before .before .before .before .before .wide-id .ensures) (c .before .before .before .before .before .before .wide-number .ensures) (c .before .before .before .before .before .wide-number2 .ensures) (c .before .before .before .before .joined .ensures) (named .ensures .0) (named .ensures .1))
+    (search needs, filling-next (args .t1) _ _ _ _ _ _ _ i (turn .inv .1) _ _ _ _ _ _ (omega arith) d (named .ensures .2) (wide-id .ensures) (wide-number .ensures) (wide-number2 .ensures) (joined .ensures) (named .ensures .0) (named .ensures .1))
 
 same-length : tie.Need-same-length Inv-loop μ-loop
-same-length c = c .before .loop .inv .1 .many-ids ∙ sym (c .before .before .before .before .before .before .before .before .before .before .before .before .before .pre .1)
+same-length c =
+    let b = c .before .before .before .before .before .before .before .before .before .before .before .before .before in let pre = b .pre in
+    c .before .loop .inv .1 .many-ids ∙ sym (pre .1)
 
 same-length-2 : tie.Need-same-length-2 Inv-loop μ-loop
-same-length-2 c = c .before .loop .inv .1 .many-attributes ∙ sym (c .before .before .before .before .before .before .before .before .before .before .before .before .before .pre .2)
+same-length-2 c =
+    let b = c .before .before .before .before .before .before .before .before .before .before .before .before .before in let pre = b .pre in
+    c .before .loop .inv .1 .many-attributes ∙ sym (pre .2)
 
 same-length-3 : tie.Need-same-length-3 Inv-loop μ-loop
-same-length-3 c = c .before .loop .inv .1 .many-lens ∙ sym (c .before .before .before .before .before .before .before .before .before .before .before .before .before .pre .3)
+same-length-3 c =
+    let b = c .before .before .before .before .before .before .before .before .before .before .before .before .before in let pre = b .pre in
+    c .before .loop .inv .1 .many-lens ∙ sym (pre .3)
 
 same-length-4 : tie.Need-same-length-4 Inv-loop μ-loop
-same-length-4 c = c .before .loop .inv .1 .many-validities ∙ sym (c .before .before .before .before .before .before .before .before .before .before .before .before .before .pre .4)
+same-length-4 c =
+    let b = c .before .before .before .before .before .before .before .before .before .before .before .before .before in let pre = b .pre in
+    c .before .loop .inv .1 .many-validities ∙ sym (pre .4)
 
 same-length-5 : tie.Need-same-length-5 Inv-loop μ-loop
-same-length-5 c = c .before .loop .inv .1 .many-nexts ∙ sym (c .before .before .before .before .before .before .before .before .before .before .before .before .before .pre .5)
+same-length-5 c =
+    let b = c .before .before .before .before .before .before .before .before .before .before .before .before .before in let pre = b .pre in
+    c .before .loop .inv .1 .many-nexts ∙ sym (pre .5)
 
 same-length-6 : tie.Need-same-length-6 Inv-loop μ-loop
-same-length-6 c = c .before .loop .inv .1 .many-counters ∙ sym (c .before .before .before .before .before .before .before .before .before .before .before .before .before .pre .6)
+same-length-6 c =
+    let b = c .before .before .before .before .before .before .before .before .before .before .before .before .before in let pre = b .pre in
+    c .before .loop .inv .1 .many-counters ∙ sym (pre .6)
 
 same-length-7 : tie.Need-same-length-7 Inv-loop μ-loop
-same-length-7 c = c .before .loop .inv .1 .many-octets ∙ sym (c .before .before .before .before .before .before .before .before .before .before .before .before .before .pre .7)
+same-length-7 c =
+    let b = c .before .before .before .before .before .before .before .before .before .before .before .before .before in let pre = b .pre in
+    c .before .loop .inv .1 .many-octets ∙ sym (pre .7)
 
 returns : tie.Need-returns Inv-loop μ-loop
 returns c =
-    let args = c .before .before .before .before .before .before .before .before .before .before .before .before .before .args in
-    let turn = c .before .loop in
+    let b = c .before in let turn = b .loop in
+    let b = b .before .before .before .before .before .before .before .before .before .before .before .before in let args = b .args in
     let long : length (args .t1) ≡ 64 = search (needs, mapped-length) in filling-end (args .t1) _ _ _ _ _ _ _ (turn .i) (turn .inv .1) (args .n) (omega arith) (omega arith)
 
 pub fill-spec : {M : Type 1} → statement M

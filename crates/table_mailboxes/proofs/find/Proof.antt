@@ -22,22 +22,24 @@ loop-holds c = (search needs, λ l h w. (let z : 0 + place (c .args .id) l ≡ p
 
 returns : tie.Need-returns Inv-loop μ-loop
 returns c =
-    let turn = c .before .before .before .loop in (
-      λ l h w. sym (place-found (c .before .before .before .before .args .id) l (turn .i) noMailbox (omega arith) (sym (w (turn .i) (omega arith)) ∙ c .if1 .taken) (turn .inv .1 l h w)),
+    let b = c .before .before .before in let turn = b .loop in
+    let b = b .before in let at-args = b .args in (
+      λ l h w. sym (place-found (at-args .id) l (turn .i) noMailbox (omega arith) (sym (w (turn .i) (omega arith)) ∙ c .if1 .taken) (turn .inv .1 l h w)),
       search needs,
     )
 
 loop-again : tie.Need-loop-again Inv-loop μ-loop
 loop-again c =
-    let turn = c .before .before .before .loop in (
+    let b = c .before .before .before in let turn = b .loop in
+    let b = b .before in let at-args = b .args in (
       search needs,
-      λ l h w. place-on (c .before .before .before .before .args .id) l (turn .i) noMailbox (omega arith) (λ z. c .if1 .left (w (turn .i) (omega arith) ∙ z)) (turn .inv .1 l h w),
+      λ l h w. place-on (at-args .id) l (turn .i) noMailbox (omega arith) (λ z. c .if1 .left (w (turn .i) (omega arith) ∙ z)) (turn .inv .1 l h w),
     )
 
 returns-2 : tie.Need-returns-2 Inv-loop μ-loop
 returns-2 c =
-    let args = c .before .before .args in
-    let turn = c .before .loop in (
+    let b = c .before in let turn = b .loop in
+    let b = b .before in let args = b .args in (
       λ l h w. (let e : turn .i ≡ args .n = omega arith in sym (place-over (args .id) l (turn .i) (omega arith) (turn .inv .1 l h w) ∙ e)),
       search needs,
     )

@@ -17,10 +17,14 @@ loop-holds : tie.Need-loop-holds Inv-loop μ-loop
 loop-holds c = refl
 
 loop-again : tie.Need-loop-again Inv-loop μ-loop
-loop-again c = c .before .loop .inv ∙ bit-down (c .before .loop .i) (c .before .loop .n) (omega arith)
+loop-again c =
+    let b = c .before in let loop = b .loop in
+    loop .inv ∙ bit-down (loop .i) (loop .n) (omega arith)
 
 returns : tie.Need-returns Inv-loop μ-loop
-returns c = let z : c .before .loop .i ≡ 0 = omega arith in sym (c .before .loop .inv ∙ ap (λ (j : ℕ). bit j (c .before .loop .n)) z)
+returns c =
+    let b = c .before in let loop = b .loop in
+    let z : loop .i ≡ 0 = omega arith in sym (loop .inv ∙ ap (λ (j : ℕ). bit j (loop .n)) z)
 
 pub has-spec : {M : Type 1} → statement M
 has-spec =

@@ -4,10 +4,14 @@ use Rattle.table_mailboxes.proofs.is_another.Tie as tie
 use borrow.Author.Tests.{not-true, not-false}
 
 returns : tie.Need-returns
-returns c = rw (← c .before .has-name .ensures, not-true (c .before .has-name .result) (c .if1 .taken))
+returns c =
+    let b = c .before in let has-name = b .has-name in
+    rw (← has-name .ensures, not-true (has-name .result) (c .if1 .taken))
 
 returns-2 : tie.Need-returns-2
-returns-2 c = rw (← c .before .before .has-name .ensures, not-false (c .before .before .has-name .result) (c .before .if1 .left))
+returns-2 c =
+    let b = c .before .before in let has-name = b .has-name in
+    rw (← has-name .ensures, not-false (has-name .result) (c .before .if1 .left))
 
 pub is-another-spec : {M : Type 1} → statement M
 is-another-spec =

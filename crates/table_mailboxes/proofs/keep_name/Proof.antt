@@ -19,8 +19,8 @@ loop-holds c = (search needs, search needs, refl, paste-zero (c .args .names .no
 
 loop-again : tie.Need-loop-again Inv-loop μ-loop
 loop-again c =
-    let args = c .before .before .args in
-    let turn = c .before .loop in
+    let b = c .before in let turn = b .loop in
+    let b = b .before in let args = b .args in
     let long : length (args .names .now) ≡ 4096 = search needs in
     let wide : length (args .t3) ≡ 64 = search needs in (
       search needs,
@@ -33,7 +33,9 @@ same-length : tie.Need-same-length Inv-loop μ-loop
 same-length c = c .before .loop .inv .1 ∙ sym (c .before .before .pre .1)
 
 returns : tie.Need-returns Inv-loop μ-loop
-returns c = let wide : length (c .before .before .args .t3) ≡ 64 = search needs in let z : c .before .loop .j ≡ 64 = omega arith in (rw z at (c .before .loop .inv .3), c .before .loop .inv .1, wide)
+returns c =
+    let b = c .before in let loop = b .loop in
+    let wide : length (c .before .before .args .t3) ≡ 64 = search needs in let z : loop .j ≡ 64 = omega arith in (rw z at (loop .inv .3), loop .inv .1, wide)
 
 pub keep-name-spec : {M : Type 1} → statement M
 keep-name-spec =

@@ -7,8 +7,9 @@ use Rattle.table_mailboxes.proofs.lay.Tie as tie
 
 returns : tie.Need-returns
 returns c =
-    let args = c .before .before .before .before .before .before .before .before .before .args in
-    let long : length (args .rows) ≡ 64 = search (needs, mapped-length) in rw (← c .before .before .before .before .before .before .before .before .few .ensures .1 (args .rows) long) (c .fill .ensures)
+    let b = c .before .before .before .before .before .before .before .before in let few = b .few in
+    let b = b .before in let args = b .args in
+    let long : length (args .rows) ≡ 64 = search (needs, mapped-length) in rw (← few .ensures .1 (args .rows) long) (c .fill .ensures)
 
 pub lay-spec : {M : Type 1} → statement M
 lay-spec =

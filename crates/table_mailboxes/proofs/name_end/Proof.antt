@@ -5,7 +5,9 @@ use mathlib.Core.Path.{refl}
 use Rattle.table_mailboxes.specs.Columns.{ends-at}
 
 returns : tie.Need-returns
-returns c = ends-at (c .before .before .args .lens .now) (c .before .before .args .k) _ (c .clip .result) (c .before .before .pre) refl (c .clip .ensures .0) (c .clip .ensures .1)
+returns c =
+    let b = c .before .before in let args = b .args in
+    ends-at (args .lens .now) (args .k) _ (c .clip .result) (c .before .before .pre) refl (c .clip .ensures .0) (c .clip .ensures .1)
 
 pub name-end-spec : {M : Type 1} → statement M
 name-end-spec =

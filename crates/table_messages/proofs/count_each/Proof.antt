@@ -22,10 +22,17 @@ add-n : tie.Need-add-n Inv-loop μ-loop
 add-n c = omega (arith, c .count-one .ensures .1)
 
 loop-again : tie.Need-loop-again Inv-loop μ-loop
-loop-again c = (search needs, omega (arith, c .count-one .ensures .1, c .before .before .loop .inv .1), let k = messages-length (c .before .before .before .before .args .used) (c .before .before .before .before .args .words .now) (c .before .before .before .before .pre) in count-next (lives (c .before .before .before .before .args .mailbox)) (messages (c .before .before .before .before .args .words .now)) (c .before .before .loop .i) (c .before .before .loop .n) (c .count-one .result) (omega arith) (c .before .before .loop .inv .2) (c .count-one .ensures .0))
+loop-again c =
+    let b = c .before .before in let loop = b .loop in
+    let b = b .before .before in let args = b .args in
+    let pre = b .pre in
+    (search needs, omega (arith, c .count-one .ensures .1, loop .inv .1), let k = messages-length (args .used) (args .words .now) pre in count-next (lives (args .mailbox)) (messages (args .words .now)) (loop .i) (loop .n) (c .count-one .result) (omega arith) (loop .inv .2) (c .count-one .ensures .0))
 
 returns : tie.Need-returns Inv-loop μ-loop
-returns c = count-end (c .before .before .before .args .mailbox) (messages (c .before .before .before .args .words .now)) (c .before .loop .i) (c .before .before .before .args .used) (c .before .loop .n) (omega arith) (c .before .loop .inv .2)
+returns c =
+    let b = c .before in let loop = b .loop in
+    let b = b .before .before in let args = b .args in
+    count-end (args .mailbox) (messages (args .words .now)) (loop .i) (args .used) (loop .n) (omega arith) (loop .inv .2)
 
 pub count-each-spec : {M : Type 1} → statement M
 count-each-spec =

@@ -6,7 +6,9 @@ use native.Mathlib.Omega.{arith}
 use Rattle.table_messages.specs.Words.{messages, messages-count, past}
 
 returns : tie.Need-returns
-returns c = c .nothing .ensures ∙ sym (past (messages (c .before .before .before .args .words .now)) (c .before .before .before .args .i) (let z = messages-count (c .before .before .before .args .words .now) in omega arith))
+returns c =
+    let b = c .before .before .before in let args = b .args in
+    c .nothing .ensures ∙ sym (past (messages (args .words .now)) (args .i) (let z = messages-count (args .words .now) in omega arith))
 
 pub entry-spec : {M : Type 1} → statement M
 entry-spec =

@@ -20,25 +20,31 @@ loop-holds : tie.Need-loop-holds Inv-loop μ-loop
 loop-holds c = let a = c .before .args in (search needs, first-start (stands (a .mailbox) (a .uid .0)) (take (a .used) (messages (a .words .now))))
 
 returns : tie.Need-returns Inv-loop μ-loop
-returns c = let a = c .before .before .before .before .before .args in
-    let o = c .before .before .before .loop in
-    let k = messages-length (a .used) (a .words .now) (c .before .before .before .before .before .pre) in
+returns c =
+    let b = c .before .before .before in let o = b .loop in
+    let b = b .before .before in let a = b .args in
+    let pre = b .pre in
+    let k = messages-length (a .used) (a .words .now) pre in
     let l = length-take-le (a .used) (messages (a .words .now)) k in
     let d = getD-take (a .used) (messages (a .words .now)) (o .i) noMessage (omega arith) in
     first-here (stands (a .mailbox) (a .uid .0)) (take (a .used) (messages (a .words .now))) (o .i) (omega arith) (ap (stands (a .mailbox) (a .uid .0)) d ∙ (sym (c .before .is-message .ensures) ∙ c .if1 .taken)) (o .inv .1)
 
 loop-again : tie.Need-loop-again Inv-loop μ-loop
-loop-again c = let a = c .before .before .before .before .before .args in
-    let o = c .before .before .before .loop in
-    let k = messages-length (a .used) (a .words .now) (c .before .before .before .before .before .pre) in
+loop-again c =
+    let b = c .before .before .before in let o = b .loop in
+    let b = b .before .before in let a = b .args in
+    let pre = b .pre in
+    let k = messages-length (a .used) (a .words .now) pre in
     let l = length-take-le (a .used) (messages (a .words .now)) k in
     let d = getD-take (a .used) (messages (a .words .now)) (o .i) noMessage (omega arith) in
     (search needs, first-next (stands (a .mailbox) (a .uid .0)) (take (a .used) (messages (a .words .now))) (o .i) (omega arith) (ap (stands (a .mailbox) (a .uid .0)) d ∙ (sym (c .before .is-message .ensures) ∙ c .if1 .left)) (o .inv .1))
 
 returns-2 : tie.Need-returns-2 Inv-loop μ-loop
-returns-2 c = let a = c .before .before .before .args in
-    let o = c .before .loop in
-    let k = messages-length (a .used) (a .words .now) (c .before .before .before .pre) in
+returns-2 c =
+    let b = c .before in let o = b .loop in
+    let b = b .before .before in let a = b .args in
+    let pre = b .pre in
+    let k = messages-length (a .used) (a .words .now) pre in
     let l = length-take-le (a .used) (messages (a .words .now)) k in
     first-none (stands (a .mailbox) (a .uid .0)) (take (a .used) (messages (a .words .now))) (o .i) (omega arith) (omega arith) (o .inv .1)
 

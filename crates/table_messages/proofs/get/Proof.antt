@@ -6,7 +6,9 @@ use native.Mathlib.Omega.{arith}
 use Rattle.table_messages.specs.Words.{messages-get}
 
 returns : tie.Need-returns
-returns c = sym (messages-get (c .before .before .before .before .before .before .args .i) (c .before .before .before .before .before .before .args .words .now) (omega arith))
+returns c =
+    let b = c .before .before .before .before .before .before in let args = b .args in
+    sym (messages-get (args .i) (args .words .now) (omega arith))
 
 pub get-spec : {M : Type 1} → statement M
 get-spec =

@@ -20,14 +20,16 @@ loop-holds c = (search needs, search needs, down-start (c .args .words .now))
 
 loop-again : tie.Need-loop-again Inv-loop μ-loop
 loop-again c =
-    let o = c .before .before .loop in
-    (search needs, search needs, rw (o .inv .2) (down-next (c .before .before .before .args .words .now) (o .i) (omega arith)))
+    let b = c .before .before in let o = b .loop in
+    let b = b .before in let args = b .args in
+    (search needs, search needs, rw (o .inv .2) (down-next (args .words .now) (o .i) (omega arith)))
 
 returns : tie.Need-returns Inv-loop μ-loop
 returns c =
-    let o = c .before .loop in
-    let e : o .i ≡ c .before .before .args .n = omega arith in
-    o .inv .2 ∙ ap (over (drop 6 (c .before .before .args .words .now)) (c .before .before .args .words .now)) e
+    let b = c .before in let o = b .loop in
+    let b = b .before in let args = b .args in
+    let e : o .i ≡ args .n = omega arith in
+    o .inv .2 ∙ ap (over (drop 6 (args .words .now)) (args .words .now)) e
 
 pub move-up-spec : {M : Type 1} → statement M
 move-up-spec =

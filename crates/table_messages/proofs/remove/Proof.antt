@@ -8,9 +8,9 @@ use Rattle.table_messages.proofs.remove.Tie as tie
 
 returns : tie.Need-returns
 returns c =
-    let a = c .before .before .before .before .before .before .before .before .before .before .args in
-    let n = c .before .before .before .nothing in
-    let m = c .before .before .before .before .before .before .before .move-up in
+    let b = c .before .before .before in let n = b .nothing in
+    let b = b .before .before .before .before in let m = b .move-up in
+    let b = b .before .before .before in let a = b .args in
     c .before .before .put .ensures ∙ taken (a .k) (a .used) (a .words .now) (m .last .0) (n .result) (omega arith) (omega arith) (m .ensures) (n .ensures) (omega arith)
 
 pub remove-spec : {M : Type 1} → statement M

@@ -8,11 +8,15 @@ use Rattle.table_messages.specs.Words.{messages}
 use Rattle.table_messages.specs.Swept.{kept, settled, unsettled}
 
 returns : tie.Need-returns
-returns c = unsettled (c .before .before .before .args .sweep) (c .before .before .before .args .words .now) (c .before .before .before .args .used) (c .before .before .before .pre) (sym (c .before .is-idle .ensures) ∙ c .if1 .taken)
+returns c =
+    let b = c .before .before .before in let args = b .args in
+    let pre = b .pre in
+    unsettled (args .sweep) (args .words .now) (args .used) pre (sym (c .before .is-idle .ensures) ∙ c .if1 .taken)
 
 returns-2 : tie.Need-returns-2
-returns-2 c = let a = c .before .before .before .before .before .before .before .before .before .before .before .args in
-    let o = c .before .before .before .before .before .before .compact in
+returns-2 c =
+    let b = c .before .before .before .before .before .before in let o = b .compact in
+    let b = b .before .before .before .before .before in let a = b .args in
     (settled (a .words .now) _ _ (kept (a .sweep) (take (a .used) (messages (a .words .now)))) (o .result) (a .used) (o .ensures .1) (o .ensures .2) (o .ensures .0) (c .before .before .wipe .ensures), o .ensures .1, o .ensures .2)
 
 pub settle-spec : {M : Type 1} → statement M

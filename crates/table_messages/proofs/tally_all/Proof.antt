@@ -24,8 +24,9 @@ add-count c = omega (arith, c .of-one .ensures .1)
 
 loop-again : tie.Need-loop-again Inv-loop μ-loop
 loop-again c =
+    let b = c .before .before .before in let loop = b .loop in
     let start = c .before .before .before .before .before in
-    let turn = c .before .before .before .loop in
+    let turn = loop in
     let one = c .before .of-one in
     (search needs, omega (arith, one .ensures .1, turn .inv .1), tally-next (start .args .mailbox) (start .args .words .now) (turn .i) (turn .count) (one .result) (turn .states) (omega arith) (turn .inv .2) (one .ensures .0))
 

@@ -6,8 +6,10 @@ use Rattle.event_mailbox.proofs.creating.create.Tie as tie
 
 returns : tie.Need-returns
 returns c =
-    let a = c .before .before .before .before .before .before .before .args in create-as (a .queue .now) (a .s) (a .filled) (a .quiet)
-    (c .before .before .before .before .new-box .ensures) (c .before .before .tell-new .ensures)
+    let b = c .before .before .before .before in let new-box = b .new-box in
+    let b = b .before .before .before in let a = b .args in
+    create-as (a .queue .now) (a .s) (a .filled) (a .quiet)
+    (new-box .ensures) (c .before .before .tell-new .ensures)
 
 pub create-spec : {M : Type 1} → statement M
 create-spec =

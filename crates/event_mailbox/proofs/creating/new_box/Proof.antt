@@ -12,8 +12,10 @@ abbrev made : ℕ → ℕ → ℕ → ℕ → LentName → Mailbox
 made i a v k n = record { id = i; attributes = a; namelen = n .len; uidvalidity = v; uidnext = 1; counterlow = k % 4294967296; counterhigh = k / 4294967296; name = n .octets }
 
 returns : tie.Need-returns
-returns c = let a = c .before .before .before .before .before .args in
-    rw (c .before .low-half .ensures, c .high-half .ensures) (ap (made (a .id) (a .a) (a .validity) (a .counter)) (c .before .before .before .stored .ensures))
+returns c =
+    let b = c .before .before .before in let stored = b .stored in
+    let b = b .before .before in let a = b .args in
+    rw (c .before .low-half .ensures, c .high-half .ensures) (ap (made (a .id) (a .a) (a .validity) (a .counter)) (stored .ensures))
 
 pub new-box-spec : {M : Type 1} → statement M
 new-box-spec =

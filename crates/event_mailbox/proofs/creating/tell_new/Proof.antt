@@ -8,12 +8,14 @@ use Rattle.event_mailbox.specs.Free.{sizes, create-free}
 use Rattle.event_mailbox.specs.Creating.{create-leaves}
 
 tell-row-requires : tie.Need-tell-row-requires
-tell-row-requires c κs = let a = c .before .before .before .before .args in
-    let z = sizes _ _ _ (c .before .before .before .before .pre) in (
+tell-row-requires c κs =
+    let b = c .before .before .before .before in let a = b .args in
+    let pre = b .pre in
+    let z = sizes _ _ _ pre in (
       omega arith,
       omega arith,
       omega arith,
-      λ e. create-free _ _ _ (c .before .before .before .before .pre) (a .x) (a .quiet)
+      λ e. create-free _ _ _ pre (a .x) (a .quiet)
           (sym (c .before .before .create-told .ensures) ∙ e),
     )
 

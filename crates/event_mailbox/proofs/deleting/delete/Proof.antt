@@ -7,9 +7,11 @@ use native.Mathlib.Omega.{arith}
 use Rattle.event_mailbox.specs.Free.{sizes, create-free}
 
 tell-row-requires : tie.Need-tell-row-requires
-tell-row-requires c κs = let a = c .before .before .before .args in
-    let z = sizes _ _ _ (c .before .before .before .pre) in
-    (omega arith, omega arith, omega arith, λ e. create-free _ _ _ (c .before .before .before .pre) (a .x) (a .quiet) (sym (c .before .create-told .ensures) ∙ e))
+tell-row-requires c κs =
+    let b = c .before .before .before in let a = b .args in
+    let pre = b .pre in
+    let z = sizes _ _ _ pre in
+    (omega arith, omega arith, omega arith, λ e. create-free _ _ _ pre (a .x) (a .quiet) (sym (c .before .create-told .ensures) ∙ e))
 
 returns : tie.Need-returns
 returns c = rw (← c .before .before .before .before .create-told .ensures) (c .before .before .tell-row .ensures)

@@ -9,20 +9,28 @@ use Rattle.event_mailbox.specs.Free.{sizes, rename-free}
 use Rattle.event_mailbox.specs.Renaming.{rename-leaves}
 
 tell-rows-requires : tie.Need-tell-rows-requires
-tell-rows-requires c κs = let a = c .before .before .before .before .before .before .args in
-    let z = sizes _ _ _ (c .before .before .before .before .before .before .pre) in (
+tell-rows-requires c κs =
+    let b = c .before .before .before in let with-name = b .with-name in
+    let b = b .before .before .before in let a = b .args in
+    let pre = b .pre in
+    let z = sizes _ _ _ pre in (
       omega arith,
       omega arith,
       omega arith,
-      λ e. rename-free _ _ _ (c .before .before .before .before .before .before .pre) (a .x)
-          (c .before .before .before .with-name .result) (a .quiet) (sym (c .before .before .rename-told .ensures) ∙ e),
+      λ e. rename-free _ _ _ pre (a .x)
+          (with-name .result) (a .quiet) (sym (c .before .before .rename-told .ensures) ∙ e),
     )
 
 returns : tie.Need-returns
-returns c = let a = c .before .before .before .before .before .before .before .before .before .before .args in
+returns c =
+    let b = c .before .before .before in let tell-rows = b .tell-rows in
+    let b = b .before .before in let mark-of = b .mark-of in
+    let b = b .before in let rename-told = b .rename-told in
+    let b = b .before in let with-name = b .with-name in
+    let b = b .before .before .before in let a = b .args in
     rename-leaves (a .queue .now) (a .s) (a .filled) (a .x) (argument (a .name .now)) (a .quiet)
-    (c .before .before .before .before .before .before .before .with-name .ensures) (c .before .before .before .before .before .before .rename-told .ensures)
-    (c .before .before .before .before .before .mark-of .ensures) (c .before .before .before .tell-rows .ensures)
+    (with-name .ensures) (rename-told .ensures)
+    (mark-of .ensures) (tell-rows .ensures)
 
 pub rename-spec : {M : Type 1} → statement M
 rename-spec =

@@ -15,18 +15,26 @@ returns c = let a = c .before .before .args in
     (not-true _ (c .if1 .taken))
 
 say-rows-requires : tie.Need-say-rows-requires
-say-rows-requires c κs = let f = c .before .before .before .pre .3 (not-false _ (c .before .if1 .left)) in omega arith
+say-rows-requires c κs =
+    let b = c .before .before .before in let pre = b .pre in
+    let f = pre .3 (not-false _ (c .before .if1 .left)) in omega arith
 
 returns-2 : tie.Need-returns-2
-returns-2 c = let a = c .before .before .before .before .before .before .before .args in
+returns-2 c =
+    let b = c .before .before .before in let say-rows = b .say-rows in
+    let b = b .before .before in let if1 = b .if1 in
+    let b = b .before .before in let a = b .args in
     hears-fits (a .queue .now) (a .s) (a .filled) (a .on) (render (renamed (markOf (a .mark)) (nameOf (a .y)) (nameOf (a .x)))) _ _
-    (not-false _ (c .before .before .before .before .before .if1 .left)) (rw (c .if2 .taken) at (c .before .before .before .say-rows .ensures))
+    (not-false _ (if1 .left)) (rw (c .if2 .taken) at (say-rows .ensures))
 
 returns-3 : tie.Need-returns-3
-returns-3 c = let a = c .before .before .before .before .before .before .before .before .args in
+returns-3 c =
+    let b = c .before .before .before .before in let say-rows = b .say-rows in
+    let b = b .before .before in let if1 = b .if1 in
+    let b = b .before .before in let a = b .args in
     rw (c .silence .ensures)
     (hears-over (a .queue .now) (a .s) (a .filled) (a .on) (render (renamed (markOf (a .mark)) (nameOf (a .y)) (nameOf (a .x)))) _ _
-    (not-false _ (c .before .before .before .before .before .before .if1 .left)) (rw (c .before .if2 .left) at (c .before .before .before .before .say-rows .ensures)))
+    (not-false _ (if1 .left)) (rw (c .before .if2 .left) at (say-rows .ensures)))
 
 pub tell-rows-spec : {M : Type 1} → statement M
 tell-rows-spec =

@@ -8,20 +8,28 @@ use Rattle.event_mailbox.specs.Free.{sizes, grant-free}
 use Rattle.event_mailbox.specs.Rights.{grant-leaves}
 
 tell-row-requires : tie.Need-tell-row-requires
-tell-row-requires c κs = let a = c .before .before .before .before .before .args in
-    let z = sizes _ _ _ (c .before .before .before .before .before .pre .0) in (
+tell-row-requires c κs =
+    let b = c .before .before .before in let with-rights = b .with-rights in
+    let b = b .before .before in let a = b .args in
+    let pre = b .pre in
+    let z = sizes _ _ _ (pre .0) in (
       omega arith,
       omega arith,
       omega arith,
-      λ e. grant-free _ _ _ (c .before .before .before .before .before .pre .0) (a .x)
-          (c .before .before .before .with-rights .result) (sym (c .before .before .grant-told .ensures) ∙ e),
+      λ e. grant-free _ _ _ (pre .0) (a .x)
+          (with-rights .result) (sym (c .before .before .grant-told .ensures) ∙ e),
     )
 
 returns : tie.Need-returns
-returns c = let a = c .before .before .before .before .before .before .before .before .before .args in
+returns c =
+    let b = c .before .before .before in let tell-row = b .tell-row in
+    let b = b .before .before in let grant-mark = b .grant-mark in
+    let b = b .before in let grant-told = b .grant-told in
+    let b = b .before in let with-rights = b .with-rights in
+    let b = b .before .before in let a = b .args in
     grant-leaves (a .queue .now) (a .s) (a .filled) (a .x) (a .rights)
-    (c .before .before .before .before .before .before .before .with-rights .ensures) (c .before .before .before .before .before .before .grant-told .ensures)
-    (c .before .before .before .before .before .grant-mark .ensures) (c .before .before .before .tell-row .ensures)
+    (with-rights .ensures) (grant-told .ensures)
+    (grant-mark .ensures) (tell-row .ensures)
 
 pub grant-spec : {M : Type 1} → statement M
 grant-spec =

@@ -8,12 +8,14 @@ use Rattle.event_mailbox.specs.Free.{sizes, subscribe-free}
 use Rattle.event_mailbox.specs.Subscriptions.{subscribe-leaves}
 
 tell-row-requires : tie.Need-tell-row-requires
-tell-row-requires c κs = let a = c .before .before .before .before .before .before .args in
-    let z = sizes _ _ _ (c .before .before .before .before .before .before .pre .0) in (
+tell-row-requires c κs =
+    let b = c .before .before .before .before .before .before in let a = b .args in
+    let pre = b .pre in
+    let z = sizes _ _ _ (pre .0) in (
       omega arith,
       omega arith,
       omega arith,
-      λ e. subscribe-free _ _ _ (c .before .before .before .before .before .before .pre .0) (a .x) (a .b) (a .quiet)
+      λ e. subscribe-free _ _ _ (pre .0) (a .x) (a .b) (a .quiet)
           (sym (c .before .before .subscribe-told .ensures) ∙ e),
     )
 

@@ -31,12 +31,18 @@ returns-3 c = let a = c .before .before .before .before .before .args in
     (sym (c .before .both .ensures) ∙ not-true _ (c .if3 .taken))
 
 returns-4 : tie.Need-returns-4
-returns-4 c = let a = c .before .before .before .before .before .before .before .before .args in
+returns-4 c =
+    let b = c .before .before .before in let if3 = b .if3 in
+    let b = b .before in let both = b .both in
+    let b = b .before in let if2 = b .if2 in
+    let b = b .before in let does-differ = b .does-differ in
+    let b = b .before in let if1 = b .if1 in
+    let b = b .before in let a = b .args in
     rung-four (eqb (a .quiet) 0) (differs (a .x .attributes) (a .b)) (bothRights (a .x))
     (asked (a .s) (nameOf (a .x)) (withSubscribed (a .x .attributes) 1) asksSubscription) _
-    (eq-eqb _ 0 (c .before .before .before .before .before .before .before .if1 .left))
-    (sym (c .before .before .before .before .before .before .does-differ .ensures) ∙ not-false _ (c .before .before .before .before .before .if2 .left))
-    (sym (c .before .before .before .before .both .ensures) ∙ not-false _ (c .before .before .before .if3 .left))
+    (eq-eqb _ 0 (if1 .left))
+    (sym (does-differ .ensures) ∙ not-false _ (if2 .left))
+    (sym (both .ensures) ∙ not-false _ (if3 .left))
     (c .is-asked-of .ensures ∙ ap (λ (z : Mailbox). askedOf (a .s) z (asksBit 4))
     (c .before .with-attributes .ensures ∙ ap (withAttributes (a .x)) (c .before .before .with-subscribed .ensures)))
 

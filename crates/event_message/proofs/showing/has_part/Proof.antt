@@ -6,10 +6,14 @@ use Rattle.event_message.proofs.showing.has_part.Statement.{statement}
 use Rattle.event_message.proofs.showing.has_part.Tie as tie
 
 returns : tie.Need-returns
-returns c = part-elsewhere (c .before .before .args .k) (c .before .before .args .g) (omega (arith, c .if1 .taken))
+returns c =
+    let b = c .before .before in let args = b .args in
+    part-elsewhere (args .k) (args .g) (omega (arith, c .if1 .taken))
 
 returns-2 : tie.Need-returns-2
-returns-2 c = part-here (c .before .before .before .args .k) (c .before .before .before .args .g) (c .holds .result) (omega (arith, c .before .if1 .left)) (c .holds .ensures)
+returns-2 c =
+    let b = c .before .before .before in let args = b .args in
+    part-here (args .k) (args .g) (c .holds .result) (omega (arith, c .before .if1 .left)) (c .holds .ensures)
 
 pub has-part-spec : {M : Type 1} → statement M
 has-part-spec =

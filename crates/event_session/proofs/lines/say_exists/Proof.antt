@@ -7,10 +7,16 @@ use native.Mathlib.Omega.{arith}
 use Rattle.event_session.specs.Coded.{stateOf, exists-none, exists-some}
 
 returns : tie.Need-returns
-returns c = (exists-none (c .before .before .args .limit) (c .before .before .args .k) (c .before .before .args .n) (stateOf (c .before .before .args .queue .now) (c .before .before .args .g)) (c .if1 .taken), omega arith, omega arith, refl)
+returns c =
+    let b = c .before .before in let args = b .args in
+    (exists-none (args .limit) (args .k) (args .n) (stateOf (args .queue .now) (args .g)) (c .if1 .taken), omega arith, omega arith, refl)
 
 returns-2 : tie.Need-returns-2
-returns-2 c = (exists-some (c .before .before .before .before .before .before .before .args .limit) (c .before .before .before .before .before .before .before .args .k) (c .before .before .before .before .before .before .before .args .n) (stateOf (c .before .before .before .before .before .before .before .args .queue .now) (c .before .before .before .before .before .before .before .args .g)) _ (c .before .before .before .before .before .if1 .left) (c .before .before .say-count .ensures .0), c .before .before .say-count .ensures .1, c .before .before .say-count .ensures .2, omega (arith, c .before .before .say-count .ok))
+returns-2 c =
+    let b = c .before .before in let say-count = b .say-count in
+    let b = b .before .before .before in let if1 = b .if1 in
+    let b = b .before .before in let args = b .args in
+    (exists-some (args .limit) (args .k) (args .n) (stateOf (args .queue .now) (args .g)) _ (if1 .left) (say-count .ensures .0), say-count .ensures .1, say-count .ensures .2, omega (arith, say-count .ok))
 
 pub say-exists-spec : {M : Type 1} → statement M
 say-exists-spec =

@@ -10,13 +10,24 @@ use Rattle.event_session.specs.Saying.{say-shut, say-over, say-fits}
 use Rattle.event_session.specs.Coded.{stateOf}
 
 returns : tie.Need-returns
-returns c = (ap (stateOf (c .before .before .before .before .args .queue .now)) (c .refused .ensures) ∙ say-shut (c .before .before .before .before .args .limit) (c .before .before .before .before .args .uid .0) (fetchText (c .before .before .before .before .args .n .0) (c .before .before .before .before .args .uid .0) (c .before .before .before .before .args .flags) (c .before .before .before .before .args .counter)) (stateOf (c .before .before .before .before .args .queue .now) (c .before .before .before .before .args .g)) (not-true _ (c .before .if1 .taken)), omega (arith, ap (λ (x : Going). x .end) (c .refused .ensures)), omega (arith, ap (λ (x : Going). x .rest) (c .refused .ensures)), ap (λ (x : Going). x .next .0) (c .refused .ensures))
+returns c =
+    let b = c .before .before .before .before in let args = b .args in
+    (ap (stateOf (args .queue .now)) (c .refused .ensures) ∙ say-shut (args .limit) (args .uid .0) (fetchText (args .n .0) (args .uid .0) (args .flags) (args .counter)) (stateOf (args .queue .now) (args .g)) (not-true _ (c .before .if1 .taken)), omega (arith, ap (λ (x : Going). x .end) (c .refused .ensures)), omega (arith, ap (λ (x : Going). x .rest) (c .refused .ensures)), ap (λ (x : Going). x .next .0) (c .refused .ensures))
 
 returns-2 : tie.Need-returns-2
-returns-2 c = (ap (stateOf _) (c .refused2 .ensures) ∙ say-over (c .before .before .before .before .before .before .before .before .before .args .queue .now) _ (c .before .before .before .before .before .before .before .before .before .args .limit) (c .before .before .before .before .before .before .before .before .before .args .uid .0) (fetchText (c .before .before .before .before .before .before .before .before .before .args .n .0) (c .before .before .before .before .before .before .before .before .before .args .uid .0) (c .before .before .before .before .before .before .before .before .before .args .flags) (c .before .before .before .before .before .before .before .before .before .args .counter)) (stateOf (c .before .before .before .before .before .before .before .before .before .args .queue .now) (c .before .before .before .before .before .before .before .before .before .args .g)) (c .before .before .before .before .put-fetch .result) refl (c .before .before .before .before .put-fetch .ensures .0) (c .before .if2 .taken), omega (arith, ap (λ (x : Going). x .end) (c .refused2 .ensures)), omega (arith, ap (λ (x : Going). x .rest) (c .refused2 .ensures)), ap (λ (x : Going). x .next .0) (c .refused2 .ensures))
+returns-2 c =
+    let b = c .before .before .before .before in let put-fetch = b .put-fetch in
+    let b = b .before .before .before .before .before in let args = b .args in
+    (ap (stateOf _) (c .refused2 .ensures) ∙ say-over (args .queue .now) _ (args .limit) (args .uid .0) (fetchText (args .n .0) (args .uid .0) (args .flags) (args .counter)) (stateOf (args .queue .now) (args .g)) (put-fetch .result) refl (put-fetch .ensures .0) (c .before .if2 .taken), omega (arith, ap (λ (x : Going). x .end) (c .refused2 .ensures)), omega (arith, ap (λ (x : Going). x .rest) (c .refused2 .ensures)), ap (λ (x : Going). x .next .0) (c .refused2 .ensures))
 
 returns-3 : tie.Need-returns-3
-returns-3 c = (say-fits (c .before .before .before .before .before .before .before .before .before .before .before .before .before .before .args .queue .now) _ (c .before .before .before .before .before .before .before .before .before .before .before .before .before .before .args .limit) (c .before .before .before .before .before .before .before .before .before .before .before .before .before .before .args .uid .0) (fetchText (c .before .before .before .before .before .before .before .before .before .before .before .before .before .before .args .n .0) (c .before .before .before .before .before .before .before .before .before .before .before .before .before .before .args .uid .0) (c .before .before .before .before .before .before .before .before .before .before .before .before .before .before .args .flags) (c .before .before .before .before .before .before .before .before .before .before .before .before .before .before .args .counter)) (stateOf (c .before .before .before .before .before .before .before .before .before .before .before .before .before .before .args .queue .now) (c .before .before .before .before .before .before .before .before .before .before .before .before .before .before .args .g)) (c .before .before .before .before .before .before .before .before .before .put-fetch .result) refl (c .before .before .before .before .before .before .before .before .before .put-fetch .ensures .0) _ (c .before .before .before .before .put-fetch2 .result) (not-false _ (c .before .before .before .before .before .before .before .before .before .before .before .if1 .left)) (c .before .before .before .before .put-fetch2 .ensures .0) (c .before .before .before .before .before .before .if2 .left), omega (arith, c .before .before .before .before .before .before .before .before .before .put-fetch .ensures .0 .next, c .before .before .before .before .put-fetch2 .ensures .0 .next), omega arith, refl)
+returns-3 c =
+    let b = c .before .before .before .before in let put-fetch2 = b .put-fetch2 in
+    let b = b .before .before in let if2 = b .if2 in
+    let b = b .before .before .before in let put-fetch = b .put-fetch in
+    let b = b .before .before in let if1 = b .if1 in
+    let b = b .before .before .before in let args = b .args in
+    (say-fits (args .queue .now) _ (args .limit) (args .uid .0) (fetchText (args .n .0) (args .uid .0) (args .flags) (args .counter)) (stateOf (args .queue .now) (args .g)) (put-fetch .result) refl (put-fetch .ensures .0) _ (put-fetch2 .result) (not-false _ (if1 .left)) (put-fetch2 .ensures .0) (if2 .left), omega (arith, put-fetch .ensures .0 .next, put-fetch2 .ensures .0 .next), omega arith, refl)
 
 pub say-fetch-spec : {M : Type 1} → statement M
 say-fetch-spec =

@@ -11,13 +11,26 @@ use Rattle.event_session.specs.declared.Going.{Going}
 use Rattle.event_session.specs.Coded.{stateOf, e-off, e-gone, e-stay, more-is}
 
 returns : tie.Need-returns
-returns c = (e-off (c .before .before .before .before .before .before .args .told .0) (c .before .before .before .before .before .before .args .limit) (c .before .before .before .entry .result) (getD (messages (c .before .before .before .before .before .before .args .words .now)) (c .before .before .before .before .before .before .args .p) noMessage) (c .before .before .before .entry .ensures) (stateOf (c .before .before .before .before .before .before .args .queue .now) (c .before .before .before .before .before .before .args .g)) (c .if1 .taken), omega arith, omega arith, omega arith)
+returns c =
+    let b = c .before .before .before in let entry = b .entry in
+    let b = b .before .before .before in let args = b .args in
+    (e-off (args .told .0) (args .limit) (entry .result) (getD (messages (args .words .now)) (args .p) noMessage) (entry .ensures) (stateOf (args .queue .now) (args .g)) (c .if1 .taken), omega arith, omega arith, omega arith)
 
 returns-2 : tie.Need-returns-2
-returns-2 c = (c .before .before .say-count .ensures .0 ∙ e-gone (c .before .before .before .before .before .before .before .before .before .before .before .before .before .before .before .args .told .0) (c .before .before .before .before .before .before .before .before .before .before .before .before .before .before .before .args .limit) (c .before .before .before .before .before .before .before .before .before .before .before .before .entry .result) (getD (messages (c .before .before .before .before .before .before .before .before .before .before .before .before .before .before .before .args .words .now)) (c .before .before .before .before .before .before .before .before .before .before .before .before .before .before .before .args .p) noMessage) (c .before .before .before .before .before .before .before .before .before .before .before .before .entry .ensures) (stateOf (c .before .before .before .before .before .before .before .before .before .before .before .before .before .before .before .args .queue .now) (c .before .before .before .before .before .before .before .before .before .before .before .before .before .before .before .args .g)) (c .before .before .before .before .before .before .before .before .before .if1 .left) (c .before .before .before .before .before .before .before .if2 .taken), c .before .before .say-count .ensures .1, c .before .before .say-count .ensures .2, omega (arith, c .before .before .say-count .ensures .3))
+returns-2 c =
+    let b = c .before .before in let say-count = b .say-count in
+    let b = b .before .before .before .before .before in let if2 = b .if2 in
+    let b = b .before .before in let if1 = b .if1 in
+    let b = b .before .before .before in let entry = b .entry in
+    let b = b .before .before .before in let args = b .args in
+    (say-count .ensures .0 ∙ e-gone (args .told .0) (args .limit) (entry .result) (getD (messages (args .words .now)) (args .p) noMessage) (entry .ensures) (stateOf (args .queue .now) (args .g)) (if1 .left) (if2 .taken), say-count .ensures .1, say-count .ensures .2, omega (arith, say-count .ensures .3))
 
 returns-3 : tie.Need-returns-3
-returns-3 c = (ap (stateOf (c .before .before .before .before .before .before .before .before .before .args .queue .now)) (c .advanced .ensures) ∙ (more-is (stateOf (c .before .before .before .before .before .before .before .before .before .args .queue .now) (c .before .before .before .before .before .before .before .before .before .args .g)) ∙ e-stay (c .before .before .before .before .before .before .before .before .before .args .told .0) (c .before .before .before .before .before .before .before .before .before .args .limit) (c .before .before .before .before .before .before .entry .result) (getD (messages (c .before .before .before .before .before .before .before .before .before .args .words .now)) (c .before .before .before .before .before .before .before .before .before .args .p) noMessage) (c .before .before .before .before .before .before .entry .ensures) (stateOf (c .before .before .before .before .before .before .before .before .before .args .queue .now) (c .before .before .before .before .before .before .before .before .before .args .g)) (c .before .before .before .if1 .left) (c .before .if2 .left)), omega (arith, ap (λ (x : Going). x .end) (c .advanced .ensures)), omega (arith, ap (λ (x : Going). x .rest) (c .advanced .ensures)), omega (arith, ap (λ (x : Going). x .next .0) (c .advanced .ensures)))
+returns-3 c =
+    let b = c .before .before .before in let if1 = b .if1 in
+    let b = b .before .before .before in let entry = b .entry in
+    let b = b .before .before .before in let args = b .args in
+    (ap (stateOf (args .queue .now)) (c .advanced .ensures) ∙ (more-is (stateOf (args .queue .now) (args .g)) ∙ e-stay (args .told .0) (args .limit) (entry .result) (getD (messages (args .words .now)) (args .p) noMessage) (entry .ensures) (stateOf (args .queue .now) (args .g)) (if1 .left) (c .before .if2 .left)), omega (arith, ap (λ (x : Going). x .end) (c .advanced .ensures)), omega (arith, ap (λ (x : Going). x .rest) (c .advanced .ensures)), omega (arith, ap (λ (x : Going). x .next .0) (c .advanced .ensures)))
 
 pub expunge-one-spec : {M : Type 1} → statement M
 expunge-one-spec =

@@ -20,10 +20,18 @@ loop-holds : tie.Need-loop-holds Inv-loop μ-loop
 loop-holds c = (search needs, search needs, search needs, search needs, search needs, refl)
 
 loop-again : tie.Need-loop-again Inv-loop μ-loop
-loop-again c = (search needs, search needs, c .before .before .expunge-one .ensures .1, omega (arith, c .before .before .expunge-one .ensures .2, c .before .before .before .before .before .before .loop .inv .3), omega (arith, c .before .before .expunge-one .ensures .3, c .before .before .before .before .before .before .loop .inv .4), runE-next (messages (c .before .before .before .before .before .before .before .before .before .before .args .words .now)) (c .before .before .before .before .before .before .before .before .before .before .args .order .now) (c .before .before .before .before .before .before .before .before .before .before .args .told .0) (c .before .before .before .before .before .before .before .before .before .before .args .limit) (c .before .before .before .before .before .before .loop .j) (stateOf (c .before .before .before .before .before .before .loop .queue) (c .before .before .before .before .before .before .loop .s)) _ _ (c .before .before .before .before .before .loop-test .taken) (c .before .before .before .before .before .before .loop .inv .5) (c .before .before .expunge-one .ensures .0))
+loop-again c =
+    let b = c .before .before in let expunge-one = b .expunge-one in
+    let b = b .before .before .before in let loop-test = b .loop-test in
+    let b = b .before in let loop = b .loop in
+    let b = b .before .before .before .before in let args = b .args in
+    (search needs, search needs, expunge-one .ensures .1, omega (arith, expunge-one .ensures .2, loop .inv .3), omega (arith, expunge-one .ensures .3, loop .inv .4), runE-next (messages (args .words .now)) (args .order .now) (args .told .0) (args .limit) (loop .j) (stateOf (loop .queue) (loop .s)) _ _ (loop-test .taken) (loop .inv .5) (expunge-one .ensures .0))
 
 returns : tie.Need-returns Inv-loop μ-loop
-returns c = (runE-end (messages (c .before .before .before .before .before .args .words .now)) (c .before .before .before .before .before .args .order .now) (c .before .before .before .before .before .args .told .0) (c .before .before .before .before .before .args .limit) (c .before .loop .j) (stateOf (c .before .loop .queue) (c .before .loop .s)) _ (omega arith) (c .before .loop .inv .5), c .before .loop .inv .2, omega (arith, c .before .loop .inv .3))
+returns c =
+    let b = c .before in let loop = b .loop in
+    let b = b .before .before .before .before in let args = b .args in
+    (runE-end (messages (args .words .now)) (args .order .now) (args .told .0) (args .limit) (loop .j) (stateOf (loop .queue) (loop .s)) _ (omega arith) (loop .inv .5), loop .inv .2, omega (arith, loop .inv .3))
 
 pub expunges-spec : {M : Type 1} → statement M
 expunges-spec =

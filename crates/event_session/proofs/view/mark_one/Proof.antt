@@ -11,19 +11,42 @@ use Rattle.event_session.specs.declared.Going.{Going}
 use Rattle.event_session.specs.Coded.{stateOf, m-off, m-skip, m-mark, m-plain, more-as, more-is}
 
 returns : tie.Need-returns
-returns c = (m-off (c .before .before .before .before .before .before .args .told .0) (c .before .before .before .before .before .before .args .limit) (c .before .before .before .entry .result) (getD (messages (c .before .before .before .before .before .before .args .words .now)) (c .before .before .before .before .before .before .args .p) noMessage) (c .before .before .before .entry .ensures) (stateOf (c .before .before .before .before .before .before .args .queue .now) (c .before .before .before .before .before .before .args .g)) (c .before .before .before .before .before .before .args .skip) (c .if1 .taken), omega arith, omega arith, omega arith)
+returns c =
+    let b = c .before .before .before in let entry = b .entry in
+    let b = b .before .before .before in let args = b .args in
+    (m-off (args .told .0) (args .limit) (entry .result) (getD (messages (args .words .now)) (args .p) noMessage) (entry .ensures) (stateOf (args .queue .now) (args .g)) (args .skip) (c .if1 .taken), omega arith, omega arith, omega arith)
 
 returns-2 : tie.Need-returns-2
-returns-2 c = (m-skip (c .before .before .before .before .before .before .before .before .before .args .told .0) (c .before .before .before .before .before .before .before .before .before .args .limit) (c .before .before .before .before .before .before .entry .result) (getD (messages (c .before .before .before .before .before .before .before .before .before .args .words .now)) (c .before .before .before .before .before .before .before .before .before .args .p) noMessage) (c .before .before .before .before .before .before .entry .ensures) (stateOf (c .before .before .before .before .before .before .before .before .before .args .queue .now) (c .before .before .before .before .before .before .before .before .before .args .g)) (c .before .before .before .before .before .before .before .before .before .args .skip) (c .before .before .before .if1 .left) (sym (c .before .both .ensures) ∙ c .if2 .taken), omega arith, omega arith, omega arith)
+returns-2 c =
+    let b = c .before .before .before in let if1 = b .if1 in
+    let b = b .before .before .before in let entry = b .entry in
+    let b = b .before .before .before in let args = b .args in
+    (m-skip (args .told .0) (args .limit) (entry .result) (getD (messages (args .words .now)) (args .p) noMessage) (entry .ensures) (stateOf (args .queue .now) (args .g)) (args .skip) (if1 .left) (sym (c .before .both .ensures) ∙ c .if2 .taken), omega arith, omega arith, omega arith)
 
 advanced-requires : tie.Need-advanced-requires
-advanced-requires c κs = omega (arith, c .before .before .say-fetch .ensures .3, c .before .before .before .before .before .before .before .before .before .before .before .before .before .before .before .before .before .pre .4)
+advanced-requires c κs =
+    let b = c .before .before .before .before .before .before .before .before .before .before .before .before .before .before .before .before .before in let pre = b .pre in
+    omega (arith, c .before .before .say-fetch .ensures .3, pre .4)
 
 returns-3 : tie.Need-returns-3
-returns-3 c = (ap (stateOf _) (c .advanced .ensures) ∙ (more-is (stateOf _ (c .before .before .before .say-fetch .result)) ∙ (more-as _ _ (c .before .before .before .say-fetch .ensures .0) ∙ m-mark (c .before .before .before .before .before .before .before .before .before .before .before .before .before .before .before .before .before .before .args .told .0) (c .before .before .before .before .before .before .before .before .before .before .before .before .before .before .before .before .before .before .args .limit) (c .before .before .before .before .before .before .before .before .before .before .before .before .before .before .before .entry .result) (getD (messages (c .before .before .before .before .before .before .before .before .before .before .before .before .before .before .before .before .before .before .args .words .now)) (c .before .before .before .before .before .before .before .before .before .before .before .before .before .before .before .before .before .before .args .p) noMessage) (c .before .before .before .before .before .before .before .before .before .before .before .before .before .before .before .entry .ensures) (stateOf (c .before .before .before .before .before .before .before .before .before .before .before .before .before .before .before .before .before .before .args .queue .now) (c .before .before .before .before .before .before .before .before .before .before .before .before .before .before .before .before .before .before .args .g)) (c .before .before .before .before .before .before .before .before .before .before .before .before .before .before .before .before .before .before .args .skip) (c .before .before .before .before .before .before .before .before .before .before .before .before .if1 .left) (sym (c .before .before .before .before .before .before .before .before .before .before .both .ensures) ∙ c .before .before .before .before .before .before .before .before .before .if2 .left) (c .before .before .before .before .before .before .before .if3 .taken))), omega (arith, ap (λ (x : Going). x .end) (c .advanced .ensures), c .before .before .before .say-fetch .ensures .1), omega (arith, ap (λ (x : Going). x .rest) (c .advanced .ensures), c .before .before .before .say-fetch .ensures .2), omega (arith, ap (λ (x : Going). x .next .0) (c .advanced .ensures), c .before .before .before .say-fetch .ensures .3))
+returns-3 c =
+    let b = c .before .before .before in let say-fetch = b .say-fetch in
+    let b = b .before .before .before .before in let if3 = b .if3 in
+    let b = b .before .before in let if2 = b .if2 in
+    let b = b .before in let both = b .both in
+    let b = b .before .before in let if1 = b .if1 in
+    let b = b .before .before .before in let entry = b .entry in
+    let b = b .before .before .before in let args = b .args in
+    (ap (stateOf _) (c .advanced .ensures) ∙ (more-is (stateOf _ (say-fetch .result)) ∙ (more-as _ _ (say-fetch .ensures .0) ∙ m-mark (args .told .0) (args .limit) (entry .result) (getD (messages (args .words .now)) (args .p) noMessage) (entry .ensures) (stateOf (args .queue .now) (args .g)) (args .skip) (if1 .left) (sym (both .ensures) ∙ if2 .left) (if3 .taken))), omega (arith, ap (λ (x : Going). x .end) (c .advanced .ensures), say-fetch .ensures .1), omega (arith, ap (λ (x : Going). x .rest) (c .advanced .ensures), say-fetch .ensures .2), omega (arith, ap (λ (x : Going). x .next .0) (c .advanced .ensures), say-fetch .ensures .3))
 
 returns-4 : tie.Need-returns-4
-returns-4 c = (ap (stateOf (c .before .before .before .before .before .before .before .before .before .before .before .before .args .queue .now)) (c .advanced2 .ensures) ∙ (more-is (stateOf (c .before .before .before .before .before .before .before .before .before .before .before .before .args .queue .now) (c .before .before .before .before .before .before .before .before .before .before .before .before .args .g)) ∙ m-plain (c .before .before .before .before .before .before .before .before .before .before .before .before .args .told .0) (c .before .before .before .before .before .before .before .before .before .before .before .before .args .limit) (c .before .before .before .before .before .before .before .before .before .entry .result) (getD (messages (c .before .before .before .before .before .before .before .before .before .before .before .before .args .words .now)) (c .before .before .before .before .before .before .before .before .before .before .before .before .args .p) noMessage) (c .before .before .before .before .before .before .before .before .before .entry .ensures) (stateOf (c .before .before .before .before .before .before .before .before .before .before .before .before .args .queue .now) (c .before .before .before .before .before .before .before .before .before .before .before .before .args .g)) (c .before .before .before .before .before .before .before .before .before .before .before .before .args .skip) (c .before .before .before .before .before .before .if1 .left) (sym (c .before .before .before .before .both .ensures) ∙ c .before .before .before .if2 .left) (c .before .if3 .left)), omega (arith, ap (λ (x : Going). x .end) (c .advanced2 .ensures)), omega (arith, ap (λ (x : Going). x .rest) (c .advanced2 .ensures)), omega (arith, ap (λ (x : Going). x .next .0) (c .advanced2 .ensures)))
+returns-4 c =
+    let b = c .before .before .before in let if2 = b .if2 in
+    let b = b .before in let both = b .both in
+    let b = b .before .before in let if1 = b .if1 in
+    let b = b .before .before .before in let entry = b .entry in
+    let b = b .before .before .before in let args = b .args in
+    (ap (stateOf (args .queue .now)) (c .advanced2 .ensures) ∙ (more-is (stateOf (args .queue .now) (args .g)) ∙ m-plain (args .told .0) (args .limit) (entry .result) (getD (messages (args .words .now)) (args .p) noMessage) (entry .ensures) (stateOf (args .queue .now) (args .g)) (args .skip) (if1 .left) (sym (both .ensures) ∙ if2 .left) (c .before .if3 .left)), omega (arith, ap (λ (x : Going). x .end) (c .advanced2 .ensures)), omega (arith, ap (λ (x : Going). x .rest) (c .advanced2 .ensures)), omega (arith, ap (λ (x : Going). x .next .0) (c .advanced2 .ensures)))
 
 pub mark-one-spec : {M : Type 1} → statement M
 mark-one-spec =

@@ -10,16 +10,33 @@ use Rattle.event_session.specs.declared.Going.{Going}
 use Rattle.event_session.specs.Ending.{speaks}
 
 say-exists-requires : tie.Need-say-exists-requires
-say-exists-requires c κs = (omega arith, omega arith, omega (arith, ap (λ (x : Going). x .end) (c .begun .ensures), c .before .before .before .before .before .before .say-first .ensures .1), omega (arith, ap (λ (x : Going). x .rest) (c .begun .ensures), c .before .before .before .before .before .before .say-first .ensures .2), c .before .before .before .staying .ensures .1, c .before .before .unseen .ensures .1)
+say-exists-requires c κs =
+    let b = c .before .before .before in let staying = b .staying in
+    let b = b .before .before .before in let say-first = b .say-first in
+    (omega arith, omega arith, omega (arith, ap (λ (x : Going). x .end) (c .begun .ensures), say-first .ensures .1), omega (arith, ap (λ (x : Going). x .rest) (c .begun .ensures), say-first .ensures .2), staying .ensures .1, c .before .before .unseen .ensures .1)
 
 marks-requires : tie.Need-marks-requires
-marks-requires c κs = (c .before .before .before .before .before .before .before .before .before .before .before .before .before .before .before .before .pre .0, c .before .before .before .before .before .before .before .before .before .before .before .before .before .before .before .before .pre .1, omega (arith, c .before .before .before .before .before .before .before .before .before .before .before .before .before .before .before .before .pre .2, c .before .before .before .before .before .before .before .before .before .before .before .say-first .ok, c .before .before .before .before .say-exists .ok), c .before .before .before .before .before .before .before .before .before .before .before .before .before .before .before .before .pre .3, omega (arith, ap (λ (x : Going). x .end) (c .begun2 .ensures), c .before .before .before .before .say-exists .ensures .1), omega (arith, c .before .before .before .before .before .before .before .before .before .before .before .before .before .before .before .before .pre .1, ap (λ (x : Going). x .rest) (c .begun2 .ensures), ap (λ (x : Going). x .rest) (c .before .before .before .before .before .begun .ensures), c .before .before .before .before .say-exists .ensures .2, c .before .before .before .before .before .before .before .before .before .before .before .say-first .ensures .2), omega (arith, ap (λ (x : Going). x .next .0) (c .begun2 .ensures)), c .before .before .before .before .before .before .before .before .before .before .before .before .before .before .before .before .pre .5)
+marks-requires c κs =
+    let b = c .before .before .before .before in let say-exists = b .say-exists in
+    let b = b .before in let begun = b .begun in
+    let b = b .before .before .before .before .before .before in let say-first = b .say-first in
+    let b = b .before .before .before .before .before in let pre = b .pre in
+    (pre .0, pre .1, omega (arith, pre .2, say-first .ok, say-exists .ok), pre .3, omega (arith, ap (λ (x : Going). x .end) (c .begun2 .ensures), say-exists .ensures .1), omega (arith, pre .1, ap (λ (x : Going). x .rest) (c .begun2 .ensures), ap (λ (x : Going). x .rest) (begun .ensures), say-exists .ensures .2, say-first .ensures .2), omega (arith, ap (λ (x : Going). x .next .0) (c .begun2 .ensures)), pre .5)
 
 same-length : tie.Need-same-length
 same-length c = omega (arith, c .before .before .before .before .before .before .before .before .before .before .before .before .before .before .before .before .before .say-first .ensures .3, c .before .before .before .before .before .before .before .before .before .before .say-exists .ensures .3, c .before .before .before .before .before .marks .ok)
 
 returns : tie.Need-returns
-returns c = speaks (c .before .before .before .before .before .before .before .before .before .before .before .before .before .before .before .before .before .before .before .before .before .before .args .told .0) (c .before .before .before .before .before .before .before .before .before .before .before .before .before .before .before .before .before .before .before .before .before .before .args .class) (c .before .before .before .before .before .before .before .before .before .before .before .before .before .before .before .before .before .before .before .before .before .before .args .limit) (chosen (messages (c .before .before .before .before .before .before .before .before .before .before .before .before .before .before .before .before .before .before .before .before .before .before .args .words .now)) (c .before .before .before .before .before .before .before .before .before .before .before .before .before .before .before .before .before .before .before .before .before .before .args .order .now) (c .before .before .before .before .before .before .before .before .before .before .before .before .before .before .before .before .before .before .before .before .before .before .args .n)) (c .before .before .before .before .before .before .before .before .before .before .before .before .before .before .before .before .before .before .before .before .before .before .args .queue .now) (c .before .before .before .before .before .before .before .before .before .before .before .before .before .before .before .before .before .before .before .before .before .before .args .filled) _ _ _ (c .before .before .before .before .before .before .before .before .before .before .before .before .before .before .before .before .before .say-first .result) (c .before .before .before .before .before .before .before .before .before .before .before .begun .result) (c .before .before .before .before .before .before .before .before .before .before .say-exists .result) (c .before .before .before .before .before .before .begun2 .result) (c .before .before .before .before .before .marks .result) (c .before .before .before .before .before .before .before .before .before .before .before .before .before .before .staying .result) (c .before .before .before .before .before .before .before .before .before .before .before .before .before .unseen .result) (c .before .before .before .before .before .before .before .before .before .before .before .before .before .before .before .before .before .say-first .ensures .0) (c .before .before .before .before .before .before .before .before .before .before .before .begun .ensures) (c .before .before .before .before .before .before .before .before .before .before .before .before .before .before .staying .ensures .0) (c .before .before .before .before .before .before .before .before .before .before .before .before .before .unseen .ensures .0) (c .before .before .before .before .before .before .before .before .before .before .say-exists .ensures .0) (c .before .before .before .before .before .before .begun2 .ensures) (c .before .before .before .before .before .marks .ensures .0)
+returns c =
+    let b = c .before .before .before .before .before in let marks = b .marks in
+    let b = b .before in let begun2 = b .begun2 in
+    let b = b .before .before .before .before in let say-exists = b .say-exists in
+    let b = b .before in let begun = b .begun in
+    let b = b .before .before in let unseen = b .unseen in
+    let b = b .before in let staying = b .staying in
+    let b = b .before .before .before in let say-first = b .say-first in
+    let b = b .before .before .before .before .before in let args = b .args in
+    speaks (args .told .0) (args .class) (args .limit) (chosen (messages (args .words .now)) (args .order .now) (args .n)) (args .queue .now) (args .filled) _ _ _ (say-first .result) (begun .result) (say-exists .result) (begun2 .result) (marks .result) (staying .result) (unseen .result) (say-first .ensures .0) (begun .ensures) (staying .ensures .0) (unseen .ensures .0) (say-exists .ensures .0) (begun2 .ensures) (marks .ensures .0)
 
 pub speak-spec : {M : Type 1} → statement M
 speak-spec =

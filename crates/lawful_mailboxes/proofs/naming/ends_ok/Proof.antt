@@ -27,12 +27,14 @@ returns-6 c = λ z. tf false z refl
 
 returns-7 : tie.Need-returns-7
 returns-7 c =
+    let b = c .before .before .before .before in let if4 = b .if4 in
+    let b = b .before .before in let if3 = b .if3 in
     λ z.
     record {
       some = omega arith;
       few = omega arith;
-      other = c .before .before .before .before .before .before .if3 .left;
-      first = c .before .before .before .before .if4 .left;
+      other = if3 .left;
+      first = if4 .left;
       full = c .before .before .if5 .left;
       last = c .before .if6 .left;
       behind = eqb-true _ _ z;

@@ -18,8 +18,8 @@ loop-holds c = (search needs, search needs, refl)
 
 loop-again : tie.Need-loop-again Inv-loop μ-loop
 loop-again c =
-    let args = c .before .before .before .before .before .before .args in
-    let turn = c .before .before .before .before .loop in
+    let b = c .before .before .before .before in let turn = b .loop in
+    let b = b .before .before in let args = b .args in
     (search needs, search needs, misplaced-next (args .octets .now) (args .at) (turn .i) (turn .sum) (c .misplaced .result) (turn .inv .2) (c .misplaced .ensures .0))
 
 returns : tie.Need-returns Inv-loop μ-loop

@@ -4,10 +4,14 @@ use Rattle.lawful_quick.proofs.passing.owner.Statement.{statement}
 use Rattle.lawful_quick.proofs.passing.owner.Tie as tie
 
 mul-if1 : tie.Need-mul-if1
-mul-if1 c = let z = c .before .before .before .pre .2 (omega arith) (c .before .before .slot .result) in search needs
+mul-if1 c =
+    let b = c .before .before .before in let pre = b .pre in
+    let z = pre .2 (omega arith) (c .before .before .slot .result) in search needs
 
 element-copy-out-if1 : tie.Need-element-copy-out-if1
-element-copy-out-if1 c = let z = c .before .before .before .pre .2 (omega arith) (c .before .before .slot .result) in search needs
+element-copy-out-if1 c =
+    let b = c .before .before .before in let pre = b .pre in
+    let z = pre .2 (omega arith) (c .before .before .slot .result) in search needs
 
 returns : tie.Need-returns
 returns c = let z = c .before .before .before .before .before .pre .2 (omega arith) (c .before .before .before .before .slot .result) in search needs
@@ -22,7 +26,10 @@ element-copy-out-if2 : tie.Need-element-copy-out-if2
 element-copy-out-if2 c = let y = c .before .before .before .before .before .before .before .pre .3 (omega arith) (c .before .before .before .before .row .result) in search needs
 
 returns-2 : tie.Need-returns-2
-returns-2 c = let y = c .before .before .before .before .before .before .before .before .before .pre .3 (omega arith) (c .before .before .before .before .before .before .row .result) in search needs
+returns-2 c =
+    let b = c .before .before .before .before .before .before in let row = b .row in
+    let b = b .before .before .before in let pre = b .pre in
+    let y = pre .3 (omega arith) (row .result) in search needs
 
 pub owner-spec : {M : Type 1} → statement M
 owner-spec =

@@ -11,11 +11,20 @@ use Rattle.line_message.specs.Fetch.{piece-off}
 use Rattle.line_message.specs.Items.{piece-gap}
 
 returns : tie.Need-returns
-returns c = let a = c .before .before .before .args in (put-as (put-none _ _ _ (c .before .before .before .pre .0)) (piece-off (a .on) (a .began) (a .word .now ++ decimal (a .n)) (not-true (a .on) (c .if1 .taken))), omega arith)
+returns c =
+    let b = c .before .before .before in let a = b .args in
+    let pre = b .pre in
+    (put-as (put-none _ _ _ (pre .0)) (piece-off (a .on) (a .began) (a .word .now ++ decimal (a .n)) (not-true (a .on) (c .if1 .taken))), omega arith)
 
 returns-2 : tie.Need-returns-2
-returns-2 c = let a = c .before .before .before .before .before .before .before .before .before .before .before .before .before .before .before .args in
-    (put-as (_then_ (c .before .before .before .before .before .before .before .before .before .before .put-gap .ensures .0) (_then_ (c .before .before .before .before .before .before .put .ensures) (c .before .before .put-number .ensures .0))) (piece-gap (a .on) (a .began) (a .word .now ++ decimal (a .n)) (not-false (a .on) (c .before .before .before .before .before .before .before .before .before .before .before .before .if1 .left))), omega (arith, c .before .before .before .before .before .before .before .before .before .before .before .before .before .before .before .pre .2, c .before .before .before .before .before .before .before .before .before .before .put-gap .ensures .1, c .before .before .before .before .before .before .put .ensures .next, c .before .before .put-number .ensures .1))
+returns-2 c =
+    let b = c .before .before in let put-number = b .put-number in
+    let b = b .before .before .before .before in let put = b .put in
+    let b = b .before .before .before .before in let put-gap = b .put-gap in
+    let b = b .before .before in let if1 = b .if1 in
+    let b = b .before .before .before in let a = b .args in
+    let pre = b .pre in
+    (put-as (_then_ (put-gap .ensures .0) (_then_ (put .ensures) (put-number .ensures .0))) (piece-gap (a .on) (a .began) (a .word .now ++ decimal (a .n)) (not-false (a .on) (if1 .left))), omega (arith, pre .2, put-gap .ensures .1, put .ensures .next, put-number .ensures .1))
 
 pub put-counted-spec : {M : Type 1} → statement M
 put-counted-spec =

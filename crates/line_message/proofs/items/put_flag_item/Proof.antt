@@ -12,8 +12,14 @@ returns : tie.Need-returns
 returns c = let a = c .before .before .args in (put-as (put-none _ _ _ (c .before .before .pre .0)) (piece-off (a .on) (a .began) (flagItem (a .flags)) (not-true (a .on) (c .if1 .taken))), omega arith)
 
 returns-2 : tie.Need-returns-2
-returns-2 c = let a = c .before .before .before .before .before .before .before .before .before .before .before .before .before .before .before .before .before .before .before .before .args in
-    (put-as (_then_ (c .before .before .before .before .before .before .before .before .before .before .before .before .before .before .before .before .put-gap .ensures .0) (_then_ (_then_ (c .before .before .before .before .before .before .before .before .before .before .before .put .ensures) (c .before .before .before .before .before .before .before .put-flags .ensures .0)) (c .before .before .put2 .ensures))) (piece-gap (a .on) (a .began) (flagItem (a .flags)) (not-false (a .on) (c .before .before .before .before .before .before .before .before .before .before .before .before .before .before .before .before .before .before .if1 .left))), omega (arith, c .before .before .before .before .before .before .before .before .before .before .before .before .before .before .before .before .put-gap .ensures .1, c .before .before .before .before .before .before .before .before .before .before .before .put .ensures .next, c .before .before .before .before .before .before .before .put-flags .ensures .1, c .before .before .put2 .ensures .next))
+returns-2 c =
+    let b = c .before .before in let put2 = b .put2 in
+    let b = b .before .before .before .before .before in let put-flags = b .put-flags in
+    let b = b .before .before .before .before in let put = b .put in
+    let b = b .before .before .before .before .before in let put-gap = b .put-gap in
+    let b = b .before .before in let if1 = b .if1 in
+    let b = b .before .before in let a = b .args in
+    (put-as (_then_ (put-gap .ensures .0) (_then_ (_then_ (put .ensures) (put-flags .ensures .0)) (put2 .ensures))) (piece-gap (a .on) (a .began) (flagItem (a .flags)) (not-false (a .on) (if1 .left))), omega (arith, put-gap .ensures .1, put .ensures .next, put-flags .ensures .1, put2 .ensures .next))
 
 pub put-flag-item-spec : {M : Type 1} → statement M
 put-flag-item-spec =

@@ -8,10 +8,16 @@ use Rattle.line_put.specs.Put.{put-as, put-none}
 use Rattle.line_message.specs.Items.{gap-off, gap-on}
 
 returns : tie.Need-returns
-returns c = (put-as (put-none _ _ _ (c .before .before .pre .0)) (gap-off (c .before .before .args .began) (not-true (c .before .before .args .began) (c .if1 .taken))), omega arith)
+returns c =
+    let b = c .before .before in let args = b .args in
+    (put-as (put-none _ _ _ (c .before .before .pre .0)) (gap-off (args .began) (not-true (args .began) (c .if1 .taken))), omega arith)
 
 returns-2 : tie.Need-returns-2
-returns-2 c = (put-as (c .before .before .put-byte .ensures) (gap-on (c .before .before .before .before .before .before .args .began) (not-false (c .before .before .before .before .before .before .args .began) (c .before .before .before .before .if1 .left))), omega (arith, c .before .before .put-byte .ensures .next))
+returns-2 c =
+    let b = c .before .before in let put-byte = b .put-byte in
+    let b = b .before .before in let if1 = b .if1 in
+    let b = b .before .before in let args = b .args in
+    (put-as (put-byte .ensures) (gap-on (args .began) (not-false (args .began) (if1 .left))), omega (arith, put-byte .ensures .next))
 
 pub put-gap-spec : {M : Type 1} → statement M
 put-gap-spec =

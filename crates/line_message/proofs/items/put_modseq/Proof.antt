@@ -11,10 +11,13 @@ use Rattle.line_message.specs.Items.{piece-gap}
 
 returns : tie.Need-returns
 returns c =
-    let args = c .before .before .before .before .before .before .before .before .before .before .before .before .before .before .before .before .before .before .before .args in
-    let gapped = c .before .before .before .before .before .before .before .before .before .before .before .before .before .before .before .before .put-gap .ensures in
-    let word = c .before .before .before .before .before .before .before .before .before .before .before .put .ensures in
-    let number = c .before .before .before .before .before .before .before .put-number .ensures in
+    let b = c .before .before .before .before .before .before .before in let put-number = b .put-number in
+    let b = b .before .before .before .before in let put = b .put in
+    let b = b .before .before .before .before .before in let put-gap = b .put-gap in
+    let b = b .before .before .before in let args = b .args in
+    let gapped = put-gap .ensures in
+    let word = put .ensures in
+    let number = put-number .ensures in
     let closed = c .before .before .put2 .ensures in
     (put-as (_then_ (gapped .0) (_then_ word (_then_ (number .0) closed))) (piece-gap true (args .began) (itemText (modseq (args .counter))) refl), omega (arith, gapped .1, word .next, number .1, closed .next))
 

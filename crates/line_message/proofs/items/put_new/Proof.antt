@@ -8,7 +8,13 @@ use Rattle.line_message.specs.Items.{newText}
 
 returns : tie.Need-returns
 unfolding newText
-returns c = (_then_ (_then_ (_then_ (_then_ (c .before .before .before .before .before .before .before .before .before .before .before .before .before .before .before .before .before .before .before .before .put .ensures) (c .before .before .before .before .before .before .before .before .before .before .before .before .before .before .before .before .put-number .ensures .0)) (c .before .before .before .before .before .before .before .before .before .before .before .put2 .ensures)) (c .before .before .before .before .before .before .before .put-items .ensures .0)) (c .before .before .put3 .ensures), omega (arith, c .before .before .before .before .before .before .before .before .before .before .before .before .before .before .before .before .before .before .before .before .put .ensures .next, c .before .before .before .before .before .before .before .before .before .before .before .before .before .before .before .before .put-number .ensures .1, c .before .before .before .before .before .before .before .before .before .before .before .put2 .ensures .next, c .before .before .before .before .before .before .before .put-items .ensures .1, c .before .before .put3 .ensures .next))
+returns c =
+    let b = c .before .before in let put3 = b .put3 in
+    let b = b .before .before .before .before .before in let put-items = b .put-items in
+    let b = b .before .before .before .before in let put2 = b .put2 in
+    let b = b .before .before .before .before .before in let put-number = b .put-number in
+    let b = b .before .before .before .before in let put = b .put in
+    (_then_ (_then_ (_then_ (_then_ (put .ensures) (put-number .ensures .0)) (put2 .ensures)) (put-items .ensures .0)) (put3 .ensures), omega (arith, put .ensures .next, put-number .ensures .1, put2 .ensures .next, put-items .ensures .1, put3 .ensures .next))
 
 pub put-new-spec : {M : Type 1} → statement M
 put-new-spec =

@@ -7,16 +7,26 @@ use native.Mathlib.Omega.{arith}
 use Rattle.line_message.specs.Parts.{puts-none, puts-some, off-gone, off-gone-next, is-gone, is-gone-next, is-live, is-live-next}
 
 returns : tie.Need-returns
-returns c = let a = c .before .before .before .before .args in
-    puts-none _ _ _ _ _ _ (c .before .before .before .before .pre .0) refl (off-gone (a .told .0) (a .n .0) (a .e) (c .if1 .taken)) (off-gone-next (a .told .0) (a .n .0) (a .e) (c .if1 .taken))
+returns c =
+    let b = c .before .before .before .before in let a = b .args in
+    let pre = b .pre in
+    puts-none _ _ _ _ _ _ (pre .0) refl (off-gone (a .told .0) (a .n .0) (a .e) (c .if1 .taken)) (off-gone-next (a .told .0) (a .n .0) (a .e) (c .if1 .taken))
 
 returns-2 : tie.Need-returns-2
-returns-2 c = let a = c .before .before .before .before .before .before .before .before .before .before .args in
-    puts-some _ _ _ _ _ _ _ _ (c .before .before .put-expunge .ensures .0) (omega (arith, c .before .before .put-expunge .ensures .1)) (is-gone (a .told .0) (a .n .0) (a .e) (c .before .before .before .before .before .before .if1 .left) (c .before .before .before .before .if2 .taken)) (is-gone-next (a .told .0) (a .n .0) (a .e) (c .before .before .before .before .before .before .if1 .left) (c .before .before .before .before .if2 .taken))
+returns-2 c =
+    let b = c .before .before in let put-expunge = b .put-expunge in
+    let b = b .before .before in let if2 = b .if2 in
+    let b = b .before .before in let if1 = b .if1 in
+    let b = b .before .before .before .before in let a = b .args in
+    puts-some _ _ _ _ _ _ _ _ (put-expunge .ensures .0) (omega (arith, put-expunge .ensures .1)) (is-gone (a .told .0) (a .n .0) (a .e) (if1 .left) (if2 .taken)) (is-gone-next (a .told .0) (a .n .0) (a .e) (if1 .left) (if2 .taken))
 
 returns-3 : tie.Need-returns-3
-returns-3 c = let a = c .before .before .before .before .before .before .before .args in
-    puts-none _ _ _ _ _ _ (c .before .before .before .before .before .before .before .pre .0) refl (is-live (a .told .0) (a .n .0) (a .e) (c .before .before .before .if1 .left) (c .before .if2 .left)) (is-live-next (a .told .0) (a .n .0) (a .e) (c .before .before .before .if1 .left) (c .before .if2 .left))
+returns-3 c =
+    let b = c .before in let if2 = b .if2 in
+    let b = b .before .before in let if1 = b .if1 in
+    let b = b .before .before .before .before in let a = b .args in
+    let pre = b .pre in
+    puts-none _ _ _ _ _ _ (pre .0) refl (is-live (a .told .0) (a .n .0) (a .e) (if1 .left) (if2 .left)) (is-live-next (a .told .0) (a .n .0) (a .e) (if1 .left) (if2 .left))
 
 pub put-gone-spec : {M : Type 1} → statement M
 put-gone-spec =

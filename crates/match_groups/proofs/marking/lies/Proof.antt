@@ -8,16 +8,22 @@ use Rattle.match_groups.proofs.marking.lies.Tie as tie
 
 returns : tie.Need-returns
 returns c =
-    let long : length (c .before .before .before .before .before .before .args .names .now) ≡ 4096 = search needs in
-    rw (not-true (c .before .before .before .before .before .before .args .deep) (c .before .before .if1 .taken), ← c .before .before .before .name-end .ensures .name (c .before .before .before .before .before .before .args .names .now) long) (c .same .ensures)
+    let b = c .before .before .before in let name-end = b .name-end in
+    let b = b .before .before .before in let args = b .args in
+    let long : length (args .names .now) ≡ 4096 = search needs in
+    rw (not-true (args .deep) (c .before .before .if1 .taken), ← name-end .ensures .name (args .names .now) long) (c .same .ensures)
 
 returns-2 : tie.Need-returns-2
 returns-2 c = rw (not-false (c .before .before .before .before .before .before .before .args .deep) (c .before .before .before .if1 .left), sym (c .before .has .ensures) ∙ not-true (c .before .has .result) (c .if2 .taken))
 
 returns-3 : tie.Need-returns-3
 returns-3 c =
-    let long : length (c .before .before .before .before .before .before .before .before .before .args .names .now) ≡ 4096 = search needs in
-    rw (not-false (c .before .before .before .before .before .before .before .before .before .args .deep) (c .before .before .before .before .before .if1 .left), sym (c .before .before .before .has .ensures) ∙ not-false (c .before .before .before .has .result) (c .before .before .if2 .left), ← c .before .before .before .before .before .before .name-end .ensures .name (c .before .before .before .before .before .before .before .before .before .args .names .now) long) (c .in-subtree .ensures)
+    let b = c .before .before .before in let has = b .has in
+    let b = b .before .before in let if1 = b .if1 in
+    let b = b .before in let name-end = b .name-end in
+    let b = b .before .before .before in let args = b .args in
+    let long : length (args .names .now) ≡ 4096 = search needs in
+    rw (not-false (args .deep) (if1 .left), sym (has .ensures) ∙ not-false (has .result) (c .before .before .if2 .left), ← name-end .ensures .name (args .names .now) long) (c .in-subtree .ensures)
 
 pub lies-spec : {M : Type 1} → statement M
 lies-spec =

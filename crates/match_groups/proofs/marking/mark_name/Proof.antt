@@ -20,10 +20,11 @@ slice-aggregate-mark-top c = let long : length (c .before .before .before .befor
 
 returns : tie.Need-returns
 returns c =
-    let a = c .before .before .before .before .before .before .before .before .args in
+    let b = c .before .before .before .before .before in let clip = b .clip in
+    let b = b .before .before .before in let a = b .args in
     let long : length (a .x .octets) ≡ 64 = search needs in
     λ k h. c .before .before .mark-top .ensures k h
-    ∙ ap (λ (t : Name). noted (getD (a .marks .now) k 0) || takenByName (a .deep) (nameAt (a .lens .now) (a .names .now) k) (getD (a .attributes .now) k 0) t) (c .before .before .before .before .before .clip .ensures .1 (a .x .octets) long)
+    ∙ ap (λ (t : Name). noted (getD (a .marks .now) k 0) || takenByName (a .deep) (nameAt (a .lens .now) (a .names .now) k) (getD (a .attributes .now) k 0) t) (clip .ensures .1 (a .x .octets) long)
 
 pub mark-name-spec : {M : Type 1} → statement M
 mark-name-spec =

@@ -23,7 +23,10 @@ slice-read-mark : tie.Need-slice-read-mark Inv-loop μ-loop
 slice-read-mark c = omega (arith, c .before .before .before .before .before .before .pre, c .before .before .before .before .loop .inv .1)
 
 slice-write-marks : tie.Need-slice-write-marks Inv-loop μ-loop
-slice-write-marks c = omega (arith, c .before .before .before .before .before .before .before .pre, c .before .before .before .before .before .loop .inv .1)
+slice-write-marks c =
+    let b = c .before .before .before .before .before in let loop = b .loop in
+    let b = b .before .before in let pre = b .pre in
+    omega (arith, pre, loop .inv .1)
 
 loop-again : tie.Need-loop-again Inv-loop μ-loop
 loop-again c =

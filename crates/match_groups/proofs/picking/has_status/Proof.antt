@@ -5,13 +5,19 @@ use Rattle.match_groups.proofs.picking.has_status.Statement.{statement}
 use Rattle.match_groups.proofs.picking.has_status.Tie as tie
 
 returns : tie.Need-returns
-returns c = λ s n a e. status-no s n a (c .before .args .selected) (c .before .args .wanted) (not-true _ (c .if1 .taken))
+returns c =
+    let b = c .before in let args = b .args in
+    λ s n a e. status-no s n a (args .selected) (args .wanted) (not-true _ (c .if1 .taken))
 
 returns-2 : tie.Need-returns-2
-returns-2 c = λ s n a e. status-selected s n a (c .before .before .args .selected) (c .before .before .args .wanted) (not-false _ (c .before .if1 .left)) (c .if2 .taken)
+returns-2 c =
+    let b = c .before .before in let args = b .args in
+    λ s n a e. status-selected s n a (args .selected) (args .wanted) (not-false _ (c .before .if1 .left)) (c .if2 .taken)
 
 returns-3 : tie.Need-returns-3
-returns-3 c = λ s n a e. status-asked s n a _ (c .before .before .args .selected) (c .before .before .args .wanted) (not-false _ (c .before .if1 .left)) (c .if2 .left) e
+returns-3 c =
+    let b = c .before .before in let args = b .args in
+    λ s n a e. status-asked s n a _ (args .selected) (args .wanted) (not-false _ (c .before .if1 .left)) (c .if2 .left) e
 
 pub has-status-spec : {M : Type 1} → statement M
 has-status-spec = tie.close (tie.spec returns returns-2 returns-3)

@@ -7,16 +7,26 @@ use Rattle.match_groups.proofs.picking.is_picked.Statement.{statement}
 use Rattle.match_groups.proofs.picking.is_picked.Tie as tie
 
 returns : tie.Need-returns
-returns c = λ s n any messages mailbox. picked-hidden s n (c .before .before .args .a) (c .before .before .args .selected) (sym (c .before .has .ensures) ∙ not-true _ (c .if1 .taken))
+returns c =
+    let b = c .before .before in let args = b .args in
+    λ s n any messages mailbox. picked-hidden s n (args .a) (args .selected) (sym (c .before .has .ensures) ∙ not-true _ (c .if1 .taken))
 
 returns-2 : tie.Need-returns-2
-returns-2 c = λ s n any messages mailbox. picked-mailbox s n (c .before .before .before .args .a) (c .before .before .before .args .selected) (sym (c .before .before .has .ensures) ∙ not-false _ (c .before .if1 .left)) (sym mailbox ∙ c .if2 .taken)
+returns-2 c =
+    let b = c .before .before .before in let args = b .args in
+    λ s n any messages mailbox. picked-mailbox s n (args .a) (args .selected) (sym (c .before .before .has .ensures) ∙ not-false _ (c .before .if1 .left)) (sym mailbox ∙ c .if2 .taken)
 
 returns-3 : tie.Need-returns-3
-returns-3 c = λ s n any messages mailbox. picked-selected s n (c .before .before .before .before .args .a) _ (c .before .before .before .before .args .selected) (sym (c .before .before .before .has .ensures) ∙ not-false _ (c .before .before .if1 .left)) (sym mailbox ∙ c .before .if2 .left) (c .if3 .taken) any
+returns-3 c =
+    let b = c .before .before .before in let has = b .has in
+    let b = b .before in let args = b .args in
+    λ s n any messages mailbox. picked-selected s n (args .a) _ (args .selected) (sym (has .ensures) ∙ not-false _ (c .before .before .if1 .left)) (sym mailbox ∙ c .before .if2 .left) (c .if3 .taken) any
 
 returns-4 : tie.Need-returns-4
-returns-4 c = λ s n any messages mailbox. picked-other s n (c .before .before .before .before .args .a) _ (c .before .before .before .before .args .selected) (sym (c .before .before .before .has .ensures) ∙ not-false _ (c .before .before .if1 .left)) (sym mailbox ∙ c .before .if2 .left) (c .if3 .left) messages
+returns-4 c =
+    let b = c .before .before .before in let has = b .has in
+    let b = b .before in let args = b .args in
+    λ s n any messages mailbox. picked-other s n (args .a) _ (args .selected) (sym (has .ensures) ∙ not-false _ (c .before .before .if1 .left)) (sym mailbox ∙ c .before .if2 .left) (c .if3 .left) messages
 
 pub is-picked-spec : {M : Type 1} → statement M
 is-picked-spec =

@@ -11,7 +11,9 @@ returns : tie.Need-returns
 returns c = λ s e. selects-none s (c .before .args .id) (eq-eqb _ 0 (c .if1 .taken))
 
 returns-2 : tie.Need-returns-2
-returns-2 c = λ s e. selects-some s (c .before .before .args .id) _ (ne-eqb _ 0 (c .before .if1 .left)) (ap (eqb (c .before .before .args .id)) (c .wide-id .ensures ∙ e))
+returns-2 c =
+    let b = c .before .before in let args = b .args in
+    λ s e. selects-some s (args .id) _ (ne-eqb _ 0 (c .before .if1 .left)) (ap (eqb (args .id)) (c .wide-id .ensures ∙ e))
 
 pub is-selected-spec : {M : Type 1} → statement M
 is-selected-spec =

@@ -30,20 +30,25 @@ slice-write-asks c = let l = c .before .before .before .before .loop in omega (a
 
 loop-again : tie.Need-loop-again Inv-loop μ-loop
 loop-again c =
-    let a = c .before .before .before .before .before .before .before .before .before .before .before .before .before .before .args in
-    let l = c .before .before .before .before .loop in
+    let b = c .before .before .before in let loop-test = b .loop-test in
+    let b = b .before in let l = b .loop in
+    let b = b .before in let selected-asks-any = b .selected-asks-any in
+    let b = b .before .before in let mark-asked2 = b .mark-asked2 in
+    let b = b .before .before .before in let mark-asked = b .mark-asked in
+    let b = b .before .before .before .before in let a = b .args in
+    let pre = b .pre in
     let row = c .note in
     let p = l .inv .1 in
     let q = l .inv .2 in
-    let h : l .k < a .n = omega (arith, c .before .before .before .loop-test) in (
+    let h : l .k < a .n = omega (arith, loop-test) in (
       omega arith,
       length-set (l .picked) (l .k) (row .result .picked) ∙ p,
       length-set (l .asks) (l .k) (row .result .asks) ∙ q,
       notes-next (λ (j p q : ℕ). Notes (a .s) (a .wanted) (getD (a .ids .now) j 0) (getD (a .attributes .now) j 0) (nameAt (a .lens .now) (a .names .now) j) p q)
           (l .picked) (l .asks) (l .k) (row .result .picked) (row .result .asks)
-          (omega (arith, c .before .before .before .before .before .before .before .before .before .before .before .before .before .before .pre .1, p)) (omega (arith, c .before .before .before .before .before .before .before .before .before .before .before .before .before .before .pre .2, q)) (l .inv .3)
-          (row .ensures (a .s) (nameAt (a .lens .now) (a .names .now) (l .k)) refl (c .before .before .before .before .before .selected-asks-any .ensures)
-          (fresh 64 (l .k) (omega arith) (c .before .before .before .before .before .before .before .before .before .before .mark-asked .ensures (l .k) h)) (fresh 64 (l .k) (omega arith) (c .before .before .before .before .before .before .before .mark-asked2 .ensures (l .k) h))),
+          (omega (arith, pre .1, p)) (omega (arith, pre .2, q)) (l .inv .3)
+          (row .ensures (a .s) (nameAt (a .lens .now) (a .names .now) (l .k)) refl (selected-asks-any .ensures)
+          (fresh 64 (l .k) (omega arith) (mark-asked .ensures (l .k) h)) (fresh 64 (l .k) (omega arith) (mark-asked2 .ensures (l .k) h))),
     )
 
 same-length : tie.Need-same-length Inv-loop μ-loop

@@ -10,38 +10,42 @@ returns c = any-first (c .before .before .args .s) (sym (c .before .selected-ask
 
 returns-2 : tie.Need-returns-2
 returns-2 c =
-    let selected-asks = c .before .before .before .selected-asks in
-    any-second (c .before .before .before .before .args .s) (sym (selected-asks .ensures) ∙ c .before .before .if1 .left)
+    let b = c .before .before .before in let selected-asks = b .selected-asks in
+    let b = b .before in let args = b .args in
+    any-second (args .s) (sym (selected-asks .ensures) ∙ c .before .before .if1 .left)
     (sym (c .before .selected-asks2 .ensures) ∙ c .if2 .taken)
 
 returns-3 : tie.Need-returns-3
 returns-3 c =
-    let selected-asks = c .before .before .before .before .before .selected-asks in
-    let a = c .before .before .before .before .before .before .args in
-    let selected-asks2 = c .before .before .before .selected-asks2 in
-    any-third (a .s) (sym (selected-asks .ensures) ∙ c .before .before .before .before .if1 .left) (sym (selected-asks2 .ensures) ∙ c .before .before .if2 .left)
+    let b = c .before .before .before in let selected-asks2 = b .selected-asks2 in
+    let b = b .before in let at-if1 = b .if1 in
+    let b = b .before in let selected-asks = b .selected-asks in
+    let b = b .before in let a = b .args in
+    any-third (a .s) (sym (selected-asks .ensures) ∙ at-if1 .left) (sym (selected-asks2 .ensures) ∙ c .before .before .if2 .left)
     (sym (c .before .selected-asks3 .ensures) ∙ c .if3 .taken)
 
 returns-4 : tie.Need-returns-4
 returns-4 c =
-    let selected-asks = c .before .before .before .before .before .before .before .selected-asks in
-    let a = c .before .before .before .before .before .before .before .before .args in
-    let selected-asks2 = c .before .before .before .before .before .selected-asks2 in
-    let if1 = c .before .before .before .before .before .before .if1 in
-    let selected-asks3 = c .before .before .before .selected-asks3 in
-    any-fourth (a .s) (sym (selected-asks .ensures) ∙ if1 .left) (sym (selected-asks2 .ensures) ∙ c .before .before .before .before .if2 .left)
+    let b = c .before .before .before in let selected-asks3 = b .selected-asks3 in
+    let b = b .before in let at-if2 = b .if2 in
+    let b = b .before in let selected-asks2 = b .selected-asks2 in
+    let b = b .before in let if1 = b .if1 in
+    let b = b .before in let selected-asks = b .selected-asks in
+    let b = b .before in let a = b .args in
+    any-fourth (a .s) (sym (selected-asks .ensures) ∙ if1 .left) (sym (selected-asks2 .ensures) ∙ at-if2 .left)
     (sym (selected-asks3 .ensures) ∙ c .before .before .if3 .left) (sym (c .before .selected-asks4 .ensures) ∙ c .if4 .taken)
 
 returns-5 : tie.Need-returns-5
 returns-5 c =
-    let selected-asks = c .before .before .before .before .before .before .before .before .selected-asks in
-    let a = c .before .before .before .before .before .before .before .before .before .args in
-    let selected-asks2 = c .before .before .before .before .before .before .selected-asks2 in
-    let if1 = c .before .before .before .before .before .before .before .if1 in
-    let selected-asks3 = c .before .before .before .before .selected-asks3 in
-    let if2 = c .before .before .before .before .before .if2 in
+    let b = c .before .before .before in let if3 = b .if3 in
+    let b = b .before in let selected-asks3 = b .selected-asks3 in
+    let b = b .before in let if2 = b .if2 in
+    let b = b .before in let selected-asks2 = b .selected-asks2 in
+    let b = b .before in let if1 = b .if1 in
+    let b = b .before in let selected-asks = b .selected-asks in
+    let b = b .before in let a = b .args in
     any-fifth (a .s) _ (sym (selected-asks .ensures) ∙ if1 .left) (sym (selected-asks2 .ensures) ∙ if2 .left)
-    (sym (selected-asks3 .ensures) ∙ c .before .before .before .if3 .left) (sym (c .before .before .selected-asks4 .ensures) ∙ c .before .if4 .left)
+    (sym (selected-asks3 .ensures) ∙ if3 .left) (sym (c .before .before .selected-asks4 .ensures) ∙ c .before .if4 .left)
     (c .selected-asks5 .ensures)
 
 pub selected-asks-any-spec : {M : Type 1} → statement M

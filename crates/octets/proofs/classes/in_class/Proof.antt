@@ -21,7 +21,9 @@ table =
 
 returns : tie.Need-returns
 unfolding table
-returns c = rw (c .mask-of .ensures) (class-at table tt (c .before .args .b) (search needs) (c .before .args .c))
+returns c =
+    let b = c .before in let args = b .args in
+    rw (c .mask-of .ensures) (class-at table tt (args .b) (search needs) (args .c))
 
 pub in-class-spec : {M : Type 1} → statement M
 in-class-spec =

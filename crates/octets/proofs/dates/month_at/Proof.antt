@@ -7,19 +7,31 @@ use native.Mathlib.Omega.{arith}
 use Rattle.octets.proofs.Days.{month-short, month-early, month-late, month-none}
 
 returns : tie.Need-returns
-returns c = record { exact = month-short (c .before .before .args .text .now) (c .before .before .args .at) (omega arith); within = tt }
+returns c =
+    let b = c .before .before in let args = b .args in
+    record { exact = month-short (args .text .now) (args .at) (omega arith); within = tt }
 
 returns-2 : tie.Need-returns-2
-returns-2 c = record { exact = month-short (c .before .before .before .args .text .now) (c .before .before .before .args .at) (omega arith); within = tt }
+returns-2 c =
+    let b = c .before .before .before in let args = b .args in
+    record { exact = month-short (args .text .now) (args .at) (omega arith); within = tt }
 
 returns-3 : tie.Need-returns-3
-returns-3 c = record { exact = month-early (c .before .before .before .before .before .args .text .now) (c .before .before .before .before .before .args .at) (sym (c .before .early-month .ensures) ∙ c .if3 .taken); within = (omega arith, omega arith) }
+returns-3 c =
+    let b = c .before .before .before .before .before in let args = b .args in
+    record { exact = month-early (args .text .now) (args .at) (sym (c .before .early-month .ensures) ∙ c .if3 .taken); within = (omega arith, omega arith) }
 
 returns-4 : tie.Need-returns-4
-returns-4 c = record { exact = month-late (c .before .before .before .before .before .before .before .args .text .now) (c .before .before .before .before .before .before .before .args .at) (sym (c .before .before .before .early-month .ensures) ∙ c .before .before .if3 .left) (sym (c .before .late-month .ensures) ∙ c .if4 .taken); within = (omega arith, omega arith) }
+returns-4 c =
+    let b = c .before .before .before in let early-month = b .early-month in
+    let b = b .before .before .before .before in let args = b .args in
+    record { exact = month-late (args .text .now) (args .at) (sym (early-month .ensures) ∙ c .before .before .if3 .left) (sym (c .before .late-month .ensures) ∙ c .if4 .taken); within = (omega arith, omega arith) }
 
 returns-5 : tie.Need-returns-5
-returns-5 c = record { exact = month-none (c .before .before .before .before .before .before .before .args .text .now) (c .before .before .before .before .before .before .before .args .at) (sym (c .before .before .before .early-month .ensures) ∙ c .before .before .if3 .left) (sym (c .before .late-month .ensures) ∙ c .if4 .left); within = tt }
+returns-5 c =
+    let b = c .before .before .before in let early-month = b .early-month in
+    let b = b .before .before .before .before in let args = b .args in
+    record { exact = month-none (args .text .now) (args .at) (sym (early-month .ensures) ∙ c .before .before .if3 .left) (sym (c .before .late-month .ensures) ∙ c .if4 .left); within = tt }
 
 pub month-at-spec : {M : Type 1} → statement M
 month-at-spec =

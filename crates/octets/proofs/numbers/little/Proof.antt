@@ -16,13 +16,24 @@ abbrev μ-loop : tie.MeasureT-loop
 μ-loop b at width w v₀ i₀ v i = i
 
 loop-holds : tie.Need-loop-holds Inv-loop μ-loop
-loop-holds c = (omega arith, omega arith, little-none (c .before .before .args .b .now) (c .before .before .args .at) (c .four-at-most .result))
+loop-holds c =
+    let b = c .before .before in let args = b .args in
+    (omega arith, omega arith, little-none (args .b .now) (args .at) (c .four-at-most .result))
 
 loop-again : tie.Need-loop-again Inv-loop μ-loop
-loop-again c = let s = c .before .before .before .before .before .before .args .b .now in let l = c .before .before .before .loop in let w = c .before .before .before .before .four-at-most .result in let e = little-back s (c .before .before .before .before .before .before .args .at) w (l .i) (l .i - 1) (omega arith) (omega arith) in (omega arith, omega (arith, e, l .inv .2, c .wide .ensures .0, c .before .octet-from .ensures, little-small s (λ k. omega (arith, c .before .before .before .before .before .shared-slice-known .given k)) (w - (l .i - 1)) (c .before .before .before .before .before .before .args .at + (l .i - 1)) (omega arith)), omega (arith, e, l .inv .2, c .wide .ensures .0, c .before .octet-from .ensures))
+loop-again c =
+    let b = c .before in let octet-from = b .octet-from in
+    let b = b .before .before in let loop = b .loop in
+    let b = b .before in let four-at-most = b .four-at-most in
+    let b = b .before in let shared-slice-known = b .shared-slice-known in
+    let b = b .before in let args = b .args in
+    let s = args .b .now in let l = loop in let w = four-at-most .result in let e = little-back s (args .at) w (l .i) (l .i - 1) (omega arith) (omega arith) in (omega arith, omega (arith, e, l .inv .2, c .wide .ensures .0, octet-from .ensures, little-small s (λ k. omega (arith, shared-slice-known .given k)) (w - (l .i - 1)) (args .at + (l .i - 1)) (omega arith)), omega (arith, e, l .inv .2, c .wide .ensures .0, octet-from .ensures))
 
 returns : tie.Need-returns Inv-loop μ-loop
-returns c = let l = c .before .loop in let z : c .before .before .four-at-most .result - l .i ≡ min (c .before .before .before .before .args .width) 4 = omega arith in let y : c .before .before .before .before .args .at + l .i ≡ c .before .before .before .before .args .at = omega arith in record { exact = rw (z, y) at (l .inv .2); below = omega arith }
+returns c =
+    let b = c .before in let l = b .loop in
+    let b = b .before .before .before in let args = b .args in
+    let z : c .before .before .four-at-most .result - l .i ≡ min (args .width) 4 = omega arith in let y : args .at + l .i ≡ args .at = omega arith in record { exact = rw (z, y) at (l .inv .2); below = omega arith }
 
 pub little-spec : {M : Type 1} → statement M
 little-spec =

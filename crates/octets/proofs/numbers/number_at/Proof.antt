@@ -15,19 +15,32 @@ abbrev μ-loop : tie.MeasureT-loop
 μ-loop text at end v₀ i₀ v i = end - i
 
 returns : tie.Need-returns Inv-loop μ-loop
-returns c = record { exact = number-none (c .before .before .before .args .text .now) (c .before .before .before .args .at) _ (c .before .run-end .ensures .exact) (c .if1 .taken); within = tt }
+returns c =
+    let b = c .before .before .before in let args = b .args in
+    record { exact = number-none (args .text .now) (args .at) _ (c .before .run-end .ensures .exact) (c .if1 .taken); within = tt }
 
 loop-holds : tie.Need-loop-holds Inv-loop μ-loop
 loop-holds c = (omega arith, omega arith, omega arith, refl)
 
 returns-2 : tie.Need-returns-2 Inv-loop μ-loop
-returns-2 c = let s = c .before .before .before .before .before .before .before .before .args .text .now in let l = c .before .before .before .before .loop in record { exact = number-large s (c .before .before .before .before .before .before .before .before .args .at) _ (c .before .before .before .before .before .before .run-end .ensures .exact) _ (piece s (l .i + 1) (c .before .before .before .before .before .before .run-end .result)) (omega arith) (rw (c .before .digit-value .ensures .0) (l .inv .3 ∙ value-step s (l .i) (c .before .before .before .before .before .before .run-end .result) (l .v) (omega arith) (omega arith))) (c .if2 .taken); within = tt }
+returns-2 c =
+    let b = c .before .before .before .before in let loop = b .loop in
+    let b = b .before .before in let run-end = b .run-end in
+    let b = b .before .before in let args = b .args in
+    let s = args .text .now in let l = loop in record { exact = number-large s (args .at) _ (run-end .ensures .exact) _ (piece s (l .i + 1) (run-end .result)) (omega arith) (rw (c .before .digit-value .ensures .0) (l .inv .3 ∙ value-step s (l .i) (run-end .result) (l .v) (omega arith) (omega arith))) (c .if2 .taken); within = tt }
 
 loop-again : tie.Need-loop-again Inv-loop μ-loop
-loop-again c = let s = c .before .before .before .before .before .before .before .before .args .text .now in let l = c .before .before .before .before .loop in (omega arith, omega arith, omega arith, rw (c .before .digit-value .ensures .0) (l .inv .3 ∙ value-step s (l .i) (c .before .before .before .before .before .before .run-end .result) (l .v) (omega arith) (omega arith)))
+loop-again c =
+    let b = c .before .before .before .before in let loop = b .loop in
+    let b = b .before .before in let run-end = b .run-end in
+    let b = b .before .before in let args = b .args in
+    let s = args .text .now in let l = loop in (omega arith, omega arith, omega arith, rw (c .before .digit-value .ensures .0) (l .inv .3 ∙ value-step s (l .i) (run-end .result) (l .v) (omega arith) (omega arith)))
 
 returns-3 : tie.Need-returns-3 Inv-loop μ-loop
-returns-3 c = let s = c .before .before .before .before .before .args .text .now in let l = c .before .loop in record { exact = number-is s (c .before .before .before .before .before .args .at) _ (c .before .before .before .run-end .ensures .exact) (l .v) (omega arith) (l .inv .3 ∙ value-done s (l .i) (c .before .before .before .run-end .result) (l .v) (omega arith)) (omega arith); within = (omega arith, omega arith, omega arith) }
+returns-3 c =
+    let b = c .before .before .before in let run-end = b .run-end in
+    let b = b .before .before in let args = b .args in
+    let s = args .text .now in let l = c .before .loop in record { exact = number-is s (args .at) _ (run-end .ensures .exact) (l .v) (omega arith) (l .inv .3 ∙ value-done s (l .i) (run-end .result) (l .v) (omega arith)) (omega arith); within = (omega arith, omega arith, omega arith) }
 
 pub number-at-spec : {M : Type 1} → statement M
 number-at-spec =

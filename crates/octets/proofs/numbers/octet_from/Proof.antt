@@ -8,10 +8,14 @@ use Prim.Native.Nat.{_+_}
 use lib.ListN.{List·getD-eq-default}
 
 returns : tie.Need-returns
-returns c = sym (List·getD-eq-default (c .before .args .b .now) 0 {n = c .before .args .at + c .before .args .i} (omega arith))
+returns c =
+    let b = c .before in let args = b .args in
+    sym (List·getD-eq-default (args .b .now) 0 {n = args .at + args .i} (omega arith))
 
 returns-2 : tie.Need-returns-2
-returns-2 c = sym (List·getD-eq-default (c .before .before .args .b .now) 0 {n = c .before .before .args .at + c .before .before .args .i} (omega arith))
+returns-2 c =
+    let b = c .before .before in let args = b .args in
+    sym (List·getD-eq-default (args .b .now) 0 {n = args .at + args .i} (omega arith))
 
 pub octet-from-spec : {M : Type 1} → statement M
 octet-from-spec =

@@ -20,13 +20,22 @@ loop-holds : tie.Need-loop-holds Inv-loop μ-loop
 loop-holds c = (omega arith, omega arith, refl)
 
 loop-again : tie.Need-loop-again Inv-loop μ-loop
-loop-again c = (omega arith, omega arith, c .before .before .before .before .loop .inv .2 ∙ run-goes (inClass (c .before .before .before .before .before .before .args .c)) (c .before .before .before .before .before .before .args .text .now) (c .before .before .before .before .loop .p) (omega arith) (sym (c .before .in-class .ensures) ∙ c .if1 .taken))
+loop-again c =
+    let b = c .before .before .before .before in let loop = b .loop in
+    let b = b .before .before in let args = b .args in
+    (omega arith, omega arith, loop .inv .2 ∙ run-goes (inClass (args .c)) (args .text .now) (loop .p) (omega arith) (sym (c .before .in-class .ensures) ∙ c .if1 .taken))
 
 returns : tie.Need-returns Inv-loop μ-loop
-returns c = record { exact = sym (c .before .before .before .before .loop .inv .2 ∙ run-stops (inClass (c .before .before .before .before .before .before .args .c)) (c .before .before .before .before .before .before .args .text .now) (c .before .before .before .before .loop .p) (omega arith) (sym (c .before .in-class .ensures) ∙ c .if1 .left)); from = omega arith; within = omega arith }
+returns c =
+    let b = c .before .before .before .before in let loop = b .loop in
+    let b = b .before .before in let args = b .args in
+    record { exact = sym (loop .inv .2 ∙ run-stops (inClass (args .c)) (args .text .now) (loop .p) (omega arith) (sym (c .before .in-class .ensures) ∙ c .if1 .left)); from = omega arith; within = omega arith }
 
 returns-2 : tie.Need-returns-2 Inv-loop μ-loop
-returns-2 c = record { exact = sym (c .before .loop .inv .2 ∙ run-past (inClass (c .before .before .before .args .c)) (c .before .before .before .args .text .now) (c .before .loop .p) (omega arith)); from = omega arith; within = omega arith }
+returns-2 c =
+    let b = c .before in let loop = b .loop in
+    let b = b .before .before in let args = b .args in
+    record { exact = sym (loop .inv .2 ∙ run-past (inClass (args .c)) (args .text .now) (loop .p) (omega arith)); from = omega arith; within = omega arith }
 
 pub run-end-spec : {M : Type 1} → statement M
 run-end-spec =

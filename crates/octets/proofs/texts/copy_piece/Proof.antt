@@ -20,13 +20,20 @@ loop-holds : tie.Need-loop-holds Inv-loop μ-loop
 loop-holds c = (omega arith, omega arith, refl, copied-start _ _ _ refl)
 
 returns : tie.Need-returns Inv-loop μ-loop
-returns c = let s = c .before .before .before .before .before .args .text .now in let l = c .before .before .loop in let e = piece-past s (l .i) (c .before .before .before .before .before .args .upto) (c .if1 .taken) in record { long = copied-long (l .inv .3) e; is = copied-is (l .inv .3) e; within = omega arith }
+returns c =
+    let b = c .before .before .before .before .before in let args = b .args in
+    let s = args .text .now in let l = c .before .before .loop in let e = piece-past s (l .i) (args .upto) (c .if1 .taken) in record { long = copied-long (l .inv .3) e; is = copied-is (l .inv .3) e; within = omega arith }
 
 loop-again : tie.Need-loop-again Inv-loop μ-loop
-loop-again c = let s = c .before .before .before .before .before .before .before .before .before .before .args .text .now in let l = c .before .before .before .before .before .before .before .loop in (omega arith, omega arith, search needs, rw (c .before .before .store .ensures) (copied-one _ _ (l .inv .3) (piece-cons s (l .i) (c .before .before .before .before .before .before .before .before .before .before .args .upto) (omega arith) (omega arith))))
+loop-again c =
+    let b = c .before .before .before .before .before .before .before in let loop = b .loop in
+    let b = b .before .before .before in let args = b .args in
+    let s = args .text .now in let l = loop in (omega arith, omega arith, search needs, rw (c .before .before .store .ensures) (copied-one _ _ (l .inv .3) (piece-cons s (l .i) (args .upto) (omega arith) (omega arith))))
 
 returns-2 : tie.Need-returns-2 Inv-loop μ-loop
-returns-2 c = let s = c .before .before .before .before .args .text .now in let l = c .before .loop in let e = piece-over s (l .i) (c .before .before .before .before .args .upto) (c .loop-test .left) in record { long = copied-long (l .inv .3) e; is = copied-is (l .inv .3) e; within = omega arith }
+returns-2 c =
+    let b = c .before .before .before .before in let args = b .args in
+    let s = args .text .now in let l = c .before .loop in let e = piece-over s (l .i) (args .upto) (c .loop-test .left) in record { long = copied-long (l .inv .3) e; is = copied-is (l .inv .3) e; within = omega arith }
 
 pub copy-piece-spec : {M : Type 1} → statement M
 copy-piece-spec =

@@ -21,7 +21,9 @@ abbrev μ-loop : tie.MeasureT-loop
 μ-loop text at out₀ p₀ escaped₀ n₀ out p escaped n = length text - p
 
 returns : tie.Need-returns Inv-loop μ-loop
-returns c = let e = bad-value (quotedAt (c .before .before .before .before .before .args .text .now) (c .before .before .before .before .before .args .at)) (sym (c .enum-told2 .given .1) ∙ c .before .before .quoted-at .ensures .exact) in record { long = rw e; is = rw e (sym (fill-none (c .before .before .before .before .before .args .out .now))); within = omega arith }
+returns c =
+    let b = c .before .before .before .before .before in let args = b .args in
+    let e = bad-value (quotedAt (args .text .now) (args .at)) (sym (c .enum-told2 .given .1) ∙ c .before .before .quoted-at .ensures .exact) in record { long = rw e; is = rw e (sym (fill-none (args .out .now))); within = omega arith }
 
 add-p : tie.Need-add-p Inv-loop μ-loop
 add-p c = let f = rw (c .enum-told .given .1) at (c .before .before .quoted-at .ensures .within) in omega arith
@@ -33,7 +35,13 @@ returns-2 : tie.Need-returns-2 Inv-loop μ-loop
 returns-2 c = let s = c .before .before .before .before .before .before .before .before .before .before .args .text .now in let l = c .before .before .before .before .loop in let e = string-closes s (l .p) (l .escaped) (omega arith) _ (c .before .quote-step .ensures) (c .if1 .taken) in record { long = copied-long (l .inv .4) e; is = copied-is (l .inv .4) e; within = omega arith }
 
 loop-again : tie.Need-loop-again Inv-loop μ-loop
-loop-again c = let s = c .before .before .before .before .before .before .before .before .before .before .before .before .before .before .args .text .now in let l = c .before .before .before .before .before .before .before .before .loop in (omega (arith, kept-short (c .before .before .before .before .before .quote-step .result) (getD s (l .p) 0)), omega (arith, kept-short (c .before .before .before .before .before .quote-step .result) (getD s (l .p) 0)), search needs, string-still s (l .p) (l .escaped) (omega arith) _ (c .before .before .before .before .before .quote-step .ensures) (c .before .before .before .before .if1 .left) (l .inv .3), rw (c .before .before .keep .ensures .1, c .before .before .keep .ensures .0) (copied-kept (c .before .before .before .before .before .quote-step .result) (getD s (l .p) 0) _ (l .inv .4) (string-goes s (l .p) (l .escaped) (omega arith) _ (c .before .before .before .before .before .quote-step .ensures) (c .before .before .before .before .if1 .left) (l .inv .3))))
+loop-again c =
+    let b = c .before .before in let keep = b .keep in
+    let b = b .before .before in let if1 = b .if1 in
+    let b = b .before in let quote-step = b .quote-step in
+    let b = b .before .before .before in let loop = b .loop in
+    let b = b .before .before .before .before .before .before in let args = b .args in
+    let s = args .text .now in let l = loop in (omega (arith, kept-short (quote-step .result) (getD s (l .p) 0)), omega (arith, kept-short (quote-step .result) (getD s (l .p) 0)), search needs, string-still s (l .p) (l .escaped) (omega arith) _ (quote-step .ensures) (if1 .left) (l .inv .3), rw (keep .ensures .1, keep .ensures .0) (copied-kept (quote-step .result) (getD s (l .p) 0) _ (l .inv .4) (string-goes s (l .p) (l .escaped) (omega arith) _ (quote-step .ensures) (if1 .left) (l .inv .3))))
 
 returns-3 : tie.Need-returns-3 Inv-loop μ-loop
 returns-3 c = absurd (c .before .loop .inv .3 (ap nextOf (quote-past (c .before .before .before .before .before .before .before .args .text .now) (c .before .loop .p) (c .before .loop .escaped) (omega arith))))

@@ -6,7 +6,9 @@ use mathlib.Core.Path.{refl}
 use borrow.Author.Tests.{eq-eqb, ne-eqb}
 
 returns : tie.Need-returns
-returns c = rw (eq-eqb _ _ (c .before .before .before .before .if1 .taken)) (refl, c .before .before .store .ensures)
+returns c =
+    let b = c .before .before .before .before in let if1 = b .if1 in
+    rw (eq-eqb _ _ (if1 .taken)) (refl, c .before .before .store .ensures)
 
 returns-2 : tie.Need-returns-2
 returns-2 c = rw (ne-eqb _ _ (c .if1 .left)) (search needs, refl)

@@ -17,22 +17,37 @@ abbrev μ-loop : tie.MeasureT-loop
 μ-loop text at p₀ escaped₀ p escaped = length text - p
 
 returns : tie.Need-returns Inv-loop μ-loop
-returns c = record { exact = quote-none (c .before .before .before .args .text .now) (c .before .before .before .args .at) (λ e. c .if1 .taken (c .before .octet-at .ensures ∙ e)); within = tt }
+returns c =
+    let b = c .before .before .before in let args = b .args in
+    record { exact = quote-none (args .text .now) (args .at) (λ e. c .if1 .taken (c .before .octet-at .ensures ∙ e)); within = tt }
 
 add-p : tie.Need-add-p Inv-loop μ-loop
-add-p c = let e : getD (c .before .before .before .args .text .now) (c .before .before .before .args .at) 0 ≡ 34 = sym (c .before .octet-at .ensures) ∙ c .if1 .left in omega (arith, octet-in (c .before .before .before .args .text .now) (c .before .before .before .args .at) (omega arith))
+add-p c =
+    let b = c .before .before .before in let args = b .args in
+    let e : getD (args .text .now) (args .at) 0 ≡ 34 = sym (c .before .octet-at .ensures) ∙ c .if1 .left in omega (arith, octet-in (args .text .now) (args .at) (omega arith))
 
 loop-holds : tie.Need-loop-holds Inv-loop μ-loop
-loop-holds c = let e : getD (c .before .before .before .args .text .now) (c .before .before .before .args .at) 0 ≡ 34 = sym (c .before .octet-at .ensures) ∙ c .if1 .left in (omega arith, omega (arith, octet-in (c .before .before .before .args .text .now) (c .before .before .before .args .at) (omega arith)), ap nextOf (quote-begins (c .before .before .before .args .text .now) (c .before .before .before .args .at) e))
+loop-holds c =
+    let b = c .before .before .before in let args = b .args in
+    let e : getD (args .text .now) (args .at) 0 ≡ 34 = sym (c .before .octet-at .ensures) ∙ c .if1 .left in (omega arith, omega (arith, octet-in (args .text .now) (args .at) (omega arith)), ap nextOf (quote-begins (args .text .now) (args .at) e))
 
 returns-2 : tie.Need-returns-2 Inv-loop μ-loop
-returns-2 c = record { exact = sym (c .before .before .before .before .loop .inv .2 ∙ quote-closes (c .before .before .before .before .before .before .before .before .args .text .now) (c .before .before .before .before .loop .p) (c .before .before .before .before .loop .escaped) (omega arith) _ (c .before .quote-step .ensures) (c .if2 .taken)); within = (omega arith, omega arith) }
+returns-2 c =
+    let b = c .before .before .before .before in let loop = b .loop in
+    let b = b .before .before .before .before in let args = b .args in
+    record { exact = sym (loop .inv .2 ∙ quote-closes (args .text .now) (loop .p) (loop .escaped) (omega arith) _ (c .before .quote-step .ensures) (c .if2 .taken)); within = (omega arith, omega arith) }
 
 returns-3 : tie.Need-returns-3 Inv-loop μ-loop
-returns-3 c = record { exact = sym (c .before .before .before .before .before .loop .inv .2 ∙ quote-fails (c .before .before .before .before .before .before .before .before .before .args .text .now) (c .before .before .before .before .before .loop .p) (c .before .before .before .before .before .loop .escaped) (omega arith) _ (c .before .before .quote-step .ensures) (c .if3 .taken)); within = tt }
+returns-3 c =
+    let b = c .before .before .before .before .before in let loop = b .loop in
+    let b = b .before .before .before .before in let args = b .args in
+    record { exact = sym (loop .inv .2 ∙ quote-fails (args .text .now) (loop .p) (loop .escaped) (omega arith) _ (c .before .before .quote-step .ensures) (c .if3 .taken)); within = tt }
 
 loop-again : tie.Need-loop-again Inv-loop μ-loop
-loop-again c = (omega arith, omega arith, c .before .before .before .before .before .loop .inv .2 ∙ quote-goes (c .before .before .before .before .before .before .before .before .before .args .text .now) (c .before .before .before .before .before .loop .p) (c .before .before .before .before .before .loop .escaped) (omega arith) _ (c .before .before .quote-step .ensures) (c .before .if2 .left) (c .if3 .left))
+loop-again c =
+    let b = c .before .before .before .before .before in let loop = b .loop in
+    let b = b .before .before .before .before in let args = b .args in
+    (omega arith, omega arith, loop .inv .2 ∙ quote-goes (args .text .now) (loop .p) (loop .escaped) (omega arith) _ (c .before .before .quote-step .ensures) (c .before .if2 .left) (c .if3 .left))
 
 returns-4 : tie.Need-returns-4 Inv-loop μ-loop
 returns-4 c = record { exact = sym (c .before .loop .inv .2 ∙ ap nextOf (quote-past (c .before .before .before .before .before .args .text .now) (c .before .loop .p) (c .before .loop .escaped) (omega arith))); within = tt }

@@ -6,7 +6,9 @@ use mathlib.Core.Path.{sym}
 use lib.Seq.{set-out}
 
 returns-2 : tie.Need-returns-2
-returns-2 c = sym (set-out (c .before .args .out .now) (c .before .args .n) (c .before .args .b) (c .if1 .left))
+returns-2 c =
+    let b = c .before in let args = b .args in
+    sym (set-out (args .out .now) (args .n) (args .b) (c .if1 .left))
 
 pub store-spec : {M : Type 1} → statement M
 store-spec =

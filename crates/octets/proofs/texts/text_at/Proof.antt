@@ -9,10 +9,14 @@ use Rattle.octets.specs.Found.{nextOf}
 use Rattle.octets.proofs.Strings.{text-quoted, text-run}
 
 returns : tie.Need-returns
-returns c = record { exact = c .quoted-at .ensures .exact ∙ ap nextOf (sym (text-quoted (inClass (c .before .before .before .before .args .c)) (c .before .before .before .before .args .text .now) (c .before .before .before .before .args .at) (sym (c .before .before .octet-at .ensures) ∙ c .before .if1 .taken))); within = c .quoted-at .ensures .within }
+returns c =
+    let b = c .before .before .before .before in let args = b .args in
+    record { exact = c .quoted-at .ensures .exact ∙ ap nextOf (sym (text-quoted (inClass (args .c)) (args .text .now) (args .at) (sym (c .before .before .octet-at .ensures) ∙ c .before .if1 .taken))); within = c .quoted-at .ensures .within }
 
 returns-2 : tie.Need-returns-2
-returns-2 c = record { exact = c .run-at .ensures .exact ∙ ap nextOf (sym (text-run (inClass (c .before .before .before .before .args .c)) (c .before .before .before .before .args .text .now) (c .before .before .before .before .args .at) (λ e. c .before .if1 .left (c .before .before .octet-at .ensures ∙ e)))); within = c .run-at .ensures .within }
+returns-2 c =
+    let b = c .before .before .before .before in let args = b .args in
+    record { exact = c .run-at .ensures .exact ∙ ap nextOf (sym (text-run (inClass (args .c)) (args .text .now) (args .at) (λ e. c .before .if1 .left (c .before .before .octet-at .ensures ∙ e)))); within = c .run-at .ensures .within }
 
 pub text-at-spec : {M : Type 1} → statement M
 text-at-spec =

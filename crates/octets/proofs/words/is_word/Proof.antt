@@ -20,25 +20,46 @@ loop-holds : tie.Need-loop-holds Inv-loop μ-loop
 loop-holds c = (omega arith, refl)
 
 returns : tie.Need-returns Inv-loop μ-loop
-returns c = let s = c .before .before .before .before .before .args .text .now in let w = c .before .before .before .before .before .args .word .now in let l = c .before .before .loop in sym (l .inv .1 ∙ word-short s w (l .i) (c .before .before .before .before .before .args .upto) (l .j) (piece-over s (l .i) (c .before .before .before .before .before .args .upto) (c .if1 .taken)) (omega arith))
+returns c =
+    let b = c .before .before .before .before .before in let args = b .args in
+    let s = args .text .now in let w = args .word .now in let l = c .before .before .loop in sym (l .inv .1 ∙ word-short s w (l .i) (args .upto) (l .j) (piece-over s (l .i) (args .upto) (c .if1 .taken)) (omega arith))
 
 returns-2 : tie.Need-returns-2 Inv-loop μ-loop
-returns-2 c = let s = c .before .before .before .before .before .before .args .text .now in let w = c .before .before .before .before .before .before .args .word .now in let l = c .before .before .before .loop in sym (l .inv .1 ∙ word-short s w (l .i) (c .before .before .before .before .before .before .args .upto) (l .j) (piece-past s (l .i) (c .before .before .before .before .before .before .args .upto) (c .if2 .taken)) (omega arith))
+returns-2 c =
+    let b = c .before .before .before in let loop = b .loop in
+    let b = b .before .before .before in let args = b .args in
+    let s = args .text .now in let w = args .word .now in let l = loop in sym (l .inv .1 ∙ word-short s w (l .i) (args .upto) (l .j) (piece-past s (l .i) (args .upto) (c .if2 .taken)) (omega arith))
 
 returns-3 : tie.Need-returns-3 Inv-loop μ-loop
-returns-3 c = let s = c .before .before .before .before .before .before .before .before .before .before .before .args .text .now in let w = c .before .before .before .before .before .before .before .before .before .before .before .args .word .now in let l = c .before .before .before .before .before .before .before .before .loop in sym (l .inv .1 ∙ word-miss s w (l .i) (c .before .before .before .before .before .before .before .before .before .before .before .args .upto) (l .j) (omega arith) (omega arith) (omega arith) (λ e. c .if3 .taken (c .before .before .before .upper-of .ensures ∙ e ∙ sym (c .before .upper-of2 .ensures))))
+returns-3 c =
+    let b = c .before .before .before in let upper-of = b .upper-of in
+    let b = b .before .before .before .before .before in let loop = b .loop in
+    let b = b .before .before .before in let args = b .args in
+    let s = args .text .now in let w = args .word .now in let l = loop in sym (l .inv .1 ∙ word-miss s w (l .i) (args .upto) (l .j) (omega arith) (omega arith) (omega arith) (λ e. c .if3 .taken (upper-of .ensures ∙ e ∙ sym (c .before .upper-of2 .ensures))))
 
 loop-again : tie.Need-loop-again Inv-loop μ-loop
-loop-again c = let s = c .before .before .before .before .before .before .before .before .before .before .before .args .text .now in let w = c .before .before .before .before .before .before .before .before .before .before .before .args .word .now in let l = c .before .before .before .before .before .before .before .before .loop in (omega arith, l .inv .1 ∙ word-step s w (l .i) (c .before .before .before .before .before .before .before .before .before .before .before .args .upto) (l .j) (omega arith) (omega arith) (omega arith) (sym (c .before .before .before .upper-of .ensures) ∙ c .if3 .left ∙ c .before .upper-of2 .ensures))
+loop-again c =
+    let b = c .before .before .before in let upper-of = b .upper-of in
+    let b = b .before .before .before .before .before in let loop = b .loop in
+    let b = b .before .before .before in let args = b .args in
+    let s = args .text .now in let w = args .word .now in let l = loop in (omega arith, l .inv .1 ∙ word-step s w (l .i) (args .upto) (l .j) (omega arith) (omega arith) (omega arith) (sym (upper-of .ensures) ∙ c .if3 .left ∙ c .before .upper-of2 .ensures))
 
 returns-4 : tie.Need-returns-4 Inv-loop μ-loop
-returns-4 c = let s = c .before .before .before .before .before .args .text .now in let w = c .before .before .before .before .before .args .word .now in let l = c .before .before .loop in sym (l .inv .1 ∙ word-done s w (l .i) (c .before .before .before .before .before .args .upto) (l .j) (piece-over s (l .i) (c .before .before .before .before .before .args .upto) (c .if4 .taken)) (omega arith))
+returns-4 c =
+    let b = c .before .before .before .before .before in let args = b .args in
+    let s = args .text .now in let w = args .word .now in let l = c .before .before .loop in sym (l .inv .1 ∙ word-done s w (l .i) (args .upto) (l .j) (piece-over s (l .i) (args .upto) (c .if4 .taken)) (omega arith))
 
 returns-5 : tie.Need-returns-5 Inv-loop μ-loop
-returns-5 c = let s = c .before .before .before .before .before .before .args .text .now in let w = c .before .before .before .before .before .before .args .word .now in let l = c .before .before .before .loop in sym (l .inv .1 ∙ word-done s w (l .i) (c .before .before .before .before .before .before .args .upto) (l .j) (piece-past s (l .i) (c .before .before .before .before .before .before .args .upto) (c .if5 .taken)) (omega arith))
+returns-5 c =
+    let b = c .before .before .before in let loop = b .loop in
+    let b = b .before .before .before in let args = b .args in
+    let s = args .text .now in let w = args .word .now in let l = loop in sym (l .inv .1 ∙ word-done s w (l .i) (args .upto) (l .j) (piece-past s (l .i) (args .upto) (c .if5 .taken)) (omega arith))
 
 returns-6 : tie.Need-returns-6 Inv-loop μ-loop
-returns-6 c = let s = c .before .before .before .before .before .before .args .text .now in let w = c .before .before .before .before .before .before .args .word .now in let l = c .before .before .before .loop in sym (l .inv .1 ∙ word-long s w (l .i) (c .before .before .before .before .before .before .args .upto) (l .j) (omega arith) (omega arith) (omega arith))
+returns-6 c =
+    let b = c .before .before .before in let loop = b .loop in
+    let b = b .before .before .before in let args = b .args in
+    let s = args .text .now in let w = args .word .now in let l = loop in sym (l .inv .1 ∙ word-long s w (l .i) (args .upto) (l .j) (omega arith) (omega arith) (omega arith))
 
 pub is-word-spec : {M : Type 1} → statement M
 is-word-spec =

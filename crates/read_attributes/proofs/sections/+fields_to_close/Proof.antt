@@ -51,16 +51,32 @@ fields-to-close-add-t13 : (t : ℕ) → fields-to-close-lts.Need-add-t13 (fields
 fields-to-close-add-t13 t c = let i = in-text (c .before .before .before .before .before .before .before .before .args .text .now) (c .before .before .before .before .next .given .0 .0) (sym (c .before .before .octet-at .ensures) ∙ c .if2 .taken) (omega arith) in omega arith
 
 fields-to-close-returns : (t : ℕ) → fields-to-close-lts.Need-returns (fields-to-close-calls t) (fields-to-close-at t) fields-to-close.Post
-fields-to-close-returns t c = let w = rw (c .before .before .before .before .next .given .1) at (c .before .before .before .before .before .before .text-at .ensures .within) in record { within = within-from (c .before .before .before .before .before .before .before .before .args .text .now) (c .before .before .before .before .before .before .before .before .args .at) (c .before .before .before .before .next .given .0 .0 + 1) (c .fields-to-close .result) (omega arith) (c .fields-to-close .ensures .within); exact = λ n h. c .fields-to-close .ensures .exact (n - 1) (omega arith) ∙ end-another (astringAt (c .before .before .before .before .before .before .before .before .args .text .now)) (nextAt closing (c .before .before .before .before .before .before .before .before .args .text .now)) (c .before .before .before .before .before .before .before .before .args .at) n (omega arith) (next-found (astringAt (c .before .before .before .before .before .before .before .before .args .text .now) (c .before .before .before .before .before .before .before .before .args .at)) (sym (c .before .before .before .before .next .given .1) ∙ c .before .before .before .before .before .before .text-at .ensures .exact) .1) (next-space (c .before .before .before .before .before .before .before .before .args .text .now) (c .before .before .before .before .next .given .0 .0) (sym (c .before .before .octet-at .ensures) ∙ c .before .if1 .taken)) }
+fields-to-close-returns t c =
+    let b = c .before .before .before .before in let next = b .next in
+    let b = b .before .before in let text-at = b .text-at in
+    let b = b .before .before in let args = b .args in
+    let w = rw (next .given .1) at (text-at .ensures .within) in record { within = within-from (args .text .now) (args .at) (next .given .0 .0 + 1) (c .fields-to-close .result) (omega arith) (c .fields-to-close .ensures .within); exact = λ n h. c .fields-to-close .ensures .exact (n - 1) (omega arith) ∙ end-another (astringAt (args .text .now)) (nextAt closing (args .text .now)) (args .at) n (omega arith) (next-found (astringAt (args .text .now) (args .at)) (sym (next .given .1) ∙ text-at .ensures .exact) .1) (next-space (args .text .now) (next .given .0 .0) (sym (c .before .before .octet-at .ensures) ∙ c .before .if1 .taken)) }
 
 fields-to-close-returns-2 : (t : ℕ) → fields-to-close-lts.Need-returns-2 (fields-to-close-calls t) (fields-to-close-at t) fields-to-close.Post
-fields-to-close-returns-2 t c = let w = rw (c .before .before .before .before .next .given .1) at (c .before .before .before .before .before .before .text-at .ensures .within) in let i = in-text (c .before .before .before .before .before .before .before .before .args .text .now) (c .before .before .before .before .next .given .0 .0) (sym (c .before .before .octet-at .ensures) ∙ c .if2 .taken) (omega arith) in record { within = (omega arith, omega arith); exact = λ n h. end-over (astringAt (c .before .before .before .before .before .before .before .before .args .text .now)) (nextAt closing (c .before .before .before .before .before .before .before .before .args .text .now)) (c .before .before .before .before .before .before .before .before .args .at) n (omega arith) (next-found (astringAt (c .before .before .before .before .before .before .before .before .args .text .now) (c .before .before .before .before .before .before .before .before .args .at)) (sym (c .before .before .before .before .next .given .1) ∙ c .before .before .before .before .before .before .text-at .ensures .exact) .1) (next-close (c .before .before .before .before .before .before .before .before .args .text .now) (c .before .before .before .before .next .given .0 .0) (sym (c .before .before .octet-at .ensures) ∙ c .if2 .taken)) }
+fields-to-close-returns-2 t c =
+    let b = c .before .before in let octet-at = b .octet-at in
+    let b = b .before .before in let next = b .next in
+    let b = b .before .before in let text-at = b .text-at in
+    let b = b .before .before in let args = b .args in
+    let w = rw (next .given .1) at (text-at .ensures .within) in let i = in-text (args .text .now) (next .given .0 .0) (sym (octet-at .ensures) ∙ c .if2 .taken) (omega arith) in record { within = (omega arith, omega arith); exact = λ n h. end-over (astringAt (args .text .now)) (nextAt closing (args .text .now)) (args .at) n (omega arith) (next-found (astringAt (args .text .now) (args .at)) (sym (next .given .1) ∙ text-at .ensures .exact) .1) (next-close (args .text .now) (next .given .0 .0) (sym (octet-at .ensures) ∙ c .if2 .taken)) }
 
 fields-to-close-returns-3 : (t : ℕ) → fields-to-close-lts.Need-returns-3 (fields-to-close-calls t) (fields-to-close-at t) fields-to-close.Post
-fields-to-close-returns-3 t c = let w = rw (c .before .before .before .before .next .given .1) at (c .before .before .before .before .before .before .text-at .ensures .within) in record { within = tt; exact = λ n h. end-neither (astringAt (c .before .before .before .before .before .before .before .before .args .text .now)) (nextAt closing (c .before .before .before .before .before .before .before .before .args .text .now)) (c .before .before .before .before .before .before .before .before .args .at) n (omega arith) (next-found (astringAt (c .before .before .before .before .before .before .before .before .args .text .now) (c .before .before .before .before .before .before .before .before .args .at)) (sym (c .before .before .before .before .next .given .1) ∙ c .before .before .before .before .before .before .text-at .ensures .exact) .1) (next-neither (c .before .before .before .before .before .before .before .before .args .text .now) (c .before .before .before .before .next .given .0 .0) (λ e. c .before .if1 .left (c .before .before .octet-at .ensures ∙ e)) (λ e. c .if2 .left (c .before .before .octet-at .ensures ∙ e))) }
+fields-to-close-returns-3 t c =
+    let b = c .before .before in let octet-at = b .octet-at in
+    let b = b .before .before in let next = b .next in
+    let b = b .before .before in let text-at = b .text-at in
+    let b = b .before .before in let args = b .args in
+    let w = rw (next .given .1) at (text-at .ensures .within) in record { within = tt; exact = λ n h. end-neither (astringAt (args .text .now)) (nextAt closing (args .text .now)) (args .at) n (omega arith) (next-found (astringAt (args .text .now) (args .at)) (sym (next .given .1) ∙ text-at .ensures .exact) .1) (next-neither (args .text .now) (next .given .0 .0) (λ e. c .before .if1 .left (octet-at .ensures ∙ e)) (λ e. c .if2 .left (octet-at .ensures ∙ e))) }
 
 fields-to-close-returns-4 : (t : ℕ) → fields-to-close-lts.Need-returns-4 (fields-to-close-calls t) (fields-to-close-at t) fields-to-close.Post
-fields-to-close-returns-4 t c = record { within = tt; exact = λ n h. end-none (astringAt (c .before .before .before .before .args .text .now)) (nextAt closing (c .before .before .before .before .args .text .now)) (c .before .before .before .before .args .at) n (next-lost (astringAt (c .before .before .before .before .args .text .now) (c .before .before .before .before .args .at)) (sym (c .enum-told .given .1) ∙ c .before .before .text-at .ensures .exact)) }
+fields-to-close-returns-4 t c =
+    let b = c .before .before .before .before in let args = b .args in
+    record { within = tt; exact = λ n h. end-none (astringAt (args .text .now)) (nextAt closing (args .text .now)) (args .at) n (next-lost (astringAt (args .text .now) (args .at)) (sym (c .enum-told .given .1) ∙ c .before .before .text-at .ensures .exact)) }
 
 pub +fields-to-close-spec : {M : Type 1} → statement M
 +fields-to-close-spec = close μ-fields-to-close λ t. fields-to-close-lts.spec (fields-to-close-calls t)

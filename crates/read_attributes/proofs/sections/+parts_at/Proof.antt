@@ -35,22 +35,47 @@ abbrev parts-at-calls : ℕ → parts-at-lts.Claims
 parts-at-calls t = (positive-at-reads.Asked, positive-at-reads.Learnt, octet-at-reads.Asked, octet-at-reads.Learnt, in-class-reads.Asked, in-class-reads.Learnt, parts-at-below t, parts-at.Post)
 
 parts-at-returns : (t : ℕ) → parts-at-lts.Need-returns (parts-at-calls t) (parts-at-at t) parts-at.Post
-parts-at-returns t c = let w = rw (c .before .before .before .next .given .1) at (c .before .before .before .before .before .positive-at .ensures .within) in record { within = (omega arith, omega arith); exact = λ n h. end-over (positiveAt (c .before .before .before .before .before .before .before .args .text .now)) (partNext (c .before .before .before .before .before .before .before .args .text .now)) (c .before .before .before .before .before .before .before .args .at) n (omega arith) (number-found (positiveAt (c .before .before .before .before .before .before .before .args .text .now) (c .before .before .before .before .before .before .before .args .at)) (sym (c .before .before .before .next .given .1) ∙ c .before .before .before .before .before .positive-at .ensures .exact)) (part-over (c .before .before .before .before .before .before .before .args .text .now) (c .before .before .before .next .given .0 .1 .0) (λ e. c .if1 .taken (c .before .octet-at .ensures ∙ e))) }
+parts-at-returns t c =
+    let b = c .before .before .before in let next = b .next in
+    let b = b .before .before in let positive-at = b .positive-at in
+    let b = b .before .before in let args = b .args in
+    let w = rw (next .given .1) at (positive-at .ensures .within) in record { within = (omega arith, omega arith); exact = λ n h. end-over (positiveAt (args .text .now)) (partNext (args .text .now)) (args .at) n (omega arith) (number-found (positiveAt (args .text .now) (args .at)) (sym (next .given .1) ∙ positive-at .ensures .exact)) (part-over (args .text .now) (next .given .0 .1 .0) (λ e. c .if1 .taken (c .before .octet-at .ensures ∙ e))) }
 
 parts-at-add-part : (t : ℕ) → parts-at-lts.Need-add-part (parts-at-calls t) (parts-at-at t) parts-at.Post
 parts-at-add-part t c = let i = in-text (c .before .before .before .before .before .before .before .args .text .now) (c .before .before .before .next .given .0 .1 .0) (sym (c .before .octet-at .ensures) ∙ c .if1 .left) (omega arith) in omega arith
 
 parts-at-parts-at-requires : (t : ℕ) → parts-at-lts.Need-parts-at-requires (parts-at-calls t) (parts-at-at t) parts-at.Post
-parts-at-parts-at-requires t c κs = let w = rw (c .before .before .before .before .before .before .next .given .1) at (c .before .before .before .before .before .before .before .before .positive-at .ensures .within) in let i = in-text (c .before .before .before .before .before .before .before .before .before .before .args .text .now) (c .before .before .before .before .before .before .next .given .0 .1 .0) (sym (c .before .before .before .before .octet-at .ensures) ∙ c .before .before .before .if1 .left) (omega arith) in omega arith
+parts-at-parts-at-requires t c κs =
+    let b = c .before .before .before in let if1 = b .if1 in
+    let b = b .before in let octet-at = b .octet-at in
+    let b = b .before .before in let next = b .next in
+    let b = b .before .before in let positive-at = b .positive-at in
+    let b = b .before .before in let args = b .args in
+    let w = rw (next .given .1) at (positive-at .ensures .within) in let i = in-text (args .text .now) (next .given .0 .1 .0) (sym (octet-at .ensures) ∙ if1 .left) (omega arith) in omega arith
 
 parts-at-returns-2 : (t : ℕ) → parts-at-lts.Need-returns-2 (parts-at-calls t) (parts-at-at t) parts-at.Post
-parts-at-returns-2 t c = let w = rw (c .before .before .before .before .before .before .before .next .given .1) at (c .before .before .before .before .before .before .before .before .before .positive-at .ensures .within) in record { within = within-from (c .before .before .before .before .before .before .before .before .before .before .before .args .text .now) (c .before .before .before .before .before .before .before .before .before .before .before .args .at) (c .before .before .before .before .before .before .before .next .given .0 .1 .0 + 1) (c .parts-at .result) (omega arith) (c .parts-at .ensures .within); exact = λ n h. c .parts-at .ensures .exact (n - 1) (omega arith) ∙ end-another (positiveAt (c .before .before .before .before .before .before .before .before .before .before .before .args .text .now)) (partNext (c .before .before .before .before .before .before .before .before .before .before .before .args .text .now)) (c .before .before .before .before .before .before .before .before .before .before .before .args .at) n (omega arith) (number-found (positiveAt (c .before .before .before .before .before .before .before .before .before .before .before .args .text .now) (c .before .before .before .before .before .before .before .before .before .before .before .args .at)) (sym (c .before .before .before .before .before .before .before .next .given .1) ∙ c .before .before .before .before .before .before .before .before .before .positive-at .ensures .exact)) (part-another (c .before .before .before .before .before .before .before .before .before .before .before .args .text .now) (c .before .before .before .before .before .before .before .next .given .0 .1 .0) (sym (c .before .before .before .before .before .octet-at .ensures) ∙ c .before .before .before .before .if1 .left) (rw (c .before .before .before .octet-at2 .ensures) at (sym (c .before .before .in-class .ensures) ∙ c .before .if2 .taken))) }
+parts-at-returns-2 t c =
+    let b = c .before .before .before in let octet-at2 = b .octet-at2 in
+    let b = b .before in let if1 = b .if1 in
+    let b = b .before in let octet-at = b .octet-at in
+    let b = b .before .before in let next = b .next in
+    let b = b .before .before in let positive-at = b .positive-at in
+    let b = b .before .before in let args = b .args in
+    let w = rw (next .given .1) at (positive-at .ensures .within) in record { within = within-from (args .text .now) (args .at) (next .given .0 .1 .0 + 1) (c .parts-at .result) (omega arith) (c .parts-at .ensures .within); exact = λ n h. c .parts-at .ensures .exact (n - 1) (omega arith) ∙ end-another (positiveAt (args .text .now)) (partNext (args .text .now)) (args .at) n (omega arith) (number-found (positiveAt (args .text .now) (args .at)) (sym (next .given .1) ∙ positive-at .ensures .exact)) (part-another (args .text .now) (next .given .0 .1 .0) (sym (octet-at .ensures) ∙ if1 .left) (rw (octet-at2 .ensures) at (sym (c .before .before .in-class .ensures) ∙ c .before .if2 .taken))) }
 
 parts-at-returns-3 : (t : ℕ) → parts-at-lts.Need-returns-3 (parts-at-calls t) (parts-at-at t) parts-at.Post
-parts-at-returns-3 t c = let w = rw (c .before .before .before .before .before .before .next .given .1) at (c .before .before .before .before .before .before .before .before .positive-at .ensures .within) in record { within = (omega arith, omega arith); exact = λ n h. end-over (positiveAt (c .before .before .before .before .before .before .before .before .before .before .args .text .now)) (partNext (c .before .before .before .before .before .before .before .before .before .before .args .text .now)) (c .before .before .before .before .before .before .before .before .before .before .args .at) n (omega arith) (number-found (positiveAt (c .before .before .before .before .before .before .before .before .before .before .args .text .now) (c .before .before .before .before .before .before .before .before .before .before .args .at)) (sym (c .before .before .before .before .before .before .next .given .1) ∙ c .before .before .before .before .before .before .before .before .positive-at .ensures .exact)) (part-letter (c .before .before .before .before .before .before .before .before .before .before .args .text .now) (c .before .before .before .before .before .before .next .given .0 .1 .0) (sym (c .before .before .before .before .octet-at .ensures) ∙ c .before .before .before .if1 .left) (rw (c .before .before .octet-at2 .ensures) at (sym (c .before .in-class .ensures) ∙ c .if2 .left))) }
+parts-at-returns-3 t c =
+    let b = c .before .before .before in let if1 = b .if1 in
+    let b = b .before in let octet-at = b .octet-at in
+    let b = b .before .before in let next = b .next in
+    let b = b .before .before in let positive-at = b .positive-at in
+    let b = b .before .before in let args = b .args in
+    let w = rw (next .given .1) at (positive-at .ensures .within) in record { within = (omega arith, omega arith); exact = λ n h. end-over (positiveAt (args .text .now)) (partNext (args .text .now)) (args .at) n (omega arith) (number-found (positiveAt (args .text .now) (args .at)) (sym (next .given .1) ∙ positive-at .ensures .exact)) (part-letter (args .text .now) (next .given .0 .1 .0) (sym (octet-at .ensures) ∙ if1 .left) (rw (c .before .before .octet-at2 .ensures) at (sym (c .before .in-class .ensures) ∙ c .if2 .left))) }
 
 parts-at-returns-4 : (t : ℕ) → parts-at-lts.Need-returns-4 (parts-at-calls t) (parts-at-at t) parts-at.Post
-parts-at-returns-4 t c = record { within = tt; exact = λ n h. end-none (positiveAt (c .before .before .before .before .args .text .now)) (partNext (c .before .before .before .before .args .text .now)) (c .before .before .before .before .args .at) n (number-lost (positiveAt (c .before .before .before .before .args .text .now) (c .before .before .before .before .args .at)) (sym (c .enum-told .given .1) ∙ c .before .before .positive-at .ensures .exact)) }
+parts-at-returns-4 t c =
+    let b = c .before .before .before .before in let args = b .args in
+    record { within = tt; exact = λ n h. end-none (positiveAt (args .text .now)) (partNext (args .text .now)) (args .at) n (number-lost (positiveAt (args .text .now) (args .at)) (sym (c .enum-told .given .1) ∙ c .before .before .positive-at .ensures .exact)) }
 
 pub +parts-at-spec : {M : Type 1} → statement M
 +parts-at-spec = close μ-parts-at λ t. parts-at-lts.spec (parts-at-calls t)

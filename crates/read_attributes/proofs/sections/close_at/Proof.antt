@@ -10,16 +10,28 @@ use Rattle.read_attributes.proofs.Sectioning.{close-blank, close-partia
 use Rattle.octets.specs.Rows.{in-text}
 
 returns : tie.Need-returns
-returns c = record { exact = close-blank (c .before .before .before .args .text .now) (c .before .before .before .args .at) (λ e. c .if1 .taken (c .before .octet-at .ensures ∙ e)); within = tt }
+returns c =
+    let b = c .before .before .before in let args = b .args in
+    record { exact = close-blank (args .text .now) (args .at) (λ e. c .if1 .taken (c .before .octet-at .ensures ∙ e)); within = tt }
 
 add-next : tie.Need-add-next
-add-next c = let i = in-text (c .before .before .before .args .text .now) (c .before .before .before .args .at) (sym (c .before .octet-at .ensures) ∙ c .if1 .left) (omega arith) in omega arith
+add-next c =
+    let b = c .before .before .before in let args = b .args in
+    let i = in-text (args .text .now) (args .at) (sym (c .before .octet-at .ensures) ∙ c .if1 .left) (omega arith) in omega arith
 
 returns-2 : tie.Need-returns-2
-returns-2 c = record { exact = c .partial-at .ensures .exact ∙ close-partial (c .before .before .before .before .before .before .args .text .now) (c .before .before .before .before .before .before .args .at) (sym (c .before .before .before .before .octet-at .ensures) ∙ c .before .before .before .if1 .left) (sym (c .before .before .octet-at2 .ensures) ∙ c .before .if2 .taken); within = within-from (c .before .before .before .before .before .before .args .text .now) (c .before .before .before .before .before .before .args .at) ((c .before .before .before .before .before .before .args .at) + 1) (c .partial-at .result) (omega arith) (c .partial-at .ensures .within) }
+returns-2 c =
+    let b = c .before .before .before in let if1 = b .if1 in
+    let b = b .before in let octet-at = b .octet-at in
+    let b = b .before .before in let args = b .args in
+    record { exact = c .partial-at .ensures .exact ∙ close-partial (args .text .now) (args .at) (sym (octet-at .ensures) ∙ if1 .left) (sym (c .before .before .octet-at2 .ensures) ∙ c .before .if2 .taken); within = within-from (args .text .now) (args .at) ((args .at) + 1) (c .partial-at .result) (omega arith) (c .partial-at .ensures .within) }
 
 returns-3 : tie.Need-returns-3
-returns-3 c = let i = in-text (c .before .before .before .before .before .args .text .now) (c .before .before .before .before .before .args .at) (sym (c .before .before .before .octet-at .ensures) ∙ c .before .before .if1 .left) (omega arith) in record { exact = close-alone (c .before .before .before .before .before .args .text .now) (c .before .before .before .before .before .args .at) (sym (c .before .before .before .octet-at .ensures) ∙ c .before .before .if1 .left) (λ e. c .if2 .left (c .before .octet-at2 .ensures ∙ e)); within = (omega arith, omega arith) }
+returns-3 c =
+    let b = c .before .before in let if1 = b .if1 in
+    let b = b .before in let octet-at = b .octet-at in
+    let b = b .before .before in let args = b .args in
+    let i = in-text (args .text .now) (args .at) (sym (octet-at .ensures) ∙ if1 .left) (omega arith) in record { exact = close-alone (args .text .now) (args .at) (sym (octet-at .ensures) ∙ if1 .left) (λ e. c .if2 .left (c .before .octet-at2 .ensures ∙ e)); within = (omega arith, omega arith) }
 
 pub close-at-spec : {M : Type 1} → statement M
 close-at-spec =

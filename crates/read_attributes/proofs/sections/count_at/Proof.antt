@@ -8,22 +8,43 @@ use Rattle.read_attributes.proofs.Sectioning.{count-blank, count-none, 
 use Rattle.octets.specs.Rows.{in-text}
 
 returns : tie.Need-returns
-returns c = record { exact = count-blank (c .before .before .before .args .text .now) (c .before .before .before .args .at) (λ e. c .if1 .taken (c .before .octet-at .ensures ∙ e)); within = tt }
+returns c =
+    let b = c .before .before .before in let args = b .args in
+    record { exact = count-blank (args .text .now) (args .at) (λ e. c .if1 .taken (c .before .octet-at .ensures ∙ e)); within = tt }
 
 add-positive-at : tie.Need-add-positive-at
-add-positive-at c = let i = in-text (c .before .before .before .args .text .now) (c .before .before .before .args .at) (sym (c .before .octet-at .ensures) ∙ c .if1 .left) (omega arith) in omega arith
+add-positive-at c =
+    let b = c .before .before .before in let args = b .args in
+    let i = in-text (args .text .now) (args .at) (sym (c .before .octet-at .ensures) ∙ c .if1 .left) (omega arith) in omega arith
 
 add-t12 : tie.Need-add-t12
 add-t12 c = let i = in-text (c .before .before .before .before .before .before .before .before .before .args .text .now) (c .before .before .before .next .given .0 .1 .0) (sym (c .before .octet-at2 .ensures) ∙ c .if2 .taken) (omega arith) in omega arith
 
 returns-2 : tie.Need-returns-2
-returns-2 c = let w = rw (c .before .before .before .next .given .1) at (c .before .before .before .before .before .positive-at .ensures .within) in let i = in-text (c .before .before .before .before .before .before .before .before .before .args .text .now) (c .before .before .before .next .given .0 .1 .0) (sym (c .before .octet-at2 .ensures) ∙ c .if2 .taken) (omega arith) in record { exact = count-shut (c .before .before .before .before .before .before .before .before .before .args .text .now) (c .before .before .before .before .before .before .before .before .before .args .at) (sym (c .before .before .before .before .before .before .before .octet-at .ensures) ∙ c .before .before .before .before .before .before .if1 .left) (sym (c .before .before .before .next .given .1) ∙ c .before .before .before .before .before .positive-at .ensures .exact) (sym (c .before .octet-at2 .ensures) ∙ c .if2 .taken); within = (omega arith, omega arith) }
+returns-2 c =
+    let b = c .before in let octet-at2 = b .octet-at2 in
+    let b = b .before .before in let next = b .next in
+    let b = b .before .before in let positive-at = b .positive-at in
+    let b = b .before in let if1 = b .if1 in
+    let b = b .before in let octet-at = b .octet-at in
+    let b = b .before .before in let args = b .args in
+    let w = rw (next .given .1) at (positive-at .ensures .within) in let i = in-text (args .text .now) (next .given .0 .1 .0) (sym (octet-at2 .ensures) ∙ c .if2 .taken) (omega arith) in record { exact = count-shut (args .text .now) (args .at) (sym (octet-at .ensures) ∙ if1 .left) (sym (next .given .1) ∙ positive-at .ensures .exact) (sym (octet-at2 .ensures) ∙ c .if2 .taken); within = (omega arith, omega arith) }
 
 returns-3 : tie.Need-returns-3
-returns-3 c = record { exact = count-open (c .before .before .before .before .before .before .before .before .before .args .text .now) (c .before .before .before .before .before .before .before .before .before .args .at) (sym (c .before .before .before .before .before .before .before .octet-at .ensures) ∙ c .before .before .before .before .before .before .if1 .left) (sym (c .before .before .before .next .given .1) ∙ c .before .before .before .before .before .positive-at .ensures .exact) (λ e. c .if2 .left (c .before .octet-at2 .ensures ∙ e)); within = tt }
+returns-3 c =
+    let b = c .before .before .before in let next = b .next in
+    let b = b .before .before in let positive-at = b .positive-at in
+    let b = b .before in let if1 = b .if1 in
+    let b = b .before in let octet-at = b .octet-at in
+    let b = b .before .before in let args = b .args in
+    record { exact = count-open (args .text .now) (args .at) (sym (octet-at .ensures) ∙ if1 .left) (sym (next .given .1) ∙ positive-at .ensures .exact) (λ e. c .if2 .left (c .before .octet-at2 .ensures ∙ e)); within = tt }
 
 returns-4 : tie.Need-returns-4
-returns-4 c = record { exact = count-none (c .before .before .before .before .before .before .args .text .now) (c .before .before .before .before .before .before .args .at) (sym (c .before .before .before .before .octet-at .ensures) ∙ c .before .before .before .if1 .left) (sym (c .enum-told .given .1) ∙ c .before .before .positive-at .ensures .exact); within = tt }
+returns-4 c =
+    let b = c .before .before .before in let if1 = b .if1 in
+    let b = b .before in let octet-at = b .octet-at in
+    let b = b .before .before in let args = b .args in
+    record { exact = count-none (args .text .now) (args .at) (sym (octet-at .ensures) ∙ if1 .left) (sym (c .enum-told .given .1) ∙ c .before .before .positive-at .ensures .exact); within = tt }
 
 pub count-at-spec : {M : Type 1} → statement M
 count-at-spec =

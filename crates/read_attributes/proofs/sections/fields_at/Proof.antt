@@ -11,19 +11,32 @@ use Rattle.read_attributes.proofs.Sectioning.{fields-blank, fields-shut
 use Rattle.octets.specs.Rows.{in-text}
 
 returns : tie.Need-returns
-returns c = record { exact = fields-blank (c .before .before .before .args .text .now) (c .before .before .before .args .at) (λ e. c .if1 .taken (c .before .octet-at .ensures ∙ e)); within = tt }
+returns c =
+    let b = c .before .before .before in let args = b .args in
+    record { exact = fields-blank (args .text .now) (args .at) (λ e. c .if1 .taken (c .before .octet-at .ensures ∙ e)); within = tt }
 
 add-next : tie.Need-add-next
-add-next c = let i = in-text (c .before .before .before .args .text .now) (c .before .before .before .args .at) (sym (c .before .octet-at .ensures) ∙ c .if1 .left) (omega arith) in omega arith
+add-next c =
+    let b = c .before .before .before in let args = b .args in
+    let i = in-text (args .text .now) (args .at) (sym (c .before .octet-at .ensures) ∙ c .if1 .left) (omega arith) in omega arith
 
 returns-2 : tie.Need-returns-2
-returns-2 c = record { exact = fields-shut (c .before .before .before .before .before .args .text .now) (c .before .before .before .before .before .args .at) (sym (c .before .before .before .octet-at .ensures) ∙ c .before .before .if1 .left) (λ e. c .if2 .taken (c .before .octet-at2 .ensures ∙ e)); within = tt }
+returns-2 c =
+    let b = c .before .before .before in let octet-at = b .octet-at in
+    let b = b .before .before in let args = b .args in
+    record { exact = fields-shut (args .text .now) (args .at) (sym (octet-at .ensures) ∙ c .before .before .if1 .left) (λ e. c .if2 .taken (c .before .octet-at2 .ensures ∙ e)); within = tt }
 
 add-fields-to-close : tie.Need-add-fields-to-close
-add-fields-to-close c = let i = in-text (c .before .before .before .before .before .args .text .now) ((c .before .before .before .before .before .args .at) + 1) (sym (c .before .octet-at2 .ensures) ∙ c .if2 .left) (omega arith) in omega arith
+add-fields-to-close c =
+    let b = c .before .before .before .before .before in let args = b .args in
+    let i = in-text (args .text .now) ((args .at) + 1) (sym (c .before .octet-at2 .ensures) ∙ c .if2 .left) (omega arith) in omega arith
 
 returns-3 : tie.Need-returns-3
-returns-3 c = record { exact = c .fields-to-close .ensures .exact (length (c .before .before .before .before .before .before .args .text .now)) (omega arith) ∙ fields-list (c .before .before .before .before .before .before .args .text .now) (c .before .before .before .before .before .before .args .at) (sym (c .before .before .before .before .octet-at .ensures) ∙ c .before .before .before .if1 .left) (sym (c .before .before .octet-at2 .ensures) ∙ c .before .if2 .left); within = within-from (c .before .before .before .before .before .before .args .text .now) (c .before .before .before .before .before .before .args .at) ((c .before .before .before .before .before .before .args .at) + 1 + 1) (c .fields-to-close .result) (omega arith) (c .fields-to-close .ensures .within) }
+returns-3 c =
+    let b = c .before .before .before in let if1 = b .if1 in
+    let b = b .before in let octet-at = b .octet-at in
+    let b = b .before .before in let args = b .args in
+    record { exact = c .fields-to-close .ensures .exact (length (args .text .now)) (omega arith) ∙ fields-list (args .text .now) (args .at) (sym (octet-at .ensures) ∙ if1 .left) (sym (c .before .before .octet-at2 .ensures) ∙ c .before .if2 .left); within = within-from (args .text .now) (args .at) ((args .at) + 1 + 1) (c .fields-to-close .result) (omega arith) (c .fields-to-close .ensures .within) }
 
 pub fields-at-spec : {M : Type 1} → statement M
 fields-at-spec =

@@ -9,16 +9,30 @@ use Rattle.read_attributes.proofs.Sectioning.{partial-blank, partial-no
 use Rattle.octets.specs.Rows.{in-text}
 
 returns : tie.Need-returns
-returns c = record { exact = partial-blank (c .before .before .before .args .text .now) (c .before .before .before .args .at) (λ e. c .if1 .taken (c .before .octet-at .ensures ∙ e)); within = tt }
+returns c =
+    let b = c .before .before .before in let args = b .args in
+    record { exact = partial-blank (args .text .now) (args .at) (λ e. c .if1 .taken (c .before .octet-at .ensures ∙ e)); within = tt }
 
 add-number-at : tie.Need-add-number-at
-add-number-at c = let i = in-text (c .before .before .before .args .text .now) (c .before .before .before .args .at) (sym (c .before .octet-at .ensures) ∙ c .if1 .left) (omega arith) in omega arith
+add-number-at c =
+    let b = c .before .before .before in let args = b .args in
+    let i = in-text (args .text .now) (args .at) (sym (c .before .octet-at .ensures) ∙ c .if1 .left) (omega arith) in omega arith
 
 returns-2 : tie.Need-returns-2
-returns-2 c = let w = rw (c .before .before .next .given .1) at (c .before .before .before .before .number-at .ensures .within) in record { exact = c .count-at .ensures .exact ∙ partial-count (c .before .before .before .before .before .before .before .before .args .text .now) (c .before .before .before .before .before .before .before .before .args .at) (sym (c .before .before .before .before .before .before .octet-at .ensures) ∙ c .before .before .before .before .before .if1 .left) (sym (c .before .before .next .given .1) ∙ c .before .before .before .before .number-at .ensures .exact); within = within-from (c .before .before .before .before .before .before .before .before .args .text .now) (c .before .before .before .before .before .before .before .before .args .at) (c .before .before .next .given .0 .1 .0) (c .count-at .result) (omega arith) (c .count-at .ensures .within) }
+returns-2 c =
+    let b = c .before .before in let next = b .next in
+    let b = b .before .before in let number-at = b .number-at in
+    let b = b .before in let if1 = b .if1 in
+    let b = b .before in let octet-at = b .octet-at in
+    let b = b .before .before in let args = b .args in
+    let w = rw (next .given .1) at (number-at .ensures .within) in record { exact = c .count-at .ensures .exact ∙ partial-count (args .text .now) (args .at) (sym (octet-at .ensures) ∙ if1 .left) (sym (next .given .1) ∙ number-at .ensures .exact); within = within-from (args .text .now) (args .at) (next .given .0 .1 .0) (c .count-at .result) (omega arith) (c .count-at .ensures .within) }
 
 returns-3 : tie.Need-returns-3
-returns-3 c = record { exact = partial-none (c .before .before .before .before .before .before .args .text .now) (c .before .before .before .before .before .before .args .at) (sym (c .before .before .before .before .octet-at .ensures) ∙ c .before .before .before .if1 .left) (sym (c .enum-told .given .1) ∙ c .before .before .number-at .ensures .exact); within = tt }
+returns-3 c =
+    let b = c .before .before .before in let if1 = b .if1 in
+    let b = b .before in let octet-at = b .octet-at in
+    let b = b .before .before in let args = b .args in
+    record { exact = partial-none (args .text .now) (args .at) (sym (octet-at .ensures) ∙ if1 .left) (sym (c .enum-told .given .1) ∙ c .before .before .number-at .ensures .exact); within = tt }
 
 pub partial-at-spec : {M : Type 1} → statement M
 partial-at-spec =

@@ -9,16 +9,30 @@ use Rattle.read_attributes.proofs.Sectioning.{section-blank, section-no
 use Rattle.octets.specs.Rows.{in-text}
 
 returns : tie.Need-returns
-returns c = record { exact = section-blank (c .before .before .before .args .text .now) (c .before .before .before .args .at) (λ e. c .if1 .taken (c .before .octet-at .ensures ∙ e)); within = tt }
+returns c =
+    let b = c .before .before .before in let args = b .args in
+    record { exact = section-blank (args .text .now) (args .at) (λ e. c .if1 .taken (c .before .octet-at .ensures ∙ e)); within = tt }
 
 add-section-spec-at : tie.Need-add-section-spec-at
-add-section-spec-at c = let i = in-text (c .before .before .before .args .text .now) (c .before .before .before .args .at) (sym (c .before .octet-at .ensures) ∙ c .if1 .left) (omega arith) in omega arith
+add-section-spec-at c =
+    let b = c .before .before .before in let args = b .args in
+    let i = in-text (args .text .now) (args .at) (sym (c .before .octet-at .ensures) ∙ c .if1 .left) (omega arith) in omega arith
 
 returns-2 : tie.Need-returns-2
-returns-2 c = let w = rw (c .before .before .next .given .1) at (c .before .before .before .before .section-spec-at .ensures .within) in record { exact = c .close-at .ensures .exact ∙ section-close (c .before .before .before .before .before .before .before .before .args .text .now) (c .before .before .before .before .before .before .before .before .args .at) (sym (c .before .before .before .before .before .before .octet-at .ensures) ∙ c .before .before .before .before .before .if1 .left) (sym (c .before .before .next .given .1) ∙ c .before .before .before .before .section-spec-at .ensures .exact); within = within-from (c .before .before .before .before .before .before .before .before .args .text .now) (c .before .before .before .before .before .before .before .before .args .at) (c .before .before .next .given .0 .0) (c .close-at .result) (omega arith) (c .close-at .ensures .within) }
+returns-2 c =
+    let b = c .before .before in let next = b .next in
+    let b = b .before .before in let section-spec-at = b .section-spec-at in
+    let b = b .before in let if1 = b .if1 in
+    let b = b .before in let octet-at = b .octet-at in
+    let b = b .before .before in let args = b .args in
+    let w = rw (next .given .1) at (section-spec-at .ensures .within) in record { exact = c .close-at .ensures .exact ∙ section-close (args .text .now) (args .at) (sym (octet-at .ensures) ∙ if1 .left) (sym (next .given .1) ∙ section-spec-at .ensures .exact); within = within-from (args .text .now) (args .at) (next .given .0 .0) (c .close-at .result) (omega arith) (c .close-at .ensures .within) }
 
 returns-3 : tie.Need-returns-3
-returns-3 c = record { exact = section-none (c .before .before .before .before .before .before .args .text .now) (c .before .before .before .before .before .before .args .at) (sym (c .before .before .before .before .octet-at .ensures) ∙ c .before .before .before .if1 .left) (sym (c .enum-told .given .1) ∙ c .before .before .section-spec-at .ensures .exact); within = tt }
+returns-3 c =
+    let b = c .before .before .before in let if1 = b .if1 in
+    let b = b .before in let octet-at = b .octet-at in
+    let b = b .before .before in let args = b .args in
+    record { exact = section-none (args .text .now) (args .at) (sym (octet-at .ensures) ∙ if1 .left) (sym (c .enum-told .given .1) ∙ c .before .before .section-spec-at .ensures .exact); within = tt }
 
 pub section-at-spec : {M : Type 1} → statement M
 section-at-spec =

@@ -14,13 +14,23 @@ add-section-text-at : tie.Need-add-section-text-at
 add-section-text-at c = let i = in-text (c .before .before .before .before .before .before .before .args .text .now) (c .before .before .before .next .given .0 .0) (sym (c .before .octet-at .ensures) ∙ c .if1 .taken) (omega arith) in omega arith
 
 returns : tie.Need-returns
-returns c = let w = rw (c .before .before .before .before .next .given .1) at (c .before .before .before .before .before .before .parts-at .ensures .within) in record { exact = c .section-text-at .ensures .exact ∙ part-text (c .before .before .before .before .before .before .before .before .args .text .now) (c .before .before .before .before .before .before .before .before .args .at) (sym (c .before .before .before .before .next .given .1) ∙ c .before .before .before .before .before .before .parts-at .ensures .exact (length (c .before .before .before .before .before .before .before .before .args .text .now)) (omega arith)) (sym (c .before .before .octet-at .ensures) ∙ c .before .if1 .taken); within = within-from (c .before .before .before .before .before .before .before .before .args .text .now) (c .before .before .before .before .before .before .before .before .args .at) (c .before .before .before .before .next .given .0 .0 + 1) (c .section-text-at .result) (omega arith) (c .section-text-at .ensures .within) }
+returns c =
+    let b = c .before .before .before .before in let next = b .next in
+    let b = b .before .before in let parts-at = b .parts-at in
+    let b = b .before .before in let args = b .args in
+    let w = rw (next .given .1) at (parts-at .ensures .within) in record { exact = c .section-text-at .ensures .exact ∙ part-text (args .text .now) (args .at) (sym (next .given .1) ∙ parts-at .ensures .exact (length (args .text .now)) (omega arith)) (sym (c .before .before .octet-at .ensures) ∙ c .before .if1 .taken); within = within-from (args .text .now) (args .at) (next .given .0 .0 + 1) (c .section-text-at .result) (omega arith) (c .section-text-at .ensures .within) }
 
 returns-2 : tie.Need-returns-2
-returns-2 c = record { exact = part-alone (c .before .before .before .before .before .before .before .args .text .now) (c .before .before .before .before .before .before .before .args .at) (sym (c .before .before .before .next .given .1) ∙ c .before .before .before .before .before .parts-at .ensures .exact (length (c .before .before .before .before .before .before .before .args .text .now)) (omega arith)) (λ e. c .if1 .left (c .before .octet-at .ensures ∙ e)); within = rw (c .before .before .before .next .given .1) at (c .before .before .before .before .before .parts-at .ensures .within) }
+returns-2 c =
+    let b = c .before .before .before in let next = b .next in
+    let b = b .before .before in let parts-at = b .parts-at in
+    let b = b .before .before in let args = b .args in
+    record { exact = part-alone (args .text .now) (args .at) (sym (next .given .1) ∙ parts-at .ensures .exact (length (args .text .now)) (omega arith)) (λ e. c .if1 .left (c .before .octet-at .ensures ∙ e)); within = rw (next .given .1) at (parts-at .ensures .within) }
 
 returns-3 : tie.Need-returns-3
-returns-3 c = record { exact = part-none (c .before .before .before .before .args .text .now) (c .before .before .before .before .args .at) (sym (c .enum-told .given .1) ∙ c .before .before .parts-at .ensures .exact (length (c .before .before .before .before .args .text .now)) (omega arith)); within = tt }
+returns-3 c =
+    let b = c .before .before .before .before in let args = b .args in
+    record { exact = part-none (args .text .now) (args .at) (sym (c .enum-told .given .1) ∙ c .before .before .parts-at .ensures .exact (length (args .text .now)) (omega arith)); within = tt }
 
 pub section-part-at-spec : {M : Type 1} → statement M
 section-part-at-spec =

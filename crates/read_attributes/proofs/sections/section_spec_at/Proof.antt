@@ -8,13 +8,24 @@ use Rattle.read_attributes.proofs.Sectioning.{within-onward, spec-empty
 use Rattle.octets.specs.Rows.{in-text}
 
 returns : tie.Need-returns
-returns c = let i = in-text (c .before .before .before .args .text .now) (c .before .before .before .args .at) (sym (c .before .octet-at .ensures) ∙ c .if1 .taken) (omega arith) in record { exact = spec-empty (c .before .before .before .args .text .now) (c .before .before .before .args .at) (sym (c .before .octet-at .ensures) ∙ c .if1 .taken); within = (omega arith, omega arith) }
+returns c =
+    let b = c .before in let octet-at = b .octet-at in
+    let b = b .before .before in let args = b .args in
+    let i = in-text (args .text .now) (args .at) (sym (octet-at .ensures) ∙ c .if1 .taken) (omega arith) in record { exact = spec-empty (args .text .now) (args .at) (sym (octet-at .ensures) ∙ c .if1 .taken); within = (omega arith, omega arith) }
 
 returns-2 : tie.Need-returns-2
-returns-2 c = record { exact = c .section-part-at .ensures .exact ∙ spec-part (c .before .before .before .before .before .before .args .text .now) (c .before .before .before .before .before .before .args .at) (λ e. c .before .before .before .if1 .left (c .before .before .before .before .octet-at .ensures ∙ e)) (rw (c .before .before .before .before .octet-at .ensures) at (sym (c .before .before .in-class .ensures) ∙ c .before .if2 .taken)); within = within-onward (c .before .before .before .before .before .before .args .text .now) (c .before .before .before .before .before .before .args .at) (c .section-part-at .result) (c .section-part-at .ensures .within) }
+returns-2 c =
+    let b = c .before .before .before in let if1 = b .if1 in
+    let b = b .before in let octet-at = b .octet-at in
+    let b = b .before .before in let args = b .args in
+    record { exact = c .section-part-at .ensures .exact ∙ spec-part (args .text .now) (args .at) (λ e. if1 .left (octet-at .ensures ∙ e)) (rw (octet-at .ensures) at (sym (c .before .before .in-class .ensures) ∙ c .before .if2 .taken)); within = within-onward (args .text .now) (args .at) (c .section-part-at .result) (c .section-part-at .ensures .within) }
 
 returns-3 : tie.Need-returns-3
-returns-3 c = record { exact = c .section-text-at .ensures .exact ∙ spec-text (c .before .before .before .before .before .before .args .text .now) (c .before .before .before .before .before .before .args .at) (λ e. c .before .before .before .if1 .left (c .before .before .before .before .octet-at .ensures ∙ e)) (rw (c .before .before .before .before .octet-at .ensures) at (sym (c .before .before .in-class .ensures) ∙ c .before .if2 .left)); within = within-onward (c .before .before .before .before .before .before .args .text .now) (c .before .before .before .before .before .before .args .at) (c .section-text-at .result) (c .section-text-at .ensures .within) }
+returns-3 c =
+    let b = c .before .before .before in let if1 = b .if1 in
+    let b = b .before in let octet-at = b .octet-at in
+    let b = b .before .before in let args = b .args in
+    record { exact = c .section-text-at .ensures .exact ∙ spec-text (args .text .now) (args .at) (λ e. if1 .left (octet-at .ensures ∙ e)) (rw (octet-at .ensures) at (sym (c .before .before .in-class .ensures) ∙ c .before .if2 .left)); within = within-onward (args .text .now) (args .at) (c .section-text-at .result) (c .section-text-at .ensures .within) }
 
 pub section-spec-at-spec : {M : Type 1} → statement M
 section-spec-at-spec =

@@ -10,10 +10,19 @@ use Rattle.read_attributes.proofs.Rows.{within-from}
 use Rattle.read_attributes.proofs.Sectioning.{wantedAt, text-none, text-by}
 
 returns : tie.Need-returns
-returns c = record { exact = text-by (c .before .before .before .before .before .before .before .before .args .part) (c .before .before .before .before .before .before .before .before .args .text .now) (c .before .before .before .before .before .before .before .before .args .at) (sym (c .before .before .before .before .end .given .1) ∙ c .before .before .before .before .before .before .run-at .ensures .exact) (c .enum-told .given .1) (c .before .before .section-word .ensures); within = rw (c .before .before .before .before .end .given .1) at (c .before .before .before .before .before .before .run-at .ensures .within) }
+returns c =
+    let b = c .before .before .before .before in let end = b .end in
+    let b = b .before .before in let run-at = b .run-at in
+    let b = b .before .before in let args = b .args in
+    record { exact = text-by (args .part) (args .text .now) (args .at) (sym (end .given .1) ∙ run-at .ensures .exact) (c .enum-told .given .1) (c .before .before .section-word .ensures); within = rw (end .given .1) at (run-at .ensures .within) }
 
 returns-2 : tie.Need-returns-2
-returns-2 c = let w = rw (c .before .before .before .before .before .end .given .1) at (c .before .before .before .before .before .before .before .run-at .ensures .within) in record { exact = c .fields-at .ensures .exact ∙ text-by (c .before .before .before .before .before .before .before .before .before .args .part) (c .before .before .before .before .before .before .before .before .before .args .text .now) (c .before .before .before .before .before .before .before .before .before .args .at) (sym (c .before .before .before .before .before .end .given .1) ∙ c .before .before .before .before .before .before .before .run-at .ensures .exact) (c .before .enum-told2 .given .1) (c .before .before .before .section-word .ensures); within = within-from (c .before .before .before .before .before .before .before .before .before .args .text .now) (c .before .before .before .before .before .before .before .before .before .args .at) (c .before .before .before .before .before .end .given .0 .0) (c .fields-at .result) (omega arith) (c .fields-at .ensures .within) }
+returns-2 c =
+    let b = c .before .before .before in let section-word = b .section-word in
+    let b = b .before .before in let end = b .end in
+    let b = b .before .before in let run-at = b .run-at in
+    let b = b .before .before in let args = b .args in
+    let w = rw (end .given .1) at (run-at .ensures .within) in record { exact = c .fields-at .ensures .exact ∙ text-by (args .part) (args .text .now) (args .at) (sym (end .given .1) ∙ run-at .ensures .exact) (c .before .enum-told2 .given .1) (section-word .ensures); within = within-from (args .text .now) (args .at) (end .given .0 .0) (c .fields-at .result) (omega arith) (c .fields-at .ensures .within) }
 
 returns-3 : tie.Need-returns-3
 returns-3 c = record { exact = sym (ap (λ (b : Bool). wantedAt Mime b (c .before .before .before .before .before .before .before .before .before .args .text .now) (c .before .before .before .before .before .end .given .0 .0)) (c .if1 .taken)) ∙ text-by (c .before .before .before .before .before .before .before .before .before .args .part) (c .before .before .before .before .before .before .before .before .before .args .text .now) (c .before .before .before .before .before .before .before .before .before .args .at) (sym (c .before .before .before .before .before .end .given .1) ∙ c .before .before .before .before .before .before .before .run-at .ensures .exact) (c .before .enum-told3 .given .1) (c .before .before .before .section-word .ensures); within = rw (c .before .before .before .before .before .end .given .1) at (c .before .before .before .before .before .before .before .run-at .ensures .within) }
@@ -22,10 +31,16 @@ returns-4 : tie.Need-returns-4
 returns-4 c = record { exact = sym (ap (λ (b : Bool). wantedAt Mime b (c .before .before .before .before .before .before .before .before .before .args .text .now) (c .before .before .before .before .before .end .given .0 .0)) (c .if1 .left)) ∙ text-by (c .before .before .before .before .before .before .before .before .before .args .part) (c .before .before .before .before .before .before .before .before .before .args .text .now) (c .before .before .before .before .before .before .before .before .before .args .at) (sym (c .before .before .before .before .before .end .given .1) ∙ c .before .before .before .before .before .before .before .run-at .ensures .exact) (c .before .enum-told3 .given .1) (c .before .before .before .section-word .ensures); within = tt }
 
 returns-5 : tie.Need-returns-5
-returns-5 c = record { exact = text-by (c .before .before .before .before .before .before .before .before .args .part) (c .before .before .before .before .before .before .before .before .args .text .now) (c .before .before .before .before .before .before .before .before .args .at) (sym (c .before .before .before .before .end .given .1) ∙ c .before .before .before .before .before .before .run-at .ensures .exact) (c .enum-told4 .given .1) (c .before .before .section-word .ensures); within = tt }
+returns-5 c =
+    let b = c .before .before .before .before in let end = b .end in
+    let b = b .before .before in let run-at = b .run-at in
+    let b = b .before .before in let args = b .args in
+    record { exact = text-by (args .part) (args .text .now) (args .at) (sym (end .given .1) ∙ run-at .ensures .exact) (c .enum-told4 .given .1) (c .before .before .section-word .ensures); within = tt }
 
 returns-6 : tie.Need-returns-6
-returns-6 c = record { exact = text-none (c .before .before .before .before .args .part) (c .before .before .before .before .args .text .now) (c .before .before .before .before .args .at) (sym (c .enum-told5 .given .1) ∙ c .before .before .run-at .ensures .exact); within = tt }
+returns-6 c =
+    let b = c .before .before .before .before in let args = b .args in
+    record { exact = text-none (args .part) (args .text .now) (args .at) (sym (c .enum-told5 .given .1) ∙ c .before .before .run-at .ensures .exact); within = tt }
 
 pub section-text-at-spec : {M : Type 1} → statement M
 section-text-at-spec =

@@ -12,19 +12,36 @@ use Rattle.read_filters.proofs.mailboxes.keep_names.Tie as tie
 use Rattle.octets.specs.Rows.{in-text}
 
 add-keep-row : tie.Need-add-keep-row
-add-keep-row c = let i = in-text (c .before .before .before .args .text .now) (c .before .before .before .args .at) (sym (c .before .octet-at .ensures) ∙ c .if1 .taken) (omega arith) in omega arith
+add-keep-row c =
+    let b = c .before .before .before in let args = b .args in
+    let i = in-text (args .text .now) (args .at) (sym (c .before .octet-at .ensures) ∙ c .if1 .taken) (omega arith) in omega arith
 
 returns : tie.Need-returns
-returns c = let i = in-text (c .before .before .before .before .args .text .now) (c .before .before .before .before .args .at) (sym (c .before .before .octet-at .ensures) ∙ c .before .if1 .taken) (omega arith) in record { exact = c .keep-row .ensures .exact (length (c .before .before .before .before .args .text .now)) (omega arith) ∙ kept-row (c .before .before .before .before .args .text .now) (c .before .before .before .before .args .at) (c .before .before .before .before .args .kept) (sym (c .before .before .octet-at .ensures) ∙ c .before .if1 .taken); within = fits-from (c .keep-row .result .ok) (c .before .before .before .before .args .text .now) (c .before .before .before .before .args .at) (c .keep-row .result) (c .keep-row .ensures .within) }
+returns c =
+    let b = c .before in let if1 = b .if1 in
+    let b = b .before in let octet-at = b .octet-at in
+    let b = b .before .before in let args = b .args in
+    let i = in-text (args .text .now) (args .at) (sym (octet-at .ensures) ∙ if1 .taken) (omega arith) in record { exact = c .keep-row .ensures .exact (length (args .text .now)) (omega arith) ∙ kept-row (args .text .now) (args .at) (args .kept) (sym (octet-at .ensures) ∙ if1 .taken); within = fits-from (c .keep-row .result .ok) (args .text .now) (args .at) (c .keep-row .result) (c .keep-row .ensures .within) }
 
 returns-2 : tie.Need-returns-2
-returns-2 c = record { exact = c .unread .ensures ∙ kept-none (c .before .before .before .before .before .before .before .args .text .now) (c .before .before .before .before .before .before .before .args .at) (c .before .before .before .before .before .before .before .args .kept) (λ e. c .before .before .before .before .if1 .left (c .before .before .before .before .before .octet-at .ensures ∙ e)) (sym (c .before .enum-told .given .1) ∙ c .before .before .before .text-at .ensures .exact); within = rw (c .unread .ensures) tt }
+returns-2 c =
+    let b = c .before .before .before in let text-at = b .text-at in
+    let b = b .before in let if1 = b .if1 in
+    let b = b .before in let octet-at = b .octet-at in
+    let b = b .before .before in let args = b .args in
+    record { exact = c .unread .ensures ∙ kept-none (args .text .now) (args .at) (args .kept) (λ e. if1 .left (octet-at .ensures ∙ e)) (sym (c .before .enum-told .given .1) ∙ text-at .ensures .exact); within = rw (c .unread .ensures) tt }
 
 keep-one-requires : tie.Need-keep-one-requires
 keep-one-requires c κs = let w = rw (c .before .before .p .given .1) at (c .before .before .before .before .text-at .ensures .within) in omega arith
 
 returns-3 : tie.Need-returns-3
-returns-3 c = let w = rw (c .before .before .before .p .given .1) at (c .before .before .before .before .before .text-at .ensures .within) in record { exact = kept-one (c .before .before .before .before .before .before .before .before .before .args .text .now) (c .before .before .before .before .before .before .before .before .before .args .at) (c .before .before .before .before .before .before .before .before .before .args .kept) (λ e. c .before .before .before .before .before .before .if1 .left (c .before .before .before .before .before .before .before .octet-at .ensures ∙ e)) (sym (c .before .before .before .p .given .1) ∙ c .before .before .before .before .before .text-at .ensures .exact) (c .keep-one .result) (c .keep-one .ensures ∙ ap (withOne (c .before .before .before .before .before .before .before .before .before .args .kept)) (c .before .name-at .ensures)); within = (omega arith, omega arith, omega (arith, ap (λ (m : Kept). m .count) (c .keep-one .ensures))) }
+returns-3 c =
+    let b = c .before .before .before in let p = b .p in
+    let b = b .before .before in let text-at = b .text-at in
+    let b = b .before in let if1 = b .if1 in
+    let b = b .before in let octet-at = b .octet-at in
+    let b = b .before .before in let args = b .args in
+    let w = rw (p .given .1) at (text-at .ensures .within) in record { exact = kept-one (args .text .now) (args .at) (args .kept) (λ e. if1 .left (octet-at .ensures ∙ e)) (sym (p .given .1) ∙ text-at .ensures .exact) (c .keep-one .result) (c .keep-one .ensures ∙ ap (withOne (args .kept)) (c .before .name-at .ensures)); within = (omega arith, omega arith, omega (arith, ap (λ (m : Kept). m .count) (c .keep-one .ensures))) }
 
 pub keep-names-spec : {M : Type 1} → statement M
 keep-names-spec =

@@ -6,7 +6,9 @@ use Rattle.read_filters.proofs.mailboxes.keep_one.Statement.{statement}
 use Rattle.read_filters.proofs.mailboxes.keep_one.Tie as tie
 
 returns-2 : tie.Need-returns-2
-returns-2 c = let l = mapped _ (c .before .before .args .kept .names) (c .before .before .good .0 .1 .1 .1 .0 .1 .0 .1) in one-dropped (c .before .before .args .kept) (c .before .before .args .name) (omega arith)
+returns-2 c =
+    let b = c .before .before in let args = b .args in
+    let l = mapped _ (args .kept .names) (c .before .before .good .0 .1 .1 .1 .0 .1 .0 .1) in one-dropped (args .kept) (args .name) (omega arith)
 
 pub keep-one-spec : {M : Type 1} → statement M
 keep-one-spec =

@@ -12,13 +12,22 @@ use Rattle.read_filters.proofs.mailboxes.name_at.Statement.{statement}
 use Rattle.read_filters.proofs.mailboxes.name_at.Tie as tie
 
 returns : tie.Need-returns
-returns c = let l : 64 < length (valueOf (astringAt (c .before .before .before .before .before .before .before .args .text .now) (c .before .before .before .before .before .before .before .args .at))) = omega (arith, c .before .before .before .before .value-of .ensures .long) in c .stored .ensures ∙ too-long (valueOf (astringAt (c .before .before .before .before .before .before .before .args .text .now) (c .before .before .before .before .before .before .before .args .at))) l
+returns c =
+    let b = c .before .before .before .before in let value-of = b .value-of in
+    let b = b .before .before .before in let args = b .args in
+    let l : 64 < length (valueOf (astringAt (args .text .now) (args .at))) = omega (arith, value-of .ensures .long) in c .stored .ensures ∙ too-long (valueOf (astringAt (args .text .now) (args .at))) l
 
 slice-aggregate-stored-2 : tie.Need-slice-aggregate-stored-2
-slice-aggregate-stored-2 c = front-length (replicate 64 0) (valueOf (astringAt (c .before .before .before .before .before .before .args .text .now) (c .before .before .before .before .before .before .args .at))) (c .before .before .before .value-of .last .1 .1 .1 .0) (c .before .before .before .value-of .result) (c .before .before .before .value-of .ensures .long) (c .before .before .before .value-of .ensures .is) (omega arith)
+slice-aggregate-stored-2 c =
+    let b = c .before .before .before in let value-of = b .value-of in
+    let b = b .before .before .before in let args = b .args in
+    front-length (replicate 64 0) (valueOf (astringAt (args .text .now) (args .at))) (value-of .last .1 .1 .1 .0) (value-of .result) (value-of .ensures .long) (value-of .ensures .is) (omega arith)
 
 returns-2 : tie.Need-returns-2
-returns-2 c = c .stored2 .ensures ∙ ap lendName (front (replicate 64 0) (valueOf (astringAt (c .before .before .before .before .before .before .before .args .text .now) (c .before .before .before .before .before .before .before .args .at))) (c .before .before .before .before .value-of .last .1 .1 .1 .0) (c .before .before .before .before .value-of .result) (c .before .before .before .before .value-of .ensures .long) (c .before .before .before .before .value-of .ensures .is) (omega arith))
+returns-2 c =
+    let b = c .before .before .before .before in let value-of = b .value-of in
+    let b = b .before .before .before in let args = b .args in
+    c .stored2 .ensures ∙ ap lendName (front (replicate 64 0) (valueOf (astringAt (args .text .now) (args .at))) (value-of .last .1 .1 .1 .0) (value-of .result) (value-of .ensures .long) (value-of .ensures .is) (omega arith))
 
 pub name-at-spec : {M : Type 1} → statement M
 name-at-spec =

@@ -10,16 +10,32 @@ use Rattle.read_filters.proofs.mailboxes.names_at.Tie as tie
 use Rattle.octets.specs.Rows.{in-text}
 
 add-names-row : tie.Need-add-names-row
-add-names-row c = let i = in-text (c .before .before .before .args .text .now) (c .before .before .before .args .at) (sym (c .before .octet-at .ensures) ∙ c .if1 .taken) (omega arith) in omega arith
+add-names-row c =
+    let b = c .before .before .before in let args = b .args in
+    let i = in-text (args .text .now) (args .at) (sym (c .before .octet-at .ensures) ∙ c .if1 .taken) (omega arith) in omega arith
 
 returns : tie.Need-returns
-returns c = let i = in-text (c .before .before .before .before .args .text .now) (c .before .before .before .before .args .at) (sym (c .before .before .octet-at .ensures) ∙ c .before .if1 .taken) (omega arith) in record { exact = c .names-row .ensures .exact (length (c .before .before .before .before .args .text .now)) (omega arith) ∙ names-row (c .before .before .before .before .args .text .now) (c .before .before .before .before .args .at) (sym (c .before .before .octet-at .ensures) ∙ c .before .if1 .taken); within = within-from (c .before .before .before .before .args .text .now) (c .before .before .before .before .args .at) (c .names-row .result) (c .names-row .ensures .within) }
+returns c =
+    let b = c .before in let if1 = b .if1 in
+    let b = b .before in let octet-at = b .octet-at in
+    let b = b .before .before in let args = b .args in
+    let i = in-text (args .text .now) (args .at) (sym (octet-at .ensures) ∙ if1 .taken) (omega arith) in record { exact = c .names-row .ensures .exact (length (args .text .now)) (omega arith) ∙ names-row (args .text .now) (args .at) (sym (octet-at .ensures) ∙ if1 .taken); within = within-from (args .text .now) (args .at) (c .names-row .result) (c .names-row .ensures .within) }
 
 returns-2 : tie.Need-returns-2
-returns-2 c = let w = rw (c .before .p .given .1) at (c .before .before .before .text-at .ensures .within) in record { exact = names-one (c .before .before .before .before .before .before .before .args .text .now) (c .before .before .before .before .before .before .before .args .at) (λ e. c .before .before .before .before .if1 .left (c .before .before .before .before .before .octet-at .ensures ∙ e)) (sym (c .before .p .given .1) ∙ c .before .before .before .text-at .ensures .exact); within = omega arith }
+returns-2 c =
+    let b = c .before in let p = b .p in
+    let b = b .before .before in let text-at = b .text-at in
+    let b = b .before in let if1 = b .if1 in
+    let b = b .before in let octet-at = b .octet-at in
+    let b = b .before .before in let args = b .args in
+    let w = rw (p .given .1) at (text-at .ensures .within) in record { exact = names-one (args .text .now) (args .at) (λ e. if1 .left (octet-at .ensures ∙ e)) (sym (p .given .1) ∙ text-at .ensures .exact); within = omega arith }
 
 returns-3 : tie.Need-returns-3
-returns-3 c = record { exact = names-none (c .before .before .before .before .before .before .args .text .now) (c .before .before .before .before .before .before .args .at) (λ e. c .before .before .before .if1 .left (c .before .before .before .before .octet-at .ensures ∙ e)) (sym (c .enum-told .given .1) ∙ c .before .before .text-at .ensures .exact); within = tt }
+returns-3 c =
+    let b = c .before .before .before in let if1 = b .if1 in
+    let b = b .before in let octet-at = b .octet-at in
+    let b = b .before .before in let args = b .args in
+    record { exact = names-none (args .text .now) (args .at) (λ e. if1 .left (octet-at .ensures ∙ e)) (sym (c .enum-told .given .1) ∙ c .before .before .text-at .ensures .exact); within = tt }
 
 pub names-at-spec : {M : Type 1} → statement M
 names-at-spec =

@@ -5,13 +5,21 @@ use Rattle.read_keys.proofs.nesting.joined.Statement.{statement}
 use Rattle.read_keys.proofs.nesting.joined.Tie as tie
 
 add-t15 : tie.Need-add-t15
-add-t15 c = let s = rw (c .before .before .before .before .a .given .1) at (c .before .before .before .before .before .before .pre .0) in let u = rw (c .before .b .given .1) at (c .before .before .before .before .before .before .pre .1) in omega arith
+add-t15 c =
+    let b = c .before .before .before .before in let a = b .a in
+    let b = b .before .before in let pre = b .pre in
+    let s = rw (a .given .1) at (pre .0) in let u = rw (c .before .b .given .1) at (pre .1) in omega arith
 
 returns : tie.Need-returns
-returns c = rw (c .before .before .higher .ensures, c .before .either-of .ensures, c .higher2 .ensures, c .before .before .before .before .before .before .before .a .given .1, c .before .before .before .before .b .given .1)
+returns c =
+    let b = c .before .before .before .before in let at-b = b .b in
+    let b = b .before .before .before in let a = b .a in
+    rw (c .before .before .higher .ensures, c .before .either-of .ensures, c .higher2 .ensures, a .given .1, at-b .given .1)
 
 returns-2 : tie.Need-returns-2
-returns-2 c = rw (c .before .before .before .a .given .1, c .enum-told .given .1)
+returns-2 c =
+    let b = c .before .before .before in let a = b .a in
+    rw (a .given .1, c .enum-told .given .1)
 
 pub joined-spec : {M : Type 1} → statement M
 joined-spec =

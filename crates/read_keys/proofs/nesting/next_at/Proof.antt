@@ -9,10 +9,15 @@ use Rattle.read_keys.proofs.nesting.next_at.Tie as tie
 use Rattle.octets.specs.Rows.{in-text}
 
 returns : tie.Need-returns
-returns c = let i = in-text (c .before .before .before .args .text .now) (c .before .before .before .args .at) (sym (c .before .octet-at .ensures) ∙ c .if1 .taken) (omega arith) in record { exact = next-space (c .before .before .before .args .text .now) (c .before .before .before .args .at) (endingOf (c .before .before .before .args .e)) (sym (c .before .octet-at .ensures) ∙ c .if1 .taken); within = (omega arith, omega arith) }
+returns c =
+    let b = c .before in let octet-at = b .octet-at in
+    let b = b .before .before in let args = b .args in
+    let i = in-text (args .text .now) (args .at) (sym (octet-at .ensures) ∙ c .if1 .taken) (omega arith) in record { exact = next-space (args .text .now) (args .at) (endingOf (args .e)) (sym (octet-at .ensures) ∙ c .if1 .taken); within = (omega arith, omega arith) }
 
 returns-2 : tie.Need-returns-2
-returns-2 c = record { exact = c .over-at .ensures .exact ∙ next-over (c .before .before .before .before .args .text .now) (c .before .before .before .before .args .at) (endingOf (c .before .before .before .before .args .e)) (λ e. c .before .if1 .left (c .before .before .octet-at .ensures ∙ e)); within = c .over-at .ensures .within }
+returns-2 c =
+    let b = c .before .before .before .before in let args = b .args in
+    record { exact = c .over-at .ensures .exact ∙ next-over (args .text .now) (args .at) (endingOf (args .e)) (λ e. c .before .if1 .left (c .before .before .octet-at .ensures ∙ e)); within = c .over-at .ensures .within }
 
 pub next-at-spec : {M : Type 1} → statement M
 next-at-spec =

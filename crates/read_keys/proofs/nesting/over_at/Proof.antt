@@ -8,16 +8,25 @@ use Rattle.read_keys.proofs.nesting.over_at.Tie as tie
 use Rattle.octets.specs.Rows.{in-text}
 
 returns : tie.Need-returns
-returns c = let i = in-text (c .before .before .before .before .before .args .text .now) (c .before .before .before .before .before .args .at) (sym (c .before .octet-at .ensures) ∙ c .if1 .taken) (omega arith) in record { exact = over-closing (c .before .before .before .before .before .args .text .now) (c .before .before .before .before .before .args .at) (c .before .before .enum-told .given .1) (sym (c .before .octet-at .ensures) ∙ c .if1 .taken); within = (omega arith, omega arith) }
+returns c =
+    let b = c .before in let octet-at = b .octet-at in
+    let b = b .before .before .before .before in let args = b .args in
+    let i = in-text (args .text .now) (args .at) (sym (octet-at .ensures) ∙ c .if1 .taken) (omega arith) in record { exact = over-closing (args .text .now) (args .at) (c .before .before .enum-told .given .1) (sym (octet-at .ensures) ∙ c .if1 .taken); within = (omega arith, omega arith) }
 
 returns-2 : tie.Need-returns-2
-returns-2 c = record { exact = over-unclosed (c .before .before .before .before .before .args .text .now) (c .before .before .before .before .before .args .at) (c .before .before .enum-told .given .1) (λ e. c .if1 .left (c .before .octet-at .ensures ∙ e)); within = tt }
+returns-2 c =
+    let b = c .before .before .before .before .before in let args = b .args in
+    record { exact = over-unclosed (args .text .now) (args .at) (c .before .before .enum-told .given .1) (λ e. c .if1 .left (c .before .octet-at .ensures ∙ e)); within = tt }
 
 returns-3 : tie.Need-returns-3
-returns-3 c = record { exact = over-line (c .before .before .before .before .args .text .now) (c .before .before .before .before .args .at) (c .before .enum-told2 .given .1) (c .if2 .taken); within = (omega arith, omega arith) }
+returns-3 c =
+    let b = c .before .before .before .before in let args = b .args in
+    record { exact = over-line (args .text .now) (args .at) (c .before .enum-told2 .given .1) (c .if2 .taken); within = (omega arith, omega arith) }
 
 returns-4 : tie.Need-returns-4
-returns-4 c = record { exact = over-rest (c .before .before .before .before .args .text .now) (c .before .before .before .before .args .at) (c .before .enum-told2 .given .1) (c .if2 .left); within = tt }
+returns-4 c =
+    let b = c .before .before .before .before in let args = b .args in
+    record { exact = over-rest (args .text .now) (args .at) (c .before .enum-told2 .given .1) (c .if2 .left); within = tt }
 
 pub over-at-spec : {M : Type 1} → statement M
 over-at-spec =

@@ -31,22 +31,48 @@ abbrev set-at-calls : ℕ → set-at-lts.Claims
 set-at-calls t = (part-at-reads.Asked, part-at-reads.Learnt, store-two-reads.Asked, store-two-reads.Learnt, octet-at-reads.Asked, octet-at-reads.Learnt, set-at-below t, set-at.Post, one-more-reads.Asked, one-more-reads.Learnt)
 
 set-at-add-set-at : (t : ℕ) → set-at-lts.Need-add-set-at (set-at-calls t) (set-at-at t) set-at.Post
-set-at-add-set-at t c = let w = rw (c .before .before .before .before .before .before .before .from .given .1) at (c .before .before .before .before .before .before .before .before .before .part-at .ensures .within) in omega arith
+set-at-add-set-at t c =
+    let b = c .before .before .before .before .before .before .before in let from = b .from in
+    let b = b .before .before in let part-at = b .part-at in
+    let w = rw (from .given .1) at (part-at .ensures .within) in omega arith
 
 set-at-set-at-requires : (t : ℕ) → set-at-lts.Need-set-at-requires (set-at-calls t) (set-at-at t) set-at.Post
-set-at-set-at-requires t c κs = let w = rw (c .before .before .before .before .before .before .before .before .from .given .1) at (c .before .before .before .before .before .before .before .before .before .before .part-at .ensures .within) in let i = in-text (c .before .before .before .before .before .before .before .before .before .before .before .before .before .args .text .now) (c .before .before .before .before .before .before .before .before .from .given .0 .1 .1 .0) (sym (c .before .before .octet-at .ensures) ∙ c .before .if1 .taken) (omega arith) in omega arith
+set-at-set-at-requires t c κs =
+    let b = c .before .before .before .before .before .before .before .before in let from = b .from in
+    let b = b .before .before in let part-at = b .part-at in
+    let b = b .before .before .before in let args = b .args in
+    let w = rw (from .given .1) at (part-at .ensures .within) in let i = in-text (args .text .now) (from .given .0 .1 .1 .0) (sym (c .before .before .octet-at .ensures) ∙ c .before .if1 .taken) (omega arith) in omega arith
 
 set-at-one-more-requires : (t : ℕ) → set-at-lts.Need-one-more-requires (set-at-calls t) (set-at-at t) set-at.Post
-set-at-one-more-requires t c κs = set-few (c .before .before .before .before .before .before .before .before .before .before .before .before .before .before .before .before .args .text .now) (c .before .before .before .before .before .before .before .before .before .before .before .from .given .0 .1 .1 .0 + 1) (c .before .before .set-at .result) (omega arith) (c .before .before .set-at .ensures .within)
+set-at-one-more-requires t c κs =
+    let b = c .before .before in let at-set-at = b .set-at in
+    let b = b .before .before .before .before .before .before .before .before .before in let from = b .from in
+    let b = b .before .before .before .before .before in let args = b .args in
+    set-few (args .text .now) (from .given .0 .1 .1 .0 + 1) (at-set-at .result) (omega arith) (at-set-at .ensures .within)
 
 set-at-returns : (t : ℕ) → set-at-lts.Need-returns (set-at-calls t) (set-at-at t) set-at.Post
-set-at-returns t c = let w = rw (c .before .before .before .before .before .before .before .before .before .before .before .before .from .given .1) at (c .before .before .before .before .before .before .before .before .before .before .before .before .before .before .part-at .ensures .within) in record { within = rw (c .one-more .ensures) (set-in (c .before .before .before .before .before .before .before .before .before .before .before .before .before .before .before .before .before .args .text .now) (c .before .before .before .before .before .before .before .before .before .before .before .before .before .before .before .before .before .args .at) (c .before .before .before .before .before .before .before .before .before .before .before .before .from .given .0 .1 .1 .0) (c .before .before .before .set-at .result) (omega arith) (c .before .before .before .set-at .ensures .within)); exact = λ m h. rw (c .one-more .ensures) (set-more (c .before .before .before .before .before .before .before .before .before .before .before .before .before .before .before .before .before .args .text .now) (c .before .before .before .before .before .before .before .before .before .before .before .before .before .before .before .before .before .args .at) (c .before .before .before .before .before .before .before .before .before .before .before .before .before .before .before .before .before .args .n) m (omega arith) (sym (c .before .before .before .before .before .before .before .before .before .before .before .before .from .given .1) ∙ c .before .before .before .before .before .before .before .before .before .before .before .before .before .before .part-at .ensures .exact) (c .before .before .before .before .before .before .before .before .before .before .before .before .before .before .before .before .before .args .cells .now) (c .before .before .before .before .before .before .before .before .before .store-two .last .0) (c .before .before .before .before .before .before .before .before .before .store-two .ensures) (sym (c .before .before .before .before .before .before .octet-at .ensures) ∙ c .before .before .before .before .before .if1 .taken) (c .before .before .before .set-at .result) (c .before .before .before .set-at .last .1 .1 .0) (c .before .before .before .set-at .ensures .exact (m - 1) (omega arith))) }
+set-at-returns t c =
+    let b = c .before .before .before in let at-set-at = b .set-at in
+    let b = b .before .before in let if1 = b .if1 in
+    let b = b .before in let octet-at = b .octet-at in
+    let b = b .before .before .before in let store-two = b .store-two in
+    let b = b .before .before .before in let from = b .from in
+    let b = b .before .before in let part-at = b .part-at in
+    let b = b .before .before .before in let args = b .args in
+    let w = rw (from .given .1) at (part-at .ensures .within) in record { within = rw (c .one-more .ensures) (set-in (args .text .now) (args .at) (from .given .0 .1 .1 .0) (at-set-at .result) (omega arith) (at-set-at .ensures .within)); exact = λ m h. rw (c .one-more .ensures) (set-more (args .text .now) (args .at) (args .n) m (omega arith) (sym (from .given .1) ∙ part-at .ensures .exact) (args .cells .now) (store-two .last .0) (store-two .ensures) (sym (octet-at .ensures) ∙ if1 .taken) (at-set-at .result) (at-set-at .last .1 .1 .0) (at-set-at .ensures .exact (m - 1) (omega arith))) }
 
 set-at-returns-2 : (t : ℕ) → set-at-lts.Need-returns-2 (set-at-calls t) (set-at-at t) set-at.Post
-set-at-returns-2 t c = let w = rw (c .before .before .before .before .before .before .before .from .given .1) at (c .before .before .before .before .before .before .before .before .before .part-at .ensures .within) in record { within = (omega arith, omega arith, omega arith); exact = λ m h. set-last (c .before .before .before .before .before .before .before .before .before .before .before .before .args .text .now) (c .before .before .before .before .before .before .before .before .before .before .before .before .args .at) (c .before .before .before .before .before .before .before .before .before .before .before .before .args .n) m (omega arith) (sym (c .before .before .before .before .before .before .before .from .given .1) ∙ c .before .before .before .before .before .before .before .before .before .part-at .ensures .exact) (c .before .before .before .before .before .before .before .before .before .before .before .before .args .cells .now) (c .before .before .before .before .store-two .last .0) (c .before .before .before .before .store-two .ensures) (λ e. c .if1 .left (c .before .octet-at .ensures ∙ e)) }
+set-at-returns-2 t c =
+    let b = c .before .before .before .before in let store-two = b .store-two in
+    let b = b .before .before .before in let from = b .from in
+    let b = b .before .before in let part-at = b .part-at in
+    let b = b .before .before .before in let args = b .args in
+    let w = rw (from .given .1) at (part-at .ensures .within) in record { within = (omega arith, omega arith, omega arith); exact = λ m h. set-last (args .text .now) (args .at) (args .n) m (omega arith) (sym (from .given .1) ∙ part-at .ensures .exact) (args .cells .now) (store-two .last .0) (store-two .ensures) (λ e. c .if1 .left (c .before .octet-at .ensures ∙ e)) }
 
 set-at-returns-3 : (t : ℕ) → set-at-lts.Need-returns-3 (set-at-calls t) (set-at-at t) set-at.Post
-set-at-returns-3 t c = record { within = tt; exact = λ m h. set-none (c .before .before .before .before .before .args .text .now) (c .before .before .before .before .before .args .at) (c .before .before .before .before .before .args .n) m (c .before .before .before .before .before .args .cells .now) (sym (c .enum-told .given .1) ∙ c .before .before .part-at .ensures .exact) }
+set-at-returns-3 t c =
+    let b = c .before .before .before .before .before in let args = b .args in
+    record { within = tt; exact = λ m h. set-none (args .text .now) (args .at) (args .n) m (args .cells .now) (sym (c .enum-told .given .1) ∙ c .before .before .part-at .ensures .exact) }
 
 pub +set-at-spec : {M : Type 1} → statement M
 +set-at-spec = close μ-set-at λ t. set-at-lts.spec (set-at-calls t)

@@ -8,13 +8,20 @@ use Rattle.read_keys.proofs.sets.bound_at.Tie as tie
 use Rattle.octets.specs.Rows.{in-text}
 
 add-t5 : tie.Need-add-t5
-add-t5 c = let i = in-text (c .before .before .before .args .text .now) (c .before .before .before .args .at) (sym (c .before .octet-at .ensures) ∙ c .if1 .taken) (omega arith) in omega arith
+add-t5 c =
+    let b = c .before .before .before in let args = b .args in
+    let i = in-text (args .text .now) (args .at) (sym (c .before .octet-at .ensures) ∙ c .if1 .taken) (omega arith) in omega arith
 
 returns : tie.Need-returns
-returns c = let i = in-text (c .before .before .before .args .text .now) (c .before .before .before .args .at) (sym (c .before .octet-at .ensures) ∙ c .if1 .taken) (omega arith) in record { exact = bound-star (c .before .before .before .args .text .now) (c .before .before .before .args .at) (sym (c .before .octet-at .ensures) ∙ c .if1 .taken); within = (omega arith, omega arith, omega arith) }
+returns c =
+    let b = c .before in let octet-at = b .octet-at in
+    let b = b .before .before in let args = b .args in
+    let i = in-text (args .text .now) (args .at) (sym (octet-at .ensures) ∙ c .if1 .taken) (omega arith) in record { exact = bound-star (args .text .now) (args .at) (sym (octet-at .ensures) ∙ c .if1 .taken); within = (omega arith, omega arith, omega arith) }
 
 returns-2 : tie.Need-returns-2
-returns-2 c = record { exact = c .positive-at .ensures .exact ∙ bound-number (c .before .before .before .before .args .text .now) (c .before .before .before .before .args .at) (λ e. c .before .if1 .left (c .before .before .octet-at .ensures ∙ e)); within = c .positive-at .ensures .within }
+returns-2 c =
+    let b = c .before .before .before .before in let args = b .args in
+    record { exact = c .positive-at .ensures .exact ∙ bound-number (args .text .now) (args .at) (λ e. c .before .if1 .left (c .before .before .octet-at .ensures ∙ e)); within = c .positive-at .ensures .within }
 
 pub bound-at-spec : {M : Type 1} → statement M
 bound-at-spec =

@@ -7,7 +7,9 @@ use Rattle.read_keys.proofs.sets.one_more.Statement.{statement}
 use Rattle.read_keys.proofs.sets.one_more.Tie as tie
 
 add-t5 : tie.Need-add-t5
-add-t5 c = let s = rw (c .before .r .given .1) at (c .before .before .before .pre) in omega arith
+add-t5 c =
+    let b = c .before .before .before in let pre = b .pre in
+    let s = rw (c .before .r .given .1) at pre in omega arith
 
 returns : tie.Need-returns
 returns c = ap counted (sym (c .before .r .given .1))

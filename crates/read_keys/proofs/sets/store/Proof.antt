@@ -6,7 +6,9 @@ use Rattle.read_keys.proofs.sets.store.Statement.{statement}
 use Rattle.read_keys.proofs.sets.store.Tie as tie
 
 returns-2 : tie.Need-returns-2
-returns-2 c = sym (set-out (c .before .args .cells .now) (c .before .args .n) (c .before .args .v) (c .if1 .left))
+returns-2 c =
+    let b = c .before in let args = b .args in
+    sym (set-out (args .cells .now) (args .n) (args .v) (c .if1 .left))
 
 pub store-spec : {M : Type 1} → statement M
 store-spec =

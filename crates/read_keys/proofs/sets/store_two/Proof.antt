@@ -5,7 +5,11 @@ use Rattle.read_keys.proofs.sets.store_two.Statement.{statement}
 use Rattle.read_keys.proofs.sets.store_two.Tie as tie
 
 returns : tie.Need-returns
-returns c = stored-two (c .before .before .before .before .before .before .before .before .before .args .cells .now) (c .before .before .before .before .before .before .store .last .0) (c .before .before .store2 .last .0) (c .before .before .before .before .before .before .before .before .before .args .n) (c .before .before .before .before .before .before .before .before .before .args .v) (c .before .before .before .before .before .before .before .before .before .args .w) (c .before .before .before .before .before .before .store .ensures) (c .before .before .store2 .ensures)
+returns c =
+    let b = c .before .before in let store2 = b .store2 in
+    let b = b .before .before .before .before in let store = b .store in
+    let b = b .before .before .before in let args = b .args in
+    stored-two (args .cells .now) (store .last .0) (store2 .last .0) (args .n) (args .v) (args .w) (store .ensures) (store2 .ensures)
 
 pub store-two-spec : {M : Type 1} → statement M
 store-two-spec =

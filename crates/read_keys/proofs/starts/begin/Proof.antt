@@ -11,25 +11,61 @@ use Rattle.read_keys.proofs.starts.begin.Tie as tie
 use Rattle.octets.specs.Rows.{in-text}
 
 add-t9 : tie.Need-add-t9
-add-t9 c = let i = in-text (c .before .before .before .before .args .text .now) (c .before .before .before .before .args .at) (sym (c .before .octet-at .ensures) ∙ c .if1 .taken) (omega arith) in omega arith
+add-t9 c =
+    let b = c .before .before .before .before in let args = b .args in
+    let i = in-text (args .text .now) (args .at) (sym (c .before .octet-at .ensures) ∙ c .if1 .taken) (omega arith) in omega arith
 
 returns : tie.Need-returns
-returns c = let i = in-text (c .before .before .before .before .args .text .now) (c .before .before .before .before .args .at) (sym (c .before .octet-at .ensures) ∙ c .if1 .taken) (omega arith) in record { within = (omega arith, omega arith); exact = begun-by (c .before .before .before .before .args .text .now) (c .before .before .before .before .args .at) (Opening (c .before .before .before .before .args .at + 1)) (c .before .before .before .before .args .cells .now) (c .before .before .before .before .args .cells .now) (c .before .before .before .before .args .n) (start-open (c .before .before .before .before .args .text .now) (c .before .before .before .before .args .at) (sym (c .before .octet-at .ensures) ∙ c .if1 .taken)) (refl, refl) }
+returns c =
+    let b = c .before in let octet-at = b .octet-at in
+    let b = b .before .before .before in let args = b .args in
+    let i = in-text (args .text .now) (args .at) (sym (octet-at .ensures) ∙ c .if1 .taken) (omega arith) in record { within = (omega arith, omega arith); exact = begun-by (args .text .now) (args .at) (Opening (args .at + 1)) (args .cells .now) (args .cells .now) (args .n) (start-open (args .text .now) (args .at) (sym (octet-at .ensures) ∙ c .if1 .taken)) (refl, refl) }
 
 returns-2 : tie.Need-returns-2
-returns-2 c = record { within = c .before .before .put-set .ensures .within; exact = begun-numbers (c .before .before .before .before .before .before .before .before .before .args .text .now) (c .before .before .before .before .before .before .before .before .before .args .at) (c .before .before .put-set .result) (c .before .before .before .before .before .before .before .before .before .args .cells .now) (c .before .before .put-set .last .1 .1 .0) (c .before .before .before .before .before .before .before .before .before .args .n) (start-star (c .before .before .before .before .before .before .before .before .before .args .text .now) (c .before .before .before .before .before .before .before .before .before .args .at) (λ e. c .before .before .before .before .before .if1 .left (c .before .before .before .before .before .before .octet-at .ensures ∙ e)) (sym (c .before .before .before .before .before .before .octet-at .ensures) ∙ c .before .before .before .before .if2 .taken)) (c .before .before .put-set .ensures .exact) }
+returns-2 c =
+    let b = c .before .before in let put-set = b .put-set in
+    let b = b .before .before in let if2 = b .if2 in
+    let b = b .before in let if1 = b .if1 in
+    let b = b .before in let octet-at = b .octet-at in
+    let b = b .before .before .before in let args = b .args in
+    record { within = put-set .ensures .within; exact = begun-numbers (args .text .now) (args .at) (put-set .result) (args .cells .now) (put-set .last .1 .1 .0) (args .n) (start-star (args .text .now) (args .at) (λ e. if1 .left (octet-at .ensures ∙ e)) (sym (octet-at .ensures) ∙ if2 .taken)) (put-set .ensures .exact) }
 
 returns-3 : tie.Need-returns-3
-returns-3 c = record { within = c .before .before .put-set2 .ensures .within; exact = begun-numbers (c .before .before .before .before .before .before .before .before .before .before .before .args .text .now) (c .before .before .before .before .before .before .before .before .before .before .before .args .at) (c .before .before .put-set2 .result) (c .before .before .before .before .before .before .before .before .before .before .before .args .cells .now) (c .before .before .put-set2 .last .1 .1 .0) (c .before .before .before .before .before .before .before .before .before .before .before .args .n) (start-digit (c .before .before .before .before .before .before .before .before .before .before .before .args .text .now) (c .before .before .before .before .before .before .before .before .before .before .before .args .at) (λ e. c .before .before .before .before .before .before .before .if1 .left (c .before .before .before .before .before .before .before .before .octet-at .ensures ∙ e)) (ap digit (sym (c .before .before .before .before .before .before .before .before .octet-at .ensures)) ∙ sym (c .before .before .before .before .before .in-class .ensures) ∙ c .before .before .before .before .if3 .taken)) (c .before .before .put-set2 .ensures .exact) }
+returns-3 c =
+    let b = c .before .before in let put-set2 = b .put-set2 in
+    let b = b .before .before in let if3 = b .if3 in
+    let b = b .before in let in-class = b .in-class in
+    let b = b .before .before in let if1 = b .if1 in
+    let b = b .before in let octet-at = b .octet-at in
+    let b = b .before .before .before in let args = b .args in
+    record { within = put-set2 .ensures .within; exact = begun-numbers (args .text .now) (args .at) (put-set2 .result) (args .cells .now) (put-set2 .last .1 .1 .0) (args .n) (start-digit (args .text .now) (args .at) (λ e. if1 .left (octet-at .ensures ∙ e)) (ap digit (sym (octet-at .ensures)) ∙ sym (in-class .ensures) ∙ if3 .taken)) (put-set2 .ensures .exact) }
 
 begin-by-requires : tie.Need-begin-by-requires
 begin-by-requires c κs = let w = rw (c .before .before .before .p .given .1) at (c .before .before .before .before .before .run-at .ensures .within) in omega arith
 
 returns-4 : tie.Need-returns-4
-returns-4 c = let w = rw (c .before .before .before .before .before .before .p .given .1) at (c .before .before .before .before .before .before .before .before .run-at .ensures .within) in record { within = inside-from (c .before .before .before .before .before .before .before .before .before .before .before .before .before .before .before .before .args .text .now) (c .before .before .before .before .before .before .before .before .before .before .before .before .before .before .before .before .args .at + 1) (c .before .before .before .before .before .before .p .given .0 .0) (c .before .before .before .before .before .before .before .before .before .before .before .before .before .before .before .before .args .n) (c .before .before .begin-by .result) (omega arith) (c .before .before .begin-by .ensures .within); exact = begun-by (c .before .before .before .before .before .before .before .before .before .before .before .before .before .before .before .before .args .text .now) (c .before .before .before .before .before .before .before .before .before .before .before .before .before .before .before .before .args .at) (c .before .before .begin-by .result) (c .before .before .before .before .before .before .before .before .before .before .before .before .before .before .before .before .args .cells .now) (c .before .before .begin-by .last .1 .1 .1 .0) (c .before .before .before .before .before .before .before .before .before .before .before .before .before .before .before .before .args .n) (start-word (c .before .before .before .before .before .before .before .before .before .before .before .before .before .before .before .before .args .text .now) (c .before .before .before .before .before .before .before .before .before .before .before .before .before .before .before .before .args .at) (λ e. c .before .before .before .before .before .before .before .before .before .before .before .before .if1 .left (c .before .before .before .before .before .before .before .before .before .before .before .before .before .octet-at .ensures ∙ e)) (λ e. c .before .before .before .before .before .before .before .before .before .before .before .if2 .left (c .before .before .before .before .before .before .before .before .before .before .before .before .before .octet-at .ensures ∙ e)) (ap digit (sym (c .before .before .before .before .before .before .before .before .before .before .before .before .before .octet-at .ensures)) ∙ sym (c .before .before .before .before .before .before .before .before .before .before .in-class .ensures) ∙ c .before .before .before .before .before .before .before .before .before .if3 .left) (sym (c .before .before .before .before .before .before .p .given .1) ∙ c .before .before .before .before .before .before .before .before .run-at .ensures .exact) (c .before .before .before .before .key-word .result) (c .before .before .before .before .key-word .ensures)) (c .before .before .begin-by .ensures .exact) }
+returns-4 c =
+    let b = c .before .before in let begin-by = b .begin-by in
+    let b = b .before .before in let key-word = b .key-word in
+    let b = b .before .before in let p = b .p in
+    let b = b .before .before in let run-at = b .run-at in
+    let b = b .before in let if3 = b .if3 in
+    let b = b .before in let in-class = b .in-class in
+    let b = b .before in let if2 = b .if2 in
+    let b = b .before in let if1 = b .if1 in
+    let b = b .before in let octet-at = b .octet-at in
+    let b = b .before .before .before in let args = b .args in
+    let w = rw (p .given .1) at (run-at .ensures .within) in record { within = inside-from (args .text .now) (args .at + 1) (p .given .0 .0) (args .n) (begin-by .result) (omega arith) (begin-by .ensures .within); exact = begun-by (args .text .now) (args .at) (begin-by .result) (args .cells .now) (begin-by .last .1 .1 .1 .0) (args .n) (start-word (args .text .now) (args .at) (λ e. if1 .left (octet-at .ensures ∙ e)) (λ e. if2 .left (octet-at .ensures ∙ e)) (ap digit (sym (octet-at .ensures)) ∙ sym (in-class .ensures) ∙ if3 .left) (sym (p .given .1) ∙ run-at .ensures .exact) (key-word .result) (key-word .ensures)) (begin-by .ensures .exact) }
 
 returns-5 : tie.Need-returns-5
-returns-5 c = record { within = tt; exact = begun-by (c .before .before .before .before .before .before .before .before .before .before .args .text .now) (c .before .before .before .before .before .before .before .before .before .before .args .at) Wrong (c .before .before .before .before .before .before .before .before .before .before .args .cells .now) (c .before .before .before .before .before .before .before .before .before .before .args .cells .now) (c .before .before .before .before .before .before .before .before .before .before .args .n) (start-none (c .before .before .before .before .before .before .before .before .before .before .args .text .now) (c .before .before .before .before .before .before .before .before .before .before .args .at) (λ e. c .before .before .before .before .before .before .if1 .left (c .before .before .before .before .before .before .before .octet-at .ensures ∙ e)) (λ e. c .before .before .before .before .before .if2 .left (c .before .before .before .before .before .before .before .octet-at .ensures ∙ e)) (ap digit (sym (c .before .before .before .before .before .before .before .octet-at .ensures)) ∙ sym (c .before .before .before .before .in-class .ensures) ∙ c .before .before .before .if3 .left) (sym (c .enum-told .given .1) ∙ c .before .before .run-at .ensures .exact)) refl }
+returns-5 c =
+    let b = c .before .before .before in let if3 = b .if3 in
+    let b = b .before in let in-class = b .in-class in
+    let b = b .before in let if2 = b .if2 in
+    let b = b .before in let if1 = b .if1 in
+    let b = b .before in let octet-at = b .octet-at in
+    let b = b .before .before .before in let args = b .args in
+    record { within = tt; exact = begun-by (args .text .now) (args .at) Wrong (args .cells .now) (args .cells .now) (args .n) (start-none (args .text .now) (args .at) (λ e. if1 .left (octet-at .ensures ∙ e)) (λ e. if2 .left (octet-at .ensures ∙ e)) (ap digit (sym (octet-at .ensures)) ∙ sym (in-class .ensures) ∙ if3 .left) (sym (c .enum-told .given .1) ∙ c .before .before .run-at .ensures .exact)) refl }
 
 pub begin-spec : {M : Type 1} → statement M
 begin-spec =

@@ -11,40 +11,83 @@ use Rattle.read_keys.proofs.starts.begin_by.Tie as tie
 use Rattle.octets.specs.Rows.{in-text}
 
 returns : tie.Need-returns
-returns c = record { within = inside-one (c .before .before .before .before .before .before .before .before .args .text .now) (c .before .before .before .before .before .before .before .before .args .at) (c .before .before .before .before .before .before .before .before .args .n) (c .before .before .put-all .result) (c .before .before .put-all .ensures .0) (omega arith) (omega arith) (omega arith); exact = by-word (c .before .before .before .before .before .before .before .before .args .text .now) (c .before .before .before .before .before .before .before .before .args .at) (c .before .before .put-all .result) (c .before .before .before .before .before .before .before .before .args .cells .now) (c .before .before .put-all .last .0) (c .before .before .before .before .before .before .before .before .args .n) (c .before .before .before .before .enum-told .given .1) (c .before .before .put-all .ensures) }
+returns c =
+    let b = c .before .before in let put-all = b .put-all in
+    let b = b .before .before in let enum-told = b .enum-told in
+    let b = b .before .before .before .before in let args = b .args in
+    record { within = inside-one (args .text .now) (args .at) (args .n) (put-all .result) (put-all .ensures .0) (omega arith) (omega arith) (omega arith); exact = by-word (args .text .now) (args .at) (put-all .result) (args .cells .now) (put-all .last .0) (args .n) (enum-told .given .1) (put-all .ensures) }
 
 returns-2 : tie.Need-returns-2
-returns-2 c = record { within = inside-one (c .before .before .before .before .before .before .before .before .before .args .text .now) (c .before .before .before .before .before .before .before .before .before .args .at) (c .before .before .before .before .before .before .before .before .before .args .n) (c .before .before .put-flag .result) (c .before .before .put-flag .ensures .0) (omega arith) (omega arith) (omega arith); exact = by-word (c .before .before .before .before .before .before .before .before .before .args .text .now) (c .before .before .before .before .before .before .before .before .before .args .at) (c .before .before .put-flag .result) (c .before .before .before .before .before .before .before .before .before .args .cells .now) (c .before .before .put-flag .last .0) (c .before .before .before .before .before .before .before .before .before .args .n) (c .before .before .before .before .before .word .given .1) (c .before .before .put-flag .ensures) }
+returns-2 c =
+    let b = c .before .before in let put-flag = b .put-flag in
+    let b = b .before .before .before in let word = b .word in
+    let b = b .before .before .before .before in let args = b .args in
+    record { within = inside-one (args .text .now) (args .at) (args .n) (put-flag .result) (put-flag .ensures .0) (omega arith) (omega arith) (omega arith); exact = by-word (args .text .now) (args .at) (put-flag .result) (args .cells .now) (put-flag .last .0) (args .n) (word .given .1) (put-flag .ensures) }
 
 returns-3 : tie.Need-returns-3
-returns-3 c = record { within = inside-size (c .before .before .before .before .before .before .before .before .before .args .text .now) (c .before .before .before .before .before .before .before .before .before .args .at) (c .before .before .put-size .result) (c .before .before .before .before .before .before .before .before .before .args .cells .now) (c .before .before .put-size .last .0) (c .before .before .before .before .before .before .before .before .before .args .n) 3 (c .before .before .before .size-behind .result) (c .before .before .put-size .ensures) (c .before .before .before .size-behind .ensures .within); exact = by-word (c .before .before .before .before .before .before .before .before .before .args .text .now) (c .before .before .before .before .before .before .before .before .before .args .at) (c .before .before .put-size .result) (c .before .before .before .before .before .before .before .before .before .args .cells .now) (c .before .before .put-size .last .0) (c .before .before .before .before .before .before .before .before .before .args .n) (c .before .before .before .before .before .enum-told2 .given .1) (begun-larger (c .before .before .before .before .before .before .before .before .before .args .text .now) (c .before .before .before .before .before .before .before .before .before .args .at) (c .before .before .put-size .result) (c .before .before .before .before .before .before .before .before .before .args .cells .now) (c .before .before .put-size .last .0) (c .before .before .before .before .before .before .before .before .before .args .n) (c .before .before .before .size-behind .ensures .exact) (c .before .before .put-size .ensures)) }
+returns-3 c =
+    let b = c .before .before in let put-size = b .put-size in
+    let b = b .before in let size-behind = b .size-behind in
+    let b = b .before .before in let enum-told2 = b .enum-told2 in
+    let b = b .before .before .before .before in let args = b .args in
+    record { within = inside-size (args .text .now) (args .at) (put-size .result) (args .cells .now) (put-size .last .0) (args .n) 3 (size-behind .result) (put-size .ensures) (size-behind .ensures .within); exact = by-word (args .text .now) (args .at) (put-size .result) (args .cells .now) (put-size .last .0) (args .n) (enum-told2 .given .1) (begun-larger (args .text .now) (args .at) (put-size .result) (args .cells .now) (put-size .last .0) (args .n) (size-behind .ensures .exact) (put-size .ensures)) }
 
 returns-4 : tie.Need-returns-4
-returns-4 c = record { within = inside-size (c .before .before .before .before .before .before .before .before .before .args .text .now) (c .before .before .before .before .before .before .before .before .before .args .at) (c .before .before .put-size2 .result) (c .before .before .before .before .before .before .before .before .before .args .cells .now) (c .before .before .put-size2 .last .0) (c .before .before .before .before .before .before .before .before .before .args .n) 4 (c .before .before .before .size-behind2 .result) (c .before .before .put-size2 .ensures) (c .before .before .before .size-behind2 .ensures .within); exact = by-word (c .before .before .before .before .before .before .before .before .before .args .text .now) (c .before .before .before .before .before .before .before .before .before .args .at) (c .before .before .put-size2 .result) (c .before .before .before .before .before .before .before .before .before .args .cells .now) (c .before .before .put-size2 .last .0) (c .before .before .before .before .before .before .before .before .before .args .n) (c .before .before .before .before .before .enum-told3 .given .1) (begun-smaller (c .before .before .before .before .before .before .before .before .before .args .text .now) (c .before .before .before .before .before .before .before .before .before .args .at) (c .before .before .put-size2 .result) (c .before .before .before .before .before .before .before .before .before .args .cells .now) (c .before .before .put-size2 .last .0) (c .before .before .before .before .before .before .before .before .before .args .n) (c .before .before .before .size-behind2 .ensures .exact) (c .before .before .put-size2 .ensures)) }
+returns-4 c =
+    let b = c .before .before in let put-size2 = b .put-size2 in
+    let b = b .before in let size-behind2 = b .size-behind2 in
+    let b = b .before .before in let enum-told3 = b .enum-told3 in
+    let b = b .before .before .before .before in let args = b .args in
+    record { within = inside-size (args .text .now) (args .at) (put-size2 .result) (args .cells .now) (put-size2 .last .0) (args .n) 4 (size-behind2 .result) (put-size2 .ensures) (size-behind2 .ensures .within); exact = by-word (args .text .now) (args .at) (put-size2 .result) (args .cells .now) (put-size2 .last .0) (args .n) (enum-told3 .given .1) (begun-smaller (args .text .now) (args .at) (put-size2 .result) (args .cells .now) (put-size2 .last .0) (args .n) (size-behind2 .ensures .exact) (put-size2 .ensures)) }
 
 returns-5 : tie.Need-returns-5
-returns-5 c = record { within = inside-from (c .before .before .before .before .before .before .before .before .before .before .args .text .now) (c .before .before .before .before .before .before .before .before .before .before .args .at) (c .before .before .before .before .before .before .before .before .before .before .args .at + 1 + 1) (c .before .before .before .before .before .before .before .before .before .before .args .n) (c .before .before .put-set .result) (omega arith) (c .before .before .put-set .ensures .within); exact = by-word (c .before .before .before .before .before .before .before .before .before .before .args .text .now) (c .before .before .before .before .before .before .before .before .before .before .args .at) (c .before .before .put-set .result) (c .before .before .before .before .before .before .before .before .before .before .args .cells .now) (c .before .before .put-set .last .1 .1 .0) (c .before .before .before .before .before .before .before .before .before .before .args .n) (c .before .before .before .before .before .before .enum-told4 .given .1) (begun-uids (c .before .before .before .before .before .before .before .before .before .before .args .text .now) (c .before .before .before .before .before .before .before .before .before .before .args .at) (c .before .before .put-set .result) (c .before .before .before .before .before .before .before .before .before .before .args .cells .now) (c .before .before .put-set .last .1 .1 .0) (c .before .before .before .before .before .before .before .before .before .before .args .n) (sym (c .before .before .before .before .before .octet-at .ensures) ∙ c .before .before .before .before .if1 .taken) (c .before .before .put-set .ensures .exact)) }
+returns-5 c =
+    let b = c .before .before in let put-set = b .put-set in
+    let b = b .before .before in let if1 = b .if1 in
+    let b = b .before in let octet-at = b .octet-at in
+    let b = b .before in let enum-told4 = b .enum-told4 in
+    let b = b .before .before .before .before in let args = b .args in
+    record { within = inside-from (args .text .now) (args .at) (args .at + 1 + 1) (args .n) (put-set .result) (omega arith) (put-set .ensures .within); exact = by-word (args .text .now) (args .at) (put-set .result) (args .cells .now) (put-set .last .1 .1 .0) (args .n) (enum-told4 .given .1) (begun-uids (args .text .now) (args .at) (put-set .result) (args .cells .now) (put-set .last .1 .1 .0) (args .n) (sym (octet-at .ensures) ∙ if1 .taken) (put-set .ensures .exact)) }
 
 returns-6 : tie.Need-returns-6
-returns-6 c = record { within = tt; exact = by-word (c .before .before .before .before .before .before .args .text .now) (c .before .before .before .before .before .before .args .at) Wrong (c .before .before .before .before .before .before .args .cells .now) (c .before .before .before .before .before .before .args .cells .now) (c .before .before .before .before .before .before .args .n) (c .before .before .enum-told4 .given .1) (begun-by (c .before .before .before .before .before .before .args .text .now) (c .before .before .before .before .before .before .args .at) Wrong (c .before .before .before .before .before .before .args .cells .now) (c .before .before .before .before .before .before .args .cells .now) (c .before .before .before .before .before .before .args .n) (uids-no (c .before .before .before .before .before .before .args .text .now) (c .before .before .before .before .before .before .args .at) (λ e. c .if1 .left (c .before .octet-at .ensures ∙ e))) refl) }
+returns-6 c =
+    let b = c .before .before .before .before .before .before in let args = b .args in
+    record { within = tt; exact = by-word (args .text .now) (args .at) Wrong (args .cells .now) (args .cells .now) (args .n) (c .before .before .enum-told4 .given .1) (begun-by (args .text .now) (args .at) Wrong (args .cells .now) (args .cells .now) (args .n) (uids-no (args .text .now) (args .at) (λ e. c .if1 .left (c .before .octet-at .ensures ∙ e))) refl) }
 
 returns-7 : tie.Need-returns-7
-returns-7 c = record { within = inside-next (c .before .before .before .before .before .before .before .before .before .before .args .text .now) (c .before .before .before .before .before .before .before .before .before .before .args .at) (c .before .before .put-unsupported .result) (c .before .before .before .before .before .before .before .before .before .before .args .cells .now) (c .before .before .put-unsupported .last .0) (c .before .before .before .before .before .before .before .before .before .before .args .n) (c .before .before .before .argument-at .result) (c .before .before .put-unsupported .ensures) (c .before .before .before .argument-at .ensures .within); exact = by-word (c .before .before .before .before .before .before .before .before .before .before .args .text .now) (c .before .before .before .before .before .before .before .before .before .before .args .at) (c .before .before .put-unsupported .result) (c .before .before .before .before .before .before .before .before .before .before .args .cells .now) (c .before .before .put-unsupported .last .0) (c .before .before .before .before .before .before .before .before .before .before .args .n) (c .before .before .before .before .before .before .word2 .given .1) (begun-unsupported (c .before .before .before .before .before .before .before .before .before .before .args .text .now) (c .before .before .before .before .before .before .before .before .before .before .args .at) (c .before .before .put-unsupported .result) (c .before .before .before .before .before .before .before .before .before .before .args .cells .now) (c .before .before .put-unsupported .last .0) (c .before .before .before .before .before .before .before .before .before .before .args .n) (c .before .before .before .before .before .before .word2 .given .0 .0) (c .before .before .before .argument-at .ensures .exact) (c .before .before .put-unsupported .ensures)) }
+returns-7 c =
+    let b = c .before .before in let put-unsupported = b .put-unsupported in
+    let b = b .before in let argument-at = b .argument-at in
+    let b = b .before .before .before in let word2 = b .word2 in
+    let b = b .before .before .before .before in let args = b .args in
+    record { within = inside-next (args .text .now) (args .at) (put-unsupported .result) (args .cells .now) (put-unsupported .last .0) (args .n) (argument-at .result) (put-unsupported .ensures) (argument-at .ensures .within); exact = by-word (args .text .now) (args .at) (put-unsupported .result) (args .cells .now) (put-unsupported .last .0) (args .n) (word2 .given .1) (begun-unsupported (args .text .now) (args .at) (put-unsupported .result) (args .cells .now) (put-unsupported .last .0) (args .n) (word2 .given .0 .0) (argument-at .ensures .exact) (put-unsupported .ensures)) }
 
 returns-8 : tie.Need-returns-8
-returns-8 c = let i = in-text (c .before .before .before .before .before .before .args .text .now) (c .before .before .before .before .before .before .args .at) (sym (c .before .octet-at2 .ensures) ∙ c .if2 .taken) (omega arith) in record { within = (omega arith, omega arith); exact = by-word (c .before .before .before .before .before .before .args .text .now) (c .before .before .before .before .before .before .args .at) (Negation (c .before .before .before .before .before .before .args .at + 1)) (c .before .before .before .before .before .before .args .cells .now) (c .before .before .before .before .before .before .args .cells .now) (c .before .before .before .before .before .before .args .n) (c .before .before .enum-told5 .given .1) (begun-by (c .before .before .before .before .before .before .args .text .now) (c .before .before .before .before .before .before .args .at) (Negation (c .before .before .before .before .before .before .args .at + 1)) (c .before .before .before .before .before .before .args .cells .now) (c .before .before .before .before .before .before .args .cells .now) (c .before .before .before .before .before .before .args .n) (shape-yes (c .before .before .before .before .before .before .args .text .now) (c .before .before .before .before .before .before .args .at) (negation (c .before .before .before .before .before .before .args .at + 1)) (sym (c .before .octet-at2 .ensures) ∙ c .if2 .taken)) (refl, refl)) }
+returns-8 c =
+    let b = c .before in let octet-at2 = b .octet-at2 in
+    let b = b .before .before .before .before .before in let args = b .args in
+    let i = in-text (args .text .now) (args .at) (sym (octet-at2 .ensures) ∙ c .if2 .taken) (omega arith) in record { within = (omega arith, omega arith); exact = by-word (args .text .now) (args .at) (Negation (args .at + 1)) (args .cells .now) (args .cells .now) (args .n) (c .before .before .enum-told5 .given .1) (begun-by (args .text .now) (args .at) (Negation (args .at + 1)) (args .cells .now) (args .cells .now) (args .n) (shape-yes (args .text .now) (args .at) (negation (args .at + 1)) (sym (octet-at2 .ensures) ∙ c .if2 .taken)) (refl, refl)) }
 
 returns-9 : tie.Need-returns-9
-returns-9 c = record { within = tt; exact = by-word (c .before .before .before .before .before .before .args .text .now) (c .before .before .before .before .before .before .args .at) Wrong (c .before .before .before .before .before .before .args .cells .now) (c .before .before .before .before .before .before .args .cells .now) (c .before .before .before .before .before .before .args .n) (c .before .before .enum-told5 .given .1) (begun-by (c .before .before .before .before .before .before .args .text .now) (c .before .before .before .before .before .before .args .at) Wrong (c .before .before .before .before .before .before .args .cells .now) (c .before .before .before .before .before .before .args .cells .now) (c .before .before .before .before .before .before .args .n) (shape-no (c .before .before .before .before .before .before .args .text .now) (c .before .before .before .before .before .before .args .at) (negation (c .before .before .before .before .before .before .args .at + 1)) (λ e. c .if2 .left (c .before .octet-at2 .ensures ∙ e))) refl) }
+returns-9 c =
+    let b = c .before .before .before .before .before .before in let args = b .args in
+    record { within = tt; exact = by-word (args .text .now) (args .at) Wrong (args .cells .now) (args .cells .now) (args .n) (c .before .before .enum-told5 .given .1) (begun-by (args .text .now) (args .at) Wrong (args .cells .now) (args .cells .now) (args .n) (shape-no (args .text .now) (args .at) (negation (args .at + 1)) (λ e. c .if2 .left (c .before .octet-at2 .ensures ∙ e))) refl) }
 
 returns-10 : tie.Need-returns-10
-returns-10 c = let i = in-text (c .before .before .before .before .before .before .args .text .now) (c .before .before .before .before .before .before .args .at) (sym (c .before .octet-at3 .ensures) ∙ c .if3 .taken) (omega arith) in record { within = (omega arith, omega arith); exact = by-word (c .before .before .before .before .before .before .args .text .now) (c .before .before .before .before .before .before .args .at) (Alternation (c .before .before .before .before .before .before .args .at + 1)) (c .before .before .before .before .before .before .args .cells .now) (c .before .before .before .before .before .before .args .cells .now) (c .before .before .before .before .before .before .args .n) (c .before .before .enum-told6 .given .1) (begun-by (c .before .before .before .before .before .before .args .text .now) (c .before .before .before .before .before .before .args .at) (Alternation (c .before .before .before .before .before .before .args .at + 1)) (c .before .before .before .before .before .before .args .cells .now) (c .before .before .before .before .before .before .args .cells .now) (c .before .before .before .before .before .before .args .n) (shape-yes (c .before .before .before .before .before .before .args .text .now) (c .before .before .before .before .before .before .args .at) (alternation (c .before .before .before .before .before .before .args .at + 1)) (sym (c .before .octet-at3 .ensures) ∙ c .if3 .taken)) (refl, refl)) }
+returns-10 c =
+    let b = c .before in let octet-at3 = b .octet-at3 in
+    let b = b .before .before .before .before .before in let args = b .args in
+    let i = in-text (args .text .now) (args .at) (sym (octet-at3 .ensures) ∙ c .if3 .taken) (omega arith) in record { within = (omega arith, omega arith); exact = by-word (args .text .now) (args .at) (Alternation (args .at + 1)) (args .cells .now) (args .cells .now) (args .n) (c .before .before .enum-told6 .given .1) (begun-by (args .text .now) (args .at) (Alternation (args .at + 1)) (args .cells .now) (args .cells .now) (args .n) (shape-yes (args .text .now) (args .at) (alternation (args .at + 1)) (sym (octet-at3 .ensures) ∙ c .if3 .taken)) (refl, refl)) }
 
 returns-11 : tie.Need-returns-11
-returns-11 c = record { within = tt; exact = by-word (c .before .before .before .before .before .before .args .text .now) (c .before .before .before .before .before .before .args .at) Wrong (c .before .before .before .before .before .before .args .cells .now) (c .before .before .before .before .before .before .args .cells .now) (c .before .before .before .before .before .before .args .n) (c .before .before .enum-told6 .given .1) (begun-by (c .before .before .before .before .before .before .args .text .now) (c .before .before .before .before .before .before .args .at) Wrong (c .before .before .before .before .before .before .args .cells .now) (c .before .before .before .before .before .before .args .cells .now) (c .before .before .before .before .before .before .args .n) (shape-no (c .before .before .before .before .before .before .args .text .now) (c .before .before .before .before .before .before .args .at) (alternation (c .before .before .before .before .before .before .args .at + 1)) (λ e. c .if3 .left (c .before .octet-at3 .ensures ∙ e))) refl) }
+returns-11 c =
+    let b = c .before .before .before .before .before .before in let args = b .args in
+    record { within = tt; exact = by-word (args .text .now) (args .at) Wrong (args .cells .now) (args .cells .now) (args .n) (c .before .before .enum-told6 .given .1) (begun-by (args .text .now) (args .at) Wrong (args .cells .now) (args .cells .now) (args .n) (shape-no (args .text .now) (args .at) (alternation (args .at + 1)) (λ e. c .if3 .left (c .before .octet-at3 .ensures ∙ e))) refl) }
 
 returns-12 : tie.Need-returns-12
-returns-12 c = record { within = tt; exact = by-word (c .before .before .before .before .args .text .now) (c .before .before .before .before .args .at) Wrong (c .before .before .before .before .args .cells .now) (c .before .before .before .before .args .cells .now) (c .before .before .before .before .args .n) (c .enum-told7 .given .1) refl }
+returns-12 c =
+    let b = c .before .before .before .before in let args = b .args in
+    record { within = tt; exact = by-word (args .text .now) (args .at) Wrong (args .cells .now) (args .cells .now) (args .n) (c .enum-told7 .given .1) refl }
 
 pub begin-by-spec : {M : Type 1} → statement M
 begin-by-spec =

@@ -7,7 +7,12 @@ use Rattle.read_keys.proofs.starts.put_flag.Statement.{statement}
 use Rattle.read_keys.proofs.starts.put_flag.Tie as tie
 
 returns : tie.Need-returns
-returns c = (refl, stored-three (c .before .before .before .before .before .before .before .before .before .before .args .cells .now) (c .before .before .before .before .before .before .before .store .last .0) (c .before .before .store-two .last .0) (c .before .before .before .before .before .before .before .before .before .before .args .n) 2 (c .before .before .before .before .before .before .before .before .before .before .args .bit) (flagNumber (c .before .before .before .before .before .before .before .before .before .before .args .on)) (c .before .before .before .before .before .before .before .store .ensures) (rw (c .before .before .before .before .flag-number .ensures) at (c .before .before .store-two .ensures)))
+returns c =
+    let b = c .before .before in let store-two = b .store-two in
+    let b = b .before .before in let flag-number = b .flag-number in
+    let b = b .before .before .before in let store = b .store in
+    let b = b .before .before .before in let args = b .args in
+    (refl, stored-three (args .cells .now) (store .last .0) (store-two .last .0) (args .n) 2 (args .bit) (flagNumber (args .on)) (store .ensures) (rw (flag-number .ensures) at (store-two .ensures)))
 
 pub put-flag-spec : {M : Type 1} → statement M
 put-flag-spec =

@@ -15,11 +15,19 @@ add-t19 c = let w = rw (c .before .before .before .before .before .parts .given 
 
 returns : tie.Need-returns
 unfolding setAt
-returns c = let w = rw (c .before .before .before .before .before .parts .given .1) at (c .before .before .before .before .before .before .before .before .before .set-at .ensures .within) in record { within = omega arith; exact = put-parts (c .before .before .before .before .before .before .before .before .before .before .before .before .before .args .kind) (c .before .before .before .before .before .before .before .before .before .before .before .before .before .args .cells .now) (c .before .before .before .before .before .before .before .before .before .set-at .last .1 .1 .0) (c .before .before .store-two .last .0) (c .before .before .before .before .before .before .before .before .before .before .before .before .before .args .n) (setAt (c .before .before .before .before .before .before .before .before .before .before .before .before .before .args .text .now) (c .before .before .before .before .before .before .before .before .before .before .before .before .before .args .at)) (c .before .before .before .before .before .before .before .before .before .set-at .ensures .exact (length (c .before .before .before .before .before .before .before .before .before .before .before .before .before .args .text .now)) (omega arith)) (c .before .before .before .before .before .parts .given .1) (c .before .before .store-two .ensures) }
+returns c =
+    let b = c .before .before in let store-two = b .store-two in
+    let b = b .before .before .before in let parts = b .parts in
+    let b = b .before .before .before .before in let set-at = b .set-at in
+    let b = b .before .before .before .before in let args = b .args in
+    let w = rw (parts .given .1) at (set-at .ensures .within) in record { within = omega arith; exact = put-parts (args .kind) (args .cells .now) (set-at .last .1 .1 .0) (store-two .last .0) (args .n) (setAt (args .text .now) (args .at)) (set-at .ensures .exact (length (args .text .now)) (omega arith)) (parts .given .1) (store-two .ensures) }
 
 returns-2 : tie.Need-returns-2
 unfolding setAt
-returns-2 c = record { within = tt; exact = put-none (c .before .before .before .before .before .before .before .before .args .kind) (c .before .before .before .before .before .before .before .before .args .cells .now) (c .before .before .before .before .set-at .last .1 .1 .0) (c .before .before .before .before .set-at .last .1 .1 .0) (c .before .before .before .before .before .before .before .before .args .n) (setAt (c .before .before .before .before .before .before .before .before .args .text .now) (c .before .before .before .before .before .before .before .before .args .at)) (c .before .before .before .before .set-at .ensures .exact (length (c .before .before .before .before .before .before .before .before .args .text .now)) (omega arith)) (c .enum-told .given .1) }
+returns-2 c =
+    let b = c .before .before .before .before in let set-at = b .set-at in
+    let b = b .before .before .before .before in let args = b .args in
+    record { within = tt; exact = put-none (args .kind) (args .cells .now) (set-at .last .1 .1 .0) (set-at .last .1 .1 .0) (args .n) (setAt (args .text .now) (args .at)) (set-at .ensures .exact (length (args .text .now)) (omega arith)) (c .enum-told .given .1) }
 
 pub put-set-spec : {M : Type 1} → statement M
 put-set-spec =

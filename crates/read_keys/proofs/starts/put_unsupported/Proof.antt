@@ -5,7 +5,9 @@ use Rattle.read_keys.proofs.starts.put_unsupported.Statement.{statement
 use Rattle.read_keys.proofs.starts.put_unsupported.Tie as tie
 
 returns : tie.Need-returns
-returns c = rw (c .before .before .before .before .before .x .given .1) (refl, c .before .before .store .ensures)
+returns c =
+    let b = c .before .before .before .before .before in let x = b .x in
+    rw (x .given .1) (refl, c .before .before .store .ensures)
 
 returns-2 : tie.Need-returns-2
 returns-2 c = rw (c .enum-told .given .1) refl

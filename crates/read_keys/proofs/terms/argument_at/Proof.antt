@@ -9,22 +9,38 @@ use Rattle.read_keys.proofs.terms.argument_at.Statement.{statement}
 use Rattle.read_keys.proofs.terms.argument_at.Tie as tie
 
 returns : tie.Need-returns
-returns c = record { exact = ap (λ (x : Argument). argumentAt x (c .before .before .before .args .text .now) (c .before .before .before .args .at)) (sym (c .enum-told .given .1)); within = (omega arith, omega arith) }
+returns c =
+    let b = c .before .before .before in let args = b .args in
+    record { exact = ap (λ (x : Argument). argumentAt x (args .text .now) (args .at)) (sym (c .enum-told .given .1)); within = (omega arith, omega arith) }
 
 returns-2 : tie.Need-returns-2
-returns-2 c = record { exact = c .text-behind .ensures .exact ∙ ap (λ (x : Argument). argumentAt x (c .before .before .before .before .args .text .now) (c .before .before .before .before .args .at)) (sym (c .before .enum-told2 .given .1)); within = behind-in (c .before .before .before .before .args .text .now) (c .before .before .before .before .args .at) (c .text-behind .result) (c .text-behind .ensures .within) }
+returns-2 c =
+    let b = c .before .before .before .before in let args = b .args in
+    record { exact = c .text-behind .ensures .exact ∙ ap (λ (x : Argument). argumentAt x (args .text .now) (args .at)) (sym (c .before .enum-told2 .given .1)); within = behind-in (args .text .now) (args .at) (c .text-behind .result) (c .text-behind .ensures .within) }
 
 returns-3 : tie.Need-returns-3
-returns-3 c = record { exact = c .atom-behind .ensures .exact ∙ ap (λ (x : Argument). argumentAt x (c .before .before .before .before .args .text .now) (c .before .before .before .before .args .at)) (sym (c .before .enum-told3 .given .1)); within = behind-in (c .before .before .before .before .args .text .now) (c .before .before .before .before .args .at) (c .atom-behind .result) (c .atom-behind .ensures .within) }
+returns-3 c =
+    let b = c .before .before .before .before in let args = b .args in
+    record { exact = c .atom-behind .ensures .exact ∙ ap (λ (x : Argument). argumentAt x (args .text .now) (args .at)) (sym (c .before .enum-told3 .given .1)); within = behind-in (args .text .now) (args .at) (c .atom-behind .result) (c .atom-behind .ensures .within) }
 
 returns-4 : tie.Need-returns-4
-returns-4 c = record { exact = c .date-behind .ensures .exact ∙ ap (λ (x : Argument). argumentAt x (c .before .before .before .before .args .text .now) (c .before .before .before .before .args .at)) (sym (c .before .enum-told4 .given .1)); within = behind-in (c .before .before .before .before .args .text .now) (c .before .before .before .before .args .at) (c .date-behind .result) (c .date-behind .ensures .within) }
+returns-4 c =
+    let b = c .before .before .before .before in let args = b .args in
+    record { exact = c .date-behind .ensures .exact ∙ ap (λ (x : Argument). argumentAt x (args .text .now) (args .at)) (sym (c .before .enum-told4 .given .1)); within = behind-in (args .text .now) (args .at) (c .date-behind .result) (c .date-behind .ensures .within) }
 
 returns-5 : tie.Need-returns-5
-returns-5 c = let w = rw (c .before .before .p .given .1) at (c .before .before .before .before .text-behind2 .ensures .within) in record { exact = c .text-behind3 .ensures .exact ∙ header-two (c .before .before .before .before .before .before .before .before .args .text .now) (c .before .before .before .before .before .before .before .before .args .at) (sym (c .before .before .p .given .1) ∙ c .before .before .before .before .text-behind2 .ensures .exact) ∙ ap (λ (x : Argument). argumentAt x (c .before .before .before .before .before .before .before .before .args .text .now) (c .before .before .before .before .before .before .before .before .args .at)) (sym (c .before .before .before .before .before .enum-told5 .given .1)); within = behind-from (c .before .before .before .before .before .before .before .before .args .text .now) (c .before .before .before .before .before .before .before .before .args .at) (c .before .before .p .given .0 .0) (c .text-behind3 .result) (omega arith) (c .text-behind3 .ensures .within) }
+returns-5 c =
+    let b = c .before .before in let p = b .p in
+    let b = b .before .before in let text-behind2 = b .text-behind2 in
+    let b = b .before in let enum-told5 = b .enum-told5 in
+    let b = b .before .before .before in let args = b .args in
+    let w = rw (p .given .1) at (text-behind2 .ensures .within) in record { exact = c .text-behind3 .ensures .exact ∙ header-two (args .text .now) (args .at) (sym (p .given .1) ∙ text-behind2 .ensures .exact) ∙ ap (λ (x : Argument). argumentAt x (args .text .now) (args .at)) (sym (enum-told5 .given .1)); within = behind-from (args .text .now) (args .at) (p .given .0 .0) (c .text-behind3 .result) (omega arith) (c .text-behind3 .ensures .within) }
 
 returns-6 : tie.Need-returns-6
-returns-6 c = record { exact = header-none (c .before .before .before .before .before .before .args .text .now) (c .before .before .before .before .before .before .args .at) (sym (c .enum-told6 .given .1) ∙ c .before .before .text-behind2 .ensures .exact) ∙ ap (λ (x : Argument). argumentAt x (c .before .before .before .before .before .before .args .text .now) (c .before .before .before .before .before .before .args .at)) (sym (c .before .before .before .enum-told5 .given .1)); within = tt }
+returns-6 c =
+    let b = c .before .before .before in let enum-told5 = b .enum-told5 in
+    let b = b .before .before .before in let args = b .args in
+    record { exact = header-none (args .text .now) (args .at) (sym (c .enum-told6 .given .1) ∙ c .before .before .text-behind2 .ensures .exact) ∙ ap (λ (x : Argument). argumentAt x (args .text .now) (args .at)) (sym (enum-told5 .given .1)); within = tt }
 
 pub argument-at-spec : {M : Type 1} → statement M
 argument-at-spec =

@@ -9,13 +9,19 @@ use Rattle.read_keys.proofs.terms.date_behind.Tie as tie
 use Rattle.octets.specs.Rows.{in-text}
 
 add-date-at : tie.Need-add-date-at
-add-date-at c = let i = in-text (c .before .before .before .args .text .now) (c .before .before .before .args .at) (sym (c .before .octet-at .ensures) ∙ c .if1 .taken) (omega arith) in omega arith
+add-date-at c =
+    let b = c .before .before .before in let args = b .args in
+    let i = in-text (args .text .now) (args .at) (sym (c .before .octet-at .ensures) ∙ c .if1 .taken) (omega arith) in omega arith
 
 returns : tie.Need-returns
-returns c = record { exact = c .date-at .ensures .exact ∙ next-yes (c .before .before .before .before .args .text .now) (c .before .before .before .before .args .at) (λ q. dateAt (c .before .before .before .before .args .text .now) q) (sym (c .before .before .octet-at .ensures) ∙ c .before .if1 .taken); within = within-from (c .before .before .before .before .args .text .now) (c .before .before .before .before .args .at) (c .date-at .result) (c .date-at .ensures .within) }
+returns c =
+    let b = c .before .before .before .before in let args = b .args in
+    record { exact = c .date-at .ensures .exact ∙ next-yes (args .text .now) (args .at) (λ q. dateAt (args .text .now) q) (sym (c .before .before .octet-at .ensures) ∙ c .before .if1 .taken); within = within-from (args .text .now) (args .at) (c .date-at .result) (c .date-at .ensures .within) }
 
 returns-2 : tie.Need-returns-2
-returns-2 c = record { exact = next-no (c .before .before .before .args .text .now) (c .before .before .before .args .at) (λ q. dateAt (c .before .before .before .args .text .now) q) (λ e. c .if1 .left (c .before .octet-at .ensures ∙ e)); within = tt }
+returns-2 c =
+    let b = c .before .before .before in let args = b .args in
+    record { exact = next-no (args .text .now) (args .at) (λ q. dateAt (args .text .now) q) (λ e. c .if1 .left (c .before .octet-at .ensures ∙ e)); within = tt }
 
 pub date-behind-spec : {M : Type 1} → statement M
 date-behind-spec =

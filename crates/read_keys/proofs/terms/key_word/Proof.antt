@@ -20,19 +20,57 @@ returns-3 c = skip _ _ (sym (c .before .before .before .before .before .before .
 
 returns-4 : tie.Need-returns-4
 unfolding keywordOf
-returns-4 c = skip _ _ (sym (c .before .before .before .before .before .before .before .before .before .before .is-word .ensures) ∙ c .before .before .before .before .before .before .before .before .before .if1 .left) (skip _ _ (sym (c .before .before .before .before .before .before .before .is-word2 .ensures) ∙ c .before .before .before .before .before .before .if2 .left) (skip _ _ (sym (c .before .before .before .before .is-word3 .ensures) ∙ c .before .before .before .if3 .left) (hit _ _ (sym (c .before .is-word4 .ensures) ∙ c .if4 .taken))))
+returns-4 c =
+    let b = c .before .before .before in let if3 = b .if3 in
+    let b = b .before in let is-word3 = b .is-word3 in
+    let b = b .before .before in let if2 = b .if2 in
+    let b = b .before in let is-word2 = b .is-word2 in
+    let b = b .before .before in let if1 = b .if1 in
+    let b = b .before in let is-word = b .is-word in
+    skip _ _ (sym (is-word .ensures) ∙ if1 .left) (skip _ _ (sym (is-word2 .ensures) ∙ if2 .left) (skip _ _ (sym (is-word3 .ensures) ∙ if3 .left) (hit _ _ (sym (c .before .is-word4 .ensures) ∙ c .if4 .taken))))
 
 returns-5 : tie.Need-returns-5
 unfolding keywordOf
-returns-5 c = skip _ _ (sym (c .before .before .before .before .before .before .before .before .before .before .before .before .before .is-word .ensures) ∙ c .before .before .before .before .before .before .before .before .before .before .before .before .if1 .left) (skip _ _ (sym (c .before .before .before .before .before .before .before .before .before .before .is-word2 .ensures) ∙ c .before .before .before .before .before .before .before .before .before .if2 .left) (skip _ _ (sym (c .before .before .before .before .before .before .before .is-word3 .ensures) ∙ c .before .before .before .before .before .before .if3 .left) (skip _ _ (sym (c .before .before .before .before .is-word4 .ensures) ∙ c .before .before .before .if4 .left) (hit _ _ (sym (c .before .is-word5 .ensures) ∙ c .if5 .taken)))))
+returns-5 c =
+    let b = c .before .before .before in let if4 = b .if4 in
+    let b = b .before in let is-word4 = b .is-word4 in
+    let b = b .before .before in let if3 = b .if3 in
+    let b = b .before in let is-word3 = b .is-word3 in
+    let b = b .before .before in let if2 = b .if2 in
+    let b = b .before in let is-word2 = b .is-word2 in
+    let b = b .before .before in let if1 = b .if1 in
+    let b = b .before in let is-word = b .is-word in
+    skip _ _ (sym (is-word .ensures) ∙ if1 .left) (skip _ _ (sym (is-word2 .ensures) ∙ if2 .left) (skip _ _ (sym (is-word3 .ensures) ∙ if3 .left) (skip _ _ (sym (is-word4 .ensures) ∙ if4 .left) (hit _ _ (sym (c .before .is-word5 .ensures) ∙ c .if5 .taken)))))
 
 returns-6 : tie.Need-returns-6
 unfolding keywordOf
-returns-6 c = skip _ _ (sym (c .before .before .before .before .before .before .before .before .before .before .before .before .before .before .before .before .is-word .ensures) ∙ c .before .before .before .before .before .before .before .before .before .before .before .before .before .before .before .if1 .left) (skip _ _ (sym (c .before .before .before .before .before .before .before .before .before .before .before .before .before .is-word2 .ensures) ∙ c .before .before .before .before .before .before .before .before .before .before .before .before .if2 .left) (skip _ _ (sym (c .before .before .before .before .before .before .before .before .before .before .is-word3 .ensures) ∙ c .before .before .before .before .before .before .before .before .before .if3 .left) (skip _ _ (sym (c .before .before .before .before .before .before .before .is-word4 .ensures) ∙ c .before .before .before .before .before .before .if4 .left) (skip _ _ (sym (c .before .before .before .before .is-word5 .ensures) ∙ c .before .before .before .if5 .left) (hit _ _ (sym (c .before .is-word6 .ensures) ∙ c .if6 .taken))))))
+returns-6 c =
+    let b = c .before .before .before in let if5 = b .if5 in
+    let b = b .before in let is-word5 = b .is-word5 in
+    let b = b .before .before in let if4 = b .if4 in
+    let b = b .before in let is-word4 = b .is-word4 in
+    let b = b .before .before in let if3 = b .if3 in
+    let b = b .before in let is-word3 = b .is-word3 in
+    let b = b .before .before in let if2 = b .if2 in
+    let b = b .before in let is-word2 = b .is-word2 in
+    let b = b .before .before in let if1 = b .if1 in
+    let b = b .before in let is-word = b .is-word in
+    skip _ _ (sym (is-word .ensures) ∙ if1 .left) (skip _ _ (sym (is-word2 .ensures) ∙ if2 .left) (skip _ _ (sym (is-word3 .ensures) ∙ if3 .left) (skip _ _ (sym (is-word4 .ensures) ∙ if4 .left) (skip _ _ (sym (is-word5 .ensures) ∙ if5 .left) (hit _ _ (sym (c .before .is-word6 .ensures) ∙ c .if6 .taken))))))
 
 returns-7 : tie.Need-returns-7
 unfolding keywordOf
-returns-7 c = skip _ _ (sym (c .before .before .before .before .before .before .before .before .before .before .before .before .before .before .before .before .before .is-word .ensures) ∙ c .before .before .before .before .before .before .before .before .before .before .before .before .before .before .before .before .if1 .left) (skip _ _ (sym (c .before .before .before .before .before .before .before .before .before .before .before .before .before .before .is-word2 .ensures) ∙ c .before .before .before .before .before .before .before .before .before .before .before .before .before .if2 .left) (skip _ _ (sym (c .before .before .before .before .before .before .before .before .before .before .before .is-word3 .ensures) ∙ c .before .before .before .before .before .before .before .before .before .before .if3 .left) (skip _ _ (sym (c .before .before .before .before .before .before .before .before .is-word4 .ensures) ∙ c .before .before .before .before .before .before .before .if4 .left) (skip _ _ (sym (c .before .before .before .before .before .is-word5 .ensures) ∙ c .before .before .before .before .if5 .left) (skip _ _ (sym (c .before .before .is-word6 .ensures) ∙ c .before .if6 .left) (c .flag-word .ensures))))))
+returns-7 c =
+    let b = c .before .before .before .before in let if5 = b .if5 in
+    let b = b .before in let is-word5 = b .is-word5 in
+    let b = b .before .before in let if4 = b .if4 in
+    let b = b .before in let is-word4 = b .is-word4 in
+    let b = b .before .before in let if3 = b .if3 in
+    let b = b .before in let is-word3 = b .is-word3 in
+    let b = b .before .before in let if2 = b .if2 in
+    let b = b .before in let is-word2 = b .is-word2 in
+    let b = b .before .before in let if1 = b .if1 in
+    let b = b .before in let is-word = b .is-word in
+    skip _ _ (sym (is-word .ensures) ∙ if1 .left) (skip _ _ (sym (is-word2 .ensures) ∙ if2 .left) (skip _ _ (sym (is-word3 .ensures) ∙ if3 .left) (skip _ _ (sym (is-word4 .ensures) ∙ if4 .left) (skip _ _ (sym (is-word5 .ensures) ∙ if5 .left) (skip _ _ (sym (c .before .before .is-word6 .ensures) ∙ c .before .if6 .left) (c .flag-word .ensures))))))
 
 pub key-word-spec : {M : Type 1} → statement M
 key-word-spec =

@@ -10,13 +10,19 @@ use Rattle.read_keys.proofs.terms.size_behind.Tie as tie
 use Rattle.octets.specs.Rows.{in-text}
 
 add-number-at : tie.Need-add-number-at
-add-number-at c = let i = in-text (c .before .before .before .args .text .now) (c .before .before .before .args .at) (sym (c .before .octet-at .ensures) ∙ c .if1 .taken) (omega arith) in omega arith
+add-number-at c =
+    let b = c .before .before .before in let args = b .args in
+    let i = in-text (args .text .now) (args .at) (sym (c .before .octet-at .ensures) ∙ c .if1 .taken) (omega arith) in omega arith
 
 returns : tie.Need-returns
-returns c = record { exact = c .number-at .ensures .exact ∙ sym (ap readNumber (after-yes (c .before .before .before .before .args .text .now) (c .before .before .before .before .args .at) (λ q. numberAt (c .before .before .before .before .args .text .now) q) (sym (c .before .before .octet-at .ensures) ∙ c .before .if1 .taken))); within = small-from (c .before .before .before .before .args .text .now) (c .before .before .before .before .args .at) (c .number-at .result) (c .number-at .ensures .within) }
+returns c =
+    let b = c .before .before .before .before in let args = b .args in
+    record { exact = c .number-at .ensures .exact ∙ sym (ap readNumber (after-yes (args .text .now) (args .at) (λ q. numberAt (args .text .now) q) (sym (c .before .before .octet-at .ensures) ∙ c .before .if1 .taken))); within = small-from (args .text .now) (args .at) (c .number-at .result) (c .number-at .ensures .within) }
 
 returns-2 : tie.Need-returns-2
-returns-2 c = record { exact = sym (ap readNumber (after-no (c .before .before .before .args .text .now) (c .before .before .before .args .at) (λ q. numberAt (c .before .before .before .args .text .now) q) (λ e. c .if1 .left (c .before .octet-at .ensures ∙ e)))); within = tt }
+returns-2 c =
+    let b = c .before .before .before in let args = b .args in
+    record { exact = sym (ap readNumber (after-no (args .text .now) (args .at) (λ q. numberAt (args .text .now) q) (λ e. c .if1 .left (c .before .octet-at .ensures ∙ e)))); within = tt }
 
 pub size-behind-spec : {M : Type 1} → statement M
 size-behind-spec =

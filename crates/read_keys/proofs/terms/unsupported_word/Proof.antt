@@ -18,10 +18,28 @@ returns-4 : tie.Need-returns-4
 returns-4 c = skip _ _ (sym (c .before .before .before .before .before .before .before .takes-nothing .ensures) ∙ c .before .before .before .before .before .before .if1 .left) (skip _ _ (sym (c .before .before .before .before .before .takes-text .ensures) ∙ c .before .before .before .before .if2 .left) (skip _ _ (sym (c .before .before .before .takes-keyword .ensures) ∙ c .before .before .if3 .left) (hit _ _ (sym (c .before .takes-date .ensures) ∙ c .if4 .taken))))
 
 returns-5 : tie.Need-returns-5
-returns-5 c = skip _ _ (sym (c .before .before .before .before .before .before .before .before .before .before .takes-nothing .ensures) ∙ c .before .before .before .before .before .before .before .before .before .if1 .left) (skip _ _ (sym (c .before .before .before .before .before .before .before .before .takes-text .ensures) ∙ c .before .before .before .before .before .before .before .if2 .left) (skip _ _ (sym (c .before .before .before .before .before .before .takes-keyword .ensures) ∙ c .before .before .before .before .before .if3 .left) (skip _ _ (sym (c .before .before .before .before .takes-date .ensures) ∙ c .before .before .before .if4 .left) (hit _ _ (sym (c .before .is-word .ensures) ∙ c .if5 .taken)))))
+returns-5 c =
+    let b = c .before .before .before in let if4 = b .if4 in
+    let b = b .before in let takes-date = b .takes-date in
+    let b = b .before in let if3 = b .if3 in
+    let b = b .before in let takes-keyword = b .takes-keyword in
+    let b = b .before in let if2 = b .if2 in
+    let b = b .before in let takes-text = b .takes-text in
+    let b = b .before in let if1 = b .if1 in
+    let b = b .before in let takes-nothing = b .takes-nothing in
+    skip _ _ (sym (takes-nothing .ensures) ∙ if1 .left) (skip _ _ (sym (takes-text .ensures) ∙ if2 .left) (skip _ _ (sym (takes-keyword .ensures) ∙ if3 .left) (skip _ _ (sym (takes-date .ensures) ∙ if4 .left) (hit _ _ (sym (c .before .is-word .ensures) ∙ c .if5 .taken)))))
 
 returns-6 : tie.Need-returns-6
-returns-6 c = skip _ _ (sym (c .before .before .before .before .before .before .before .before .before .before .takes-nothing .ensures) ∙ c .before .before .before .before .before .before .before .before .before .if1 .left) (skip _ _ (sym (c .before .before .before .before .before .before .before .before .takes-text .ensures) ∙ c .before .before .before .before .before .before .before .if2 .left) (skip _ _ (sym (c .before .before .before .before .before .before .takes-keyword .ensures) ∙ c .before .before .before .before .before .if3 .left) (skip _ _ (sym (c .before .before .before .before .takes-date .ensures) ∙ c .before .before .before .if4 .left) (skip _ _ (sym (c .before .is-word .ensures) ∙ c .if5 .left) refl))))
+returns-6 c =
+    let b = c .before .before .before in let if4 = b .if4 in
+    let b = b .before in let takes-date = b .takes-date in
+    let b = b .before in let if3 = b .if3 in
+    let b = b .before in let takes-keyword = b .takes-keyword in
+    let b = b .before in let if2 = b .if2 in
+    let b = b .before in let takes-text = b .takes-text in
+    let b = b .before in let if1 = b .if1 in
+    let b = b .before in let takes-nothing = b .takes-nothing in
+    skip _ _ (sym (takes-nothing .ensures) ∙ if1 .left) (skip _ _ (sym (takes-text .ensures) ∙ if2 .left) (skip _ _ (sym (takes-keyword .ensures) ∙ if3 .left) (skip _ _ (sym (takes-date .ensures) ∙ if4 .left) (skip _ _ (sym (c .before .is-word .ensures) ∙ c .if5 .left) refl))))
 
 pub unsupported-word-spec : {M : Type 1} → statement M
 unsupported-word-spec =

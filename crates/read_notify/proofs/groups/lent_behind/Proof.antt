@@ -14,7 +14,9 @@ returns : tie.Need-returns
 returns c = record { exact = λ f a b. behind-blank (c .before .before .before .args .text .now) (c .before .before .before .args .at) (c .before .before .before .args .first) f (λ e. c .if1 .taken (c .before .octet-at .ensures ∙ e)); within = tt }
 
 add-events-at : tie.Need-add-events-at
-add-events-at c = let i = in-text (c .before .before .before .args .text .now) (c .before .before .before .args .at) (sym (c .before .octet-at .ensures) ∙ c .if1 .left) (omega arith) in omega arith
+add-events-at c =
+    let b = c .before .before .before in let args = b .args in
+    let i = in-text (args .text .now) (args .at) (sym (c .before .octet-at .ensures) ∙ c .if1 .left) (omega arith) in omega arith
 
 returns-2 : tie.Need-returns-2
 returns-2 c = record { exact = λ f a b. behind-open (c .before .before .before .before .before .before .before .before .before .args .text .now) (c .before .before .before .before .before .before .before .before .before .args .at) (c .before .before .before .before .before .before .before .before .before .args .first) f (sym (c .before .before .before .before .before .before .before .octet-at .ensures) ∙ c .before .before .before .before .before .before .if1 .left) (sym (c .before .before .before .e .given .1) ∙ c .before .before .before .before .before .events-at .ensures .exact) (λ e. c .if2 .taken (c .before .octet-at2 .ensures ∙ e)); within = tt }

@@ -6,7 +6,9 @@ use Rattle.read_notify.proofs.watches.keep_group.Statement.{statement}
 use Rattle.read_notify.proofs.watches.keep_group.Tie as tie
 
 returns-2 : tie.Need-returns-2
-returns-2 c = let l = mapped _ (c .before .before .args .watch .groups) (c .before .before .good .0 .1 .1 .1 .0 .1 .0 .1) in group-dropped (c .before .before .args .watch) (c .before .before .args .group) (omega arith)
+returns-2 c =
+    let b = c .before .before in let args = b .args in
+    let l = mapped _ (args .watch .groups) (c .before .before .good .0 .1 .1 .1 .0 .1 .0 .1) in group-dropped (args .watch) (args .group) (omega arith)
 
 pub keep-group-spec : {M : Type 1} → statement M
 keep-group-spec =

@@ -10,7 +10,10 @@ returns : tie.Need-returns
 returns c = record { exact = λ q f e n. more-none (c .before .before .args .kept) f (n ∙ c .if1 .taken) }
 
 returns-2 : tie.Need-returns-2
-returns-2 c = record { exact = λ q f e n. more-kept (c .before .before .before .before .args .kept) (c .before .keep-filter .result) (filterAt (c .before .before .before .before .args .text .now) (c .before .before .before .before .args .at)) e (c .before .keep-filter .ensures .exact) }
+returns-2 c =
+    let b = c .before in let keep-filter = b .keep-filter in
+    let b = b .before .before .before in let args = b .args in
+    record { exact = λ q f e n. more-kept (args .kept) (keep-filter .result) (filterAt (args .text .now) (args .at)) e (keep-filter .ensures .exact) }
 
 pub keep-more-spec : {M : Type 1} → statement M
 keep-more-spec =

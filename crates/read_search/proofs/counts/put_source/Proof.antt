@@ -4,7 +4,9 @@ use Rattle.read_search.proofs.counts.put_source.Statement.{statement}
 use Rattle.read_search.proofs.counts.put_source.Tie as tie
 
 with-source-requires : tie.Need-with-source-requires
-with-source-requires c κs = rw (c .before .r .given .1) at (c .before .before .before .pre)
+with-source-requires c κs =
+    let b = c .before .before .before in let pre = b .pre in
+    rw (c .before .r .given .1) at pre
 
 returns : tie.Need-returns
 returns c = rw (c .before .before .r .given .1, c .with-source .ensures)

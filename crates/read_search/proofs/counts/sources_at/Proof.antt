@@ -9,13 +9,21 @@ use Rattle.read_search.proofs.counts.sources_at.Tie as tie
 use Rattle.octets.specs.Rows.{in-text}
 
 returns : tie.Need-returns
-returns c = record { exact = sources-none (c .before .before .before .args .text .now) (c .before .before .before .args .at) (λ e. c .if1 .taken (c .before .octet-at .ensures ∙ e)); within = tt }
+returns c =
+    let b = c .before .before .before in let args = b .args in
+    record { exact = sources-none (args .text .now) (args .at) (λ e. c .if1 .taken (c .before .octet-at .ensures ∙ e)); within = tt }
 
 add-sources-row : tie.Need-add-sources-row
-add-sources-row c = let i = in-text (c .before .before .before .args .text .now) (c .before .before .before .args .at) (sym (c .before .octet-at .ensures) ∙ c .if1 .left) (omega arith) in omega arith
+add-sources-row c =
+    let b = c .before .before .before in let args = b .args in
+    let i = in-text (args .text .now) (args .at) (sym (c .before .octet-at .ensures) ∙ c .if1 .left) (omega arith) in omega arith
 
 returns-2 : tie.Need-returns-2
-returns-2 c = let i = in-text (c .before .before .before .before .args .text .now) (c .before .before .before .before .args .at) (sym (c .before .before .octet-at .ensures) ∙ c .before .if1 .left) (omega arith) in record { exact = c .sources-row .ensures .exact (length (c .before .before .before .before .args .text .now)) (omega arith) ∙ sources-row (c .before .before .before .before .args .text .now) (c .before .before .before .before .args .at) (sym (c .before .before .octet-at .ensures) ∙ c .before .if1 .left); within = within-from (c .before .before .before .before .args .text .now) (c .before .before .before .before .args .at) (c .sources-row .result) (c .sources-row .ensures .within) }
+returns-2 c =
+    let b = c .before in let if1 = b .if1 in
+    let b = b .before in let octet-at = b .octet-at in
+    let b = b .before .before in let args = b .args in
+    let i = in-text (args .text .now) (args .at) (sym (octet-at .ensures) ∙ if1 .left) (omega arith) in record { exact = c .sources-row .ensures .exact (length (args .text .now)) (omega arith) ∙ sources-row (args .text .now) (args .at) (sym (octet-at .ensures) ∙ if1 .left); within = within-from (args .text .now) (args .at) (c .sources-row .result) (c .sources-row .ensures .within) }
 
 pub sources-at-spec : {M : Type 1} → statement M
 sources-at-spec =

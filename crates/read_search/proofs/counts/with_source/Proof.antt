@@ -5,7 +5,9 @@ use Rattle.read_search.proofs.counts.with_source.Statement.{statement}
 use Rattle.read_search.proofs.counts.with_source.Tie as tie
 
 returns : tie.Need-returns
-returns c = made (c .before .before .before .before .args .scope) (c .before .before .before .before .args .names) (c .before .before .before .before .args .more) (c .before .is-delayed .ensures) (c .is-selected .ensures)
+returns c =
+    let b = c .before .before .before .before in let args = b .args in
+    made (args .scope) (args .names) (args .more) (c .before .is-delayed .ensures) (c .is-selected .ensures)
 
 pub with-source-spec : {M : Type 1} → statement M
 with-source-spec =

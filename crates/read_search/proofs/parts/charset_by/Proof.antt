@@ -6,16 +6,35 @@ use Rattle.read_search.proofs.parts.charset_by.Statement.{statement}
 use Rattle.read_search.proofs.parts.charset_by.Tie as tie
 
 returns : tie.Need-returns
-returns c = charset-closed (c .before .before .before .before .args .text .now) (c .before .before .before .before .args .at) (sym (c .enum-told .given .1) ∙ c .before .before .behind-word .ensures)
+returns c =
+    let b = c .before .before .before .before in let args = b .args in
+    charset-closed (args .text .now) (args .at) (sym (c .enum-told .given .1) ∙ c .before .before .behind-word .ensures)
 
 returns-2 : tie.Need-returns-2
-returns-2 c = charset-unfit (c .before .before .before .before .before .before .before .before .args .text .now) (c .before .before .before .before .before .before .before .before .args .at) (sym (c .before .before .before .before .q .given .1) ∙ c .before .before .before .before .before .before .behind-word .ensures) (sym (c .enum-told2 .given .1) ∙ c .before .before .charset-at .ensures .exact)
+returns-2 c =
+    let b = c .before .before .before .before in let q = b .q in
+    let b = b .before .before in let behind-word = b .behind-word in
+    let b = b .before .before in let args = b .args in
+    charset-unfit (args .text .now) (args .at) (sym (q .given .1) ∙ behind-word .ensures) (sym (c .enum-told2 .given .1) ∙ c .before .before .charset-at .ensures .exact)
 
 returns-3 : tie.Need-returns-3
-returns-3 c = charset-unspaced (c .before .before .before .before .before .before .before .before .before .before .before .before .args .text .now) (c .before .before .before .before .before .before .before .before .before .before .before .before .args .at) (sym (c .before .before .before .before .before .before .before .before .q .given .1) ∙ c .before .before .before .before .before .before .before .before .before .before .behind-word .ensures) (sym (c .before .before .before .before .known .given .1) ∙ c .before .before .before .before .before .before .charset-at .ensures .exact) (sym (c .enum-told3 .given .1) ∙ c .before .before .behind-space .ensures)
+returns-3 c =
+    let b = c .before .before .before .before in let known = b .known in
+    let b = b .before .before in let charset-at = b .charset-at in
+    let b = b .before .before in let q = b .q in
+    let b = b .before .before in let behind-word = b .behind-word in
+    let b = b .before .before in let args = b .args in
+    charset-unspaced (args .text .now) (args .at) (sym (q .given .1) ∙ behind-word .ensures) (sym (known .given .1) ∙ charset-at .ensures .exact) (sym (c .enum-told3 .given .1) ∙ c .before .before .behind-space .ensures)
 
 returns-4 : tie.Need-returns-4
-returns-4 c = rw (c .opposite .ensures) (charset-whole (c .before .before .before .before .before .before .before .before .before .before .before .before .before .before .args .text .now) (c .before .before .before .before .before .before .before .before .before .before .before .before .before .before .args .at) (sym (c .before .before .before .before .before .before .before .before .before .before .q .given .1) ∙ c .before .before .before .before .before .before .before .before .before .before .before .before .behind-word .ensures) (sym (c .before .before .before .before .before .before .known .given .1) ∙ c .before .before .before .before .before .before .before .before .charset-at .ensures .exact) (sym (c .before .before .next .given .1) ∙ c .before .before .before .before .behind-space .ensures))
+returns-4 c =
+    let b = c .before .before .before .before in let behind-space = b .behind-space in
+    let b = b .before .before in let known = b .known in
+    let b = b .before .before in let charset-at = b .charset-at in
+    let b = b .before .before in let q = b .q in
+    let b = b .before .before in let behind-word = b .behind-word in
+    let b = b .before .before in let args = b .args in
+    rw (c .opposite .ensures) (charset-whole (args .text .now) (args .at) (sym (q .given .1) ∙ behind-word .ensures) (sym (known .given .1) ∙ charset-at .ensures .exact) (sym (c .before .before .next .given .1) ∙ behind-space .ensures))
 
 pub charset-by-spec : {M : Type 1} → statement M
 charset-by-spec =

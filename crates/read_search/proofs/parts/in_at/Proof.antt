@@ -6,10 +6,14 @@ use Rattle.read_search.proofs.parts.in_at.Statement.{statement}
 use Rattle.read_search.proofs.parts.in_at.Tie as tie
 
 returns : tie.Need-returns
-returns c = c .in-by .ensures ∙ in-given (c .before .before .before .before .before .args .text .now) (c .before .before .before .before .before .args .at) (sym (c .before .before .word-at .ensures) ∙ c .before .if1 .taken)
+returns c =
+    let b = c .before .before .before .before .before in let args = b .args in
+    c .in-by .ensures ∙ in-given (args .text .now) (args .at) (sym (c .before .before .word-at .ensures) ∙ c .before .if1 .taken)
 
 returns-2 : tie.Need-returns-2
-returns-2 c = rw (c .no-sources .ensures) (in-left (c .before .before .before .before .before .args .text .now) (c .before .before .before .before .before .args .at) (sym (c .before .before .word-at .ensures) ∙ c .before .if1 .left))
+returns-2 c =
+    let b = c .before .before .before .before .before in let args = b .args in
+    rw (c .no-sources .ensures) (in-left (args .text .now) (args .at) (sym (c .before .before .word-at .ensures) ∙ c .before .if1 .left))
 
 pub in-at-spec : {M : Type 1} → statement M
 in-at-spec =

@@ -6,16 +6,35 @@ use Rattle.read_search.proofs.parts.in_by.Statement.{statement}
 use Rattle.read_search.proofs.parts.in_by.Tie as tie
 
 returns : tie.Need-returns
-returns c = in-closed (c .before .before .before .before .args .text .now) (c .before .before .before .before .args .at) (sym (c .enum-told .given .1) ∙ c .before .before .behind-word .ensures)
+returns c =
+    let b = c .before .before .before .before in let args = b .args in
+    in-closed (args .text .now) (args .at) (sym (c .enum-told .given .1) ∙ c .before .before .behind-word .ensures)
 
 returns-2 : tie.Need-returns-2
-returns-2 c = in-unfit (c .before .before .before .before .before .before .before .before .args .text .now) (c .before .before .before .before .before .before .before .before .args .at) (sym (c .before .before .before .before .q .given .1) ∙ c .before .before .before .before .before .before .behind-word .ensures) (sym (c .enum-told2 .given .1) ∙ c .before .before .sources-at .ensures .exact)
+returns-2 c =
+    let b = c .before .before .before .before in let q = b .q in
+    let b = b .before .before in let behind-word = b .behind-word in
+    let b = b .before .before in let args = b .args in
+    in-unfit (args .text .now) (args .at) (sym (q .given .1) ∙ behind-word .ensures) (sym (c .enum-told2 .given .1) ∙ c .before .before .sources-at .ensures .exact)
 
 returns-3 : tie.Need-returns-3
-returns-3 c = in-unspaced (c .before .before .before .before .before .before .before .before .before .before .before .before .args .text .now) (c .before .before .before .before .before .before .before .before .before .before .before .before .args .at) (sym (c .before .before .before .before .before .before .before .before .q .given .1) ∙ c .before .before .before .before .before .before .before .before .before .before .behind-word .ensures) (sym (c .before .before .before .before .sources .given .1) ∙ c .before .before .before .before .before .before .sources-at .ensures .exact) (sym (c .enum-told3 .given .1) ∙ c .before .before .behind-space .ensures)
+returns-3 c =
+    let b = c .before .before .before .before in let sources = b .sources in
+    let b = b .before .before in let sources-at = b .sources-at in
+    let b = b .before .before in let q = b .q in
+    let b = b .before .before in let behind-word = b .behind-word in
+    let b = b .before .before in let args = b .args in
+    in-unspaced (args .text .now) (args .at) (sym (q .given .1) ∙ behind-word .ensures) (sym (sources .given .1) ∙ sources-at .ensures .exact) (sym (c .enum-told3 .given .1) ∙ c .before .before .behind-space .ensures)
 
 returns-4 : tie.Need-returns-4
-returns-4 c = in-whole (c .before .before .before .before .before .before .before .before .before .before .before .before .before .args .text .now) (c .before .before .before .before .before .before .before .before .before .before .before .before .before .args .at) (sym (c .before .before .before .before .before .before .before .before .before .q .given .1) ∙ c .before .before .before .before .before .before .before .before .before .before .before .behind-word .ensures) (sym (c .before .before .before .before .before .sources .given .1) ∙ c .before .before .before .before .before .before .before .sources-at .ensures .exact) (sym (c .before .next .given .1) ∙ c .before .before .before .behind-space .ensures)
+returns-4 c =
+    let b = c .before .before .before in let behind-space = b .behind-space in
+    let b = b .before .before in let sources = b .sources in
+    let b = b .before .before in let sources-at = b .sources-at in
+    let b = b .before .before in let q = b .q in
+    let b = b .before .before in let behind-word = b .behind-word in
+    let b = b .before .before in let args = b .args in
+    in-whole (args .text .now) (args .at) (sym (q .given .1) ∙ behind-word .ensures) (sym (sources .given .1) ∙ sources-at .ensures .exact) (sym (c .before .next .given .1) ∙ behind-space .ensures)
 
 pub in-by-spec : {M : Type 1} → statement M
 in-by-spec =

@@ -6,10 +6,14 @@ use Rattle.read_search.proofs.parts.return_at.Statement.{statement}
 use Rattle.read_search.proofs.parts.return_at.Tie as tie
 
 returns : tie.Need-returns
-returns c = c .return-by .ensures ∙ return-given (c .before .before .before .before .before .args .text .now) (c .before .before .before .before .before .args .at) (sym (c .before .before .word-at .ensures) ∙ c .before .if1 .taken)
+returns c =
+    let b = c .before .before .before .before .before in let args = b .args in
+    c .return-by .ensures ∙ return-given (args .text .now) (args .at) (sym (c .before .before .word-at .ensures) ∙ c .before .if1 .taken)
 
 returns-2 : tie.Need-returns-2
-returns-2 c = return-left (c .before .before .before .before .args .text .now) (c .before .before .before .before .args .at) (sym (c .before .word-at .ensures) ∙ c .if1 .left)
+returns-2 c =
+    let b = c .before .before .before .before in let args = b .args in
+    return-left (args .text .now) (args .at) (sym (c .before .word-at .ensures) ∙ c .if1 .left)
 
 pub return-at-spec : {M : Type 1} → statement M
 return-at-spec =

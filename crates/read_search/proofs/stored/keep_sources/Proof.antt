@@ -7,13 +7,19 @@ use Rattle.read_search.proofs.stored.keep_sources.Statement.{statement}
 use Rattle.read_search.proofs.stored.keep_sources.Tie as tie
 
 returns : tie.Need-returns
-returns c = c .list-by .ensures ∙ sources-given (c .before .before .before .before .before .args .text .now) (c .before .before .before .before .before .args .at) (sym (c .before .before .word-at .ensures) ∙ c .before .if1 .taken)
+returns c =
+    let b = c .before .before .before .before .before in let args = b .args in
+    c .list-by .ensures ∙ sources-given (args .text .now) (args .at) (sym (c .before .before .word-at .ensures) ∙ c .before .if1 .taken)
 
 put-listed-requires : tie.Need-put-listed-requires
 put-listed-requires c κs = rw (c .before .nothing-listed .ensures) (omega arith)
 
 returns-2 : tie.Need-returns-2
-returns-2 c = rw (c .put-listed .ensures, c .before .before .nothing-listed .ensures, c .before .keep-nothing .ensures) (sources-left (c .before .before .before .before .before .before .before .args .text .now) (c .before .before .before .before .before .before .before .args .at) (sym (c .before .before .before .before .word-at .ensures) ∙ c .before .before .before .if1 .left))
+returns-2 c =
+    let b = c .before .before .before in let if1 = b .if1 in
+    let b = b .before in let word-at = b .word-at in
+    let b = b .before .before .before in let args = b .args in
+    rw (c .put-listed .ensures, c .before .before .nothing-listed .ensures, c .before .keep-nothing .ensures) (sources-left (args .text .now) (args .at) (sym (word-at .ensures) ∙ if1 .left))
 
 pub keep-sources-spec : {M : Type 1} → statement M
 keep-sources-spec =

@@ -12,16 +12,24 @@ use Rattle.read_search.proofs.stored.list_at.Tie as tie
 use Rattle.octets.specs.Rows.{in-text}
 
 returns : tie.Need-returns
-returns c = c .unlisted .ensures ∙ list-none (c .before .before .before .before .args .text .now) (c .before .before .before .before .args .at) nothingListed (λ e. c .before .if1 .taken (c .before .before .octet-at .ensures ∙ e))
+returns c =
+    let b = c .before .before .before .before in let args = b .args in
+    c .unlisted .ensures ∙ list-none (args .text .now) (args .at) nothingListed (λ e. c .before .if1 .taken (c .before .before .octet-at .ensures ∙ e))
 
 add-list-row : tie.Need-add-list-row
-add-list-row c = let i = in-text (c .before .before .before .args .text .now) (c .before .before .before .args .at) (sym (c .before .octet-at .ensures) ∙ c .if1 .left) (omega arith) in omega arith
+add-list-row c =
+    let b = c .before .before .before in let args = b .args in
+    let i = in-text (args .text .now) (args .at) (sym (c .before .octet-at .ensures) ∙ c .if1 .left) (omega arith) in omega arith
 
 list-row-requires : tie.Need-list-row-requires
 list-row-requires c κs = rw (c .nothing-listed .ensures) (omega arith, omega arith)
 
 returns-2 : tie.Need-returns-2
-returns-2 c = let i = in-text (c .before .before .before .before .before .args .text .now) (c .before .before .before .before .before .args .at) (sym (c .before .before .before .octet-at .ensures) ∙ c .before .before .if1 .left) (omega arith) in c .list-row .ensures (length (c .before .before .before .before .before .args .text .now)) (omega arith) ∙ ap (λ (t : Listed). readListed t (row (length (c .before .before .before .before .before .args .text .now)) (c .before .before .before .before .before .args .text .now) ((c .before .before .before .before .before .args .at) + 1))) (c .before .nothing-listed .ensures) ∙ list-row (c .before .before .before .before .before .args .text .now) (c .before .before .before .before .before .args .at) nothingListed (sym (c .before .before .before .octet-at .ensures) ∙ c .before .before .if1 .left)
+returns-2 c =
+    let b = c .before .before in let if1 = b .if1 in
+    let b = b .before in let octet-at = b .octet-at in
+    let b = b .before .before in let args = b .args in
+    let i = in-text (args .text .now) (args .at) (sym (octet-at .ensures) ∙ if1 .left) (omega arith) in c .list-row .ensures (length (args .text .now)) (omega arith) ∙ ap (λ (t : Listed). readListed t (row (length (args .text .now)) (args .text .now) ((args .at) + 1))) (c .before .nothing-listed .ensures) ∙ list-row (args .text .now) (args .at) nothingListed (sym (octet-at .ensures) ∙ if1 .left)
 
 pub list-at-spec : {M : Type 1} → statement M
 list-at-spec =

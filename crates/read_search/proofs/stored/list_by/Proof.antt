@@ -7,16 +7,37 @@ use Rattle.read_search.proofs.stored.list_by.Statement.{statement}
 use Rattle.read_search.proofs.stored.list_by.Tie as tie
 
 returns : tie.Need-returns
-returns c = c .unlisted .ensures ∙ listed-closed (c .before .before .before .before .before .args .text .now) (c .before .before .before .before .before .args .at) nothingListed (sym (c .before .enum-told .given .1) ∙ c .before .before .before .behind-word .ensures)
+returns c =
+    let b = c .before .before .before in let behind-word = b .behind-word in
+    let b = b .before .before in let args = b .args in
+    c .unlisted .ensures ∙ listed-closed (args .text .now) (args .at) nothingListed (sym (c .before .enum-told .given .1) ∙ behind-word .ensures)
 
 returns-2 : tie.Need-returns-2
-returns-2 c = c .unlisted2 .ensures ∙ listed-unspaced (c .before .before .before .before .before .before .before .before .before .before .before .args .text .now) (c .before .before .before .before .before .before .before .before .before .before .before .args .at) nothingListed (sym (c .before .before .before .before .before .before .before .q .given .1) ∙ c .before .before .before .before .before .before .before .before .before .behind-word .ensures) (c .before .before .before .before .before .list-at .ensures) (c .before .before .before .before .if1 .taken) (sym (c .before .enum-told2 .given .1) ∙ c .before .before .before .behind-space .ensures)
+returns-2 c =
+    let b = c .before .before .before in let behind-space = b .behind-space in
+    let b = b .before in let if1 = b .if1 in
+    let b = b .before in let list-at = b .list-at in
+    let b = b .before .before in let q = b .q in
+    let b = b .before .before in let behind-word = b .behind-word in
+    let b = b .before .before in let args = b .args in
+    c .unlisted2 .ensures ∙ listed-unspaced (args .text .now) (args .at) nothingListed (sym (q .given .1) ∙ behind-word .ensures) (list-at .ensures) (if1 .taken) (sym (c .before .enum-told2 .given .1) ∙ behind-space .ensures)
 
 returns-3 : tie.Need-returns-3
-returns-3 c = listed-whole (c .before .before .before .before .before .before .before .before .before .before .before .before .args .text .now) (c .before .before .before .before .before .before .before .before .before .before .before .before .args .at) nothingListed (sym (c .before .before .before .before .before .before .before .before .q .given .1) ∙ c .before .before .before .before .before .before .before .before .before .before .behind-word .ensures) (c .before .before .before .before .before .before .list-at .ensures) (c .before .before .before .before .before .if1 .taken) (sym (c .before .before .next .given .1) ∙ c .before .before .before .before .behind-space .ensures)
+returns-3 c =
+    let b = c .before .before .before .before in let behind-space = b .behind-space in
+    let b = b .before in let if1 = b .if1 in
+    let b = b .before in let list-at = b .list-at in
+    let b = b .before .before in let q = b .q in
+    let b = b .before .before in let behind-word = b .behind-word in
+    let b = b .before .before in let args = b .args in
+    listed-whole (args .text .now) (args .at) nothingListed (sym (q .given .1) ∙ behind-word .ensures) (list-at .ensures) (if1 .taken) (sym (c .before .before .next .given .1) ∙ behind-space .ensures)
 
 returns-4 : tie.Need-returns-4
-returns-4 c = c .unlisted3 .ensures ∙ listed-unfit (c .before .before .before .before .before .before .before .before .args .text .now) (c .before .before .before .before .before .before .before .before .args .at) nothingListed (sym (c .before .before .before .before .q .given .1) ∙ c .before .before .before .before .before .before .behind-word .ensures) (c .before .before .list-at .ensures) (c .before .if1 .left)
+returns-4 c =
+    let b = c .before .before .before .before in let q = b .q in
+    let b = b .before .before in let behind-word = b .behind-word in
+    let b = b .before .before in let args = b .args in
+    c .unlisted3 .ensures ∙ listed-unfit (args .text .now) (args .at) nothingListed (sym (q .given .1) ∙ behind-word .ensures) (c .before .before .list-at .ensures) (c .before .if1 .left)
 
 pub list-by-spec : {M : Type 1} → statement M
 list-by-spec =

@@ -5,7 +5,10 @@ use Rattle.read_search.proofs.stored.list_one.Statement.{statement}
 use Rattle.read_search.proofs.stored.list_one.Tie as tie
 
 returns : tie.Need-returns
-returns c = one-listed (c .before .before .before .before .before .before .args .text .now) (c .before .before .before .before .before .before .args .at) (c .before .before .before .before .before .before .args .listed) (c .before .before .before .scope-number .ensures) (c .before .before .keep-filter .ensures .exact) (c .put-listed .ensures)
+returns c =
+    let b = c .before .before .before in let scope-number = b .scope-number in
+    let b = b .before .before .before in let args = b .args in
+    one-listed (args .text .now) (args .at) (args .listed) (scope-number .ensures) (c .before .before .keep-filter .ensures .exact) (c .put-listed .ensures)
 
 pub list-one-spec : {M : Type 1} → statement M
 list-one-spec =

@@ -7,7 +7,9 @@ use Rattle.read_search.proofs.stored.put_listed.Statement.{statement}
 use Rattle.read_search.proofs.stored.put_listed.Tie as tie
 
 returns-2 : tie.Need-returns-2
-returns-2 c = let l = mapped _ (c .before .before .args .listed .sources) (c .before .before .good .0 .1 .1 .1 .0 .1 .0 .1) in one-dropped (c .before .before .args .listed) (c .before .before .args .one) (c .before .before .args .kept) (omega arith)
+returns-2 c =
+    let b = c .before .before in let args = b .args in
+    let l = mapped _ (args .listed .sources) (c .before .before .good .0 .1 .1 .1 .0 .1 .0 .1) in one-dropped (args .listed) (args .one) (args .kept) (omega arith)
 
 pub put-listed-spec : {M : Type 1} → statement M
 put-listed-spec =

@@ -6,16 +6,37 @@ use Rattle.read_search.proofs.whole.search_at.Statement.{statement}
 use Rattle.read_search.proofs.whole.search_at.Tie as tie
 
 returns : tie.Need-returns
-returns c = unsearched (no-in (c .before .before .before .before .before .args .text .now) (c .before .before .before .before .before .args .at) (sym (c .enum-told .given .1) ∙ c .before .before .in-at .ensures))
+returns c =
+    let b = c .before .before .before .before .before in let args = b .args in
+    unsearched (no-in (args .text .now) (args .at) (sym (c .enum-told .given .1) ∙ c .before .before .in-at .ensures))
 
 returns-2 : tie.Need-returns-2
-returns-2 c = unsearched (no-return (c .before .before .before .before .before .before .before .before .before .args .text .now) (c .before .before .before .before .before .before .before .before .before .args .at) (sym (c .before .before .before .before .sources .given .1) ∙ c .before .before .before .before .before .before .in-at .ensures) (sym (c .enum-told2 .given .1) ∙ c .before .before .return-at .ensures))
+returns-2 c =
+    let b = c .before .before .before .before in let sources = b .sources in
+    let b = b .before .before in let in-at = b .in-at in
+    let b = b .before .before .before in let args = b .args in
+    unsearched (no-return (args .text .now) (args .at) (sym (sources .given .1) ∙ in-at .ensures) (sym (c .enum-told2 .given .1) ∙ c .before .before .return-at .ensures))
 
 returns-3 : tie.Need-returns-3
-returns-3 c = unsearched (no-charset (c .before .before .before .before .before .before .before .before .before .before .before .before .before .args .text .now) (c .before .before .before .before .before .before .before .before .before .before .before .before .before .args .at) (sym (c .before .before .before .before .before .before .before .before .sources .given .1) ∙ c .before .before .before .before .before .before .before .before .before .before .in-at .ensures) (sym (c .before .before .before .before .returns .given .1) ∙ c .before .before .before .before .before .before .return-at .ensures) (sym (c .enum-told3 .given .1) ∙ c .before .before .charset-part-at .ensures))
+returns-3 c =
+    let b = c .before .before .before .before in let at-returns = b .returns in
+    let b = b .before .before in let return-at = b .return-at in
+    let b = b .before .before in let sources = b .sources in
+    let b = b .before .before in let in-at = b .in-at in
+    let b = b .before .before .before in let args = b .args in
+    unsearched (no-charset (args .text .now) (args .at) (sym (sources .given .1) ∙ in-at .ensures) (sym (at-returns .given .1) ∙ return-at .ensures) (sym (c .enum-told3 .given .1) ∙ c .before .before .charset-part-at .ensures))
 
 returns-4 : tie.Need-returns-4
-returns-4 c = let t = searched (c .before .before .before .before .before .before .before .before .before .before .before .before .before .before .before .before .before .before .args .text .now) (c .before .before .before .before .before .before .before .before .before .before .before .before .before .before .before .before .before .before .args .at) (sym (c .before .before .before .before .before .before .before .before .before .before .before .before .before .sources .given .1) ∙ c .before .before .before .before .before .before .before .before .before .before .before .before .before .before .before .in-at .ensures) (sym (c .before .before .before .before .before .before .before .before .before .returns .given .1) ∙ c .before .before .before .before .before .before .before .before .before .before .before .return-at .ensures) (sym (c .before .before .before .before .before .unknown .given .1) ∙ c .before .before .before .before .before .before .before .charset-part-at .ensures) (c .before .before .before .before .before .before .before .before .before .before .before .before .before .before .before .before .before .before .args .cells .now) (c .before .before .with-keys .last .1 .1 .0) (c .before .before .with-keys .ensures .exact) in record { exact = t .0; cells = t .1; within = c .before .before .with-keys .ensures .within }
+returns-4 c =
+    let b = c .before .before in let with-keys = b .with-keys in
+    let b = b .before .before .before in let unknown = b .unknown in
+    let b = b .before .before in let charset-part-at = b .charset-part-at in
+    let b = b .before .before in let at-returns = b .returns in
+    let b = b .before .before in let return-at = b .return-at in
+    let b = b .before .before in let sources = b .sources in
+    let b = b .before .before in let in-at = b .in-at in
+    let b = b .before .before .before in let args = b .args in
+    let t = searched (args .text .now) (args .at) (sym (sources .given .1) ∙ in-at .ensures) (sym (at-returns .given .1) ∙ return-at .ensures) (sym (unknown .given .1) ∙ charset-part-at .ensures) (args .cells .now) (with-keys .last .1 .1 .0) (with-keys .ensures .exact) in record { exact = t .0; cells = t .1; within = with-keys .ensures .within }
 
 pub search-at-spec : {M : Type 1} → statement M
 search-at-spec =

@@ -7,10 +7,17 @@ use Rattle.read_search.proofs.whole.with_keys.Statement.{statement}
 use Rattle.read_search.proofs.whole.with_keys.Tie as tie
 
 returns : tie.Need-returns
-returns c = let w = rw (c .before .next .given .1) at (c .before .before .before .before .before .program-at .ensures .within) in record { exact = keys-found (c .before .before .before .before .before .before .before .before .before .args .sources) (c .before .before .before .before .before .before .before .before .before .args .returns) (c .before .before .before .before .before .before .before .before .before .args .unknown) (c .before .before .before .before .before .before .before .before .before .args .cells .now) (c .before .before .before .before .before .program-at .last .1 .1 .0) (c .before .next .given .0 .0) (c .before .next .given .0 .1 .0) (c .before .next .given .0 .1 .1 .0) (c .before .next .given .0 .1 .1 .1 .0) (c .before .next .given .0 .1 .1 .1 .1 .0) (c .before .next .given .0 .1 .1 .1 .1 .1 .0) (programAt (c .before .before .before .before .before .before .before .before .before .args .text .now) (c .before .before .before .before .before .before .before .before .before .args .at)) (c .before .next .given .1) (c .before .before .before .before .before .program-at .ensures .exact); within = record { inside = w .inside; short = omega arith } }
+returns c =
+    let b = c .before in let next = b .next in
+    let b = b .before .before .before .before in let program-at = b .program-at in
+    let b = b .before .before .before .before in let args = b .args in
+    let w = rw (next .given .1) at (program-at .ensures .within) in record { exact = keys-found (args .sources) (args .returns) (args .unknown) (args .cells .now) (program-at .last .1 .1 .0) (next .given .0 .0) (next .given .0 .1 .0) (next .given .0 .1 .1 .0) (next .given .0 .1 .1 .1 .0) (next .given .0 .1 .1 .1 .1 .0) (next .given .0 .1 .1 .1 .1 .1 .0) (programAt (args .text .now) (args .at)) (next .given .1) (program-at .ensures .exact); within = record { inside = w .inside; short = omega arith } }
 
 returns-2 : tie.Need-returns-2
-returns-2 c = record { exact = keys-missing (c .before .before .before .before .before .before .before .before .args .sources) (c .before .before .before .before .before .before .before .before .args .returns) (c .before .before .before .before .before .before .before .before .args .unknown) (c .before .before .before .before .before .before .before .before .args .cells .now) (c .before .before .before .before .program-at .last .1 .1 .0) (programAt (c .before .before .before .before .before .before .before .before .args .text .now) (c .before .before .before .before .before .before .before .before .args .at)) (c .enum-told .given .1) (c .before .before .before .before .program-at .ensures .exact); within = tt }
+returns-2 c =
+    let b = c .before .before .before .before in let program-at = b .program-at in
+    let b = b .before .before .before .before in let args = b .args in
+    record { exact = keys-missing (args .sources) (args .returns) (args .unknown) (args .cells .now) (program-at .last .1 .1 .0) (programAt (args .text .now) (args .at)) (c .enum-told .given .1) (program-at .ensures .exact); within = tt }
 
 pub with-keys-spec : {M : Type 1} → statement M
 with-keys-spec =

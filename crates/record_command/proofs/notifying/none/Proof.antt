@@ -11,17 +11,26 @@ use Rattle.record_outcome.specs.Coming.{quiet}
 use Rattle.record_command.specs.Sized.{none-fits, none-not}
 
 say-reply-requires : tie.Need-say-reply-requires
-say-reply-requires c κs = let z = sizes _ _ (c .before .before .before .args .s) (c .before .before .before .pre) in (omega arith, omega arith)
+say-reply-requires c κs =
+    let b = c .before .before .before in let args = b .args in
+    let pre = b .pre in
+    let z = sizes _ _ (args .s) pre in (omega arith, omega arith)
 
 returns : tie.Need-returns
 returns c =
-    let a = c .before .before .before .before .before .before .before .before .before .before .args in
-    λ m ws lent p e. none-fits m ws (a .counts) (a .s) (a .queue .now) (a .text .now) lent (c .before .before .before .before .before .before .before .before .before .before .pre) p e (c .before .before .before .before .before .before .say-reply .ensures) (c .before .before .before .if1 .taken) _ (c .before .watched .ensures) _ (c .unmoved .ensures ∙ ap (λ (k : Counts). quiet Done k (c .before .watched .result)) (c .before .before .ending-at .ensures))
+    let b = c .before in let watched = b .watched in
+    let b = b .before .before in let if1 = b .if1 in
+    let b = b .before .before .before in let say-reply = b .say-reply in
+    let b = b .before .before .before .before in let a = b .args in
+    let pre = b .pre in
+    λ m ws lent p e. none-fits m ws (a .counts) (a .s) (a .queue .now) (a .text .now) lent pre p e (say-reply .ensures) (if1 .taken) _ (watched .ensures) _ (c .unmoved .ensures ∙ ap (λ (k : Counts). quiet Done k (watched .result)) (c .before .before .ending-at .ensures))
 
 returns-2 : tie.Need-returns-2
 returns-2 c =
-    let a = c .before .before .before .before .before .before .before .before .args in
-    λ m ws lent p e. none-not m ws (a .counts) (a .s) (a .queue .now) (a .text .now) lent (c .before .before .before .before .before .before .before .before .pre) p e (c .before .before .before .before .say-reply .ensures) (c .before .if1 .left) _ (c .refused .ensures)
+    let b = c .before .before .before .before in let say-reply = b .say-reply in
+    let b = b .before .before .before .before in let a = b .args in
+    let pre = b .pre in
+    λ m ws lent p e. none-not m ws (a .counts) (a .s) (a .queue .now) (a .text .now) lent pre p e (say-reply .ensures) (c .before .if1 .left) _ (c .refused .ensures)
 
 pub none-spec : {M : Type 1} → statement M
 none-spec =

@@ -21,50 +21,71 @@ use Rattle.record_command.proofs.notifying.notify.Statement.{statement}
 use Rattle.record_command.proofs.notifying.notify.Tie as tie
 
 refuse-requires : tie.Need-refuse-requires
-refuse-requires c κs = let z = sizes _ _ (c .before .before .before .before .before .before .before .before .before .args .s) (c .before .before .before .before .before .before .before .before .before .pre .room) in (omega arith, omega arith)
+refuse-requires c κs =
+    let b = c .before .before .before .before .before .before .before .before .before in let args = b .args in
+    let pre = b .pre in
+    let z = sizes _ _ (args .s) (pre .room) in (omega arith, omega arith)
 
 returns : tie.Need-returns
 returns c =
-    let a = c .before .before .before .before .before .before .before .before .before .before .before .before .args in
-    let k = c .before .before .before .before .before .before .before .before .keep-notify in
-    let e : wholeBy notify (a .text .now) (a .at) ≡ commandOf (a .text .now) → c .before .before .before .before .before .before .notify-reply .result ≡ judgedOf limits (not (eqb (a .s .selected) 0)) (commandOf (a .text .now)) = λ h.
-    c .before .before .before .before .before .before .notify-reply .ensures ∙ (ap (λ (l : Limits). notified l (k .result .read)) (c .before .before .before .before .before .before .before .limits .ensures)
+    let b = c .before .before .before .before in let if1 = b .if1 in
+    let b = b .before in let is-accepted = b .is-accepted in
+    let b = b .before in let notify-reply = b .notify-reply in
+    let b = b .before in let at-limits = b .limits in
+    let b = b .before in let k = b .keep-notify in
+    let b = b .before .before .before .before in let a = b .args in
+    let e : wholeBy notify (a .text .now) (a .at) ≡ commandOf (a .text .now) → notify-reply .result ≡ judgedOf limits (not (eqb (a .s .selected) 0)) (commandOf (a .text .now)) = λ h.
+    notify-reply .ensures ∙ (ap (λ (l : Limits). notified l (k .result .read)) (at-limits .ensures)
     ∙ (ap (notified limits) (k .ensures .exact) ∙ (notify-is limits (not (eqb (a .s .selected) 0)) (a .text .now) (a .at) ∙ ap (judgedOf limits (not (eqb (a .s .selected) 0))) h))) in
-    let no = sym (c .before .before .before .before .before .is-accepted .ensures) ∙ not-true _ (c .before .before .before .before .if1 .taken) in
-    λ m lent law laid sel head. c .before .before .refuse .ensures m (a .words .now) lent (verb-judged m (a .words .now) (a .counts) (a .s) (a .queue .now) (a .text .now) lent (c .before .before .before .before .before .before .notify-reply .result) (e head)) (reply-judged m (a .words .now) (a .counts) (a .s) (a .queue .now) (a .text .now) lent (c .before .before .before .before .before .before .notify-reply .result) (e head) no) no
+    let no = sym (is-accepted .ensures) ∙ not-true _ (if1 .taken) in
+    λ m lent law laid sel head. c .before .before .refuse .ensures m (a .words .now) lent (verb-judged m (a .words .now) (a .counts) (a .s) (a .queue .now) (a .text .now) lent (notify-reply .result) (e head)) (reply-judged m (a .words .now) (a .counts) (a .s) (a .queue .now) (a .text .now) lent (notify-reply .result) (e head) no) no
 
 set-requires : tie.Need-set-requires
-set-requires c κs = c .before .before .before .before .before .before .before .before .before .before .before .before .before .before .before .before .pre
+set-requires c κs =
+    let b = c .before .before .before .before .before .before .before .before .before .before .before .before .before .before .before .before in let pre = b .pre in
+    pre
 
 returns-2 : tie.Need-returns-2
 returns-2 c =
-    let a = c .before .before .before .before .before .before .before .before .before .before .before .before .before .before .args in
-    let k = c .before .before .before .before .before .before .before .before .before .before .keep-notify in
-    λ m lent law laid sel head. c .before .before .none .ensures m (a .words .now) lent _ (nothing-is (commandOf (a .text .now)) (sym (c .before .before .before .before .enum-told .given .1) ∙ (k .ensures .exact ∙ ap readNotify head)))
+    let b = c .before .before .before .before in let enum-told = b .enum-told in
+    let b = b .before .before .before .before .before .before in let k = b .keep-notify in
+    let b = b .before .before .before .before in let a = b .args in
+    λ m lent law laid sel head. c .before .before .none .ensures m (a .words .now) lent _ (nothing-is (commandOf (a .text .now)) (sym (enum-told .given .1) ∙ (k .ensures .exact ∙ ap readNotify head)))
 
 returns-3 : tie.Need-returns-3
 returns-3 c =
-    let a = c .before .before .before .before .before .before .before .before .before .before .before .before .before .before .before .before .before .before .before .before .before .args in
-    let k = c .before .before .before .before .before .before .before .before .before .before .before .before .before .before .before .before .before .keep-notify in
-    let e : wholeBy notify (a .text .now) (a .at) ≡ commandOf (a .text .now) → c .before .before .before .before .before .before .before .before .before .before .before .before .before .before .before .notify-reply .result ≡ judgedOf limits (not (eqb (a .s .selected) 0)) (commandOf (a .text .now)) = λ h.
-    c .before .before .before .before .before .before .before .before .before .before .before .before .before .before .before .notify-reply .ensures ∙ (ap (λ (l : Limits). notified l (k .result .read)) (c .before .before .before .before .before .before .before .before .before .before .before .before .before .before .before .before .limits .ensures)
+    let b = c .before .before .before .before in let set = b .set in
+    let b = b .before in let settled = b .settled in
+    let b = b .before .before .before .before .before .before in let read = b .read in
+    let b = b .before .before in let if1 = b .if1 in
+    let b = b .before in let is-accepted = b .is-accepted in
+    let b = b .before in let notify-reply = b .notify-reply in
+    let b = b .before in let at-limits = b .limits in
+    let b = b .before in let k = b .keep-notify in
+    let b = b .before .before .before .before in let a = b .args in
+    let e : wholeBy notify (a .text .now) (a .at) ≡ commandOf (a .text .now) → notify-reply .result ≡ judgedOf limits (not (eqb (a .s .selected) 0)) (commandOf (a .text .now)) = λ h.
+    notify-reply .ensures ∙ (ap (λ (l : Limits). notified l (k .result .read)) (at-limits .ensures)
     ∙ (ap (notified limits) (k .ensures .exact) ∙ (notify-is limits (not (eqb (a .s .selected) 0)) (a .text .now) (a .at) ∙ ap (judgedOf limits (not (eqb (a .s .selected) 0))) h))) in
-    let yes = sym (c .before .before .before .before .before .before .before .before .before .before .before .before .before .before .is-accepted .ensures) ∙ not-false _ (c .before .before .before .before .before .before .before .before .before .before .before .before .before .if1 .left) in
+    let yes = sym (is-accepted .ensures) ∙ not-false _ (if1 .left) in
     λ m lent law laid sel head.
-    let first = accepted-judged m (a .words .now) (a .counts) (a .s) (a .queue .now) (a .text .now) lent (c .before .before .before .before .before .before .before .before .before .before .before .before .before .before .before .notify-reply .result) (e head) yes in
-    groups-are (commandOf (a .text .now)) (sym (c .before .before .before .before .before .before .before .before .before .before .before .read .given .1) ∙ (k .ensures .exact ∙ ap readNotify head)) _
+    let first = accepted-judged m (a .words .now) (a .counts) (a .s) (a .queue .now) (a .text .now) lent (notify-reply .result) (e head) yes in
+    groups-are (commandOf (a .text .now)) (sym (read .given .1) ∙ (k .ensures .exact ∙ ap readNotify head)) _
     (λ gs is. let few = set-few m (a .text .now) _ _ gs is first in
-    c .before .before .before .before .set .ensures m _ gs lent law laid sel is first (c .before .before .before .before .before .settled .ensures ∙ k .ensures .keeps _ _ gs (head ∙ is) (few .0) (few .1) (a .s)))
+    set .ensures m _ gs lent law laid sel is first (settled .ensures ∙ k .ensures .keeps _ _ gs (head ∙ is) (few .0) (few .1) (a .s)))
 
 returns-4 : tie.Need-returns-4
 returns-4 c =
-    let a = c .before .before .before .before .before .before .before .before .before .before .before .args in
-    let k = c .before .before .before .before .before .before .before .keep-notify in
-    let e : wholeBy notify (a .text .now) (a .at) ≡ commandOf (a .text .now) → c .before .before .before .before .before .notify-reply .result ≡ judgedOf limits (not (eqb (a .s .selected) 0)) (commandOf (a .text .now)) = λ h.
-    c .before .before .before .before .before .notify-reply .ensures ∙ (ap (λ (l : Limits). notified l (k .result .read)) (c .before .before .before .before .before .before .limits .ensures)
+    let b = c .before .before .before in let if1 = b .if1 in
+    let b = b .before in let is-accepted = b .is-accepted in
+    let b = b .before in let notify-reply = b .notify-reply in
+    let b = b .before in let at-limits = b .limits in
+    let b = b .before in let k = b .keep-notify in
+    let b = b .before .before .before .before in let a = b .args in
+    let e : wholeBy notify (a .text .now) (a .at) ≡ commandOf (a .text .now) → notify-reply .result ≡ judgedOf limits (not (eqb (a .s .selected) 0)) (commandOf (a .text .now)) = λ h.
+    notify-reply .ensures ∙ (ap (λ (l : Limits). notified l (k .result .read)) (at-limits .ensures)
     ∙ (ap (notified limits) (k .ensures .exact) ∙ (notify-is limits (not (eqb (a .s .selected) 0)) (a .text .now) (a .at) ∙ ap (judgedOf limits (not (eqb (a .s .selected) 0))) h))) in
-    let yes = sym (c .before .before .before .before .is-accepted .ensures) ∙ not-false _ (c .before .before .before .if1 .left) in
-    λ m lent law laid sel head. tf _ yes (ap (λ (j : Judged). isAccepted (j .reply)) (c .before .before .before .before .before .notify-reply .ensures) ∙ unread-refused _ (c .before .enum-told2 .given .1))
+    let yes = sym (is-accepted .ensures) ∙ not-false _ (if1 .left) in
+    λ m lent law laid sel head. tf _ yes (ap (λ (j : Judged). isAccepted (j .reply)) (notify-reply .ensures) ∙ unread-refused _ (c .before .enum-told2 .given .1))
 
 pub notify-spec : {M : Type 1} → statement M
 notify-spec =

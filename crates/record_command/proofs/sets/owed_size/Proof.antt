@@ -16,15 +16,18 @@ returns c =
 
 put-owed-requires : tie.Need-put-owed-requires
 put-owed-requires c κs =
-    let a = c .before .before .before .before .before .before .before .before .before .before .args in
-    let n = order-short (messages (a .words .now)) _ (c .before .before .before .by-uid .result) (a .counts .messages) (a .s .selected) (c .before .before .before .by-uid .ensures) in
+    let b = c .before .before .before in let by-uid = b .by-uid in
+    let b = b .before .before .before .before .before .before .before in let a = b .args in
+    let n = order-short (messages (a .words .now)) _ (by-uid .result) (a .counts .messages) (a .s .selected) (by-uid .ensures) in
     (omega arith, omega arith, omega arith, omega arith)
 
 returns-2 : tie.Need-returns-2
 returns-2 c =
-    let a = c .before .before .before .before .before .before .before .before .before .before .before .before .before .args in
+    let b = c .before .before .before .before .before .before in let by-uid = b .by-uid in
+    let b = b .before .before .before .before in let if1 = b .if1 in
+    let b = b .before .before .before in let a = b .args in
     let p = c .before .before .put-owed .ensures in
-    (λ m lent law e. owed-measured m (a .words .now) (a .counts) (a .s) (a .queue .now) lent law (sym e ∙ not-false _ (c .before .before .before .before .before .before .before .before .before .before .if1 .left)) (c .before .before .before .before .before .before .by-uid .ensures) (p .0), (let w = p .1 in omega arith), p .0 .kept (omega arith))
+    (λ m lent law e. owed-measured m (a .words .now) (a .counts) (a .s) (a .queue .now) lent law (sym e ∙ not-false _ (if1 .left)) (by-uid .ensures) (p .0), (let w = p .1 in omega arith), p .0 .kept (omega arith))
 
 pub owed-size-spec : {M : Type 1} → statement M
 owed-size-spec =

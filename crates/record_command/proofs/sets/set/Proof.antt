@@ -12,22 +12,31 @@ use Rattle.record_command.proofs.sets.set.Tie as tie
 
 set-noted-requires : tie.Need-set-noted-requires
 set-noted-requires c κs =
-    let z = sizes _ _ (c .before .before .before .before .before .before .before .before .before .before .before .before .before .before .before .before .before .before .before .before .args .s) (c .before .before .before .before .before .before .before .before .before .before .before .before .before .before .before .before .before .before .before .before .pre .room) in
-    let u = c .before .before .before .before .before .before .before .before .before .before .before .before .before .before .before .before .before .before .before .before .pre .rows in
-    let v = c .before .before .before .before .before .before .before .before .before .before .before .before .before .before .before .before .before .before .before .before .pre .messages in
-    let w = c .before .before .before .before .before .before .before .before .before .before .before .before .before .before .before .before .before .before .before .before .pre .words in
-    let x = c .before .before .before .before .before .before .before .before .before .by-name .ensures .1 in
+    let b = c .before .before .before .before .before .before .before .before .before in let by-name = b .by-name in
+    let b = b .before .before .before .before .before .before .before .before .before .before .before in let args = b .args in
+    let pre = b .pre in
+    let z = sizes _ _ (args .s) (pre .room) in
+    let u = pre .rows in
+    let v = pre .messages in
+    let w = pre .words in
+    let x = by-name .ensures .1 in
     (omega arith, omega arith, omega arith, omega arith, omega arith, omega arith)
 
 returns : tie.Need-returns
 returns c =
-    let a = c .before .before .before .before .before .before .before .before .before .before .before .before .before .before .before .before .before .before .before .before .before .before .before .before .before .args in
+    let b = c .before .before .before .before in let set-noted = b .set-noted in
+    let b = b .before .before .before .before .before .before in let both = b .both in
+    let b = b .before in let existing = b .existing in
+    let b = b .before .before .before in let by-name = b .by-name in
+    let b = b .before .before .before .before .before in let note-rows = b .note-rows in
+    let b = b .before .before .before .before .before .before in let a = b .args in
+    let pre = b .pre in
     λ m p gs lent law laid sel is first asks.
-    c .before .before .before .before .set-noted .ensures m p (a .status) gs lent law is first asks
+    set-noted .ensures m p (a .status) gs lent law is first asks
     (noted-set m (a .words .now) (a .counts) (a .s) (a .queue .now) lent (a .status) gs (a .asked) asks
-    (λ same. noted-rows m (a .words .now) (a .counts) (a .s) (a .queue .now) lent law (a .ids .now) (a .attributes .now) (a .lens .now) (a .validities .now) (a .nexts .now) (a .counters .now) (a .names .now) laid (a .asked) same (a .status) _ _ _ _ (c .before .before .before .before .before .before .before .before .before .before .before .before .before .before .by-name .result) (c .before .before .before .before .before .before .before .before .before .before .before .before .before .before .before .before .before .before .before .before .before .before .before .before .before .pre .rows)
-    (c .before .before .before .before .before .before .before .before .before .before .before .before .before .before .before .before .before .before .before .note-rows .ensures) (c .before .before .before .before .before .before .before .before .before .before .before .before .before .before .by-name .ensures .0) (c .before .before .before .before .before .before .before .before .before .before .before .existing .ensures)))
-    (c .before .before .before .before .before .before .before .before .before .before .both .ensures ∙ ap bothRights sel) (ap (λ (x : Mailbox). x .uidnext) sel)
+    (λ same. noted-rows m (a .words .now) (a .counts) (a .s) (a .queue .now) lent law (a .ids .now) (a .attributes .now) (a .lens .now) (a .validities .now) (a .nexts .now) (a .counters .now) (a .names .now) laid (a .asked) same (a .status) _ _ _ _ (by-name .result) (pre .rows)
+    (note-rows .ensures) (by-name .ensures .0) (existing .ensures)))
+    (both .ensures ∙ ap bothRights sel) (ap (λ (x : Mailbox). x .uidnext) sel)
 
 pub set-spec : {M : Type 1} → statement M
 set-spec =

@@ -15,24 +15,27 @@ use Rattle.record_command.proofs.sets.set_noted.Tie as tie
 
 returns : tie.Need-returns
 returns c =
-    let a = c .before .before .before .before .before .before .before .before .before .before .before .before .before .before .before .before .before .args in
-    let o = c .before .before .before .before .before .before .before .before .before .before .before .owed-size in
+    let b = c .before .before .before .before in let if1 = b .if1 in
+    let b = b .before .before .before in let put-work = b .put-work in
+    let b = b .before .before .before .before in let o = b .owed-size in
+    let b = b .before .before .before .before .before .before in let a = b .args in
     λ m p wanted gs lent law is first asks noted right uid.
-    let w = c .before .before .before .before .before .before .before .put-work .ensures .0 m (watching (m .session) gs) wanted noted in
+    let w = put-work .ensures .0 m (watching (m .session) gs) wanted noted in
     let n = w .next in
     let same = w .kept (omega arith) ∙ o .ensures .2 in
     let x = ap length (lent .queue) in
-    let y = c .before .before .before .before .if1 .taken in
+    let y = if1 .taken in
     c .before .before .refuse .ensures m (a .words .now) (subst (λ (q : List ℕ). Lends m (a .words .now) (a .counts) (a .s) q) (sym same) lent)
     (set-verb m (a .text .now) p wanted gs is first)
-    (set-large m (a .text .now) p wanted gs is first (o .result) (c .before .before .before .before .before .before .before .put-work .result) (o .ensures .0 m lent law right) (omega arith) (omega arith)) refl
+    (set-large m (a .text .now) p wanted gs is first (o .result) (put-work .result) (o .ensures .0 m lent law right) (omega arith) (omega arith)) refl
 
 returns-2 : tie.Need-returns-2
 returns-2 c =
-    let a = c .before .before .before .before .before .before .before .before .before .before .before .before .before .before .before .args in
-    let o = c .before .before .before .before .before .before .before .before .before .owed-size in
+    let b = c .before .before .before .before .before in let put-work = b .put-work in
+    let b = b .before .before .before .before in let o = b .owed-size in
+    let b = b .before .before .before .before .before .before in let a = b .args in
     λ m p wanted gs lent law is first asks noted right uid.
-    let w = c .before .before .before .before .before .put-work .ensures .0 m (watching (m .session) gs) wanted noted in
+    let w = put-work .ensures .0 m (watching (m .session) gs) wanted noted in
     let n = w .next in
     let same = w .kept (omega arith) ∙ o .ensures .2 in
     let x = ap length (lent .queue) in
@@ -40,22 +43,25 @@ returns-2 c =
     let y = c .before .before .if1 .left in
     let v = c .before .if2 .taken in
     rw same (comes-roomless m (a .words .now) (a .counts) (a .s) (a .queue .now) (a .text .now) lent
-    (set-roomless m (a .text .now) p wanted gs is first (o .result) (c .before .before .before .before .before .put-work .result) (o .ensures .0 m lent law right) (omega arith) (omega arith) (omega arith))
+    (set-roomless m (a .text .now) p wanted gs is first (o .result) (put-work .result) (o .ensures .0 m lent law right) (omega arith) (omega arith) (omega arith))
     _ (c .refused .ensures))
 
 returns-3 : tie.Need-returns-3
 returns-3 c =
-    let a = c .before .before .before .before .before .before .before .before .before .before .before .before .before .before .before .before .before .before .before .before .before .args in
-    let o = c .before .before .before .before .before .before .before .before .before .before .before .before .before .before .before .owed-size in
+    let b = c .before .before .before .before in let write-set = b .write-set in
+    let b = b .before .before .before in let if2 = b .if2 in
+    let b = b .before .before .before .before in let put-work = b .put-work in
+    let b = b .before .before .before .before in let o = b .owed-size in
+    let b = b .before .before .before .before .before .before in let a = b .args in
     λ m p wanted gs lent law is first asks noted right uid.
-    let w = c .before .before .before .before .before .before .before .before .before .before .before .put-work .ensures .0 m (watching (m .session) gs) wanted noted in
+    let w = put-work .ensures .0 m (watching (m .session) gs) wanted noted in
     let n = w .next in
     let same = w .kept (omega arith) ∙ o .ensures .2 in
     let x = ap length same in
     let l = o .ensures .0 m lent law right in
     let z = set-size m (a .text .now) p wanted gs is first in
-    let v = c .before .before .before .before .before .before .before .if2 .left in
-    c .before .before .before .before .write-set .ensures m p wanted gs (subst (λ (q : List ℕ). Lends m (a .words .now) (a .counts) (a .s) q) (sym same) lent) law is first asks noted right uid (omega arith) (omega arith)
+    let v = if2 .left in
+    write-set .ensures m p wanted gs (subst (λ (q : List ℕ). Lends m (a .words .now) (a .counts) (a .s) q) (sym same) lent) law is first asks noted right uid (omega arith) (omega arith)
 
 pub set-noted-spec : {M : Type 1} → statement M
 set-noted-spec =

@@ -16,12 +16,15 @@ same-length c = c .before .before .before .before .before .before .before .befor
 
 returns : tie.Need-returns
 returns c =
-    let a = c .before .before .before .before .before .before .before .before .before .before .before .before .before .before .before .before .before .before .before .before .args in
+    let b = c .before in let viewed = b .viewed in
+    let b = b .before .before .before .before .before in let put-work = b .put-work in
+    let b = b .before .before .before .before .before .before .before in let end-command = b .end-command in
+    let b = b .before .before .before .before .before .before .before in let a = b .args in
     λ m p wanted gs lent law is first asks noted right uid begins fits. set-comes m (a .text .now) p wanted gs is first law
     (let x = ap length (lent .queue) in let y = ap (λ (k : Counts). k .filled) (lent .counts) in omega arith)
-    (a .words .now) (a .counts) (a .s) (a .queue .now) lent (a .rights) (a .next) _ right uid (c .before .before .before .before .before .before .before .before .before .before .before .before .before .end-command .result) (c .before .before .before .before .before .before .before .before .before .before .before .before .before .end-command .ensures) begins
-    (c .before .before .before .before .before .before .put-work .ensures .0 m (watching (m .session) gs) wanted noted) (c .before .viewed .result) (c .before .viewed .ensures ∙ asked-view (a .s) (a .asked) (c .before .before .before .before .before .before .before .before .before .before .before .before .before .end-command .result .session) gs asks) _
-    (c .unmoved .ensures ∙ ap (λ (k : Counts). quiet Done k (c .before .viewed .result)) (c .before .before .with-counts .ensures))
+    (a .words .now) (a .counts) (a .s) (a .queue .now) lent (a .rights) (a .next) _ right uid (end-command .result) (end-command .ensures) begins
+    (put-work .ensures .0 m (watching (m .session) gs) wanted noted) (viewed .result) (viewed .ensures ∙ asked-view (a .s) (a .asked) (end-command .result .session) gs asks) _
+    (c .unmoved .ensures ∙ ap (λ (k : Counts). quiet Done k (viewed .result)) (c .before .before .with-counts .ensures))
 
 pub write-set-spec : {M : Type 1} → statement M
 write-set-spec =

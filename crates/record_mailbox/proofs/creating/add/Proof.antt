@@ -5,8 +5,10 @@ use Rattle.record_mailbox.proofs.creating.add.Tie as tie
 use Rattle.record_mailbox.specs.Creating.{added}
 
 returns : tie.Need-returns
-returns c = let a = c .before .before .before .before .before .before .before .args in
-    added (a .queue .now) (a .counts) (a .s) (a .id) (a .a) (a .quiet) (a .validity) (a .counter) (a .name .now) _ (c .before .before .before .create .ensures) (c .put .ensures)
+returns c =
+    let b = c .before .before .before in let create = b .create in
+    let b = b .before .before .before .before in let a = b .args in
+    added (a .queue .now) (a .counts) (a .s) (a .id) (a .a) (a .quiet) (a .validity) (a .counter) (a .name .now) _ (create .ensures) (c .put .ensures)
 
 pub add-spec : {M : Type 1} → statement M
 add-spec =

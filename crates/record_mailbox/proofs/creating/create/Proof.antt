@@ -24,10 +24,16 @@ returns-3 c = λ m ws x lent l law w p d e v. let a = c .before .before .before 
     (sym held ∙ c .before .before .before .if2 .left) (c .before .if3 .taken) (c .refused3 .ensures)
 
 returns-4 : tie.Need-returns-4
-returns-4 c = λ m ws x lent l law w p d e v. let a = c .before .before .before .before .before .before .before .before .before .before .before .before .args in
-    let held = c .before .before .before .before .before .before .before .is-taken .ensures (boxes m) (counted m ws (a .counts) (a .s) (a .queue .now) lent law) p d e v in
-    create-comes m ws (a .counts) (a .s) (a .queue .now) lent law (a .id) (a .k) x w (a .a) (a .quiet) (a .validity) (a .counter) (a .name .now) _ (a .lent) l (c .before .before .before .before .before .before .before .before .if1 .left)
-    (sym held ∙ c .before .before .before .before .before .before .if2 .left) (c .before .before .before .before .if3 .left) v (c .before .before .add .ensures)
+returns-4 c =
+    let b = c .before .before .before .before in let if3 = b .if3 in
+    let b = b .before .before in let if2 = b .if2 in
+    let b = b .before in let is-taken = b .is-taken in
+    let b = b .before in let if1 = b .if1 in
+    let b = b .before .before .before .before in let args = b .args in
+    λ m ws x lent l law w p d e v. let a = args in
+    let held = is-taken .ensures (boxes m) (counted m ws (a .counts) (a .s) (a .queue .now) lent law) p d e v in
+    create-comes m ws (a .counts) (a .s) (a .queue .now) lent law (a .id) (a .k) x w (a .a) (a .quiet) (a .validity) (a .counter) (a .name .now) _ (a .lent) l (if1 .left)
+    (sym held ∙ if2 .left) (if3 .left) v (c .before .before .add .ensures)
 
 pub create-spec : {M : Type 1} → statement M
 create-spec =

@@ -15,9 +15,15 @@ returns-2 c = λ m lent law w. let a = c .before .before .before .before .before
     (sym (c .before .before .is-selected .ensures) ∙ c .before .if2 .taken) (c .refused2 .ensures)
 
 returns-3 : tie.Need-returns-3
-returns-3 c = λ m lent law w. let a = c .before .before .before .before .before .before .before .before .before .before .before .before .before .args in
-    delete-comes m (a .words .now) (a .counts) (a .s) (a .queue .now) lent law (a .id) (a .k) (a .x) w (a .quiet) _ (c .before .before .before .before .before .before .before .before .before .if1 .left)
-    (sym (c .before .before .before .before .before .before .before .before .is-selected .ensures) ∙ c .before .before .before .before .before .before .before .if2 .left) (c .before .before .before .before .take-out .ensures)
+returns-3 c =
+    let b = c .before .before .before .before in let take-out = b .take-out in
+    let b = b .before .before .before in let if2 = b .if2 in
+    let b = b .before in let is-selected = b .is-selected in
+    let b = b .before in let if1 = b .if1 in
+    let b = b .before .before .before .before in let args = b .args in
+    λ m lent law w. let a = args in
+    delete-comes m (a .words .now) (a .counts) (a .s) (a .queue .now) lent law (a .id) (a .k) (a .x) w (a .quiet) _ (if1 .left)
+    (sym (is-selected .ensures) ∙ if2 .left) (take-out .ensures)
 
 pub delete-spec : {M : Type 1} → statement M
 delete-spec =

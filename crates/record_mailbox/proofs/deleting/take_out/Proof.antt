@@ -5,9 +5,12 @@ use Rattle.record_mailbox.proofs.deleting.take_out.Tie as tie
 use Rattle.record_mailbox.specs.Deleting.{taken-out}
 
 returns : tie.Need-returns
-returns c = let a = c .before .before .before .before .before .before .before .before .before .before .before .before .args in
-    taken-out (a .words .now) (a .queue .now) (a .counts) (a .s) (a .k) (a .x) (a .id) (a .quiet) (c .before .before .before .before .settle .result) (c .before .before .before .before .before .before .before .before .delete .result .session) (c .before .before .before .before .before .before .before .before .delete .result .filled)
-    (c .before .before .before .before .settle .ensures) (c .before .before .before .before .before .before .before .before .delete .ensures)
+returns c =
+    let b = c .before .before .before .before in let settle = b .settle in
+    let b = b .before .before .before .before in let delete = b .delete in
+    let b = b .before .before .before .before in let a = b .args in
+    taken-out (a .words .now) (a .queue .now) (a .counts) (a .s) (a .k) (a .x) (a .id) (a .quiet) (settle .result) (delete .result .session) (delete .result .filled)
+    (settle .ensures) (delete .ensures)
 
 pub take-out-spec : {M : Type 1} → statement M
 take-out-spec =

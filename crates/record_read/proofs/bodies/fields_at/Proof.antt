@@ -16,7 +16,9 @@ abbrev μ-loop : tie.MeasureT-loop
 μ-loop o count letters all₀ values₀ end₀ i₀ all values end i = count - i
 
 loop-holds : tie.Need-loop-holds Inv-loop μ-loop
-loop-holds c = (passed-none (c .before .args .o .now) (take (c .before .args .count) (c .before .args .t2)), omega arith)
+loop-holds c =
+    let b = c .before in let at-args = b .args in
+    (passed-none (at-args .o .now) (take (at-args .count) (at-args .t2)), omega arith)
 
 number-at-requires : tie.Need-number-at-requires Inv-loop μ-loop
 number-at-requires c κs = (omega arith, c .width-of .ensures .2)
@@ -36,10 +38,11 @@ loop-again c =
 
 returns : tie.Need-returns Inv-loop μ-loop
 returns c =
-    let args = c .before .before .before .args in
-    let l = c .before .loop in
+    let b = c .before in let l = b .loop in
+    let b = b .before .before in let args = b .args in
+    let pre = b .pre in
     let five : length (args .t2) ≡ 5 = omega arith in
-    row-read (args .o .now) (args .t2) (args .count) five (c .before .before .before .pre) (l .inv .0) (l .inv .1) (omega arith)
+    row-read (args .o .now) (args .t2) (args .count) five pre (l .inv .0) (l .inv .1) (omega arith)
 
 pub fields-at-spec : {M : Type 1} → statement M
 fields-at-spec =

@@ -19,8 +19,9 @@ returns-2 c =
 
 returns-3 : tie.Need-returns-3
 returns-3 c =
-    let args = c .before .before .before .before .before .args in
-    let framed = sym (c .before .before .before .is-framed .ensures) ∙ not-false _ (c .before .before .if1 .left) in
+    let b = c .before .before .before in let is-framed = b .is-framed in
+    let b = b .before .before in let args = b .args in
+    let framed = sym (is-framed .ensures) ∙ not-false _ (c .before .before .if1 .left) in
     whole-tail (args .o .now) (args .end) _ framed (c .before .if2 .left) (c .tail-ok .ensures)
 
 pub is-whole-spec : {M : Type 1} → statement M

@@ -5,13 +5,19 @@ use Rattle.record_read.proofs.bodies.tail_ok.Tie as tie
 use Rattle.record_read.proofs.Frames.{tail-nothing, tail-name, tail-command}
 
 returns : tie.Need-returns
-returns c = tail-nothing (c .before .before .before .args .o .now) (c .before .before .before .args .at) (c .enum-told .given .1)
+returns c =
+    let b = c .before .before .before in let args = b .args in
+    tail-nothing (args .o .now) (args .at) (c .enum-told .given .1)
 
 returns-2 : tie.Need-returns-2
-returns-2 c = tail-name (c .before .before .before .before .before .args .o .now) (c .before .before .before .before .before .args .at) (c .before .before .enum-told2 .given .1) (c .is-valid .ensures)
+returns-2 c =
+    let b = c .before .before .before .before .before in let args = b .args in
+    tail-name (args .o .now) (args .at) (c .before .before .enum-told2 .given .1) (c .is-valid .ensures)
 
 returns-3 : tie.Need-returns-3
-returns-3 c = tail-command (c .before .before .before .args .o .now) (c .before .before .before .args .at) (c .enum-told3 .given .1)
+returns-3 c =
+    let b = c .before .before .before in let args = b .args in
+    tail-command (args .o .now) (args .at) (c .enum-told3 .given .1)
 
 pub tail-ok-spec : {M : Type 1} → statement M
 tail-ok-spec =

@@ -5,7 +5,11 @@ use Rattle.search_answer.proofs.gathering.choose.Tie as tie
 use Rattle.search_answer.specs.Finding.{chooses}
 
 returns : tie.Need-returns
-returns c = chooses (c .before .before .before .before .before .before .before .before .before .before .before .args .listed) (c .before .before .before .before .before .before .before .before .before .before .before .args .selected) (c .before .before .before .before .before .before .before .before .before .before .before .args .ids .now) (c .before .before .before .before .before .before .before .before .before .before .before .args .attributes .now) (c .before .before .before .before .before .before .before .before .before .before .before .args .lens .now) (c .before .before .before .before .before .before .before .before .before .before .before .args .names .now) (c .before .before .before .before .before .before .before .before .before .before .before .args .n) (c .before .before .before .before .before .before .before .pick .last .1 .1 .1 .1 .1 .1 .1 .0) (c .before .before .before .before .before .before .before .pick .ensures) _ (c .before .before .by-name .result) (c .before .before .by-name .ensures .1) (c .before .before .by-name .ensures .0)
+returns c =
+    let b = c .before .before in let by-name = b .by-name in
+    let b = b .before .before .before .before .before in let pick = b .pick in
+    let b = b .before .before .before .before in let args = b .args in
+    chooses (args .listed) (args .selected) (args .ids .now) (args .attributes .now) (args .lens .now) (args .names .now) (args .n) (pick .last .1 .1 .1 .1 .1 .1 .1 .0) (pick .ensures) _ (by-name .result) (by-name .ensures .1) (by-name .ensures .0)
 
 pub choose-spec : {M : Type 1} → statement M
 choose-spec =

@@ -7,18 +7,25 @@ use Rattle.search_answer.specs.Finding.{gathers}
 
 find-runs-requires : tie.Need-find-runs-requires
 find-runs-requires c κs =
-    let f = c .before .before .before .before .before .before .before .before .before .before .before .choose .ensures .few in
-    let r = c .before .before .before .before .before .before .before .before .before .before .before .choose .kept .1 .1 .1 .1 .1 .1 .1 .1 .0 in
-    let p₀ = c .before .before .before .before .before .before .before .before .before .before .before .before .before .before .before .before .before .before .before .before .before .before .before .before .before .before .before .before .before .pre .0 in
-    let p₁ = c .before .before .before .before .before .before .before .before .before .before .before .before .before .before .before .before .before .before .before .before .before .before .before .before .before .before .before .before .before .pre .1 in
-    let p₂ = c .before .before .before .before .before .before .before .before .before .before .before .before .before .before .before .before .before .before .before .before .before .before .before .before .before .before .before .before .before .pre .2 in
-    ((p₀ .1, (p₀ .2, c .before .before .before .before .before .before .before .before .before .before .before .before .before .before .before .before .before .read .ensures .room)), (omega arith, omega arith, p₂ .1), (omega arith, omega arith, omega arith), omega arith)
+    let b = c .before .before .before .before .before .before .before .before .before .before .before in let choose = b .choose in
+    let b = b .before .before .before .before .before .before in let read = b .read in
+    let b = b .before .before .before .before .before .before .before .before .before .before .before .before in let pre = b .pre in
+    let f = choose .ensures .few in
+    let r = choose .kept .1 .1 .1 .1 .1 .1 .1 .1 .0 in
+    let p₀ = pre .0 in
+    let p₁ = pre .1 in
+    let p₂ = pre .2 in
+    ((p₀ .1, (p₀ .2, read .ensures .room)), (omega arith, omega arith, p₂ .1), (omega arith, omega arith, omega arith), omega arith)
 
 returns : tie.Need-returns
 returns c =
-    let a = c .before .before .before .before .before .before .before .before .before .before .before .before .before .before .before .before .before .before .before .before .before .before .before .before .before .before .before .before .before .before .before .before .before .before .before .before .before .before .before .before .before .args in
-    gathers (a .text .now) (a .words .now) (a .used) (a .selected) (a .told .0) (a .ids .now) (a .attributes .now) (a .lens .now) (a .names .now) (a .n) (c .before .before .before .before .before .before .before .before .before .before .before .before .before .before .before .before .before .before .before .before .before .before .before .before .before .before .before .before .before .before .before .before .before .before .before .before .before .before .before .before .before .pre .0 .3) (c .before .before .before .before .before .before .before .before .before .before .before .before .before .before .before .before .before .before .before .before .before .before .before .before .before .before .before .before .before .read .last .1 .0) (c .before .before .before .before .before .before .before .before .before .before .before .before .before .before .before .before .before .before .before .before .before .before .before .before .before .before .before .before .before .read .result) (c .before .before .before .before .before .before .before .before .before .before .before .before .before .before .before .before .before .before .before .before .before .before .before .before .before .before .before .before .before .read .ensures)
-    (c .before .before .before .before .before .before .before .before .before .before .before .before .before .before .before .before .before .before .before .before .before .before .before .choose .last .1 .1 .1 .1 .1 .1 .1 .1 .0) (c .before .before .before .before .before .before .before .before .before .before .before .before .before .before .before .before .before .before .before .before .before .before .before .choose .result) (c .before .before .before .before .before .before .before .before .before .before .before .before .before .before .before .before .before .before .before .before .before .before .before .choose .ensures) _ _ _ (c .before .before .before .before .before .before .before .before .before .before .before .find-runs .ensures)
+    let b = c .before .before .before .before .before .before .before .before .before .before .before in let find-runs = b .find-runs in
+    let b = b .before .before .before .before .before .before .before .before .before .before .before .before in let choose = b .choose in
+    let b = b .before .before .before .before .before .before in let read = b .read in
+    let b = b .before .before .before .before .before .before .before .before .before .before .before .before in let a = b .args in
+    let pre = b .pre in
+    gathers (a .text .now) (a .words .now) (a .used) (a .selected) (a .told .0) (a .ids .now) (a .attributes .now) (a .lens .now) (a .names .now) (a .n) (pre .0 .3) (read .last .1 .0) (read .result) (read .ensures)
+    (choose .last .1 .1 .1 .1 .1 .1 .1 .1 .0) (choose .result) (choose .ensures) _ _ _ (find-runs .ensures)
 
 pub find-spec : {M : Type 1} → statement M
 find-spec =

@@ -5,10 +5,17 @@ use Rattle.search_answer.proofs.reading.behind_word.Tie as tie
 use Rattle.search_answer.specs.Headed.{behind-found, behind-none}
 
 returns : tie.Need-returns
-returns c = behind-found (c .before .before .before .before .before .before .args .text .now) (c .before .before .before .before .tag-end .result) (c .before .before .before .before .tag-end .ensures .exact) (c .before .before .before .verb-at .ensures) (c .before .at .given .1)
+returns c =
+    let b = c .before .before .before in let verb-at = b .verb-at in
+    let b = b .before in let tag-end = b .tag-end in
+    let b = b .before .before in let args = b .args in
+    behind-found (args .text .now) (tag-end .result) (tag-end .ensures .exact) (verb-at .ensures) (c .before .at .given .1)
 
 returns-2 : tie.Need-returns-2
-returns-2 c = behind-none (c .before .before .before .before .before .args .text .now) (c .before .before .before .tag-end .result) (c .before .before .before .tag-end .ensures .exact) (c .before .before .verb-at .ensures) (c .enum-told .given .1)
+returns-2 c =
+    let b = c .before .before .before in let tag-end = b .tag-end in
+    let b = b .before .before in let args = b .args in
+    behind-none (args .text .now) (tag-end .result) (tag-end .ensures .exact) (c .before .before .verb-at .ensures) (c .enum-told .given .1)
 
 pub behind-word-spec : {M : Type 1} → statement M
 behind-word-spec =

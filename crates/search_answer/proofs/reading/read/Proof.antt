@@ -5,10 +5,21 @@ use Rattle.search_answer.proofs.reading.read.Tie as tie
 use Rattle.search_answer.specs.Finding.{asks-is, asks-none}
 
 returns : tie.Need-returns
-returns c = asks-is (c .before .before .before .before .before .before .before .before .before .before .before .before .before .args .text .now) (c .before .before .before .before .before .before .before .before .before .before .behind-word .result) (c .before .before .before .before .before .before .before .before .before .before .behind-word .ensures) (c .before .before .before .before .before .before .before .before .before .keep-sources .result) (c .before .before .before .before .before .before .before .before .before .keep-sources .ensures) (c .before .before .before .before .before .before .before .before .before .before .before .before .before .args .cells .now) _ (c .before .before .before .before .before .before .search-at .result) (c .before .before .before .before .before .before .search-at .ensures) _ _ (c .before .before .asked .given .1) (c .before .before .before .before .before .before .before .before .before .before .before .before .before .pre .0) (c .before .before .before .before .before .before .before .before .before .before .before .before .before .pre .1) (c .before .before .before .before .before .before .search-at .kept .1 .1 .0) _ (c .wanted-of .ensures)
+returns c =
+    let b = c .before .before .before .before .before .before in let search-at = b .search-at in
+    let b = b .before .before .before in let keep-sources = b .keep-sources in
+    let b = b .before in let behind-word = b .behind-word in
+    let b = b .before .before .before in let args = b .args in
+    let pre = b .pre in
+    asks-is (args .text .now) (behind-word .result) (behind-word .ensures) (keep-sources .result) (keep-sources .ensures) (args .cells .now) _ (search-at .result) (search-at .ensures) _ _ (c .before .before .asked .given .1) (pre .0) (pre .1) (search-at .kept .1 .1 .0) _ (c .wanted-of .ensures)
 
 returns-2 : tie.Need-returns-2
-returns-2 c = asks-none (c .before .before .before .before .before .before .before .before .before .before .before .args .text .now) (c .before .before .before .before .before .before .before .before .behind-word .result) (c .before .before .before .before .before .before .before .before .behind-word .ensures) (c .before .before .before .before .before .before .before .keep-sources .result) (c .before .before .before .before .before .before .before .keep-sources .ensures) (c .before .before .before .before .before .before .before .before .before .before .before .args .cells .now) _ (c .before .before .before .before .search-at .result) (c .before .before .before .before .search-at .ensures) (c .enum-told .given .1) _
+returns-2 c =
+    let b = c .before .before .before .before in let search-at = b .search-at in
+    let b = b .before .before .before in let keep-sources = b .keep-sources in
+    let b = b .before in let behind-word = b .behind-word in
+    let b = b .before .before .before in let args = b .args in
+    asks-none (args .text .now) (behind-word .result) (behind-word .ensures) (keep-sources .result) (keep-sources .ensures) (args .cells .now) _ (search-at .result) (search-at .ensures) (c .enum-told .given .1) _
 
 pub read-spec : {M : Type 1} → statement M
 read-spec =

@@ -9,7 +9,10 @@ use Rattle.model.specs.declared.Reply.the-variants.{Accepted}
 use Rattle.search_answer.specs.Lines.{measured-both}
 
 returns : tie.Need-returns
-returns c = measured-both (answer (tagOf (c .before .before .before .before .before .before .before .before .before .before .before .before .before .before .args .text .now)) esearch Accepted) (c .before .before .before .before .before .before .put-lines .ensures .0) (c .before .before .put-reply .ensures .0)
+returns c =
+    let b = c .before .before .before .before .before .before in let put-lines = b .put-lines in
+    let b = b .before .before .before .before .before .before .before .before in let args = b .args in
+    measured-both (answer (tagOf (args .text .now)) esearch Accepted) (put-lines .ensures .0) (c .before .before .put-reply .ensures .0)
 
 pub measure-spec : {M : Type 1} → statement M
 measure-spec =

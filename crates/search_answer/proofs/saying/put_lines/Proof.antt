@@ -16,19 +16,25 @@ slice-aggregate-put-rows c = sym (length-take-le _ _ (c .before .before .before 
 
 put-rows-requires : tie.Need-put-rows-requires
 put-rows-requires c κs =
-    let t = c .before .before .before .tag-length .ensures in
+    let b = c .before .before .before in let tag-length = b .tag-length in
+    let b = b .before .before .before .before .before .before .before in let args = b .args in
+    let pre = b .pre in
+    let t = tag-length .ensures in
     let s = t .short in
-    let l = length-take-le (c .before .before .before .tag-length .result) (c .before .before .before .before .before .before .before .before .before .before .args .text .now) (t .within) in
-    let w : length (take (c .before .before .before .tag-length .result) (c .before .before .before .before .before .before .before .before .before .before .args .text .now)) ≤ 32 = omega arith in
-    let r = c .before .before .before .before .before .before .before .before .before .before .pre .1 in
-    ((c .before .before .before .before .before .before .before .before .before .before .pre .0 .0, (c .before .before .before .before .before .before .before .before .before .before .pre .0 .1, w)), ((r .few, r .in-rows), (r .in-starts, r .in-counts)), (r .room, r .bounded))
+    let l = length-take-le (tag-length .result) (args .text .now) (t .within) in
+    let w : length (take (tag-length .result) (args .text .now)) ≤ 32 = omega arith in
+    let r = pre .1 in
+    ((pre .0 .0, (pre .0 .1, w)), ((r .few, r .in-rows), (r .in-starts, r .in-counts)), (r .room, r .bounded))
 
 returns : tie.Need-returns
 returns c =
-    let a = c .before .before .before .before .before .before .before .before .before .before .before .before .before .args in
-    let n = c .before .before .before .before .before .before .before .before .before .before .before .before .before .pre .1 .few in
-    let w = c .before .before .put-rows .ensures .1 in
-    (put-as (c .before .before .put-rows .ensures .0) (ap (λ (t : List ℕ). texts t (a .lens .now) (a .names .now) (a .validities .now) (a .rows .now) (a .hits .wanted) (a .uids .now) (a .starts .now) (a .counts .now) (a .hits .rows)) (c .before .before .before .before .before .before .tag-length .ensures .exact)), omega arith)
+    let b = c .before .before in let put-rows = b .put-rows in
+    let b = b .before .before .before .before in let tag-length = b .tag-length in
+    let b = b .before .before .before .before .before .before .before in let a = b .args in
+    let pre = b .pre in
+    let n = pre .1 .few in
+    let w = put-rows .ensures .1 in
+    (put-as (put-rows .ensures .0) (ap (λ (t : List ℕ). texts t (a .lens .now) (a .names .now) (a .validities .now) (a .rows .now) (a .hits .wanted) (a .uids .now) (a .starts .now) (a .counts .now) (a .hits .rows)) (tag-length .ensures .exact)), omega arith)
 
 pub put-lines-spec : {M : Type 1} → statement M
 put-lines-spec =

@@ -14,27 +14,43 @@ use Rattle.search_answer.specs.Lines.{linesBy, taggedLine, whole-some}
 use Rattle.search_answer.specs.Coming.{said-large, said-whole, said-not}
 
 returns : tie.Need-returns
-returns c = said-large (c .before .before .before .before .before .before .before .before .before .before .before .before .before .before .before .before .before .args .text .now) (c .before .before .before .before .before .before .before .before .before .measure .ensures) (c .before .before .before .before .before .before .reply-within .result) (c .before .before .before .before .before .before .reply-within .ensures) (sym (c .before .before .before .before .before .is-accepted .ensures) ∙ not-true _ (c .before .before .before .before .if1 .taken)) (c .before .before .say-reply .ensures)
+returns c =
+    let b = c .before .before .before .before in let if1 = b .if1 in
+    let b = b .before in let is-accepted = b .is-accepted in
+    let b = b .before in let reply-within = b .reply-within in
+    let b = b .before .before .before in let measure = b .measure in
+    let b = b .before .before .before .before .before .before .before .before in let args = b .args in
+    said-large (args .text .now) (measure .ensures) (reply-within .result) (reply-within .ensures) (sym (is-accepted .ensures) ∙ not-true _ (if1 .taken)) (c .before .before .say-reply .ensures)
 
 returns-2 : tie.Need-returns-2
 returns-2 c =
-    let a = c .before .before .before .before .before .before .before .before .before .before .before .before .before .before .args in
-    said-not (a .text .now) (c .before .before .before .before .before .before .measure .ensures) (c .before .before .before .reply-within .result) (c .before .before .before .reply-within .ensures) (sym (c .before .before .is-accepted .ensures) ∙ not-false _ (c .before .if1 .left))
+    let b = c .before .before .before in let reply-within = b .reply-within in
+    let b = b .before .before .before in let measure = b .measure in
+    let b = b .before .before .before .before .before .before .before .before in let a = b .args in
+    said-not (a .text .now) (measure .ensures) (reply-within .result) (reply-within .ensures) (sym (c .before .before .is-accepted .ensures) ∙ not-false _ (c .before .if1 .left))
     (whole-some (linesBy (a .text .now) (a .lens .now) (a .names .now) (a .validities .now) (a .rows .now) (a .uids .now) (a .starts .now) (a .counts .now) (a .hits)) (answer (tagOf (a .text .now)) esearch Accepted)) refl (omega arith)
 
 put-whole-requires : tie.Need-put-whole-requires
 put-whole-requires c κs =
-    let a = c .before .before .before .before .before .before .before .before .before .before .before .before .before .before .before .args in
-    let m = c .before .before .before .before .before .before .before .measure .ensures in
+    let b = c .before .before .before .before .before .before .before in let measure = b .measure in
+    let b = b .before .before .before .before .before .before .before .before in let a = b .args in
+    let pre = b .pre in
+    let m = measure .ensures in
     let n = m .next in
     let s = m .same in
-    let p = c .before .before .before .before .before .before .before .before .before .before .before .before .before .before .before .pre .0 in
+    let p = pre .0 in
     let k = c .before .if2 .left in
     let l = length-append (linesBy (a .text .now) (a .lens .now) (a .names .now) (a .validities .now) (a .rows .now) (a .uids .now) (a .starts .now) (a .counts .now) (a .hits)) (taggedLine (a .text .now)) in
-    ((omega arith, p .2), c .before .before .before .before .before .before .before .before .before .before .before .before .before .before .before .pre .1, omega arith)
+    ((omega arith, p .2), pre .1, omega arith)
 
 returns-3 : tie.Need-returns-3
-returns-3 c = said-whole (c .before .before .before .before .before .before .before .before .before .before .before .before .before .before .before .before .before .before .args .text .now) (c .before .before .before .before .before .before .before .before .before .before .measure .ensures) (c .before .before .before .before .before .before .before .reply-within .result) (c .before .before .before .before .before .before .before .reply-within .ensures) (sym (c .before .before .before .before .before .before .is-accepted .ensures) ∙ not-false _ (c .before .before .before .before .before .if1 .left)) (c .before .before .put-whole .ensures) refl (omega arith)
+returns-3 c =
+    let b = c .before .before .before .before .before in let if1 = b .if1 in
+    let b = b .before in let is-accepted = b .is-accepted in
+    let b = b .before in let reply-within = b .reply-within in
+    let b = b .before .before .before in let measure = b .measure in
+    let b = b .before .before .before .before .before .before .before .before in let args = b .args in
+    said-whole (args .text .now) (measure .ensures) (reply-within .result) (reply-within .ensures) (sym (is-accepted .ensures) ∙ not-false _ (if1 .left)) (c .before .before .put-whole .ensures) refl (omega arith)
 
 pub say-spec : {M : Type 1} → statement M
 say-spec =

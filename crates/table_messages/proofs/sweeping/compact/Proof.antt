@@ -15,19 +15,25 @@ abbrev μ-loop : tie.MeasureT-loop
 μ-loop words₀ used sweep o₀ i₀ words o i = used - i
 
 loop-holds : tie.Need-loop-holds Inv-loop μ-loop
-loop-holds c = (search needs, search needs, passing-start (c .before .args .sweep) (c .before .args .words .now))
+loop-holds c =
+    let b = c .before in let args = b .args in
+    (search needs, search needs, passing-start (args .sweep) (args .words .now))
 
 move-one-requires : tie.Need-move-one-requires Inv-loop μ-loop
 move-one-requires c κs = (c .before .before .loop .inv .2 .most, search needs)
 
 loop-again : tie.Need-loop-again Inv-loop μ-loop
-loop-again c = let a = c .before .before .before .before .before .before .before .args in
-    let k = messages-length (a .used) (a .words .now) (c .before .before .before .before .before .before .before .pre) in
-    (search needs, search needs, c .before .before .move-one .ensures .moved (a .words .now) (omega arith) (c .before .before .before .before .before .loop .inv .2))
+loop-again c =
+    let b = c .before .before .before .before .before in let loop = b .loop in
+    let b = b .before .before in let a = b .args in
+    let pre = b .pre in
+    let k = messages-length (a .used) (a .words .now) pre in
+    (search needs, search needs, c .before .before .move-one .ensures .moved (a .words .now) (omega arith) (loop .inv .2))
 
 returns : tie.Need-returns Inv-loop μ-loop
-returns c = let a = c .before .before .before .args in
-    let o = c .before .loop in
+returns c =
+    let b = c .before in let o = b .loop in
+    let b = b .before .before in let a = b .args in
     passed (a .sweep) (a .words .now) (o .words) (o .i) (o .o) (a .used) (omega arith) (o .inv .2)
 
 pub compact-spec : {M : Type 1} → statement M

@@ -10,22 +10,33 @@ use Rattle.model.specs.Laws.{and-l, and-r}
 use Rattle.table_messages.specs.Swept.{passing-go, passing-rest, passing-stay}
 
 returns : tie.Need-returns
-returns c = let a = c .before .before .before .before .before .args in
-    record { moved = λ vs h p. passing-go (a .sweep) vs (a .words .now) (a .i) (a .o) p h (c .before .before .get .result) (c .before .before .get .ensures) (sym (c .before .is-gone .ensures) ∙ c .if1 .taken) }
+returns c =
+    let b = c .before .before in let get = b .get in
+    let b = b .before .before .before in let a = b .args in
+    record { moved = λ vs h p. passing-go (a .sweep) vs (a .words .now) (a .i) (a .o) p h (get .result) (get .ensures) (sym (c .before .is-gone .ensures) ∙ c .if1 .taken) }
 
 returns-2 : tie.Need-returns-2
-returns-2 c = let a = c .before .before .before .before .before .before .before .before .before .before .args in
-    let e = c .before .before .before .before .before .before .before .get in
-    let x = c .before .before .before .before .calmed in
+returns-2 c =
+    let b = c .before .before .before .before in let x = b .calmed in
+    let b = b .before in let if1 = b .if1 in
+    let b = b .before in let is-gone = b .is-gone in
+    let b = b .before in let e = b .get in
+    let b = b .before .before .before in let a = b .args in
+    let pre = b .pre in
     let t = sym (c .before .both .ensures) ∙ c .if2 .taken in
     record {
-      moved = λ vs h p. passing-rest (a .sweep) vs (a .words .now) (a .i) (a .o) p h (e .result) (e .ensures) (x .result) (x .ensures) (sym (c .before .before .before .before .before .before .is-gone .ensures) ∙ c .before .before .before .before .before .if1 .left)
-          (eqb-true (a .o) (a .i) (and-l (eqb (a .o) (a .i)) _ t)) (eqb-true (x .result .states) (e .result .states) (and-r (eqb (a .o) (a .i)) _ t)) (omega (arith, c .before .before .before .before .before .before .before .before .before .before .pre .0, c .before .before .before .before .before .before .before .before .before .before .pre .1));
+      moved = λ vs h p. passing-rest (a .sweep) vs (a .words .now) (a .i) (a .o) p h (e .result) (e .ensures) (x .result) (x .ensures) (sym (is-gone .ensures) ∙ if1 .left)
+          (eqb-true (a .o) (a .i) (and-l (eqb (a .o) (a .i)) _ t)) (eqb-true (x .result .states) (e .result .states) (and-r (eqb (a .o) (a .i)) _ t)) (omega (arith, pre .0, pre .1));
     }
 
 returns-3 : tie.Need-returns-3
-returns-3 c = let a = c .before .before .before .before .before .before .before .before .before .before .before .before .before .before .args in
-    record { moved = λ vs h p. rw (c .before .before .put .ensures) (passing-stay (a .sweep) vs (a .words .now) (a .i) (a .o) p h (c .before .before .before .before .before .before .before .before .before .before .before .get .result) (c .before .before .before .before .before .before .before .before .before .before .before .get .ensures) (c .before .before .before .before .before .before .before .before .calmed .result) (c .before .before .before .before .before .before .before .before .calmed .ensures) (sym (c .before .before .before .before .before .before .before .before .before .before .is-gone .ensures) ∙ c .before .before .before .before .before .before .before .before .before .if1 .left) (omega arith)) }
+returns-3 c =
+    let b = c .before .before .before .before .before .before .before .before in let calmed = b .calmed in
+    let b = b .before in let if1 = b .if1 in
+    let b = b .before in let is-gone = b .is-gone in
+    let b = b .before in let get = b .get in
+    let b = b .before .before .before in let a = b .args in
+    record { moved = λ vs h p. rw (c .before .before .put .ensures) (passing-stay (a .sweep) vs (a .words .now) (a .i) (a .o) p h (get .result) (get .ensures) (calmed .result) (calmed .ensures) (sym (is-gone .ensures) ∙ if1 .left) (omega arith)) }
 
 pub move-one-spec : {M : Type 1} → statement M
 move-one-spec =

@@ -15,17 +15,23 @@ abbrev μ-loop : tie.MeasureT-loop
 μ-loop words₀ from upto j₀ words j = upto - j
 
 loop-holds : tie.Need-loop-holds Inv-loop μ-loop
-loop-holds c = (search needs, search needs, search needs, wiping-start (c .before .args .words .now) (c .before .args .from))
+loop-holds c =
+    let b = c .before in let args = b .args in
+    (search needs, search needs, search needs, wiping-start (args .words .now) (args .from))
 
 loop-again : tie.Need-loop-again Inv-loop μ-loop
-loop-again c = let a = c .before .before .before .before .before .before .before .before .args in
-    let o = c .before .before .before .before .before .before .loop in
-    let k = messages-length (a .upto) (a .words .now) (c .before .before .before .before .before .before .before .before .pre .1) in
-    (search needs, search needs, search needs, rw (c .before .before .put .ensures) (wiping-next (a .words .now) (a .from) (o .words) (o .j) (c .before .before .before .nothing .result) (o .inv .0) (omega arith) (o .inv .3) (c .before .before .before .nothing .ensures) (omega arith)))
+loop-again c =
+    let b = c .before .before .before in let nothing = b .nothing in
+    let b = b .before .before .before in let o = b .loop in
+    let b = b .before .before in let a = b .args in
+    let pre = b .pre in
+    let k = messages-length (a .upto) (a .words .now) (pre .1) in
+    (search needs, search needs, search needs, rw (c .before .before .put .ensures) (wiping-next (a .words .now) (a .from) (o .words) (o .j) (nothing .result) (o .inv .0) (omega arith) (o .inv .3) (nothing .ensures) (omega arith)))
 
 returns : tie.Need-returns Inv-loop μ-loop
-returns c = let a = c .before .before .before .args in
-    let o = c .before .loop in
+returns c =
+    let b = c .before in let o = b .loop in
+    let b = b .before .before in let a = b .args in
     wiping-end (a .words .now) (a .from) (o .words) (o .j) (a .upto) (omega arith) (o .inv .3)
 
 pub wipe-spec : {M : Type 1} → statement M

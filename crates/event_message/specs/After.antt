@@ -17,7 +17,7 @@ use Rattle.table_messages.specs.Taken.{shut}
 use Rattle.line_message.specs.declared.Shows.{Shows}
 use Rattle.line_message.specs.Counts.{countText, expungeWord}
 use Rattle.line_message.specs.Whole.{newsText}
-use Rattle.event_mailbox.specs.Heard.{Heard, Hears, heard}
+use Rattle.line_put.specs.Heard.{Heard, Hears, heard}
 
 pub record After : Type 0 where
   pub entries : List Message

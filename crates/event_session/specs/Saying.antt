@@ -1,5 +1,5 @@
 -- Lines that are offered one after the other: each is written if those before it were and it fits, else it is counted. Assumes nothing.
-use mathlib.Core.Path.{_≡_, refl, ap, ap₂, sym, _∙_}
+use mathlib.Core.Path.{_≡_, ap, ap₂, sym, _∙_}
 use mathlib.Core.Bool.{Bool, true, false, cond, _&&_}
 use mathlib.Core.List.{List, [], _∷_}
 use Prim.Native.Nat.{ℕ, _+_, _-_, _<_, _≤_}
@@ -10,6 +10,7 @@ use borrow.Author.Tests.{le-leb, lt-leb}
 use Rattle.model.specs.Memory.{uidOf, expunged, marked}
 use Rattle.model.specs.Queue.{written}
 use Rattle.model.specs.declared.Message.{Message}
+use Rattle.model.specs.Laws.{and-false}
 use Rattle.line_put.specs.Put.{Put}
 use Rattle.line_message.specs.Fetch.{fetchText}
 use Rattle.line_message.specs.Counts.{countText, expungeWord, existsWord}
@@ -79,11 +80,7 @@ module _ (q q₁ : List ℕ) (lim u : ℕ) (t : List ℕ) (s : State) (e : ℕ) 
   say-over h =
       let n = a .next in
       let z : leb (s .end + length t) lim ≡ false = lt-leb (s .end + length t) lim (omega arith) in
-      rw (z, and-no (s .whole)) (ap (λ (l : List ℕ). record { queue = l; end = s .end; whole = false; rest = s .rest + 1; next = s .next; bound = s .bound }) (same-queue ∙ sym b))
-    where
-      and-no : (c : Bool) → (c && false) ≡ false
-      and-no true = refl
-      and-no false = refl
+      rw (z, and-false (s .whole)) (ap (λ (l : List ℕ). record { queue = l; end = s .end; whole = false; rest = s .rest + 1; next = s .next; bound = s .bound }) (same-queue ∙ sym b))
 
   pub say-fits : (q₂ : List ℕ) (f : ℕ) → s .whole ≡ true → Put q₁ (s .end) lim t q₂ f → e ≤ lim → record { queue = q₂; end = f; whole = true; rest = s .rest; next = s .next; bound = u + 1 } ≡ say lim t u s
   unfolding say

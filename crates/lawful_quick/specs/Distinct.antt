@@ -1,6 +1,6 @@
 -- Numbers that all differ, seen while a table of guesses is filled: whoever finds its slot taken is compared with all before it. Assumes nothing.
 use mathlib.Core.Path.{_≡_, refl, ap, _∙_}
-use mathlib.Core.Bool.{Bool, true, false, cond}
+use mathlib.Core.Bool.{Bool, true, false}
 use mathlib.Core.List.{List, [], _∷_}
 use Prim.Native.Nat.{ℕ, zero, suc, _+_, _*_, _/_, _%_, _<_, _≤_}
 use native.Mathlib.Omega.{arith}
@@ -8,8 +8,7 @@ use lib.Dec.{eqb}
 use lib.ListN.{length, getD, set, replicate}
 use lib.Seq.{getD-set-same, getD-set-other}
 use borrow.Author.Tests.{eqb-true, eqb-false}
-use Rattle.model.specs.Laws.{tf}
-use Rattle.model.specs.Lists.{anyb, apart, same}
+use Rattle.model.specs.Lists.{anyb, apart}
 use Rattle.model.specs.Memory.{noMailbox}
 use Rattle.model.specs.Lawful.{clash}
 use Rattle.model.specs.declared.Mailbox.{Mailbox}
@@ -74,14 +73,3 @@ differ-apart (x ∷ l) h = rw (none l (λ j k. h 0 (suc j) (omega arith) (omega 
     none : (l : List Mailbox) → ((j : ℕ) → j < length l → clash x (getD l j noMailbox) ≡ false) → anyb (λ (y : Mailbox). clash x y) l ≡ false
     none [] h = refl
     none (y ∷ l) h = rw (h 0 (omega arith)) (none l (λ j k. h (suc j) (omega arith)))
-
-pub same-equal : (a b : List ℕ) → same a b ≡ true → a ≡ b
-unfolding same
-same-equal [] [] e = refl
-same-equal [] (y ∷ b) e = tf false e refl
-same-equal (x ∷ a) [] e = tf false e refl
-same-equal (x ∷ a) (y ∷ b) e = go (eqb x y) refl e (same-equal a b)
-  where
-    go : (c : Bool) → eqb x y ≡ c → cond c (same a b) false ≡ true → (same a b ≡ true → a ≡ b) → (x ∷ a) ≡ (y ∷ b)
-    go true q r ih = let p = eqb-true x y q in let t = ih r in cc
-    go false q r ih = tf false r refl

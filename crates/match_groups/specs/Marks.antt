@@ -17,6 +17,7 @@ use Rattle.model.specs.declared.Group.{Group}
 use Rattle.model.specs.declared.Selector.{Selector}
 use Rattle.model.specs.declared.Selector.the-variants.{Selected, Delayed, Inboxes, Personal, Subscribed, Subtree, Mailboxes}
 use Rattle.model.specs.declared.Session.{Session}
+use Rattle.model.specs.Laws.{or-false, and-false, or-assoc}
 use Rattle.match_groups.specs.Notes.{noted}
 
 -- whom a selector takes by attributes alone
@@ -61,28 +62,16 @@ marking-next p old new i v w m e = record {
 abbrev pub Left : ℕ → (ℕ → Bool) → (ℕ → Bool) → List ℕ → List ℕ → Type 0
 Left n p q old new = (k : ℕ) → k < n → (noted (getD old k 0) || p k) ≡ (noted (getD new k 0) || q k)
 
-regroup : (a b c : Bool) → (a || (b || c)) ≡ ((a || b) || c)
-regroup true b c = refl
-regroup false b c = refl
-
-pub or-all : (a : Bool) → (a || true) ≡ true
-or-all true = refl
-or-all false = refl
-
-pub or-none : (a : Bool) → (a || false) ≡ a
-or-none true = refl
-or-none false = refl
-
 -- of one row, whose mark is m: x comes next, and r is left behind it
 pub left-next : (m x r : Bool) {z q n : Bool} → z ≡ (m || q) → q ≡ (x || r) → n ≡ (m || x) → z ≡ (n || r)
-left-next m x r e f g = e ∙ (ap (λ (b : Bool). m || b) f ∙ (regroup m x r ∙ ap (λ (b : Bool). b || r) (sym g)))
+left-next m x r e f g = e ∙ (ap (λ (b : Bool). m || b) f ∙ (or-assoc m x r ∙ ap (λ (b : Bool). b || r) (sym g)))
 
 -- nothing is left
 pub left-past : (m : Bool) {z q : Bool} → z ≡ (m || q) → q ≡ false → m ≡ z
-left-past m e f = sym (e ∙ (ap (λ (b : Bool). m || b) f ∙ or-none m))
+left-past m e f = sym (e ∙ (ap (λ (b : Bool). m || b) f ∙ or-false m))
 
 pub marks-none : (n : ℕ) (p : ℕ → Bool) (l : List ℕ) → ((k : ℕ) → p k ≡ false) → Marks n p l l
-marks-none n p l e k h = sym (ap (λ (b : Bool). noted (getD l k 0) || b) (e k) ∙ or-none (noted (getD l k 0)))
+marks-none n p l e k h = sym (ap (λ (b : Bool). noted (getD l k 0) || b) (e k) ∙ or-false (noted (getD l k 0)))
 
 -- from no marks on
 pub fresh : (n k : ℕ) {z x : Bool} → k < n → z ≡ (noted (getD (replicate n 0) k 0) || x) → z ≡ x
@@ -93,17 +82,13 @@ and-or : (b x y : Bool) → ((b && x) || (b && y)) ≡ (b && (x || y))
 and-or true x y = refl
 and-or false x y = refl
 
-none-and : (b : Bool) → (b && false) ≡ false
-none-and true = refl
-none-and false = refl
-
 -- those taken by attributes alone
 pub met-taken : (s : Session) (n : Name) (a : ℕ) (x y : Selector) → x ≡ y → takenBy y a ≡ meets s n a y → takenBy x a ≡ meets s n a x
 met-taken s n a x y e h = rw e h
 
 -- those of a subtree are selectable, all or none
 pub taken-deep : (a : ℕ) (n : Name) (l : List Name) → anyb (takenByName true n a) l ≡ (bit 0 a && anyb (λ (t : Name). subtree t n) l)
-taken-deep a n [] = sym (none-and (bit 0 a))
+taken-deep a n [] = sym (and-false (bit 0 a))
 taken-deep a n (t ∷ l) = ap (λ (b : Bool). (bit 0 a && subtree t n) || b) (taken-deep a n l) ∙ and-or (bit 0 a) (subtree t n) (anyb (λ (t : Name). subtree t n) l)
 
 -- a group that asks for the events, and one that does not
@@ -115,4 +100,4 @@ met-asking s n a g b e = sym (ap (λ (x : Bool). meets s n a (g .selector) && x)
     all false = refl
 
 pub met-silent : (s : Session) (n : Name) (a : ℕ) (g : Group) (b : Bool) → b ≡ false → (meets s n a (g .selector) && b) ≡ false
-met-silent s n a g b e = ap (λ (x : Bool). meets s n a (g .selector) && x) e ∙ none-and (meets s n a (g .selector))
+met-silent s n a g b e = ap (λ (x : Bool). meets s n a (g .selector) && x) e ∙ and-false (meets s n a (g .selector))

@@ -19,7 +19,7 @@ use Rattle.table_messages.specs.Words.{messages}
 use Rattle.table_messages.specs.Laid.{laid}
 use Rattle.table_messages.specs.Swept.{kept, kept-deleted}
 use Rattle.table_messages.specs.declared.Sweep.the-variants.{Deleted}
-use Rattle.event_mailbox.specs.Heard.{Hears}
+use Rattle.line_put.specs.Heard.{Hears}
 use Rattle.event_mailbox.specs.Deleting.{deleteHeard}
 use Rattle.event_mailbox.specs.Accepted.{staying, leftWithout, delete-accepted}
 use Rattle.record_outcome.specs.Coming.{Lends, Placed, Comes, changed, refusal, ladder}

@@ -15,7 +15,7 @@ ghost use lib.ListN.{length};
 ghost use Rattle.model.specs.Memory.{Memory};
 ghost use Rattle.model.specs.Records.{delete};
 ghost use Rattle.demands.specs.Lasting.Law.{Law};
-ghost use Rattle.event_mailbox.specs.Free.{Room};
+ghost use Rattle.laws.specs.Room.{Room};
 ghost use Rattle.record_outcome.specs.Coming.{Lends, Ready, Placed, Comes, ladder};
 ghost use Rattle.record_mailbox.specs.Deleting.{TakenOut};
 

@@ -10,7 +10,7 @@ use borrow.Author.Tests.{eqb-true, le-ltb}
 use lib.ListN.{length, take, drop, getD, set, replicate, take-append-drop, length-append, length-replicate}
 use lib.Seq.{take-suc, drop-cons, set-append-seam, set-getD, getD-append-add, getD-drop, take-at, length-take-le, drop-append-add, drop-drop}
 use Rattle.model.specs.Lists.{filterb}
-use Rattle.model.specs.Laws.{tf, and-l, and-r, and-false, filter-append}
+use Rattle.model.specs.Laws.{tf, and-l, and-r, and-false, filter-append, map-append}
 use Rattle.model.specs.Memory.{noMessage, uidOf, inMailbox, expunged, marked, withStates, refill}
 use Rattle.model.specs.declared.Message.{Message}
 use Rattle.table_messages.specs.Words.{messages, messages-length, stored}
@@ -70,10 +70,6 @@ calm-same (Deleted id) e h = refl
 
 stored-same : (ws : List ℕ) (i : ℕ) (e : Message) → e ≡ getD (messages ws) i noMessage → (i + 1) * 6 ≤ length ws → stored ws i e ≡ ws
 stored-same ws i e h w = laid-put ws ws (messages ws) i e (laid-own ws) w ∙ (ap (laid ws) (ap (set (messages ws) i) h ∙ set-getD (messages ws) i noMessage) ∙ sym (laid-own ws))
-
-map-append : (f : Message → Message) (l r : List Message) → map f (l ++ r) ≡ map f l ++ map f r
-map-append f [] r = refl
-map-append f (x ∷ l) r = ap (λ (t : List Message). f x ∷ t) (map-append f l r)
 
 -- nothing below 0 is told
 below-none : (a b : Bool) (u n : ℕ) → n ≡ 0 → (a && (b && ltb u n)) ≡ false

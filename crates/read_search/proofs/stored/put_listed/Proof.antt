@@ -1,10 +1,10 @@
 -- `put_listed`: the source is set at its place, or dropped where there is none; there are 8. Assumes nothing.
-use Rattle.read_filters.proofs.Places.{mapped}
 use native.Mathlib.Omega.{arith}
 use Rattle.read_search.proofs.Keeping.{one-dropped}
 use borrow.Author.Needs.{needs}
 use Rattle.read_search.proofs.stored.put_listed.Statement.{statement}
 use Rattle.read_search.proofs.stored.put_listed.Tie as tie
+use Rattle.model.specs.Laws.{mapped}
 
 returns-2 : tie.Need-returns-2
 returns-2 c =

@@ -1,7 +1,7 @@
 -- `name_end`: where a row's name ends. Assumes nothing.
 use borrow.Author.Needs.{needs}
-use Rattle.event_mailbox.proofs.name_end.Statement.{statement}
-use Rattle.event_mailbox.proofs.name_end.Tie as tie
+use Rattle.table_mailboxes.proofs.row.name_end.Statement.{statement}
+use Rattle.table_mailboxes.proofs.row.name_end.Tie as tie
 use mathlib.Core.Path.{_≡_}
 use native.Mathlib.Omega.{arith}
 use lib.ListN.{length}

@@ -210,44 +210,55 @@ fn builders_in_c_give_the_same_octets() {
     }
 }
 
-/// Mark, and octets of the fields that have a number behind them, in each line of the header's table.
-fn table() -> Vec<(String, usize)> {
+/// A row of the header's table: the mark, the builder, the sum of the fields' octets, and what the last column says of it.
+fn row(line: &str) -> (&str, &str, usize, usize) {
+    let columns: Vec<&str> = line
+        .split("  ")
+        .map(str::trim)
+        .filter(|word| !word.is_empty())
+        .collect();
+    let [mark, builder, body, octets] = columns[..] else {
+        panic!("no row of four: {line}");
+    };
+    let width = |field: &str| {
+        field
+            .split(' ')
+            .nth(1)
+            .map_or(0, |octets| octets.parse().unwrap())
+    };
+    let said = octets.split(' ').next().unwrap().parse().unwrap_or(0);
+    (mark, builder, body.split(", ").map(width).sum(), said)
+}
+
+fn table() -> Vec<(&'static str, &'static str, usize, usize)> {
     let header = include_str!("../include/borjavid_records.h");
     let lines = header.lines().filter_map(|line| line.strip_prefix(" *   "));
     let rows = lines.skip_while(|line| !line.starts_with("Mark")).skip(1);
-    rows.take(12)
-        .map(|row| {
-            let body = row[21..].split("  ").next().unwrap_or_default();
-            let widths = body
-                .split(", ")
-                .filter_map(|field| field.rsplit(' ').next()?.parse::<usize>().ok());
-            (row[..2].to_string(), widths.sum())
-        })
-        .collect()
+    rows.take(12).map(row).collect()
 }
 
 #[test]
 fn the_table_has_the_records_lengths() {
     let none = b"";
     let records = [
-        records::create(1, 0, Notice::Owed, 1, 1, none),
-        records::delete(1, Notice::Owed),
-        records::rename(1, Notice::Owed, none),
-        records::subscribe(1, true, Notice::Owed),
-        records::rights(1, 0),
-        records::message(1, 1, 0, 0, 1),
-        records::expunge(1, 1, 1),
-        records::flags(1, 1, 0, 1),
-        records::select(0),
-        records::command_ended(Class::Rest),
-        records::command(none),
-        records::drained(0).to_vec(),
+        ("create", records::create(1, 0, Notice::Owed, 1, 1, none)),
+        ("delete", records::delete(1, Notice::Owed)),
+        ("rename", records::rename(1, Notice::Owed, none)),
+        ("subscribe", records::subscribe(1, true, Notice::Owed)),
+        ("rights", records::rights(1, 0)),
+        ("message", records::message(1, 1, 0, 0, 1)),
+        ("expunge", records::expunge(1, 1, 1)),
+        ("flags", records::flags(1, 1, 0, 1)),
+        ("select", records::select(0)),
+        ("command_ended", records::command_ended(Class::Rest)),
+        ("command", records::command(none)),
+        ("drained", records::drained(0).to_vec()),
     ];
-    let wanted = records.map(|record| {
-        (
-            String::from_utf8_lossy(&record[..2]).into_owned(),
-            record.len() - 4,
-        )
-    });
-    assert_eq!(table(), wanted);
+    let rows = table();
+    assert_eq!(rows.len(), records.len());
+    for (row, (builder, record)) in rows.into_iter().zip(records) {
+        let mark = std::str::from_utf8(&record[..2]).unwrap();
+        let body = record.len() - 4;
+        assert_eq!(row, (mark, builder, body, body));
+    }
 }

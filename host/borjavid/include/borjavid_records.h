@@ -60,8 +60,8 @@
 #define BORJAVID_QUIET 1
 
 /* The class of a command that ends. */
-#define BORJAVID_CLASS_FETCH 0 /* FETCH, STORE and SEARCH: no EXPUNGE may come */
-#define BORJAVID_CLASS_REST 1  /* all others, the UID forms too */
+#define BORJAVID_CLASS_FETCH 0 /* FETCH, STORE, SEARCH and ESEARCH: no EXPUNGE may come */
+#define BORJAVID_CLASS_REST 1  /* all others, the UID forms of these too */
 
 /* Limits. */
 #define BORJAVID_UID_MOST UINT32_C(4294967294)

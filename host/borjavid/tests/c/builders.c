@@ -48,12 +48,18 @@ static size_t build(uint8_t *to, size_t room) {
     }
 }
 
+static size_t kind_of(const char *mark) {
+    for (size_t place = 0; place < sizeof kinds / sizeof *kinds; place++) {
+        if (strcmp(kinds[place].mark, mark) == 0) return place;
+    }
+    exit(2);
+}
+
 /* 1 where a record could be read, 0 at the end */
 static int next(void) {
     char mark[3];
     if (scanf("%2s", mark) != 1) return 0;
-    for (kind = 0; kind < sizeof kinds / sizeof *kinds && strcmp(kinds[kind].mark, mark) != 0;) kind++;
-    if (kind == sizeof kinds / sizeof *kinds) exit(2);
+    kind = kind_of(mark);
     for (int place = 0; place < kinds[kind].numbers; place++) {
         if (scanf("%" SCNu64, &number[place]) != 1) exit(2);
     }
@@ -82,10 +88,12 @@ static void try_room(const uint8_t *record, size_t length, size_t room) {
     if (!filled(buffer, 8) || !filled(to + written, length + 8 - written)) fail("an octet too many is written", room);
 }
 
-/* no buffer is large enough for a body that no length field can say */
+/* The first 64 sizes, the 64 up to the record's own, and the largest: it is not enough for what no length field can say. */
 static void try_rooms(const uint8_t *record, size_t length) {
-    for (size_t room = 0; room < 64; room++) try_room(record, length, room);
-    for (size_t less = 0; less < 64 && less <= length; less++) try_room(record, length, length - less);
+    for (size_t size = 0; size < 64; size++) {
+        try_room(record, length, size);
+        if (size <= length) try_room(record, length, length - size);
+    }
     try_room(record, length, MOST);
 }
 

@@ -97,9 +97,12 @@ module _ (s : List ℕ) (at : ℕ) (t more : Listed) (p : ℕ) (g : Goes s at t 
             let i = g .goes n h in
             let f = found (filterAt s p) e in
             let l : 0 < i .0 = omega (arith, i .1) in
-            let j : length s - (q + 1) < i .0 - 1 = omega (arith, i .1, in-text s q b (omega arith)) in
-            (i .0 - 1, j, i .2 ∙ rw (row-open (filterAt s) (nextAt closing s) p (i .0) l, f .1, next-space s q b)
-            (from-first more (f .0) (row (i .0 - 1) s (q + 1)) ∙ ap (λ (m : Listed). readListed m (row (i .0 - 1) s (q + 1))) (sym added)));
+            let j : length s - (q + 1) < i .0 - 1 = omega (arith, i .1, in-text s q b (omega arith)) in (
+              i .0 - 1,
+              j,
+              i .2 ∙ rw (row-open (filterAt s) (nextAt closing s) p (i .0) l, f .1, next-space s q b)
+                  (from-first more (f .0) (row (i .0 - 1) s (q + 1)) ∙ ap (λ (m : Listed). readListed m (row (i .0 - 1) s (q + 1))) (sym added)),
+            );
       }
 
 -- ---- sources in parentheses

@@ -60,8 +60,8 @@ returns c =
     let b = b .before .before .before .before .before in let args = b .args in
     let all = chosen (messages (args .words .now)) (args .order .now) (args .n) in
     speaks (args .told .0) (args .class) (args .limit) all (args .queue .now) (args .filled) _ _ _
-        (say-first .result) (begun .result) (say-exists .result) (begun2 .result) (marks .result) (staying .result) (unseen .result)
-        (say-first .ensures .0) (begun .ensures) (staying .ensures .0) (unseen .ensures .0) (say-exists .ensures .0) (begun2 .ensures) (marks .ensures .0)
+    (say-first .result) (begun .result) (say-exists .result) (begun2 .result) (marks .result) (staying .result) (unseen .result)
+    (say-first .ensures .0) (begun .ensures) (staying .ensures .0) (unseen .ensures .0) (say-exists .ensures .0) (begun2 .ensures) (marks .ensures .0)
 
 pub speak-spec : {M : Type 1} → statement M
 speak-spec =

@@ -21,8 +21,7 @@ put-requires-3 c κs =
     let uid = put-number2 .ensures in
     let flags = put-flag-item .ensures in
     let counter = put-modseq .ensures in
-    omega (arith, start .pre, word .next, place .1, fetch .next, uid .1, flags .1, counter .1,
-        word .same, place .0 .same, fetch .same, uid .0 .same, flags .0 .same, counter .0 .same)
+    omega (arith, start .pre, word .next, place .1, fetch .next, uid .1, flags .1, counter .1, word .same, place .0 .same, fetch .same, uid .0 .same, flags .0 .same, counter .0 .same)
 
 returns : tie.Need-returns
 unfolding fetchText

@@ -67,7 +67,7 @@ returns : tie.Need-returns Inv-loop μ-loop
 returns c =
     let a = c .before .before .before .before .before .before .before .before .before .before .before .args in
     notes-all (a .s) (a .wanted) (a .ids .now) (a .attributes .now) (a .lens .now) (a .names .now) _ _ (a .n)
-        (λ j h. c .before .loop .inv .3 j (omega arith))
+    (λ j h. c .before .loop .inv .3 j (omega arith))
 
 pub note-rows-spec : {M : Type 1} → statement M
 note-rows-spec =

@@ -33,7 +33,7 @@ returns-3 c =
     let b = b .before .before in let behind-word = b .behind-word in
     let b = b .before .before in let args = b .args in
     listed-whole (args .text .now) (args .at) nothingListed (sym (q .given .1) ∙ behind-word .ensures) (list-at .ensures) (if1 .taken)
-        (sym (c .before .before .next .given .1) ∙ behind-space .ensures)
+    (sym (c .before .before .next .given .1) ∙ behind-space .ensures)
 
 returns-4 : tie.Need-returns-4
 returns-4 c =

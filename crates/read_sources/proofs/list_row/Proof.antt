@@ -52,7 +52,7 @@ returns-2 c =
     let b = b .before in let loop = b .loop in
     let b = b .before .before in let args = b .args in
     λ n h. goes-last (args .text .now) (args .at) (args .listed) (loop .more) (loop .p) (loop .inv) (sym (scope .given .1) ∙ filter-at .ensures .exact)
-        (list-one .result) (list-one .ensures) (sym (c .before .octet-at .ensures) ∙ c .if1 .taken) n h
+    (list-one .result) (list-one .ensures) (sym (c .before .octet-at .ensures) ∙ c .if1 .taken) n h
 
 returns-3 : tie.Need-returns-3 Inv-loop μ-loop
 returns-3 c =
@@ -92,7 +92,7 @@ loop-again c =
     let b = b .before .before in let args = b .args in
     let w = rw (scope .given .1) at (filter-at .ensures .within) in
     goes-on (args .text .now) (args .at) (args .listed) (loop .more) (loop .p) (loop .inv) (sym (scope .given .1) ∙ filter-at .ensures .exact)
-        (list-one .result) (list-one .ensures) (omega arith) (sym (c .before .before .octet-at .ensures) ∙ c .if2 .left)
+    (list-one .result) (list-one .ensures) (omega arith) (sym (c .before .before .octet-at .ensures) ∙ c .if2 .left)
 
 pub list-row-spec : {M : Type 1} → statement M
 list-row-spec =

@@ -24,7 +24,8 @@ returns-4 c =
     rw (
       not-false (b .before .args .messages) (if1 .left),
       sym (has3 .ensures) ∙ c .before .before .if3 .left,
-      sym (c .before .has4 .ensures) ∙ c .if4 .taken)
+      sym (c .before .has4 .ensures) ∙ c .if4 .taken,
+    )
 
 returns-5 : tie.Need-returns-5
 returns-5 c =
@@ -35,7 +36,8 @@ returns-5 c =
     rw (
       not-false (b .before .args .messages) (if1 .left),
       sym (has3 .ensures) ∙ if3 .left,
-      sym (has4 .ensures) ∙ c .before .if4 .left) (c .has5 .ensures)
+      sym (has4 .ensures) ∙ c .before .if4 .left,
+    ) (c .has5 .ensures)
 
 pub asks-of-spec : {M : Type 1} → statement M
 asks-of-spec =

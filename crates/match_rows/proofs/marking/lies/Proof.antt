@@ -30,7 +30,8 @@ returns-3 c =
     rw (
       not-false (args .deep) (if1 .left),
       sym (has .ensures) ∙ not-false (has .result) (c .before .before .if2 .left),
-      ← name-end .ensures .name (args .names .now) long) (c .in-subtree .ensures)
+      ← name-end .ensures .name (args .names .now) long,
+    ) (c .in-subtree .ensures)
 
 pub lies-spec : {M : Type 1} → statement M
 lies-spec =

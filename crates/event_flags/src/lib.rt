@@ -40,7 +40,7 @@ fn flag_now(
 {
     let e = table_messages::get(words, k);
     let uid = e.uid;
-    let said = line_message::say_fetch(queue, filled, n, uid, flags, counter);
+    let said = line_fetch::say_fetch(queue, filled, n, uid, flags, counter);
     let states = pick(said.fits, 0, e.states);
     table_messages::put(words, k, table_messages::changed(e, flags, states, counter));
     let kept = line_put::hear(s, said);

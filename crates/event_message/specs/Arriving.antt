@@ -26,8 +26,8 @@ use Rattle.laws.specs.Room.{room-same}
 use Rattle.table_mailboxes.specs.Rows.{rowsAre, boxes-long, put-at}
 use Rattle.laws.specs.Announcing.{told-many, told-past, exists-effect, new-effects, among}
 use Rattle.line_put.specs.Says.{hasRoom}
-use Rattle.line_message.specs.declared.Shows.{Shows}
-use Rattle.line_message.specs.Items.{shown}
+use Rattle.line_fetch.specs.declared.Shows.{Shows}
+use Rattle.line_fetch.specs.Items.{shown}
 use Rattle.line_message.specs.Whole.{newsText, news-text}
 use Rattle.event_message.specs.Taken.{tablesAre}
 use Rattle.event_message.specs.After.{newsOf, newsAfter, statusAfter, arriveAfter}

@@ -20,7 +20,7 @@ use Rattle.laws.specs.Room.{room-same}
 use Rattle.laws.specs.Changing.{setEntry}
 use Rattle.table_mailboxes.specs.Rows.{rowsAre}
 use Rattle.line_put.specs.Says.{hasRoom}
-use Rattle.line_message.specs.Fetch.{fetchText, fetch-text}
+use Rattle.line_fetch.specs.Fetch.{fetchText, fetch-text}
 use Rattle.line_put.specs.Heard.{heard}
 use Rattle.event_message.specs.After.{After}
 use Rattle.event_message.specs.Flagged.{toldAfter, keptAfter, flagAfter}

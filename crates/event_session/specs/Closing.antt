@@ -28,10 +28,11 @@ use Rattle.laws.specs.Fitting.{size}
 use Rattle.table_messages.specs.Swept.{kept, goes, calm as calmTo}
 use Rattle.event_session.specs.After.{toldTo}
 use Rattle.event_session.specs.After.{left}
-use Rattle.event_session.specs.Ending.{endAfter, first, second, third}
+use Rattle.event_view.specs.Speaking.{first, second, third}
+use Rattle.event_session.specs.Ending.{endAfter}
 use Rattle.event_session.specs.Sunk.{topOf}
 use Rattle.order_messages.specs.Counts.{stays}
-use Rattle.event_session.specs.Saying.{State}
+use Rattle.event_view.specs.Saying.{State}
 use Rattle.event_session.specs.Runs.{seen, viewOf, stayers, uids, zeros}
 use Rattle.event_session.specs.Cut.{stands}
 use Rattle.event_session.specs.Effects.{fit-min, take-split, take-min, dropAll, clearAll, drop-all, clear-all, calm, drop-length, over, over-self, eff-E, eff-M, eff-X}

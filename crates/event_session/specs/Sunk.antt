@@ -15,7 +15,7 @@ use Rattle.model.specs.Queue.{written, fitting}
 use Rattle.model.specs.Rendered.{render-append, render-some}
 use Rattle.laws.specs.Fitting.{size, fitting-append}
 use Rattle.line_put.specs.Wrote.{written-none, written-then}
-use Rattle.event_session.specs.Saying.{State, goes, say, more, part, start}
+use Rattle.event_view.specs.Saying.{State, goes, say, more, part, start}
 
 -- one more than the last of a list of UIDs, 0 where there is none
 unfoldable pub topOf : ℕ → List ℕ → ℕ

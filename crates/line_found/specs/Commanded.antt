@@ -19,9 +19,9 @@ use Rattle.read_options.specs.declared.Returns.{Returns}
 use Rattle.read_keys.specs.Table.{codes}
 use Rattle.read_search.specs.Parts.{inAt, returnAt, charsetPartAt}
 use Rattle.read_search.specs.Searched.{Cells, readSearch, askedOf}
-use Rattle.read_search.specs.Listing.{allNames, nothingListed, addAll, keptSources}
+use Rattle.read_sources.specs.Listing.{allNames, nothingListed, addAll, keptSources}
 use Rattle.read_search.specs.declared.Asked.{Asked}
-use Rattle.read_search.specs.declared.ListedRead.{ListedRead}
+use Rattle.read_sources.specs.declared.ListedRead.{ListedRead}
 use Rattle.read_search.specs.declared.SearchRead.{SearchRead}
 use Rattle.read_search.specs.declared.SearchRead.the-variants.{Is}
 use Rattle.match_keys.specs.Read.{read-proper, read-cells}

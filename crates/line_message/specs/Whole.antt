@@ -13,10 +13,10 @@ use Rattle.model.specs.declared.Message.{Message}
 use Rattle.model.specs.Rendered.{render-append}
 use Rattle.model.specs.Laws.{and-true}
 use Rattle.order_messages.specs.Counts.{stays, fresh}
-use Rattle.line_message.specs.declared.Shows.{Shows}
+use Rattle.line_fetch.specs.declared.Shows.{Shows}
 use Rattle.line_message.specs.declared.Part.the-variants.{Expunged, Marked, New}
 use Rattle.line_message.specs.Counts.{existsText, exists-line}
-use Rattle.line_message.specs.Items.{shown}
+use Rattle.line_fetch.specs.Items.{shown}
 use Rattle.line_message.specs.Parts.{partText, gone-lines, marked-lines, new-lines}
 
 -- what class 1 owes, along a mailbox's entries by UID

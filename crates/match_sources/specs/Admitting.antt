@@ -20,10 +20,10 @@ use Rattle.model.specs.declared.Mailbox.{Mailbox}
 use Rattle.model.specs.declared.LentName.{LentName}
 use Rattle.model.specs.Laws.{take-drop}
 use Rattle.read_filters.specs.Scopes.{scopeFor}
-use Rattle.read_search.specs.Listing.{scopeNumber, sourceFrom, sourcesFrom, allNames, nothingListed, addAll}
-use Rattle.read_search.specs.declared.Source.{Source}
-use Rattle.read_search.specs.declared.Listed.{Listed}
-use Rattle.read_search.proofs.Folding.{listed-all}
+use Rattle.read_sources.specs.Listing.{scopeNumber, sourceFrom, sourcesFrom, allNames, nothingListed, addAll}
+use Rattle.read_sources.specs.declared.Source.{Source}
+use Rattle.read_sources.specs.declared.Listed.{Listed}
+use Rattle.read_sources.proofs.Folding.{listed-all}
 
 -- ---- as the code answers
 abbrev pub rightsBy : ℕ → Bool → Bool → Bool → Bool → Bool → Bool → Bool

@@ -261,7 +261,7 @@ pub fn set(
     let used = counts.messages as usize;
     let mut picked = [0u8; 64];
     let mut asks = [0u8; 64];
-    match_groups::picking::note_rows(
+    match_rows::note_rows(
         asked,
         status,
         ids,

@@ -57,7 +57,8 @@ module _ (names : List ℕ) (k : ℕ) where
   mixed-next i d w r h e f g = rw (add-one, g, e, f, word-at i h)
 
 -- the digests of the rows, one after the other
-pub digested-next : (names d : List ℕ) (i v : ℕ) → i < length d → v ≡ digest (block names i) → ((k : ℕ) → k < i → getD d k 0 ≡ digest (block names k)) → (k : ℕ) → k < i + 1 → getD (set d i v) k 0 ≡ digest (block names k)
+pub digested-next : (names d : List ℕ) (i v : ℕ) → i < length d → v ≡ digest (block names i) → ((k : ℕ) → k < i → getD d k 0 ≡ digest (block names k)) → (k : ℕ)
+    → k < i + 1 → getD (set d i v) k 0 ≡ digest (block names k)
 digested-next names d i v h e p = all-below (λ (k : ℕ). getD (set d i v) k 0 ≡ digest (block names k)) i
     (λ k q. getD-set-other d i k v 0 (λ z. (let y : ⊥ = omega arith in y)) ∙ p k q)
     (getD-set-same d i v 0 h ∙ e)

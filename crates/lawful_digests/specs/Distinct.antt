@@ -1,15 +1,16 @@
 -- Numbers that all differ, seen while a table of guesses is filled: whoever finds its slot taken is compared with all before it. Assumes nothing.
-use mathlib.Core.Path.{_≡_, refl, ap, _∙_}
-use mathlib.Core.Bool.{Bool, true, false}
+use mathlib.Core.Path.{_≡_, refl, ap, sym, _∙_}
+use mathlib.Core.Bool.{Bool, true, false, not, cond}
 use mathlib.Core.List.{List, [], _∷_}
 use Prim.Native.Nat.{ℕ, zero, suc, _+_, _*_, _/_, _%_, _<_, _≤_}
 use native.Mathlib.Omega.{arith}
 use lib.Dec.{eqb}
 use lib.ListN.{length, getD, set, replicate}
 use lib.Seq.{getD-set-same, getD-set-other}
-use borrow.Author.Tests.{eqb-true, eqb-false}
+use borrow.Author.Tests.{eq-eqb, eqb-true, eqb-false}
+use Rattle.model.specs.Laws.{and-l, and-r, or-r, tf}
 use Rattle.model.specs.Lists.{anyb, apart}
-use Rattle.model.specs.Memory.{noMailbox}
+use Rattle.model.specs.Memory.{noMailbox, place}
 use Rattle.model.specs.Lawful.{clash}
 use Rattle.model.specs.declared.Mailbox.{Mailbox}
 use Rattle.table_mailboxes.specs.Columns.{all-below, zero-at}
@@ -73,3 +74,26 @@ differ-apart (x ∷ l) h = rw (none l (λ j k. h 0 (suc j) (omega arith) (omega 
     none : (l : List Mailbox) → ((j : ℕ) → j < length l → clash x (getD l j noMailbox) ≡ false) → anyb (λ (y : Mailbox). clash x y) l ≡ false
     none [] h = refl
     none (y ∷ l) h = rw (h 0 (omega arith)) (none l (λ j k. h (suc j) (omega arith)))
+
+-- ids that differ: the place of an id is where it stands
+none-here : (o : ℕ) (x : Mailbox) (l : List Mailbox) (k : ℕ) → x .id ≡ o → k < length l → getD l k noMailbox .id ≡ o → anyb (λ (y : Mailbox). clash x y) l ≡ false → ⊥
+none-here o x [] k e h f n = omega arith
+none-here o x (y ∷ l) zero e h f n = let z : _≡_ {A = Bool} true false = sym (rw (eq-eqb (x .id) (y .id) (e ∙ sym f)) refl) ∙ n in tf true refl z
+none-here o x (y ∷ l) (suc k) e h f n = none-here o x l k e (omega arith) f (or-r (clash x y) (anyb (λ (y : Mailbox). clash x y) l) n)
+
+pub place-own : (o : ℕ) (l : List Mailbox) (k : ℕ) → apart clash l ≡ true → k < length l → getD l k noMailbox .id ≡ o → place o l ≡ k
+unfolding place
+place-own o [] k a h e = absurd (omega arith)
+place-own o (x ∷ l) zero a h e = rw (eq-eqb (x .id) o e)
+place-own o (x ∷ l) (suc k) a h e = go (eqb (x .id) o) refl (place-own o l k (and-r (not (anyb (λ (y : Mailbox). clash x y) l)) (apart clash l) a) (omega arith) e)
+  where
+    n : not (anyb (λ (y : Mailbox). clash x y) l) ≡ true
+    n = and-l (not (anyb (λ (y : Mailbox). clash x y) l)) (apart clash l) a
+
+    f : (b : Bool) → not b ≡ true → b ≡ false
+    f true q = tf false q refl
+    f false q = refl
+
+    go : (b : Bool) → eqb (x .id) o ≡ b → place o l ≡ k → cond b 0 (suc (place o l)) ≡ suc k
+    go true q ih = absurd (none-here o x l k (eqb-true (x .id) o q) (omega arith) e (f (anyb (λ (y : Mailbox). clash x y) l) n))
+    go false q ih = ap suc ih

@@ -1,9 +1,10 @@
+-- `slot`: the upper ten of 32 bits are below 1024. Assumes nothing.
 use borrow.Author.Needs.{needs}
-use Rattle.lawful_quick.proofs.slot.Statement.{statement}
-use Rattle.lawful_quick.proofs.slot.Tie as tie
+use Rattle.lawful_digests.proofs.slot.Statement.{statement}
+use Rattle.lawful_digests.proofs.slot.Tie as tie
 use mathlib.Core.Path.{refl}
 use native.Mathlib.Omega.{arith}
-use Rattle.lawful_quick.specs.Distinct.{slotOf}
+use Rattle.lawful_digests.specs.Distinct.{slotOf}
 
 returns : tie.Need-returns
 unfolding slotOf

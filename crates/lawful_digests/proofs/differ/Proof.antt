@@ -7,10 +7,10 @@ use lib.ListN.{length, getD, length-set, length-replicate}
 use borrow.Author.Tests.{not-false}
 use Rattle.model.specs.Laws.{tf}
 use Rattle.table_mailboxes.specs.Columns.{all-below}
-use Rattle.lawful_quick.specs.Distinct.{Absent, Differ, Low, Taken, low-zeros, taken-next, low-next}
+use Rattle.lawful_digests.specs.Distinct.{Absent, Differ, Low, Taken, low-zeros, taken-next, low-next}
 use borrow.Author.Needs.{needs}
-use Rattle.lawful_quick.proofs.differ.Statement.{statement}
-use Rattle.lawful_quick.proofs.differ.Tie as tie
+use Rattle.lawful_digests.proofs.differ.Statement.{statement}
+use Rattle.lawful_digests.proofs.differ.Tie as tie
 
 abbrev Inv-loop : tie.InvT-loop
 Inv-loop d n slots₀ chain₀ i₀ slots chain i = (1 ≤ i) × (i ≤ 64) × (length slots ≡ 1024) × (length chain ≡ 64) × Differ d i × Low slots n × Low chain n × Taken d slots i

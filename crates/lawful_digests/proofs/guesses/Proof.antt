@@ -1,7 +1,8 @@
+-- `guesses`: a slot is below 1024, so each store is within the table; a guess promises nothing. Assumes nothing.
 use mathlib.Core.Path.{_≡_}
 use lib.ListN.{length, length-set}
-use Rattle.lawful_quick.proofs.guesses.Statement.{statement}
-use Rattle.lawful_quick.proofs.guesses.Tie as tie
+use Rattle.lawful_digests.proofs.guesses.Statement.{statement}
+use Rattle.lawful_digests.proofs.guesses.Tie as tie
 use Prim.Native.Nat.{_≤_, _-_}
 use borrow.Author.Needs.{needs}
 

@@ -2,10 +2,10 @@
 use mathlib.Core.Path.{_≡_}
 use lib.ListN.{getD}
 use borrow.Author.Tests.{not-true, eqb-false}
-use Rattle.lawful_quick.specs.Distinct.{slotOf, slot-free}
+use Rattle.lawful_digests.specs.Distinct.{slotOf, slot-free}
 use borrow.Author.Needs.{needs}
-use Rattle.lawful_quick.proofs.is_new.Statement.{statement}
-use Rattle.lawful_quick.proofs.is_new.Tie as tie
+use Rattle.lawful_digests.proofs.is_new.Statement.{statement}
+use Rattle.lawful_digests.proofs.is_new.Tie as tie
 
 returns : tie.Need-returns
 returns c =

@@ -1,5 +1,6 @@
-use Rattle.lawful_quick.proofs.seek.Statement.{statement}
-use Rattle.lawful_quick.proofs.seek.Tie as tie
+-- `seek`: the place stays below 64, and no more is promised of it. Assumes nothing.
+use Rattle.lawful_digests.proofs.seek.Statement.{statement}
+use Rattle.lawful_digests.proofs.seek.Tie as tie
 use Prim.Native.Nat.{_≤_, _-_}
 use borrow.Author.Needs.{needs}
 

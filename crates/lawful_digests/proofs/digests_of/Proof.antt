@@ -1,12 +1,13 @@
+-- `digests_of`: the loop keeps that each row before i has its digest. Assumes nothing.
 use mathlib.Core.Path.{_≡_}
 use Prim.Native.Nat.{ℕ, _≤_, _-_, _<_}
 use native.Mathlib.Omega.{arith}
 use lib.ListN.{length, getD, length-set}
 use Rattle.table_mailboxes.specs.Columns.{block}
-use Rattle.lawful_quick.specs.Digest.{digest, digested-next}
+use Rattle.lawful_digests.specs.Digest.{digest, digested-next}
 use borrow.Author.Needs.{needs}
-use Rattle.lawful_quick.proofs.digests_of.Statement.{statement}
-use Rattle.lawful_quick.proofs.digests_of.Tie as tie
+use Rattle.lawful_digests.proofs.digests_of.Statement.{statement}
+use Rattle.lawful_digests.proofs.digests_of.Tie as tie
 
 abbrev Inv-loop : tie.InvT-loop
 Inv-loop names n digests₀ i₀ digests i = (i ≤ n) × (length digests ≡ 64) × ((k : ℕ) → k < i → getD digests k 0 ≡ digest (block names k))

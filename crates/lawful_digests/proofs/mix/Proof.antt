@@ -1,7 +1,8 @@
+-- `mix`: each sum is cut to 64 bits, as in the definition. Assumes nothing.
 use mathlib.Core.Path.{_∙_}
 use borrow.Author.Needs.{needs}
-use Rattle.lawful_quick.proofs.mix.Statement.{statement}
-use Rattle.lawful_quick.proofs.mix.Tie as tie
+use Rattle.lawful_digests.proofs.mix.Statement.{statement}
+use Rattle.lawful_digests.proofs.mix.Tie as tie
 
 returns : tie.Need-returns
 returns c = c .wrapping-add-u643 .ensures ∙ rw (c .before .wrapping-add-u642 .ensures, c .before .before .wrapping-add-u64 .ensures)

@@ -3,10 +3,10 @@ use mathlib.Core.Path.{_≡_, refl, ap, _∙_}
 use Prim.Native.Nat.{_≤_, _-_}
 use native.Mathlib.Omega.{arith}
 use Rattle.table_mailboxes.specs.Columns.{block}
-use Rattle.lawful_quick.specs.Digest.{mixedUp, folded, mixed-next}
+use Rattle.lawful_digests.specs.Digest.{mixedUp, folded, mixed-next}
 use borrow.Author.Needs.{needs}
-use Rattle.lawful_quick.proofs.digest_of.Statement.{statement}
-use Rattle.lawful_quick.proofs.digest_of.Tie as tie
+use Rattle.lawful_digests.proofs.digest_of.Statement.{statement}
+use Rattle.lawful_digests.proofs.digest_of.Tie as tie
 
 abbrev Inv-loop : tie.InvT-loop
 Inv-loop names k d₀ i₀ d i = (i ≤ 8) × (d ≡ mixedUp (block names k) i)

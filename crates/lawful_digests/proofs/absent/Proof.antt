@@ -1,12 +1,13 @@
+-- `absent`: the loop keeps that no number before j is x; a no promises nothing. Assumes nothing.
 use mathlib.Core.Path.{refl}
 use mathlib.Core.Bool.{false}
 use Prim.Native.Nat.{_-_}
 use native.Mathlib.Omega.{arith}
 use Rattle.model.specs.Laws.{tf}
-use Rattle.lawful_quick.specs.Distinct.{Absent, absent-next}
+use Rattle.lawful_digests.specs.Distinct.{Absent, absent-next}
 use borrow.Author.Needs.{needs}
-use Rattle.lawful_quick.proofs.absent.Statement.{statement}
-use Rattle.lawful_quick.proofs.absent.Tie as tie
+use Rattle.lawful_digests.proofs.absent.Statement.{statement}
+use Rattle.lawful_digests.proofs.absent.Tie as tie
 
 abbrev Inv-loop : tie.InvT-loop
 Inv-loop d upto x j₀ j = Absent d j x

@@ -10,7 +10,7 @@ use Rattle.model.specs.Memory.{noMessage, refill, messagesOf, withView}
 use Rattle.model.specs.declared.Message.{Message}
 use Rattle.model.specs.declared.Session.{Session}
 use Rattle.table_messages.specs.Laid.{laid}
-use Rattle.table_messages.specs.Swept.{kept}
+use Rattle.table_sweep.specs.Swept.{kept}
 use Rattle.order_messages.specs.Counts.{stays, fresh}
 use Rattle.event_session.specs.Saying.{State, part, start, runM, sayExists, firstPart}
 use Rattle.event_session.specs.Coded.{stateOf}

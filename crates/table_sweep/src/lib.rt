@@ -1,21 +1,28 @@
-// What a pass over the entries does: which go, what those that stay become, and where they move to.
-use super::Sweep;
-use super::changed;
-use super::get;
-use super::nothing;
-use super::put;
+// One pass over the message table: which entries go, what those that stay become, and where they move to.
 use model::Message;
 use model::Uid;
+use table_messages::changed;
+use table_messages::get;
+use table_messages::nothing;
+use table_messages::put;
 ghost use mathlib.Core.Path.{_≡_};
 ghost use mathlib.Core.Bool.{cond, _&&_};
 ghost use mathlib.Core.List.{_++_};
 ghost use Prim.Native.Nat.{_+_, _*_, _-_, _≤_};
 ghost use lib.Dec.{eqb, ltb};
 ghost use lib.ListN.{length, take, drop, replicate};
-ghost use Rattle.model.specs.Memory.{noMessage, marked, withStates};
+ghost use Rattle.model.specs.Memory.{noMessage, marked, withStates, refill};
 ghost use Rattle.table_messages.specs.Words.{messages};
 ghost use Rattle.table_messages.specs.Laid.{laid};
-ghost use Rattle.table_messages.specs.Swept.{goes, calm, idle, kept, Moves};
+ghost use Rattle.table_sweep.specs.Swept.{goes, calm, idle, kept, Moves};
+
+// What a pass is for: a selection, where the expunged go and nothing waits; lines that were told of a mailbox, the expunged
+// below one UID and the marked below another; a mailbox that is deleted, with all its messages.
+pub enum Sweep {
+    Rested,
+    Told(u64, Uid, Uid),
+    Deleted(u64),
+}
 
 fn both(a: bool, b: bool) -> bool
     ensures { λ r. ⌜ r ≡ (a && b) ⌝ }
@@ -87,7 +94,7 @@ fn move_one(words: &mut [u64], i: usize, o: usize, sweep: Sweep) -> usize
 }
 
 // Those that stay move up.
-pub fn compact(words: &mut [u64], used: usize, sweep: Sweep) -> usize
+fn compact(words: &mut [u64], used: usize, sweep: Sweep) -> usize
     requires { ⌜ used * 6 ≤ length (now words) ⌝ }
     ensures { λ r. ⌜ (now (words .exit) ≡ laid (now (words .entry)) (kept sweep (take used (messages (now (words .entry)))) ++ drop r (messages (now (words .entry))))) × (r ≡ length (kept sweep (take used (messages (now (words .entry)))))) × (r ≤ used) ⌝ }
 {
@@ -101,7 +108,7 @@ pub fn compact(words: &mut [u64], used: usize, sweep: Sweep) -> usize
 }
 
 // Whether no line was told: nothing goes, and nothing changes.
-pub fn is_idle(sweep: Sweep) -> bool
+fn is_idle(sweep: Sweep) -> bool
     ensures { λ r. ⌜ r ≡ idle sweep ⌝ }
 {
     match sweep {
@@ -112,7 +119,7 @@ pub fn is_idle(sweep: Sweep) -> bool
 }
 
 // Entries become nothing.
-pub fn wipe(words: &mut [u64], from: usize, upto: usize)
+fn wipe(words: &mut [u64], from: usize, upto: usize)
     requires { ⌜ (from ≤ upto) × (upto * 6 ≤ length (now words)) ⌝ }
     ensures { λ _. ⌜ now (words .exit) ≡ laid (now (words .entry)) (take from (messages (now (words .entry))) ++ (replicate (upto - from) noMessage ++ drop upto (messages (now (words .entry))))) ⌝ }
 {
@@ -121,4 +128,17 @@ pub fn wipe(words: &mut [u64], from: usize, upto: usize)
         put(words, j, nothing());
         j += 1;
     }
+}
+
+// One pass: what goes is dropped, what stays moves up and is changed, what was freed is nothing. Answers how many stay.
+pub fn settle(words: &mut [u64], used: usize, sweep: Sweep) -> usize
+    requires { ⌜ used * 6 ≤ length (now words) ⌝ }
+    ensures { λ r. ⌜ (now (words .exit) ≡ laid (now (words .entry)) (refill noMessage (messages (now (words .entry))) used (kept sweep (take used (messages (now (words .entry))))))) × (r ≡ length (kept sweep (take used (messages (now (words .entry)))))) × (r ≤ used) ⌝ }
+{
+    if is_idle(sweep) {
+        return used;
+    }
+    let o = compact(words, used, sweep);
+    wipe(words, o, used);
+    o
 }

@@ -1,9 +1,10 @@
+-- `calmed`: each kind of pass has its case in the definition. Assumes nothing.
 use borrow.Author.Needs.{needs}
-use Rattle.table_messages.proofs.sweeping.calmed.Statement.{statement}
-use Rattle.table_messages.proofs.sweeping.calmed.Tie as tie
+use Rattle.table_sweep.proofs.calmed.Statement.{statement}
+use Rattle.table_sweep.proofs.calmed.Tie as tie
 use mathlib.Core.Path.{sym, _∙_, ap}
-use Rattle.table_messages.specs.Swept.{calm}
-use Rattle.table_messages.specs.declared.Sweep.{Sweep}
+use Rattle.table_sweep.specs.Swept.{calm}
+use Rattle.table_sweep.specs.declared.Sweep.{Sweep}
 
 returns : tie.Need-returns
 returns c = c .changed .ensures ∙ ap (λ (k : Sweep). calm k (c .before .before .before .args .e)) (sym (c .before .enum-told .given .1))

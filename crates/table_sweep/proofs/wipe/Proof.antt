@@ -1,11 +1,12 @@
-use Rattle.table_messages.proofs.sweeping.wipe.Statement.{statement}
-use Rattle.table_messages.proofs.sweeping.wipe.Tie as tie
+-- `wipe`: the loop keeps that the places up to j are nothing, and that all others are as they were. Assumes nothing.
+use Rattle.table_sweep.proofs.wipe.Statement.{statement}
+use Rattle.table_sweep.proofs.wipe.Tie as tie
 use mathlib.Core.Path.{_≡_}
 use Prim.Native.Nat.{_≤_, _-_}
 use native.Mathlib.Omega.{arith}
 use lib.ListN.{length}
 use Rattle.table_messages.specs.Words.{messages-length}
-use Rattle.table_messages.specs.Swept.{Wiping, wiping-start, wiping-next, wiping-end}
+use Rattle.table_sweep.specs.Swept.{Wiping, wiping-start, wiping-next, wiping-end}
 use borrow.Author.Needs.{needs}
 
 abbrev Inv-loop : tie.InvT-loop
@@ -25,8 +26,12 @@ loop-again c =
     let b = b .before .before .before in let o = b .loop in
     let b = b .before .before in let a = b .args in
     let pre = b .pre in
-    let k = messages-length (a .upto) (a .words .now) (pre .1) in
-    (search needs, search needs, search needs, rw (c .before .before .put .ensures) (wiping-next (a .words .now) (a .from) (o .words) (o .j) (nothing .result) (o .inv .0) (omega arith) (o .inv .3) (nothing .ensures) (omega arith)))
+    let k = messages-length (a .upto) (a .words .now) (pre .1) in (
+      search needs,
+      search needs,
+      search needs,
+      rw (c .before .before .put .ensures) (wiping-next (a .words .now) (a .from) (o .words) (o .j) (nothing .result) (o .inv .0) (omega arith) (o .inv .3) (nothing .ensures) (omega arith)),
+    )
 
 returns : tie.Need-returns Inv-loop μ-loop
 returns c =

@@ -13,10 +13,10 @@ use Rattle.model.specs.Lists.{filterb}
 use Rattle.model.specs.Laws.{tf, and-l, and-r, and-false, filter-append, map-append}
 use Rattle.model.specs.Memory.{noMessage, uidOf, inMailbox, expunged, marked, withStates, refill}
 use Rattle.model.specs.declared.Message.{Message}
 use Rattle.table_messages.specs.Words.{messages, messages-length, stored}
 use Rattle.table_messages.specs.Laid.{laid, laid-own, laid-entries, laid-then, laid-put}
-use Rattle.table_messages.specs.declared.Sweep.{Sweep}
-use Rattle.table_messages.specs.declared.Sweep.the-variants.{Rested, Told, Deleted}
+use Rattle.table_sweep.specs.declared.Sweep.{Sweep}
+use Rattle.table_sweep.specs.declared.Sweep.the-variants.{Rested, Told, Deleted}
 
 -- which entries a pass drops: all that are expunged; those whose EXPUNGE was written; all of a mailbox
 abbrev pub goes : Sweep → Message → Bool
@@ -85,14 +85,17 @@ kept-idle (Told id gone shown) l h = same l
     same [] = refl
     same (e ∷ l) =
         let a : goes (Told id gone shown) e ≡ false = below-none (expunged e) (inMailbox id e) (uidOf e) (gone .0) (eqb-true (gone .0) 0 (and-l (eqb (gone .0) 0) (eqb (shown .0) 0) h)) in
-        let b : (marked e && (inMailbox id e && ltb (uidOf e) (shown .0))) ≡ false = below-none (marked e) (inMailbox id e) (uidOf e) (shown .0) (eqb-true (shown .0) 0 (and-r (eqb (gone .0) 0) (eqb (shown .0) 0) h)) in
+        let b : (marked e && (inMailbox id e && ltb (uidOf e) (shown .0))) ≡ false = below-none (marked e) (inMailbox id e) (uidOf e) (shown .0)
+        (eqb-true (shown .0) 0 (and-r (eqb (gone .0) 0) (eqb (shown .0) 0) h)) in
         rw (a, b) (ap (λ (t : List Message). e ∷ t) (same l))
 kept-idle (Deleted id) l h = tf false h refl
 
 module _ (sweep : Sweep) where
   kept-snoc : (l : List Message) (e : Message) → kept sweep (l ++ (e ∷ [])) ≡ kept sweep l ++ kept sweep (e ∷ [])
   unfolding kept
-  kept-snoc l e = ap (map (calm sweep)) (filter-append (λ (x : Message). not (goes sweep x)) l (e ∷ [])) ∙ map-append (calm sweep) (filterb (λ (x : Message). not (goes sweep x)) l) (filterb (λ (x : Message). not (goes sweep x)) (e ∷ []))
+  kept-snoc l e =
+      ap (map (calm sweep)) (filter-append (λ (x : Message). not (goes sweep x)) l (e ∷ []))
+      ∙ map-append (calm sweep) (filterb (λ (x : Message). not (goes sweep x)) l) (filterb (λ (x : Message). not (goes sweep x)) (e ∷ []))
 
   kept-stay : (e : Message) → goes sweep e ≡ false → kept sweep (e ∷ []) ≡ calm sweep e ∷ []
   unfolding kept
@@ -149,7 +152,8 @@ module _ (sweep : Sweep) where
     -- an entry that becomes what it is needs no writing where it stands
     pub passing-rest : (x : Message) → x ≡ calm sweep e → goes sweep e ≡ false → o ≡ i → x .states ≡ e .states → (o + 1) * 6 ≤ length ws → Passing vs ws (i + 1) (o + 1)
     passing-rest x y z a b w =
-        let f : x ≡ getD (messages ws) o noMessage = (y ∙ (calm-same sweep e (sym (ap (λ (m : Message). m .states) y) ∙ b) ∙ q)) ∙ ap (λ (j : ℕ). getD (messages ws) j noMessage) (sym a) in
+        let f : x ≡ getD (messages ws) o noMessage = (y ∙ (calm-same sweep e (sym (ap (λ (m : Message). m .states) y) ∙ b) ∙ q)) ∙ ap
+        (λ (j : ℕ). getD (messages ws) j noMessage) (sym a) in
         rw (stored-same ws o x f w) at (passing-stay x y z w)
 
 -- one entry is passed, whatever the words were before the pass
@@ -167,9 +171,17 @@ module _ (vs : List ℕ) (from : ℕ) where
   pub wiping-start : Wiping vs from
   wiping-start =
       let z : from - from ≡ 0 = omega arith in
-      record { is = laid-own vs ∙ ap (laid vs) (sym (ap (λ (n : ℕ). (take from (messages vs) ++ replicate n noMessage) ++ drop from (messages vs)) z ∙ (ap (λ (l : List Message). l ++ drop from (messages vs)) (append-nil (take from (messages vs))) ∙ take-append-drop from (messages vs)))) }
+      record {
+        is =
+            laid-own vs
+            ∙ ap (laid vs)
+            (sym
+            (ap (λ (n : ℕ). (take from (messages vs) ++ replicate n noMessage) ++ drop from (messages vs)) z
+            ∙ (ap (λ (l : List Message). l ++ drop from (messages vs)) (append-nil (take from (messages vs))) ∙ take-append-drop from (messages vs))));
+      }
 
-  pub wiping-next : (ws : List ℕ) (j : ℕ) (x : Message) → from ≤ j → j < length (messages vs) → Wiping ws j → x ≡ noMessage → (j + 1) * 6 ≤ length ws → Wiping (stored ws j x) (j + 1)
+  pub wiping-next : (ws : List ℕ) (j : ℕ) (x : Message) → from ≤ j → j < length (messages vs) → Wiping ws j → x ≡ noMessage → (j + 1) * 6 ≤ length ws
+      → Wiping (stored ws j x) (j + 1)
   wiping-next ws j x h k w y b =
       let es = messages vs in
       let a = length-take-le from (messages vs) (omega arith) in
@@ -179,20 +191,27 @@ module _ (vs : List ℕ) (from : ℕ) where
       record {
         is = laid-put vs ws (wiped j) j x (w .is) b ∙ ap (laid vs) (ap (set (wiped j) j) y
             ∙ (over-set noMessage (take from (messages vs) ++ replicate (j - from) noMessage) (messages vs) j noMessage (omega arith) k
-            ∙ ap (λ (t : List Message). t ++ drop (j + 1) (messages vs)) (append-assoc (take from (messages vs)) (replicate (j - from) noMessage) (noMessage ∷ []) ∙ ap (λ (t : List Message). take from (messages vs) ++ t) (replicate-more noMessage (j - from) ∙ ap (λ (n : ℕ). replicate n noMessage) e))));
+            ∙ ap (λ (t : List Message). t ++ drop (j + 1) (messages vs))
+            (append-assoc (take from (messages vs)) (replicate (j - from) noMessage) (noMessage ∷ []) ∙ ap (λ (t : List Message). take from (messages vs) ++ t) (replicate-more noMessage (j - from) ∙ ap (λ (n : ℕ). replicate n noMessage) e))));
       }
 
   pub wiping-end : (ws : List ℕ) (j upto : ℕ) → j ≡ upto → Wiping ws j → ws ≡ laid vs (take from (messages vs) ++ (replicate (upto - from) noMessage ++ drop upto (messages vs)))
-  wiping-end ws j upto e w = w .is ∙ ap (laid vs) (append-assoc (take from (messages vs)) (replicate (j - from) noMessage) (drop j (messages vs)) ∙ ap (λ (n : ℕ). take from (messages vs) ++ (replicate (n - from) noMessage ++ drop n (messages vs))) e)
+  wiping-end ws j upto e w =
+      w .is
+      ∙ ap (laid vs)
+      (append-assoc (take from (messages vs)) (replicate (j - from) noMessage) (drop j (messages vs))
+      ∙ ap (λ (n : ℕ). take from (messages vs) ++ (replicate (n - from) noMessage ++ drop n (messages vs))) e)
 
 -- both: those that stay, then nothing up to what was used
-pub refilled : (es ms ms′ k : List Message) (o used : ℕ) → o ≡ length k → o ≤ used → ms ≡ k ++ drop o es → ms′ ≡ take o ms ++ (replicate (used - o) noMessage ++ drop used ms) → ms′ ≡ refill noMessage es used k
+pub refilled : (es ms ms′ k : List Message) (o used : ℕ) → o ≡ length k → o ≤ used → ms ≡ k ++ drop o es
+    → ms′ ≡ take o ms ++ (replicate (used - o) noMessage ++ drop used ms) → ms′ ≡ refill noMessage es used k
 refilled es ms ms′ k o used e h p q =
     let m : max used (length k) ≡ used = omega arith in
     let t : take o (k ++ drop o es) ≡ k = take-at k (drop o es) o (sym e) in
     let u : used ≡ length k + (used - o) = omega arith in
     let v : o + (used - o) ≡ used = omega arith in
-    let d : drop used (k ++ drop o es) ≡ drop used es = ap (λ (n : ℕ). drop n (k ++ drop o es)) u ∙ (drop-append-add k (drop o es) (used - o) ∙ (drop-drop (used - o) o es ∙ ap (λ (n : ℕ). drop n es) v)) in
+    let d : drop used (k ++ drop o es) ≡ drop used es = ap (λ (n : ℕ). drop n (k ++ drop o es)) u ∙
+    (drop-append-add k (drop o es) (used - o) ∙ (drop-drop (used - o) o es ∙ ap (λ (n : ℕ). drop n es) v)) in
     q ∙ (ap (λ (l : List Message). take o l ++ (replicate (used - o) noMessage ++ drop used l)) p
     ∙ (ap₂ (λ (a b : List Message). a ++ (replicate (used - o) noMessage ++ b)) t d
     ∙ ap₂ (λ (n i : ℕ). k ++ (replicate (used - n) noMessage ++ drop i es)) e (sym m)))
@@ -201,7 +220,9 @@ pub settled : (vs us ws : List ℕ) (k : List Message) (o used : ℕ) → o ≡ 
     → ws ≡ laid us (take o (messages us) ++ (replicate (used - o) noMessage ++ drop used (messages us))) → ws ≡ laid vs (refill noMessage (messages vs) used k)
 settled vs us ws k o used e h p q =
     laid-then vs us ws (k ++ drop o (messages vs)) (take o (messages us) ++ (replicate (used - o) noMessage ++ drop used (messages us))) p q
-    ∙ ap (laid vs) (refilled (messages vs) (messages us) (take o (messages us) ++ (replicate (used - o) noMessage ++ drop used (messages us))) k o used e h (laid-entries vs us (k ++ drop o (messages vs)) p) refl)
+    ∙ ap (laid vs)
+    (refilled (messages vs) (messages us) (take o (messages us) ++ (replicate (used - o) noMessage ++ drop used (messages us))) k o used e h
+    (laid-entries vs us (k ++ drop o (messages vs)) p) refl)
 
 -- nothing goes and nothing changes
 pub unsettled : (sweep : Sweep) (vs : List ℕ) (used : ℕ) → used * 6 ≤ length vs → idle sweep ≡ true

@@ -1,11 +1,12 @@
-use Rattle.table_messages.proofs.sweeping.compact.Statement.{statement}
-use Rattle.table_messages.proofs.sweeping.compact.Tie as tie
+-- `compact`: the loop keeps that those of the first i entries that stay lie in the first o places, and that o is at most i. Assumes nothing.
+use Rattle.table_sweep.proofs.compact.Statement.{statement}
+use Rattle.table_sweep.proofs.compact.Tie as tie
 use mathlib.Core.Path.{_≡_}
 use Prim.Native.Nat.{_≤_, _-_}
 use native.Mathlib.Omega.{arith}
 use lib.ListN.{length}
 use Rattle.table_messages.specs.Words.{messages-length}
-use Rattle.table_messages.specs.Swept.{Passing, passing-start, passed}
+use Rattle.table_sweep.specs.Swept.{Passing, passing-start, passed}
 use borrow.Author.Needs.{needs}
 
 abbrev Inv-loop : tie.InvT-loop

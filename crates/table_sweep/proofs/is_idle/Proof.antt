@@ -1,9 +1,9 @@
 -- `is_idle`: both bounds are 0 where nothing was told. Assumes nothing.
 use borrow.Author.Needs.{needs}
 use mathlib.Core.Path.{sym, _∙_, ap}
-use Rattle.table_messages.specs.Swept.{idle}
-use Rattle.table_messages.proofs.sweeping.is_idle.Statement.{statement}
-use Rattle.table_messages.proofs.sweeping.is_idle.Tie as tie
+use Rattle.table_sweep.specs.Swept.{idle}
+use Rattle.table_sweep.proofs.is_idle.Statement.{statement}
+use Rattle.table_sweep.proofs.is_idle.Tie as tie
 
 returns : tie.Need-returns
 returns c = ap idle (sym (c .enum-told .given .1))

@@ -1,13 +1,13 @@
 -- `move_one`: an entry goes, or stands where it is as it is, or is put where it moves to. Assumes nothing.
 use borrow.Author.Needs.{needs}
-use Rattle.table_messages.proofs.sweeping.move_one.Statement.{statement}
-use Rattle.table_messages.proofs.sweeping.move_one.Tie as tie
+use Rattle.table_sweep.proofs.move_one.Statement.{statement}
+use Rattle.table_sweep.proofs.move_one.Tie as tie
 use mathlib.Core.Path.{sym, _∙_}
 use native.Mathlib.Omega.{arith}
 use lib.Dec.{eqb}
 use borrow.Author.Tests.{eqb-true}
 use Rattle.model.specs.Laws.{and-l, and-r}
-use Rattle.table_messages.specs.Swept.{passing-go, passing-rest, passing-stay}
+use Rattle.table_sweep.specs.Swept.{passing-go, passing-rest, passing-stay}
 
 returns : tie.Need-returns
 returns c =
@@ -36,7 +36,13 @@ returns-3 c =
     let b = b .before in let is-gone = b .is-gone in
     let b = b .before in let get = b .get in
     let b = b .before .before .before in let a = b .args in
-    record { moved = λ vs h p. rw (c .before .before .put .ensures) (passing-stay (a .sweep) vs (a .words .now) (a .i) (a .o) p h (get .result) (get .ensures) (calmed .result) (calmed .ensures) (sym (is-gone .ensures) ∙ if1 .left) (omega arith)) }
+    record {
+      moved =
+          λ vs h p.
+          rw (c .before .before .put .ensures)
+          (passing-stay (a .sweep) vs (a .words .now) (a .i) (a .o) p h (get .result) (get .ensures) (calmed .result) (calmed .ensures)
+          (sym (is-gone .ensures) ∙ if1 .left) (omega arith));
+    }
 
 pub move-one-spec : {M : Type 1} → statement M
 move-one-spec =

@@ -25,7 +25,7 @@ use Rattle.model.specs.Rendered.{effects-append}
 use Rattle.laws.specs.Changing.{used-long}
 use Rattle.laws.specs.Telling.{say-none}
 use Rattle.laws.specs.Fitting.{size}
-use Rattle.table_messages.specs.Swept.{kept, goes, calm as calmTo}
+use Rattle.table_sweep.specs.Swept.{kept, goes, calm as calmTo}
 use Rattle.event_session.specs.After.{toldTo}
 use Rattle.event_session.specs.After.{left}
 use Rattle.event_view.specs.Speaking.{first, second, third}

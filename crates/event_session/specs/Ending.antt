@@ -9,7 +9,7 @@ use Rattle.model.specs.Memory.{noMessage, refill, messagesOf, withView}
 use Rattle.model.specs.declared.Message.{Message}
 use Rattle.model.specs.declared.Session.{Session}
 use Rattle.table_messages.specs.Laid.{laid}
-use Rattle.table_messages.specs.Swept.{kept}
+use Rattle.table_sweep.specs.Swept.{kept}
 use Rattle.event_view.specs.declared.Spoken.{Spoken}
 use Rattle.event_view.specs.Saying.{State}
 use Rattle.event_view.specs.Speaking.{first, second, third, Speaks}

@@ -16,7 +16,7 @@ use Rattle.model.specs.declared.Message.{Message}
 use Rattle.model.specs.declared.Session.{Session}
 use Rattle.table_messages.specs.Words.{messages, messages-length}
 use Rattle.table_messages.specs.Laid.{laid-own}
-use Rattle.table_messages.specs.Swept.{unsettled}
+use Rattle.table_sweep.specs.Swept.{unsettled}
 use Rattle.order_messages.specs.Counts.{fresh}
 use Rattle.event_view.specs.Saying.{State, more, part, start, stepE, runE, stepM, runM, sayExists, firstPart}
 use Rattle.event_session.specs.After.{toldTo}

@@ -1,7 +1,7 @@
 // `CE`, `SE` and `DR`: the end of a command, a selection, octets that were sent.
 use model::Session;
 use model::Uid;
-use table_messages::Sweep;
+use table_sweep::Sweep;
 ghost use mathlib.Core.Path.{_≡_};
 ghost use mathlib.Core.Bool.{false, cond};
 ghost use Prim.Native.Nat.{ℕ, _+_, _*_, _-_, _≤_, _<_};
@@ -55,7 +55,7 @@ pub fn select(words: &mut [u64], used: usize, s: Session, id: u16, next: u32) ->
     requires { ⌜ used * 6 ≤ length (now words) ⌝ }
     ensures { λ r. ⌜ (now (words .exit) ≡ laid (now (words .entry)) (selectEntries (messages (now (words .entry))) used)) × (r .used ≡ length (rests (take used (messages (now (words .entry)))))) × (r .session ≡ withView s id next) ⌝ }
 {
-    let used = table_messages::settle(words, used, Sweep::Rested);
+    let used = table_sweep::settle(words, used, Sweep::Rested);
     Chose {
         session: viewed(s, id, next),
         used,
@@ -141,7 +141,7 @@ pub fn end_command(
     let t = event_view::speak(words, order, n, Uid(told), class, queue, limit, filled);
     let gone = t.gone;
     let shown = t.shown;
-    let left = table_messages::settle(words, used, Sweep::Told(id, gone, shown));
+    let left = table_sweep::settle(words, used, Sweep::Told(id, gone, shown));
     Closed {
         session: announced(s, t.news, next),
         used: left,

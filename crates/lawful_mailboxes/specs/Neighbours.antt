@@ -18,7 +18,7 @@ use Rattle.names.specs.Once.{textOk, textFrom, text-next, text-past, some-octet
 use Rattle.names.specs.Folding.{folded-other}
 use Rattle.table_mailboxes.specs.Walks.{mapped-length}
 use Rattle.table_mailboxes.specs.Columns.{block, all-below}
-use Rattle.lawful_quick.specs.Digest.{word}
+use Rattle.lawful_digests.specs.Digest.{word}
 use Rattle.lawful_mailboxes.specs.Fields.{nameBy}
 
 -- a zero stands before a zero; an octet of a name before any, but no slash before a slash

@@ -14,7 +14,7 @@ use Rattle.model.specs.Memory.{noMailbox, nameOf}
 use Rattle.model.specs.Lawful.{zeros, mailboxOk, clash}
 use Rattle.model.specs.declared.Mailbox.{Mailbox}
 use Rattle.demands.specs.Lasting.NameLaws.{same-true}
-use Rattle.lawful_quick.specs.Distinct.{Differ, differ-apart}
+use Rattle.lawful_digests.specs.Distinct.{Differ, differ-apart}
 use Rattle.lawful_quick.specs.Passing.{all-get}
 use Rattle.table_mailboxes.specs.Columns.{Column, Names, nameAt, name-at, block}
 use Rattle.lawful_mailboxes.specs.Fields.{fieldTests}

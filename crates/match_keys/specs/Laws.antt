@@ -13,7 +13,8 @@ use lib.Seq.{drop-cons, drop-drop, drop-append-seam, length-take-le}
 use Rattle.model.specs.Text.{bit}
 use Rattle.model.specs.Requests.{Bound, number, star, Part, Test, all, unsupported, flagged, larger, smaller, uids, numbers, Key, test, non, either, group, Keys, end, more}
 use Rattle.model.specs.Searching.{Candidate, agrees, boundOf, inPart, inSet, passes, holds, holdsAll}
-use Rattle.read_keys.specs.Table.{boundNumber, partCells, flagNumber, testCode, code, codes}
+use Rattle.read_tests.specs.Table.{boundNumber, partCells, flagNumber, testCode}
+use Rattle.read_keys.specs.Table.{code, codes}
 use Rattle.match_keys.specs.Tests.{candidate, factsOf, ProperBound, ProperParts, Proper, Propers, boundBy, partHolds, Counted, countedWidth, simpleOf, widthOf, holdsSome, folded, TestsSet, TestsTest, TestsKey, TestsKeysOn, TestsAll, Behind, LastNest, Answers}
 use Rattle.match_keys.specs.declared.Probe.{Probe}
 use Rattle.match_keys.specs.declared.Facts.{Facts}

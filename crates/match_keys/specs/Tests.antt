@@ -9,7 +9,8 @@ use Rattle.model.specs.Text.{bit}
 use Rattle.model.specs.Requests.{Bound, number, star, Part, Test, Key, test, non, either, group, Keys, end, more}
 use Rattle.model.specs.Limits.{partsOf}
 use Rattle.model.specs.Searching.{Candidate, agrees, inSet, passes, holds, holdsAll}
-use Rattle.read_keys.specs.Table.{partCells, testCode, code, codes}
+use Rattle.read_tests.specs.Table.{partCells, testCode}
+use Rattle.read_keys.specs.Table.{code, codes}
 use Rattle.match_keys.specs.declared.Probe.{Probe}
 use Rattle.match_keys.specs.declared.Facts.{Facts}
 use Rattle.match_keys.specs.declared.Outcome.{Outcome}

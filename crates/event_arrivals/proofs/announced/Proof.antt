@@ -1,3 +1,4 @@
+-- `announced`: announced where the lines fit, silenced where they do not. Assumes nothing.
 use borrow.Author.Needs.{needs}
 use Rattle.event_arrivals.proofs.announced.Statement.{statement}
 use Rattle.event_arrivals.proofs.announced.Tie as tie

@@ -1,3 +1,4 @@
+-- `drop_now`: the line is said, and the entry goes if it fits and stays otherwise. Assumes nothing.
 use borrow.Author.Needs.{needs}
 use Rattle.event_expunges.proofs.drop_now.Statement.{statement}
 use Rattle.event_expunges.proofs.drop_now.Tie as tie

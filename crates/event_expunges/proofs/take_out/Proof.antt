@@ -1,3 +1,4 @@
+-- `take_out`: removed, or kept as expunged. Assumes nothing.
 use borrow.Author.Needs.{needs}
 use Rattle.event_expunges.proofs.take_out.Statement.{statement}
 use Rattle.event_expunges.proofs.take_out.Tie as tie

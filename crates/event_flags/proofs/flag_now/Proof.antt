@@ -1,3 +1,4 @@
+-- `flag_now`: the line is said, and the mark ends if it fits. Assumes nothing.
 use borrow.Author.Needs.{needs}
 use Rattle.event_flags.proofs.flag_now.Statement.{statement}
 use Rattle.event_flags.proofs.flag_now.Tie as tie

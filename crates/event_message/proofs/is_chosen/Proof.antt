@@ -1,3 +1,4 @@
+-- `is_chosen`: id 0 is nobody's; any other is compared with the selected one. Assumes nothing.
 use Rattle.event_message.proofs.is_chosen.Statement.{statement}
 use Rattle.event_message.proofs.is_chosen.Tie as tie
 use borrow.Author.Tests.{eq-eqb, ne-eqb}

@@ -1,3 +1,4 @@
+-- `is_told`: not the selected mailbox, both rights, and a group that asks, in this order. Assumes nothing.
 use borrow.Author.Needs.{needs}
 use Rattle.event_message.proofs.is_told.Statement.{statement}
 use Rattle.event_message.proofs.is_told.Tie as tie

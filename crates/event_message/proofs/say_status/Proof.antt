@@ -1,3 +1,4 @@
+-- `say_status`: measured with limit 0, then written, or else the overflow line. Assumes nothing.
 use borrow.Author.Needs.{needs}
 use Rattle.event_message.proofs.say_status.Statement.{statement}
 use Rattle.event_message.proofs.say_status.Tie as tie

@@ -1,3 +1,4 @@
+-- `announced`: announced where EXISTS was written, as it was otherwise. Assumes nothing.
 use borrow.Author.Needs.{needs}
 use Rattle.event_session.proofs.announced.Statement.{statement}
 use Rattle.event_session.proofs.announced.Tie as tie

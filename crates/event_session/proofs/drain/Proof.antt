@@ -1,3 +1,4 @@
+-- `drain`: the queue moves up by the octets that were sent, and F falls by them. Assumes nothing.
 use Rattle.event_session.proofs.drain.Statement.{statement}
 use Rattle.event_session.proofs.drain.Tie as tie
 use mathlib.Core.Path.{_≡_, refl}

@@ -1,3 +1,4 @@
+-- `end_command`: the lines along the view, then one pass that frees what was told; the session by what was announced. Assumes nothing.
 use borrow.Author.Needs.{needs}
 use Rattle.event_session.proofs.end_command.Statement.{statement}
 use Rattle.event_session.proofs.end_command.Tie as tie

@@ -1,3 +1,4 @@
+-- `select`: one pass frees what waited, and the view becomes the whole mailbox. Assumes nothing.
 use borrow.Author.Needs.{needs}
 use Rattle.event_session.proofs.select.Statement.{statement}
 use Rattle.event_session.proofs.select.Tie as tie

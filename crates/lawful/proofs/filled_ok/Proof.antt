@@ -1,3 +1,4 @@
+-- `filled_ok`: too full, no group, or 64 octets free: the three cases of the definition. Assumes nothing.
 use borrow.Author.Needs.{needs}
 use Rattle.lawful.proofs.filled_ok.Statement.{statement}
 use Rattle.lawful.proofs.filled_ok.Tie as tie

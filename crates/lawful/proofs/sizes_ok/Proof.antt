@@ -1,3 +1,4 @@
+-- `sizes_ok`: each test is one conjunct of the definition, in its order. Assumes nothing.
 use borrow.Author.Needs.{needs}
 use Rattle.lawful.proofs.sizes_ok.Statement.{statement}
 use Rattle.lawful.proofs.sizes_ok.Tie as tie

@@ -1,3 +1,4 @@
+-- `view_ok`: nothing selected, an unknown mailbox, or a view up to its UIDNEXT: the three cases. Assumes nothing.
 use borrow.Author.Needs.{needs}
 use Rattle.lawful.proofs.view_ok.Statement.{statement}
 use Rattle.lawful.proofs.view_ok.Tie as tie

@@ -1,3 +1,4 @@
+-- `numbers_ok`: a rung for each range; each law says which conjunct of the definition failed. Assumes nothing.
 use native.Mathlib.Omega.{arith}
 use Rattle.lawful_mailboxes.proofs.numbers_ok.Statement.{statement}
 use Rattle.lawful_mailboxes.proofs.numbers_ok.Tie as tie

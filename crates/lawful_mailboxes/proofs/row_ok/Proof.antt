@@ -1,3 +1,4 @@
+-- `row_ok`: the numbers first, then the name by the quick look, and by the exact test where that says nothing. Assumes nothing.
 use borrow.Author.Needs.{needs}
 use Rattle.lawful_mailboxes.proofs.row_ok.Statement.{statement}
 use Rattle.lawful_mailboxes.proofs.row_ok.Tie as tie

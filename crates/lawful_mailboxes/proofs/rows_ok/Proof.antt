@@ -1,3 +1,4 @@
+-- `rows_ok`: the loop keeps that all rows are in order exactly if those from i on are. Assumes nothing.
 use Rattle.lawful_mailboxes.proofs.rows_ok.Statement.{statement}
 use Rattle.lawful_mailboxes.proofs.rows_ok.Tie as tie
 use mathlib.Core.Path.{_≡_, refl, sym, _∙_}

@@ -1,3 +1,4 @@
+-- `any_clash`: the loop keeps that row j clashes with a row from `from` on exactly if it does with one from i on. Assumes nothing.
 use Rattle.lawful_messages.proofs.any_clash.Statement.{statement}
 use Rattle.lawful_messages.proofs.any_clash.Tie as tie
 use mathlib.Core.Path.{_≡_, refl, sym, _∙_}

@@ -1,3 +1,4 @@
+-- `any_twin`: the loop keeps that the entry has a twin from `from` on exactly if it has one from i on. Assumes nothing.
 use Rattle.lawful_messages.proofs.any_twin.Statement.{statement}
 use Rattle.lawful_messages.proofs.any_twin.Tie as tie
 use mathlib.Core.Path.{_≡_, refl, sym, _∙_, ap}

@@ -1,3 +1,4 @@
+-- `are_twins`: the same mailbox and the same UID, tested one after the other. Assumes nothing.
 use Rattle.lawful_messages.proofs.are_twins.Statement.{statement}
 use Rattle.lawful_messages.proofs.are_twins.Tie as tie
 use Prim.Native.Nat.{_-_}

@@ -1,3 +1,4 @@
+-- `do_clash`: the same id, or the same name octet for octet. Assumes nothing.
 use borrow.Author.Needs.{needs}
 use Rattle.lawful_messages.proofs.do_clash.Statement.{statement}
 use Rattle.lawful_messages.proofs.do_clash.Tie as tie

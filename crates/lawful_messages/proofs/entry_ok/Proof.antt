@@ -1,3 +1,4 @@
+-- `entry_ok`: three tests in the order of the definition; the first that fails decides. Assumes nothing.
 use Rattle.lawful_messages.proofs.entry_ok.Statement.{statement}
 use Rattle.lawful_messages.proofs.entry_ok.Tie as tie
 use mathlib.Core.Path.{sym, _∙_}

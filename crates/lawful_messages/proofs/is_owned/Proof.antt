@@ -1,3 +1,4 @@
+-- `is_owned`: the mailbox is found by its id; UIDNEXT and counter are those of its columns. Assumes nothing.
 use borrow.Author.Needs.{needs}
 use Rattle.lawful_messages.proofs.is_owned.Statement.{statement}
 use Rattle.lawful_messages.proofs.is_owned.Tie as tie

@@ -1,3 +1,4 @@
+-- `mail_ok`: the loop keeps that all entries are in order exactly if those from i on are. Assumes nothing.
 use Rattle.lawful_messages.proofs.mail_ok.Statement.{statement}
 use Rattle.lawful_messages.proofs.mail_ok.Tie as tie
 use mathlib.Core.Path.{_≡_, refl, sym, _∙_, ap}

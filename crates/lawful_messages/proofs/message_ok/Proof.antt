@@ -1,3 +1,4 @@
+-- `message_ok`: one rung for each range, in the order of the definition. Assumes nothing.
 use Rattle.lawful_messages.proofs.message_ok.Statement.{statement}
 use Rattle.lawful_messages.proofs.message_ok.Tie as tie
 use mathlib.Core.Bool.{Bool}

@@ -1,3 +1,4 @@
+-- `state_ok`: no state, or a place in the view: the two cases of the definition. Assumes nothing.
 use Rattle.lawful_messages.proofs.state_ok.Statement.{statement}
 use Rattle.lawful_messages.proofs.state_ok.Tie as tie
 use Prim.Native.Nat.{_-_}

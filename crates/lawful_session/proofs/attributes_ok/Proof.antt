@@ -1,3 +1,4 @@
+-- `attributes_ok`: the tests of the definition, each by its own function, joined by `both` and `either` in the same shape. Assumes nothing.
 use borrow.Author.Needs.{needs}
 use Rattle.lawful_session.proofs.attributes_ok.Statement.{statement}
 use Rattle.lawful_session.proofs.attributes_ok.Tie as tie

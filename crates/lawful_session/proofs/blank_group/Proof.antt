@@ -1,3 +1,4 @@
+-- `blank_group`: five fields compared with 0; `blank-is` regroups them as the definition has them. Assumes nothing.
 use borrow.Author.Needs.{needs}
 use Rattle.lawful_session.proofs.blank_group.Statement.{statement}
 use Rattle.lawful_session.proofs.blank_group.Tie as tie

@@ -1,3 +1,4 @@
+-- `blank_groups`: the loop keeps that the groups from `from` on are blank exactly if those from i on are. Assumes nothing.
 use Rattle.lawful_session.proofs.blank_groups.Statement.{statement}
 use Rattle.lawful_session.proofs.blank_groups.Tie as tie
 use mathlib.Core.Path.{_≡_, refl, sym, _∙_}

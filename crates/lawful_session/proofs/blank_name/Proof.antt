@@ -1,3 +1,4 @@
+-- `blank_name`: the length is 0 and none of the 64 octets is filled, as the definition says of a blank name. Assumes nothing.
 use borrow.Author.Needs.{needs}
 use Rattle.lawful_session.proofs.blank_name.Statement.{statement}
 use Rattle.lawful_session.proofs.blank_name.Tie as tie

@@ -1,3 +1,4 @@
+-- `events_fit`: the two mailbox events are asked for by their bits, as in the definition. Assumes nothing.
 use borrow.Author.Needs.{needs}
 use Rattle.lawful_session.proofs.events_fit.Statement.{statement}
 use Rattle.lawful_session.proofs.events_fit.Tie as tie

@@ -1,3 +1,4 @@
+-- `events_ok`: each condition on the events is one test of bits, joined in the order of the definition. Assumes nothing.
 use borrow.Author.Needs.{needs}
 use Rattle.lawful_session.proofs.events_ok.Statement.{statement}
 use Rattle.lawful_session.proofs.events_ok.Tie as tie

@@ -1,3 +1,4 @@
+-- `group_of`: field by field; the selector by `selector_of`. Assumes nothing.
 use borrow.Author.Needs.{needs}
 use Rattle.lawful_session.proofs.group_of.Statement.{statement}
 use Rattle.lawful_session.proofs.group_of.Tie as tie

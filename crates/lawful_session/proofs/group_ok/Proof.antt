@@ -1,3 +1,4 @@
+-- `group_ok`: the four tests of a lent group, joined as `group-is` has them. Assumes nothing.
 use borrow.Author.Needs.{needs}
 use Rattle.lawful_session.proofs.group_ok.Statement.{statement}
 use Rattle.lawful_session.proofs.group_ok.Tie as tie

@@ -1,3 +1,4 @@
+-- `groups_ok`: the loop keeps how many names the groups before i have, which is where the names of group i must begin. Assumes nothing.
 use Rattle.lawful_session.proofs.groups_ok.Statement.{statement}
 use Rattle.lawful_session.proofs.groups_ok.Tie as tie
 use mathlib.Core.Path.{_≡_, refl, sym, _∙_}

@@ -1,3 +1,4 @@
+-- `lent_name_ok`: too long, empty, or a name that is kept: the three cases of the definition. Assumes nothing.
 use borrow.Author.Needs.{needs}
 use Rattle.lawful_session.proofs.lent_name_ok.Statement.{statement}
 use Rattle.lawful_session.proofs.lent_name_ok.Tie as tie

@@ -1,3 +1,4 @@
+-- `name_count`: the loop keeps that the sum and the names of the groups from i on make up all names. Assumes nothing.
 use Rattle.lawful_session.proofs.name_count.Statement.{statement}
 use Rattle.lawful_session.proofs.name_count.Tie as tie
 use mathlib.Core.Path.{_≡_}

@@ -1,3 +1,4 @@
+-- `range_ok`: without names the range is zero; with names it begins where the last ended and is not empty. Assumes nothing.
 use borrow.Author.Needs.{needs}
 use Rattle.lawful_session.proofs.range_ok.Statement.{statement}
 use Rattle.lawful_session.proofs.range_ok.Tie as tie

@@ -1,3 +1,4 @@
+-- `selected_count`: the loop keeps that the sum and the selected groups from i on make up all of them. Assumes nothing.
 use Rattle.lawful_session.proofs.selected_count.Statement.{statement}
 use Rattle.lawful_session.proofs.selected_count.Tie as tie
 use mathlib.Core.Path.{_≡_}

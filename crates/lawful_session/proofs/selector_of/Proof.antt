@@ -1,3 +1,4 @@
+-- `selector_of`: a rung for each number, in the order of the definition. Assumes nothing.
 use Rattle.lawful_session.proofs.selector_of.Statement.{statement}
 use Rattle.lawful_session.proofs.selector_of.Tie as tie
 use Prim.Native.Nat.{_-_}

@@ -1,3 +1,4 @@
+-- `session_ok`: each test is one conjunct of the definition, tried in its order; the first that fails decides. Assumes nothing.
 use borrow.Author.Needs.{needs}
 use Rattle.lawful_session.proofs.session_ok.Statement.{statement}
 use Rattle.lawful_session.proofs.session_ok.Tie as tie

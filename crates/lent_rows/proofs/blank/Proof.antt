@@ -1,3 +1,4 @@
+-- `blank`: 64 empty rows are an array of them. Assumes nothing.
 use borrow.Author.Needs.{needs}
 use Rattle.lent_rows.proofs.blank.Statement.{statement}
 use Rattle.lent_rows.proofs.blank.Tie as tie

@@ -1,3 +1,4 @@
+-- `find_id`: the loop keeps that no row before i has the id. Assumes nothing.
 use Rattle.lent_rows.proofs.find_id.Statement.{statement}
 use Rattle.lent_rows.proofs.find_id.Tie as tie
 use mathlib.Core.Path.{_≡_, sym, _∙_, ap}

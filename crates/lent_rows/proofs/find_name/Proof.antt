@@ -1,3 +1,4 @@
+-- `find_name`: the loop keeps that no row before i has the name. Assumes nothing.
 use Rattle.lent_rows.proofs.find_name.Statement.{statement}
 use Rattle.lent_rows.proofs.find_name.Tie as tie
 use mathlib.Core.Path.{_≡_, sym, _∙_, ap}

@@ -1,3 +1,4 @@
+-- `is_named`: the row's octets up to its clipped length, compared octet for octet. Assumes nothing.
 use borrow.Author.Needs.{needs}
 use Rattle.lent_rows.proofs.is_named.Statement.{statement}
 use Rattle.lent_rows.proofs.is_named.Tie as tie

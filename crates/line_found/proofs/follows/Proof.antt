@@ -1,3 +1,4 @@
+-- `follows`: 0 follows nothing; any other number follows the one before it. Assumes nothing.
 use borrow.Author.Needs.{needs}
 use Rattle.line_found.proofs.follows.Statement.{statement}
 use Rattle.line_found.proofs.follows.Tie as tie

@@ -1,3 +1,4 @@
+-- `put_all`: nothing where it is not asked for; else the label and the set behind it. Assumes nothing.
 use borrow.Author.Needs.{needs}
 use Rattle.line_found.proofs.put_all.Statement.{statement}
 use Rattle.line_found.proofs.put_all.Tie as tie

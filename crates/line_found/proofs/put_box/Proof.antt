@@ -1,3 +1,4 @@
+-- `put_box`: four texts one behind the other make the text of the definition. Assumes nothing.
 use borrow.Author.Needs.{needs}
 use Rattle.line_found.proofs.put_box.Statement.{statement}
 use Rattle.line_found.proofs.put_box.Tie as tie

@@ -1,3 +1,4 @@
+-- `put_found`: tag, mailbox, results and line end, one behind the other. Assumes nothing.
 use borrow.Author.Needs.{needs}
 use Rattle.line_found.proofs.put_found.Statement.{statement}
 use Rattle.line_found.proofs.put_found.Tie as tie

@@ -1,3 +1,4 @@
+-- `put_labelled`: nothing where it is not asked for; else the label and the number. Assumes nothing.
 use borrow.Author.Needs.{needs}
 use Rattle.line_found.proofs.put_labelled.Statement.{statement}
 use Rattle.line_found.proofs.put_labelled.Tie as tie

@@ -1,3 +1,4 @@
+-- `put_part`: a run and a comma behind it. Assumes nothing.
 use borrow.Author.Needs.{needs}
 use Rattle.line_found.proofs.put_part.Statement.{statement}
 use Rattle.line_found.proofs.put_part.Tie as tie

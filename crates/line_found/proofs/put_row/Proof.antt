@@ -1,3 +1,4 @@
+-- `put_row`: nothing where nothing was found; else the line of the run that the row has. Assumes nothing.
 use borrow.Author.Needs.{needs}
 use Rattle.line_found.proofs.put_row.Statement.{statement}
 use Rattle.line_found.proofs.put_row.Tie as tie

@@ -1,3 +1,4 @@
+-- `put_rows`: the loop keeps that the lines of the places above i are written, from the top down. Assumes nothing.
 use Rattle.line_found.proofs.put_rows.Statement.{statement}
 use Rattle.line_found.proofs.put_rows.Tie as tie
 use mathlib.Core.Path.{_≡_, refl, _∙_}

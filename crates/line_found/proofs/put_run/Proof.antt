@@ -1,3 +1,4 @@
+-- `put_run`: one number where both ends are the same, else both with a colon between. Assumes nothing.
 use borrow.Author.Needs.{needs}
 use Rattle.line_found.proofs.put_run.Statement.{statement}
 use Rattle.line_found.proofs.put_run.Tie as tie

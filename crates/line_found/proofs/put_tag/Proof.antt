@@ -1,3 +1,4 @@
+-- `put_tag`: three texts one behind the other. Assumes nothing.
 use borrow.Author.Needs.{needs}
 use Rattle.line_found.proofs.put_tag.Statement.{statement}
 use Rattle.line_found.proofs.put_tag.Tie as tie

@@ -1,3 +1,4 @@
+-- `put_line`: no access without r; a STATUS where it is asked for; else nothing. Assumes nothing.
 use borrow.Author.Needs.{needs}
 use Rattle.line_listing.proofs.put_line.Statement.{statement}
 use Rattle.line_listing.proofs.put_line.Tie as tie

@@ -1,3 +1,4 @@
+-- `put_lines`: the loop keeps that the lines of the places above i are written. Assumes nothing.
 use Rattle.line_listing.proofs.put_lines.Statement.{statement}
 use Rattle.line_listing.proofs.put_lines.Tie as tie
 use mathlib.Core.Path.{_≡_, refl, _∙_}

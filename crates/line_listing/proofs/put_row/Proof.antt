@@ -1,3 +1,4 @@
+-- `put_row`: the row's columns make the line of the definition. Assumes nothing.
 use borrow.Author.Needs.{needs}
 use Rattle.line_listing.proofs.put_row.Statement.{statement}
 use Rattle.line_listing.proofs.put_row.Tie as tie

@@ -1,3 +1,4 @@
+-- `put_counted`: a label and a number behind it. Assumes nothing.
 use borrow.Author.Needs.{needs}
 use Rattle.line_mailbox.proofs.put_counted.Statement.{statement}
 use Rattle.line_mailbox.proofs.put_counted.Tie as tie

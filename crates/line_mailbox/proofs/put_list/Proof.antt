@@ -1,3 +1,4 @@
+-- `put_list`: the opening, the mark, the name and the line end, one behind the other. Assumes nothing.
 use borrow.Author.Needs.{needs}
 use Rattle.line_mailbox.proofs.put_list.Statement.{statement}
 use Rattle.line_mailbox.proofs.put_list.Tie as tie

@@ -1,3 +1,4 @@
+-- `put_listed`: mark, separator and name, one behind the other. Assumes nothing.
 use borrow.Author.Needs.{needs}
 use Rattle.line_mailbox.proofs.put_listed.Statement.{statement}
 use Rattle.line_mailbox.proofs.put_listed.Tie as tie

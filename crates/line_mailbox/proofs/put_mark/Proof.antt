@@ -1,3 +1,4 @@
+-- `put_mark`: a text for each mark. Assumes nothing.
 use borrow.Author.Needs.{needs}
 use Rattle.line_mailbox.proofs.put_mark.Statement.{statement}
 use Rattle.line_mailbox.proofs.put_mark.Tie as tie

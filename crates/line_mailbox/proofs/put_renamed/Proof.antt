@@ -1,3 +1,4 @@
+-- `put_renamed`: the line of the new name with the old one in OLDNAME. Assumes nothing.
 use borrow.Author.Needs.{needs}
 use Rattle.line_mailbox.proofs.put_renamed.Statement.{statement}
 use Rattle.line_mailbox.proofs.put_renamed.Tie as tie

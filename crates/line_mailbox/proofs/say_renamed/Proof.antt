@@ -1,3 +1,4 @@
+-- `say_renamed`: measured with limit 0, then written, or else the overflow line. Assumes nothing.
 use borrow.Author.Needs.{needs}
 use Rattle.line_mailbox.proofs.say_renamed.Statement.{statement}
 use Rattle.line_mailbox.proofs.say_renamed.Tie as tie

@@ -1,3 +1,4 @@
+-- `put_count`: three texts one behind the other. Assumes nothing.
 use borrow.Author.Needs.{needs}
 use Rattle.line_message.proofs.put_count.Statement.{statement}
 use Rattle.line_message.proofs.put_count.Tie as tie

@@ -1,3 +1,4 @@
+-- `put_exists`: no line where nothing is new; else the number of all. Assumes nothing.
 use borrow.Author.Needs.{needs}
 use Rattle.line_message.proofs.put_exists.Statement.{statement}
 use Rattle.line_message.proofs.put_exists.Tie as tie

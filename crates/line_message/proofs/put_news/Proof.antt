@@ -1,3 +1,4 @@
+-- `put_news`: EXISTS, and behind it a FETCH of each that is new, where one is asked. Assumes nothing.
 use borrow.Author.Needs.{needs}
 use Rattle.line_message.proofs.put_news.Statement.{statement}
 use Rattle.line_message.proofs.put_news.Tie as tie

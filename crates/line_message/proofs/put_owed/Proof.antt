@@ -1,3 +1,4 @@
+-- `put_owed`: the three parts one behind the other, EXISTS by the two counts along the order. Assumes nothing.
 use borrow.Author.Needs.{needs}
 use Rattle.line_message.proofs.put_owed.Statement.{statement}
 use Rattle.line_message.proofs.put_owed.Tie as tie

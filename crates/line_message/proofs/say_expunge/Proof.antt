@@ -1,3 +1,4 @@
+-- `say_expunge`: measured with limit 0, then written, or else the overflow line. Assumes nothing.
 use borrow.Author.Needs.{needs}
 use Rattle.line_message.proofs.say_expunge.Statement.{statement}
 use Rattle.line_message.proofs.say_expunge.Tie as tie

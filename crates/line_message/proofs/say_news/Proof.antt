@@ -1,3 +1,4 @@
+-- `say_news`: measured with limit 0, then written, or else the overflow line. Assumes nothing.
 use borrow.Author.Needs.{needs}
 use Rattle.line_message.proofs.say_news.Statement.{statement}
 use Rattle.line_message.proofs.say_news.Tie as tie

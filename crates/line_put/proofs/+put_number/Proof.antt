@@ -1,3 +1,4 @@
+-- `put_number`: the digits before the last, then the last: division by ten falls. Assumes nothing.
 use Prim.Native.Nat.{ℕ, _<_}
 use borrow.Fn.Kinds.{In}
 use borrow.Fn.PlainCycle.{Measures, is, falls, and}

@@ -1,3 +1,4 @@
+-- `copy`: the loop keeps that the first i octets are written. Assumes nothing.
 use Rattle.line_put.proofs.copy.Statement.{statement}
 use Rattle.line_put.proofs.copy.Tie as tie
 use mathlib.Core.Path.{_≡_, refl, sym}

@@ -1,3 +1,4 @@
+-- `hear`: the session as it is where the line fits, silenced where it does not. Assumes nothing.
 use borrow.Author.Needs.{needs}
 use Rattle.line_put.proofs.hear.Statement.{statement}
 use Rattle.line_put.proofs.hear.Tie as tie

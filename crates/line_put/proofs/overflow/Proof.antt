@@ -1,3 +1,4 @@
+-- `overflow`: the line itself, in the octets that were kept for it. Assumes nothing.
 use borrow.Author.Needs.{needs}
 use Rattle.line_put.proofs.overflow.Statement.{statement}
 use Rattle.line_put.proofs.overflow.Tie as tie

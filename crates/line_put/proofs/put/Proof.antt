@@ -1,3 +1,4 @@
+-- `put`: past the limit nothing is written and the end is told; else the text is copied. Assumes nothing.
 use borrow.Author.Needs.{needs}
 use Rattle.line_put.proofs.put.Statement.{statement}
 use Rattle.line_put.proofs.put.Tie as tie

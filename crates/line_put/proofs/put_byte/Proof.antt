@@ -1,3 +1,4 @@
+-- `put_byte`: past the limit nothing is written; else one octet. Assumes nothing.
 use borrow.Author.Needs.{needs}
 use Rattle.line_put.proofs.put_byte.Statement.{statement}
 use Rattle.line_put.proofs.put_byte.Tie as tie

@@ -1,3 +1,4 @@
+-- `put_escaped`: a quote and a backslash get a backslash before them. Assumes nothing.
 use borrow.Author.Needs.{needs}
 use Rattle.line_put.proofs.put_escaped.Statement.{statement}
 use Rattle.line_put.proofs.put_escaped.Tie as tie

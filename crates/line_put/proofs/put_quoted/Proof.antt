@@ -1,3 +1,4 @@
+-- `put_quoted`: the loop keeps that the octets before i are written, escaped, behind the opening quote. Assumes nothing.
 use Rattle.line_put.proofs.put_quoted.Statement.{statement}
 use Rattle.line_put.proofs.put_quoted.Tie as tie
 use mathlib.Core.Path.{_≡_, refl, sym}

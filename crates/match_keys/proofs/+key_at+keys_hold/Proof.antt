@@ -1,3 +1,4 @@
+-- `key_at`, `keys_hold`: keys and lists of keys call each other on ever fewer cells; the loop keeps what the keys from i on still have to decide. Assumes nothing.
 use Prim.Native.Nat.{ℕ, _<_, _≤_, _+_, _-_, _*_}
 use borrow.Fn.Kinds.{In}
 use borrow.Fn.PlainCycle.{Measures, is, falls, and}

@@ -1,3 +1,4 @@
+-- `behind`: the width of a key from its second cell, cut at `stop`. Assumes nothing.
 use borrow.Author.Needs.{needs}
 use Rattle.match_keys.proofs.behind.Statement.{statement}
 use Rattle.match_keys.proofs.behind.Tie as tie

@@ -1,3 +1,4 @@
+-- `bit_of`: a bit above 63 is never set; any other by a shift. Assumes nothing.
 use borrow.Author.Needs.{needs}
 use Rattle.match_keys.proofs.bit_of.Statement.{statement}
 use Rattle.match_keys.proofs.bit_of.Tie as tie

@@ -1,3 +1,4 @@
+-- `bound`: 0 stands for a star, which is the last number. Assumes nothing.
 use Rattle.match_keys.proofs.bound.Statement.{statement}
 use Rattle.match_keys.proofs.bound.Tie as tie
 use borrow.Author.Tests.{eq-eqb, ne-eqb}

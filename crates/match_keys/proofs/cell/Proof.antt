@@ -1,3 +1,4 @@
+-- `cell`: a cell within the slice; 0 behind it, as `getD` has it. Assumes nothing.
 use borrow.Author.Needs.{needs}
 use Rattle.match_keys.proofs.cell.Statement.{statement}
 use Rattle.match_keys.proofs.cell.Tie as tie

@@ -1,3 +1,4 @@
+-- `in_part`: the two bounds in either order, by the three places that a number can have. Assumes nothing.
 use borrow.Author.Needs.{needs}
 use Rattle.match_keys.proofs.in_part.Statement.{statement}
 use Rattle.match_keys.proofs.in_part.Tie as tie

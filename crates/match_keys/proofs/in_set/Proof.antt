@@ -1,3 +1,4 @@
+-- `in_set`: the loop keeps that no part before i holds the number. Assumes nothing.
 use Rattle.match_keys.proofs.in_set.Statement.{statement}
 use Rattle.match_keys.proofs.in_set.Tie as tie
 use Rattle.match_keys.specs.Laws.{SetGoing, set-start, set-hit, set-next, set-end}

@@ -1,3 +1,4 @@
+-- `last_nest`: it promises only its yes: the key holds keys and ends where the row does. Assumes nothing.
 use borrow.Author.Needs.{needs}
 use Rattle.match_keys.proofs.last_nest.Statement.{statement}
 use Rattle.match_keys.proofs.last_nest.Tie as tie

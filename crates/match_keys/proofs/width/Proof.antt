@@ -1,3 +1,4 @@
+-- `width`: the cells that a key says it has, and no more than are left. Assumes nothing.
 use borrow.Author.Needs.{needs}
 use Rattle.match_keys.proofs.width.Statement.{statement}
 use Rattle.match_keys.proofs.width.Tie as tie

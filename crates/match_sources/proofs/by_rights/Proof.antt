@@ -1,3 +1,4 @@
+-- `by_rights`: without l nobody; then by attributes, a rung for each scope. Assumes nothing.
 use Rattle.match_sources.proofs.by_rights.Statement.{statement}
 use Rattle.match_sources.proofs.by_rights.Tie as tie
 use borrow.Author.Tests.{eq-eqb, ne-eqb, not-true, not-false}

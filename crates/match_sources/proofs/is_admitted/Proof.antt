@@ -1,3 +1,4 @@
+-- `is_admitted`: the source's scope, with its names looked through. Assumes nothing.
 use borrow.Author.Needs.{needs}
 use Rattle.match_sources.proofs.is_admitted.Statement.{statement}
 use Rattle.match_sources.proofs.is_admitted.Tie as tie

@@ -1,3 +1,4 @@
+-- `is_meant`: by subtree, one level or the name itself, as the scope says. Assumes nothing.
 use borrow.Author.Needs.{needs}
 use Rattle.match_sources.proofs.is_meant.Statement.{statement}
 use Rattle.match_sources.proofs.is_meant.Tie as tie

@@ -1,3 +1,4 @@
+-- `is_named`: the loop keeps that one of the names means the mailbox exactly if one from i on does. Assumes nothing.
 use Rattle.match_sources.proofs.is_named.Statement.{statement}
 use Rattle.match_sources.proofs.is_named.Tie as tie
 use mathlib.Core.Path.{_≡_, refl, sym, _∙_}

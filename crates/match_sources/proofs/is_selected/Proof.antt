@@ -1,3 +1,4 @@
+-- `is_selected`: nothing is selected by 0; any other id is compared. Assumes nothing.
 use Rattle.match_sources.proofs.is_selected.Statement.{statement}
 use Rattle.match_sources.proofs.is_selected.Tie as tie
 use Rattle.match_sources.specs.Picking.{selected-none, selected-some}

@@ -1,3 +1,4 @@
+-- `listed_count`: a count within the eight sources. Assumes nothing.
 use borrow.Author.Needs.{needs}
 use Rattle.match_sources.proofs.listed_count.Statement.{statement}
 use Rattle.match_sources.proofs.listed_count.Tie as tie

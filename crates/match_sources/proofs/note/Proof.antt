@@ -1,3 +1,4 @@
+-- `note`: 1 for a row that is searched, 0 for another. Assumes nothing.
 use borrow.Author.Needs.{needs}
 use Rattle.match_sources.proofs.note.Statement.{statement}
 use Rattle.match_sources.proofs.note.Tie as tie

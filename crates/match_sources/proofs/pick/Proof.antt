@@ -1,3 +1,4 @@
+-- `pick`: the loop keeps that the notes before i say whether their rows are searched. Assumes nothing.
 use Rattle.match_sources.proofs.pick.Statement.{statement}
 use Rattle.match_sources.proofs.pick.Tie as tie
 use mathlib.Core.Path.{_≡_, refl, _∙_}

@@ -1,3 +1,4 @@
+-- `run_end`: where the names of a source end, within the sixteen. Assumes nothing.
 use borrow.Author.Needs.{needs}
 use Rattle.match_sources.proofs.run_end.Statement.{statement}
 use Rattle.match_sources.proofs.run_end.Tie as tie

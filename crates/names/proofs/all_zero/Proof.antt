@@ -1,3 +1,4 @@
+-- `all_zero`: the loop keeps that the sum is 0 exactly if the octets before i are. Assumes nothing.
 use Rattle.names.proofs.all_zero.Statement.{statement}
 use Rattle.names.proofs.all_zero.Tie as tie
 use mathlib.Core.Path.{_≡_, refl}

@@ -1,3 +1,4 @@
+-- `both_slashes`: the first test decides whether the second counts. Assumes nothing.
 use Rattle.names.proofs.both_slashes.Statement.{statement}
 use Rattle.names.proofs.both_slashes.Tie as tie
 use Prim.Native.Nat.{_-_}

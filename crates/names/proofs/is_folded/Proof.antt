@@ -1,3 +1,4 @@
+-- `is_folded`: INBOX must be in capitals; any other name is folded as it is. Assumes nothing.
 use borrow.Author.Needs.{needs}
 use Rattle.names.proofs.is_folded.Statement.{statement}
 use Rattle.names.proofs.is_folded.Tie as tie

@@ -1,3 +1,4 @@
+-- `is_kept`: valid, folded, and zeros behind: the three tests of the definition. Assumes nothing.
 use borrow.Author.Needs.{needs}
 use Rattle.names.proofs.is_kept.Statement.{statement}
 use Rattle.names.proofs.is_kept.Tie as tie

@@ -1,3 +1,4 @@
+-- `is_valid`: none, too many, or the octets one by one. Assumes nothing.
 use borrow.Author.Needs.{needs}
 use Rattle.names.proofs.is_valid.Statement.{statement}
 use Rattle.names.proofs.is_valid.Tie as tie

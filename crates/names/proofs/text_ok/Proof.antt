@@ -1,3 +1,4 @@
+-- `text_ok`: the loop keeps that the whole is in order exactly if it is from i on, behind the octet last seen. Assumes nothing.
 use Rattle.names.proofs.text_ok.Statement.{statement}
 use Rattle.names.proofs.text_ok.Tie as tie
 use mathlib.Core.Path.{_≡_, refl, sym, _∙_}

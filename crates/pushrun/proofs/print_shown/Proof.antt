@@ -1,3 +1,4 @@
+-- `print_shown`: what is shown lies within the array. Assumes nothing.
 use mathlib.Core.Path.{sym}
 use native.Mathlib.Omega.{arith}
 use lib.Seq.{length-take-le}

@@ -1,3 +1,4 @@
+-- `run_case`: the calls run on a part of the arrays that they lie within. Assumes nothing.
 use mathlib.Core.Path.{sym}
 use native.Mathlib.Omega.{arith}
 use lib.Seq.{length-take-le}

@@ -1,3 +1,4 @@
+-- `answer`: all that is read lies within the arrays that were lent. Assumes nothing.
 use mathlib.Core.Path.{sym}
 use native.Mathlib.Omega.{arith}
 use lib.Seq.{length-take-le}

@@ -1,3 +1,4 @@
+-- `fill`: the loop keeps how many words there are; what they hold is read. Assumes nothing.
 use mathlib.Core.Path.{_≡_}
 use Prim.Native.Nat.{_≤_, _-_}
 use lib.ListN.{length}

@@ -1,3 +1,4 @@
+-- `judge`: the table laid out by columns, then the exact test. Assumes nothing.
 use borrow.Author.Needs.{needs}
 use Rattle.run_lawful.proofs.judge.Statement.{statement}
 use Rattle.run_lawful.proofs.judge.Tie as tie

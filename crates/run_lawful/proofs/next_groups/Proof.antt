@@ -1,3 +1,4 @@
+-- `next_groups`: the loop keeps that there are eight groups. Assumes nothing.
 use mathlib.Core.Path.{_≡_}
 use Prim.Native.Nat.{_≤_, _-_}
 use lib.ListN.{length}

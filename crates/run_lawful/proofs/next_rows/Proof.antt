@@ -1,3 +1,4 @@
+-- `next_rows`: the loop keeps that there are 64 rows. Assumes nothing.
 use mathlib.Core.Path.{_≡_}
 use Prim.Native.Nat.{_≤_, _-_}
 use lib.ListN.{length}

@@ -1,3 +1,4 @@
+-- `print_name`: what is printed lies within the octets of a name. Assumes nothing.
 use mathlib.Core.Path.{sym}
 use native.Mathlib.Omega.{arith}
 use lib.Seq.{length-take-le}

@@ -1,3 +1,4 @@
+-- `find`: the loop keeps that the UIDs of those that match above place k are put, rising. Assumes nothing.
 use Rattle.search_find.proofs.find.Statement.{statement}
 use Rattle.search_find.proofs.find.Tie as tie
 use Rattle.search_find.specs.Laws.{Sought, find-none, sought-start, sought-next, sought-end}

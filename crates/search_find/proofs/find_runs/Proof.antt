@@ -1,3 +1,4 @@
+-- `find_runs`: the loop keeps that the runs of the places above i stand one behind the other. Assumes nothing.
 use Rattle.search_find.proofs.find_runs.Statement.{statement}
 use Rattle.search_find.proofs.find_runs.Tie as tie
 use mathlib.Core.Path.{_≡_, refl, _∙_}

@@ -1,3 +1,4 @@
+-- `is_hit`: an expunged message matches nothing; any other by its keys. Assumes nothing.
 use borrow.Author.Needs.{needs}
 use Rattle.search_find.proofs.is_hit.Statement.{statement}
 use Rattle.search_find.proofs.is_hit.Tie as tie

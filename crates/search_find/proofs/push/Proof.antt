@@ -1,3 +1,4 @@
+-- `push`: the element is put at the end, or nothing changes. Assumes nothing.
 use borrow.Author.Needs.{needs}
 use Rattle.search_find.proofs.push.Statement.{statement}
 use Rattle.search_find.proofs.push.Tie as tie

@@ -1,3 +1,4 @@
+-- `push_place`: the place is put at the end, or nothing changes. Assumes nothing.
 use borrow.Author.Needs.{needs}
 use Rattle.search_find.proofs.push_place.Statement.{statement}
 use Rattle.search_find.proofs.push_place.Tie as tie

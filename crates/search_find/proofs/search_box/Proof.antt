@@ -1,3 +1,4 @@
+-- `search_box`: the order by UID, and what matches along it. Assumes nothing.
 use borrow.Author.Needs.{needs}
 use Rattle.search_find.proofs.search_box.Statement.{statement}
 use Rattle.search_find.proofs.search_box.Tie as tie

@@ -1,3 +1,4 @@
+-- `search_row`: the selected mailbox by its view, any other by rank. Assumes nothing.
 use borrow.Author.Needs.{needs}
 use Rattle.search_find.proofs.search_row.Statement.{statement}
 use Rattle.search_find.proofs.search_row.Tie as tie

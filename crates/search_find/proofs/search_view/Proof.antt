@@ -1,3 +1,4 @@
+-- `search_view`: the order by UID, cut to the view, and what matches along it. Assumes nothing.
 use borrow.Author.Needs.{needs}
 use Rattle.search_find.proofs.search_view.Statement.{statement}
 use Rattle.search_find.proofs.search_view.Tie as tie

@@ -1,3 +1,4 @@
+-- `told_of`: the loop keeps that the places before it are those of the view. Assumes nothing.
 use Rattle.search_find.proofs.told_of.Statement.{statement}
 use Rattle.search_find.proofs.told_of.Tie as tie
 use Rattle.search_find.specs.Laws.{Keeping, keeping-start, keeping-next, keeping-end}

@@ -1,3 +1,4 @@
+-- `count`: all counts 0, then one pass over the entries. Assumes nothing.
 use borrow.Author.Needs.{needs}
 use Rattle.table_counts.proofs.count.Statement.{statement}
 use Rattle.table_counts.proofs.count.Tie as tie

@@ -1,3 +1,4 @@
+-- `seek`: the loop keeps that no id before i is this one. Assumes nothing.
 use Rattle.table_counts.proofs.seek.Statement.{statement}
 use Rattle.table_counts.proofs.seek.Tie as tie
 use mathlib.Core.Path.{_≡_}

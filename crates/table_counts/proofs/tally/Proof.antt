@@ -1,3 +1,4 @@
+-- `tally`: an entry that exists counts for the row with its id, and for no other. Assumes nothing.
 use borrow.Author.Needs.{needs}
 use Rattle.table_counts.proofs.tally.Statement.{statement}
 use Rattle.table_counts.proofs.tally.Tie as tie

@@ -1,3 +1,4 @@
+-- `tally_all`: the loop keeps that the counts are those of the entries before i. Assumes nothing.
 use Rattle.table_counts.proofs.tally_all.Statement.{statement}
 use Rattle.table_counts.proofs.tally_all.Tie as tie
 use mathlib.Core.Path.{_≡_, refl, sym, _∙_}

@@ -1,3 +1,4 @@
+-- `blank`: the loop keeps that every number before i is 0 and the others are as they were. Assumes nothing.
 use Rattle.table_mailboxes.proofs.blank.Statement.{statement}
 use Rattle.table_mailboxes.proofs.blank.Tie as tie
 use mathlib.Core.Path.{_≡_, refl}

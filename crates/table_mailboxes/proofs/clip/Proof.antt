@@ -1,3 +1,4 @@
+-- `clip`: a length above 64 is cut, which changes no list of 64. Assumes nothing.
 use borrow.Author.Needs.{needs}
 use Rattle.table_mailboxes.proofs.clip.Statement.{statement}
 use Rattle.table_mailboxes.proofs.clip.Tie as tie

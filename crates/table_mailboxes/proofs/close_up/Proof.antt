@@ -1,3 +1,4 @@
+-- `close_up`: the loop keeps that rows before i have moved up and the others stand as they did. Assumes nothing.
 use Rattle.table_mailboxes.proofs.close_up.Statement.{statement}
 use Rattle.table_mailboxes.proofs.close_up.Tie as tie
 use mathlib.Core.Path.{_≡_, _∙_, ap}

@@ -1,3 +1,4 @@
+-- `few`: the smaller of the two, so at most 64. Assumes nothing.
 use borrow.Author.Needs.{needs}
 use Rattle.table_mailboxes.proofs.few.Statement.{statement}
 use Rattle.table_mailboxes.proofs.few.Tie as tie

@@ -1,3 +1,4 @@
+-- `fill`: the loop keeps that the columns hold the rows before i. Assumes nothing.
 use Rattle.table_mailboxes.proofs.fill.Statement.{statement}
 use Rattle.table_mailboxes.proofs.fill.Tie as tie
 use mathlib.Core.Path.{_≡_, sym, _∙_}

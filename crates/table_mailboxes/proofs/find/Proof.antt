@@ -1,3 +1,4 @@
+-- `find`: the loop keeps that no row before i has the id. Assumes nothing.
 use Rattle.table_mailboxes.proofs.find.Statement.{statement}
 use Rattle.table_mailboxes.proofs.find.Tie as tie
 use mathlib.Core.Path.{_≡_, sym, _∙_}

@@ -1,3 +1,4 @@
+-- `has`: one bit, read by a shift for each place. Assumes nothing.
 use Rattle.table_mailboxes.proofs.has.Statement.{statement}
 use Rattle.table_mailboxes.proofs.has.Tie as tie
 use mathlib.Core.Path.{_≡_, refl, sym, _∙_, ap}

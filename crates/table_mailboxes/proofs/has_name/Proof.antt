@@ -1,3 +1,4 @@
+-- `has_name`: the name of the row is a piece of the flat array, compared octet for octet. Assumes nothing.
 use borrow.Author.Needs.{needs}
 use Rattle.table_mailboxes.proofs.has_name.Statement.{statement}
 use Rattle.table_mailboxes.proofs.has_name.Tie as tie

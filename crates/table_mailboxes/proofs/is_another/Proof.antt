@@ -1,3 +1,4 @@
+-- `is_another`: another id and the same name, in this order. Assumes nothing.
 use borrow.Author.Needs.{needs}
 use Rattle.table_mailboxes.proofs.is_another.Statement.{statement}
 use Rattle.table_mailboxes.proofs.is_another.Tie as tie

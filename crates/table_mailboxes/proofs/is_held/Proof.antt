@@ -1,3 +1,4 @@
+-- `is_held`: the loop keeps that no row before i is another that holds the name. Assumes nothing.
 use Rattle.table_mailboxes.proofs.is_held.Statement.{statement}
 use Rattle.table_mailboxes.proofs.is_held.Tie as tie
 use mathlib.Core.Path.{_≡_, refl, sym, _∙_}

@@ -1,3 +1,4 @@
+-- `keep_name`: the loop keeps that the first i octets of the name are in their place and all others as they were. Assumes nothing.
 use Rattle.table_mailboxes.proofs.keep_name.Statement.{statement}
 use Rattle.table_mailboxes.proofs.keep_name.Tie as tie
 use mathlib.Core.Path.{_≡_, refl, sym, _∙_}

@@ -1,3 +1,4 @@
+-- `lay`: columns of zeros, then filled by the used rows. Assumes nothing.
 use mathlib.Core.Path.{_≡_}
 use lib.ListN.{length}
 use Rattle.table_mailboxes.specs.Walks.{mapped-length}

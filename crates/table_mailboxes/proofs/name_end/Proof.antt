@@ -1,3 +1,4 @@
+-- `name_end`: the place where the row's 64 octets begin, and its clipped length. Assumes nothing.
 use borrow.Author.Needs.{needs}
 use Rattle.table_mailboxes.proofs.name_end.Statement.{statement}
 use Rattle.table_mailboxes.proofs.name_end.Tie as tie

@@ -1,3 +1,4 @@
+-- `with_counter`: the row with both halves of the counter; the halves make the number again. Assumes nothing.
 use borrow.Author.Needs.{needs}
 use Rattle.table_mailboxes.proofs.with_counter.Statement.{statement}
 use Rattle.table_mailboxes.proofs.with_counter.Tie as tie

@@ -1,3 +1,4 @@
+-- `ends_ok`: it promises only its yes, which all tests before it have to grant. Assumes nothing.
 use mathlib.Core.Path.{refl}
 use mathlib.Core.Bool.{false}
 use native.Mathlib.Omega.{arith}

@@ -1,3 +1,4 @@
+-- `is_placed`: the tests of two neighbouring octets, joined as the definition joins them. Assumes nothing.
 use borrow.Author.Needs.{needs}
 use Rattle.lawful_mailboxes.proofs.naming.is_placed.Statement.{statement}
 use Rattle.lawful_mailboxes.proofs.naming.is_placed.Tie as tie

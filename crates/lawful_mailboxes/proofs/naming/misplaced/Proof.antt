@@ -1,3 +1,4 @@
+-- `misplaced`: one where a pair is not placed, and 0 where it is. Assumes nothing.
 use mathlib.Core.Path.{sym, _∙_}
 use native.Mathlib.Omega.{arith}
 use borrow.Author.Needs.{needs}

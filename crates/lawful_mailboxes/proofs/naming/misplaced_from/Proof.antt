@@ -1,3 +1,4 @@
+-- `misplaced_from`: the loop keeps that the sum counts the misplaced pairs before i. Assumes nothing.
 use mathlib.Core.Path.{_≡_, refl}
 use Prim.Native.Nat.{_≤_, _-_}
 use native.Mathlib.Omega.{arith}

@@ -1,3 +1,4 @@
+-- `name_ok`: the exact test of a kept name, on the row's own 64 octets. Assumes nothing.
 use borrow.Author.Needs.{needs}
 use Rattle.lawful_mailboxes.proofs.naming.name_ok.Statement.{statement}
 use Rattle.lawful_mailboxes.proofs.naming.name_ok.Tie as tie

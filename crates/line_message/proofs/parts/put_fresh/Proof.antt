@@ -1,3 +1,4 @@
+-- `put_fresh`: a message that the client has leaves no line; any other its FETCH. Assumes nothing.
 use borrow.Author.Needs.{needs}
 use Rattle.line_message.proofs.parts.put_fresh.Statement.{statement}
 use Rattle.line_message.proofs.parts.put_fresh.Tie as tie

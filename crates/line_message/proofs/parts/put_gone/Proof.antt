@@ -1,3 +1,4 @@
+-- `put_gone`: an expunged message of the view has its line and gives its place to the next; any other takes one. Assumes nothing.
 use borrow.Author.Needs.{needs}
 use Rattle.line_message.proofs.parts.put_gone.Statement.{statement}
 use Rattle.line_message.proofs.parts.put_gone.Tie as tie

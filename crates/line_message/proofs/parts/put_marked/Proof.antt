@@ -1,3 +1,4 @@
+-- `put_marked`: a marked message of the view that exists has its line; places count those that exist. Assumes nothing.
 use borrow.Author.Needs.{needs}
 use Rattle.line_message.proofs.parts.put_marked.Statement.{statement}
 use Rattle.line_message.proofs.parts.put_marked.Tie as tie

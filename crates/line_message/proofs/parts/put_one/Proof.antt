@@ -1,3 +1,4 @@
+-- `put_one`: a function for each part. Assumes nothing.
 use borrow.Author.Needs.{needs}
 use Rattle.line_message.proofs.parts.put_one.Statement.{statement}
 use Rattle.line_message.proofs.parts.put_one.Tie as tie

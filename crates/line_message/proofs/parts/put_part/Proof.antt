@@ -1,3 +1,4 @@
+-- `put_part`: the loop keeps that the lines of the places above j are written, and the place of the next message. Assumes nothing.
 use Rattle.line_message.proofs.parts.put_part.Statement.{statement}
 use Rattle.line_message.proofs.parts.put_part.Tie as tie
 use mathlib.Core.Path.{_≡_, refl, _∙_}

@@ -1,3 +1,4 @@
+-- `next_turn`: the octets of a call lie within the array. Assumes nothing.
 use mathlib.Core.Path.{sym}
 use native.Mathlib.Omega.{arith}
 use lib.Seq.{length-take-le}

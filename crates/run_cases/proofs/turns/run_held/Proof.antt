@@ -1,3 +1,4 @@
+-- `run_held`: what the queue must hold lies within the array. Assumes nothing.
 use mathlib.Core.Path.{sym}
 use native.Mathlib.Omega.{arith}
 use lib.Seq.{length-take-le}

@@ -27,7 +27,7 @@ mod writer;
 
 use options::{Asked, Options};
 use std::io::{self, Write};
-use std::net::TcpListener;
+use std::net::{TcpListener, TcpStream};
 use std::process::ExitCode;
 use std::sync::{Arc, Mutex};
 use std::thread;
@@ -58,14 +58,29 @@ fn serve(options: Options) -> io::Result<()> {
     let listener = TcpListener::bind((options.bind.as_str(), options.port))?;
     println!("imap: listening on {}", listener.local_addr()?);
     io::stdout().flush()?;
+    let connections = options.connections;
     let store = Arc::new(Mutex::new(Store::new(options)));
-    for (number, socket) in (1..).zip(listener.incoming()) {
-        let store = store.clone();
-        let serve = move || connection::serve(socket?, &store, number);
+    // each connection holds this as long as it lasts
+    let place = Arc::new(());
+    for (number, socket) in (1..).zip(listener.incoming().flatten()) {
+        if Arc::strong_count(&place) > connections {
+            turn_away(socket);
+            continue;
+        }
+        let (store, place) = (store.clone(), place.clone());
+        let serve = move || {
+            let _place = place;
+            connection::serve(socket, &store, number)
+        };
         let thread = thread::Builder::new().stack_size(connection::STACK);
         if let Err(fault) = thread.spawn(serve) {
             eprintln!("imap: a connection was not taken: {fault}");
         }
     }
     Ok(())
+}
+
+/// There is no place left. The line finds room in a socket that nothing was written to, so this doesn't wait.
+fn turn_away(mut socket: TcpStream) {
+    let _ = socket.write_all(b"* BYE [LIMIT] too many connections\r\n");
 }

@@ -9,6 +9,7 @@ use crate::store::Store;
 use crate::transcript::Transcript;
 use std::collections::HashSet;
 use std::sync::{Condvar, Mutex, MutexGuard};
+use std::time::Duration;
 
 /// How many octets of answers may wait for the writer when the next command is read.
 const BEHIND: u64 = 1 << 16;
@@ -79,6 +80,15 @@ impl Session {
 
     pub fn wait<'a>(&self, state: MutexGuard<'a, State>) -> MutexGuard<'a, State> {
         self.changed.wait(state).unwrap()
+    }
+
+    /// As `wait`, but not longer than so.
+    pub fn wait_for<'a>(
+        &self,
+        state: MutexGuard<'a, State>,
+        time: Duration,
+    ) -> MutexGuard<'a, State> {
+        self.changed.wait_timeout(state, time).unwrap().0
     }
 
     /// A line of the host's own.

@@ -23,7 +23,7 @@ impl Server {
 
     pub fn with(options: &[&str]) -> Server {
         let mut process = Command::new(env!("CARGO_BIN_EXE_imap"))
-            .args(["--port", "0"])
+            .args(["--port", "0", "--wrong-delay", "0"])
             .args(options)
             .stdout(Stdio::piped())
             .stderr(Stdio::piped())
@@ -37,19 +37,24 @@ impl Server {
         Server { process, port }
     }
 
-    /// A connection with nobody logged in.
-    pub fn connect(&self) -> Client {
+    /// A connection that may be turned away.
+    pub fn knock(&self) -> Client {
         let socket = TcpStream::connect(("127.0.0.1", self.port)).expect("a connection");
         socket.set_nodelay(true).expect("no delay");
         socket.set_read_timeout(Some(DEADLINE)).expect("a limit");
         socket.set_write_timeout(Some(DEADLINE)).expect("a limit");
         let reader = BufReader::new(socket.try_clone().expect("a second handle"));
-        let mut client = Client {
+        Client {
             socket,
             reader,
             commands: 0,
             octets: Vec::new(),
-        };
+        }
+    }
+
+    /// A connection with nobody logged in.
+    pub fn connect(&self) -> Client {
+        let mut client = self.knock();
         assert!(client.line().starts_with("* OK"));
         client
     }

@@ -26,8 +26,10 @@ mod transcript;
 mod writer;
 
 use options::{Asked, Options};
+use std::fs::{self, File};
 use std::io::{self, Write};
 use std::net::{TcpListener, TcpStream};
+use std::path::Path;
 use std::process::ExitCode;
 use std::sync::{Arc, Mutex};
 use std::thread;
@@ -55,6 +57,9 @@ fn main() -> ExitCode {
 }
 
 fn serve(options: Options) -> io::Result<()> {
+    if let Some(folder) = &options.log {
+        prepare(folder).map_err(|fault| about(folder, &fault))?;
+    }
     let listener = TcpListener::bind((options.bind.as_str(), options.port))?;
     println!("imap: listening on {}", listener.local_addr()?);
     io::stdout().flush()?;
@@ -78,6 +83,19 @@ fn serve(options: Options) -> io::Result<()> {
         }
     }
     Ok(())
+}
+
+/// A folder that files are to go to is made, and tried, before anybody is served.
+fn prepare(folder: &Path) -> io::Result<()> {
+    fs::create_dir_all(folder)?;
+    let trial = folder.join("0.trial");
+    File::create(&trial)?;
+    fs::remove_file(&trial)
+}
+
+fn about(folder: &Path, fault: &io::Error) -> io::Error {
+    let text = format!("no files can be written to {}: {fault}", folder.display());
+    io::Error::new(fault.kind(), text)
 }
 
 /// There is no place left. The line finds room in a socket that nothing was written to, so this doesn't wait.

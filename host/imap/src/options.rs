@@ -29,7 +29,7 @@ imap: a small IMAP server whose notices all come from the proved library
   --connections N   so many at a time, 200 if not given; one more is told BYE
   --login-within S  seconds that a connection may be without a login, 60 if not given
   --wrong-delay S   seconds that the answer to a wrong password waits, 2 if not given
-  --log DIR         writes a transcript of each connection to DIR
+  --log DIR         writes a transcript of each connection to DIR, without passwords: DIR/N.txt
   --adapt           OUTSIDE THE PROMISES (src/adapt.rs): adds to FETCH lines what a client's NOTIFY asked for beyond
                     UID, FLAGS and RFC822.SIZE, and writes VANISHED for EXPUNGE, as some clients must have it. Nothing
                     that was proved speaks of lines that were rewritten

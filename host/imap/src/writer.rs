@@ -41,7 +41,7 @@ impl Writer<'_> {
         }
         let (batch, octets) = state.take();
         drop(state);
-        self.session.transcript.note('S', &octets);
+        self.session.transcript.note_answer(&octets);
         if self.write(&octets).is_err() {
             return false;
         }

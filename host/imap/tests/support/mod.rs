@@ -1,6 +1,7 @@
 //! A server of its own for each test, and clients that speak to it over the loopback.
 #![allow(dead_code)]
 
+pub mod folder;
 pub mod watch;
 
 use std::io::{BufRead, BufReader, Read, Write};

@@ -18,6 +18,7 @@ mod options;
 mod outgoing;
 mod parse;
 mod push;
+mod recording;
 mod search;
 mod session;
 mod store;
@@ -57,7 +58,7 @@ fn main() -> ExitCode {
 }
 
 fn serve(options: Options) -> io::Result<()> {
-    if let Some(folder) = &options.log {
+    for folder in [&options.log, &options.record].into_iter().flatten() {
         prepare(folder).map_err(|fault| about(folder, &fault))?;
     }
     let listener = TcpListener::bind((options.bind.as_str(), options.port))?;

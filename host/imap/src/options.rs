@@ -16,6 +16,8 @@ pub struct Options {
     pub wrong_delay: Duration,
     /// Where transcripts go, one a connection.
     pub log: Option<PathBuf>,
+    /// Where the records go that the library gets, a stream a connection.
+    pub record: Option<PathBuf>,
     /// Lines are completed and rewritten for clients that need it.
     pub adapt: bool,
 }
@@ -30,6 +32,8 @@ imap: a small IMAP server whose notices all come from the proved library
   --login-within S  seconds that a connection may be without a login, 60 if not given
   --wrong-delay S   seconds that the answer to a wrong password waits, 2 if not given
   --log DIR         writes a transcript of each connection to DIR, without passwords: DIR/N.txt
+  --record DIR      writes the records that the library gets to DIR, a stream for each connection, in the form that
+                    pushrun reads: DIR/N.records
   --adapt           OUTSIDE THE PROMISES (src/adapt.rs): adds to FETCH lines what a client's NOTIFY asked for beyond
                     UID, FLAGS and RFC822.SIZE, and writes VANISHED for EXPUNGE, as some clients must have it. Nothing
                     that was proved speaks of lines that were rewritten
@@ -53,6 +57,7 @@ pub fn read(mut words: impl Iterator<Item = String>) -> Result<Asked, String> {
         login_within: Duration::from_secs(60),
         wrong_delay: Duration::from_secs(2),
         log: None,
+        record: None,
         adapt: false,
     };
     while let Some(word) = words.next() {
@@ -65,6 +70,7 @@ pub fn read(mut words: impl Iterator<Item = String>) -> Result<Asked, String> {
             "--login-within" => options.login_within = seconds(&value()?)?,
             "--wrong-delay" => options.wrong_delay = seconds(&value()?)?,
             "--log" => options.log = Some(value()?.into()),
+            "--record" => options.record = Some(value()?.into()),
             "--adapt" => options.adapt = true,
             "--help" => return Ok(Asked::Help),
             _ => return Err(format!("there is no option {word}")),

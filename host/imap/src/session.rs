@@ -5,6 +5,7 @@ use crate::adapt::Adapted;
 use crate::options::Options;
 use crate::outgoing::{Batch, Outgoing, Part};
 use crate::push::{records, Answer, Class, Push, Refusal};
+use crate::recording::Recording;
 use crate::store::Store;
 use crate::transcript::Transcript;
 use std::collections::HashSet;
@@ -47,8 +48,9 @@ pub struct State {
 
 impl Session {
     pub fn new(number: u64, options: &Options) -> Session {
+        let recording = Recording::new(options.record.as_deref(), number);
         let state = State {
-            push: Push::new(options.queue),
+            push: Push::new(options.queue, recording),
             user: String::new(),
             handed: HashSet::new(),
             read_only: false,

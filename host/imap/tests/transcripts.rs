@@ -112,7 +112,7 @@ fn a_folder_that_can_t_be_written_to_is_an_error_at_the_start() {
     let folder = Folder::new("no-folder");
     std::fs::write(folder.path(), "").expect("a file where the folder is to be");
     let below = format!("{}/log", folder.text());
-    for option in ["--log"] {
+    for option in ["--log", "--record"] {
         // one that can't be made, one that is none, and one that takes no files
         for path in [below.as_str(), folder.text(), "/proc"] {
             let (status, said) = refused(&[option, path]);

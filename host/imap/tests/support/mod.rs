@@ -2,6 +2,7 @@
 #![allow(dead_code)]
 
 pub mod folder;
+pub mod stream;
 pub mod watch;
 
 use std::io::{BufRead, BufReader, Read, Write};

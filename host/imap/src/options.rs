@@ -95,3 +95,35 @@ fn number<T: std::str::FromStr>(text: &str) -> Result<T, String> {
     text.parse()
         .map_err(|_| format!("{text} is no such number"))
 }
+
+#[cfg(test)]
+mod tests {
+    use super::*;
+
+    #[test]
+    fn the_defaults_are_those_that_are_written() {
+        let Ok(Asked::Serve(options)) = read(std::iter::empty()) else {
+            panic!("it serves if nothing is asked");
+        };
+        let (places, within, delay) = (
+            options.connections,
+            options.login_within.as_secs_f64(),
+            options.wrong_delay.as_secs_f64(),
+        );
+        for sentence in [
+            format!("so many at a time, {places} if not given"),
+            format!("may be without a login, {within} if not given"),
+            format!("a wrong password waits, {delay} if not given"),
+        ] {
+            assert!(HELP.contains(&sentence), "--help: {sentence}");
+        }
+        let readme = include_str!("../README.md").replace('\n', " ");
+        for sentence in [
+            format!("{places} connections at a time (`--connections`;"),
+            format!("{within} seconds until they have logged in (`--login-within`)"),
+            format!("the answer to a wrong password after {delay} (`--wrong-delay`)"),
+        ] {
+            assert!(readme.contains(&sentence), "README.md: {sentence}");
+        }
+    }
+}

@@ -3,12 +3,13 @@
 mod support;
 
 use std::fs;
+use std::os::unix::fs::symlink;
 use std::path::PathBuf;
 use std::thread;
 use support::folder::Folder;
 use support::stream::{count, cut, drained, lines, printed, refusals, whole};
 use support::watch::Watch;
-use support::Client;
+use support::{Client, Server};
 
 /// As pushrun has it.
 const QUEUE: [&str; 2] = ["--queue", "8192"];
@@ -239,4 +240,21 @@ fn a_copy_at_any_moment_is_a_prefix() {
     }
     assert_eq!(lines(&printed), told(&watch.bob));
     watch.end();
+}
+
+/// The disk is full: the stream ends, which is said once, and the client is served on.
+#[test]
+fn a_stream_that_can_t_be_written_ends() {
+    let folder = Folder::new("full");
+    fs::create_dir(folder.path()).expect("the folder");
+    let path = folder.path().join("1.records");
+    symlink("/dev/full", &path).expect("a file that takes nothing");
+    let server = Server::with(&["--record", folder.text()]);
+    let mut bob = server.log_in("bob");
+    bob.append("INBOX");
+    assert!(bob.ok("SELECT INBOX").contains(&"* 1 EXISTS".into()));
+    let said = server.complaints();
+    let sentence = format!("imap: {} ends here: ", path.display());
+    assert!(said.starts_with(&sentence), "{said}");
+    assert_eq!(said.lines().count(), 1, "{said}");
 }

@@ -123,11 +123,12 @@ fn a_busy_stranger_is_sent_away() {
 
 #[test]
 fn a_stranger_that_doesn_t_read_is_sent_away() {
-    let server = Server::with(&["--login-within", "0.3", "--connections", "1"]);
+    let server = Server::with(&["--login-within", "1", "--connections", "1"]);
     let mut deaf = server.connect();
     let start = Instant::now();
-    // more answers than any socket's buffers hold
-    deaf.try_send(&b"x CAPABILITY\r\n".repeat(2_000_000));
+    // long tags, which the answers have too: soon they are more than any socket's buffers hold
+    let line = [&b"x".repeat(60_000)[..], b"\r\n"].concat();
+    deaf.try_send(&line.repeat(500));
     assert!(start.elapsed() < LONG, "it is still there");
     connect_when_free(&server);
     server.end();
@@ -145,7 +146,8 @@ fn a_user_stays() {
     bob.until("a OK");
     bob.ok("SELECT INBOX");
     let tag = bob.start("FETCH 1 (BODY.PEEK[])");
-    thread::sleep(Duration::from_secs(3));
+    // two writes would have ended by then, had they the stranger's limit
+    thread::sleep(Duration::from_secs(5));
     alice.ok("NOOP");
     let answer = bob.until(&tag);
     assert!(answer[1].len() > LARGE, "{} octets", answer[1].len());

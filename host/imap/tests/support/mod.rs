@@ -79,12 +79,17 @@ impl Server {
     }
 
     /// Ends it: no panic and no record refused on the way, for both are written to its standard error.
-    pub fn end(mut self) {
+    pub fn end(self) {
+        assert_eq!(self.complaints(), "", "the server complained");
+    }
+
+    /// Ends it, and answers what it wrote to its standard error.
+    pub fn complaints(mut self) -> String {
         self.process.kill().expect("its end");
         let mut said = String::new();
         let mut stderr = self.process.stderr.take().expect("its errors");
         stderr.read_to_string(&mut said).expect("text");
-        assert_eq!(said, "", "the server complained");
+        said
     }
 }
 

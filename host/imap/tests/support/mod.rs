@@ -80,16 +80,16 @@ impl Server {
 
     /// Ends it: no panic and no record refused on the way, for both are written to its standard error.
     pub fn end(self) {
-        assert_eq!(self.complaints(), "", "the server complained");
+        self.end_with("");
     }
 
-    /// Ends it, and answers what it wrote to its standard error.
-    pub fn complaints(mut self) -> String {
+    /// The same, and these lines were to be written there.
+    pub fn end_with(mut self, log: &str) {
         self.process.kill().expect("its end");
         let mut said = String::new();
         let mut stderr = self.process.stderr.take().expect("its errors");
         stderr.read_to_string(&mut said).expect("text");
-        said
+        assert_eq!(said, log, "what the server wrote to its log");
     }
 }
 

@@ -255,5 +255,6 @@ fn a_stream_that_can_t_be_written_ends() {
     bob.append("INBOX");
     assert!(bob.ok("SELECT INBOX").contains(&"* 1 EXISTS".into()));
     let fault = std::io::Error::from_raw_os_error(NO_SPACE);
-    server.end_with(&format!("imap: {} ends here: {fault}\n", path.display()));
+    let sentence = format!("imap: {} ends here: {fault}\n", path.display());
+    assert_eq!(server.log(), sentence);
 }

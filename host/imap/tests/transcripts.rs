@@ -121,7 +121,6 @@ fn a_folder_that_can_t_be_written_to_is_an_error_at_the_start() {
             assert!(said.starts_with(&sentence), "{said}");
         }
     }
-    std::fs::remove_file(folder.path()).expect("the file");
 }
 
 #[test]

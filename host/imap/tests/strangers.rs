@@ -138,7 +138,7 @@ fn a_stranger_that_doesn_t_read_is_sent_away() {
 #[test]
 fn a_user_stays() {
     const LARGE: usize = 24 << 20;
-    let server = Server::with(&["--login-within", "2"]);
+    let server = Server::with(&["--login-within", "1.5"]);
     let mut alice = server.log_in("alice");
     let mut bob = server.log_in("bob");
     bob.send(format!("a APPEND INBOX {{{LARGE}+}}\r\n").as_bytes());
@@ -146,8 +146,8 @@ fn a_user_stays() {
     bob.until("a OK");
     bob.ok("SELECT INBOX");
     let tag = bob.start("FETCH 1 (BODY.PEEK[])");
-    // two writes would have ended by then, had they the stranger's limit
-    thread::sleep(Duration::from_secs(5));
+    // had they the stranger's limit, two writes would put a little into the socket until then, and a third nothing
+    thread::sleep(Duration::from_secs(6));
     alice.ok("NOOP");
     let answer = bob.until(&tag);
     assert!(answer[1].len() > LARGE, "{} octets", answer[1].len());

@@ -6,27 +6,38 @@ use crate::parse::{is_tag, Reader, Stop};
 use crate::push::Class;
 use crate::session::Session;
 use crate::store::Store;
-use crate::writer;
+use crate::writer::Writer;
 use std::io;
 use std::net::TcpStream;
 use std::sync::{Arc, Mutex};
 use std::thread;
+use std::time::{Duration, Instant};
 
 /// Both threads call the step. It needs 1 MB at most, by the line that goes deepest (`docs/HOSTS.md`).
 pub const STACK: usize = 2 << 20;
 
 pub fn serve(socket: TcpStream, store: &Arc<Mutex<Store>>, number: u64) -> io::Result<()> {
+    let begun = Instant::now();
     socket.set_nodelay(true)?;
-    let session = {
+    let (session, until, wrong_delay) = {
         let mut all = store.lock().unwrap();
         let session = Arc::new(Session::new(number, &all.options));
         all.sessions.push(session.clone());
-        session
+        let options = &all.options;
+        (session, begun + options.login_within, options.wrong_delay)
     };
     let writer = {
         let (session, store, socket) = (session.clone(), store.clone(), socket.try_clone()?);
         let thread = thread::Builder::new().stack_size(STACK);
-        thread.spawn(move || writer::run(&session, &store, socket))
+        thread.spawn(move || {
+            let writer = Writer {
+                session: &session,
+                store: &store,
+                socket,
+                until: Some(until),
+            };
+            writer.run()
+        })
     };
     let greeting = format!("* OK [CAPABILITY {}] ready", commands::BEFORE_LOGIN);
     session.say(&greeting);
@@ -34,6 +45,7 @@ pub fn serve(socket: TcpStream, store: &Arc<Mutex<Store>>, number: u64) -> io::R
         input: Input::new(socket, &session),
         session: &session,
         store,
+        wrong_delay,
     };
     if writer.is_ok() {
         while connection.turn().is_some() {}
@@ -50,6 +62,7 @@ struct Connection<'a> {
     input: Input<'a>,
     session: &'a Arc<Session>,
     store: &'a Mutex<Store>,
+    wrong_delay: Duration,
 }
 
 impl Connection<'_> {
@@ -83,6 +96,11 @@ impl Connection<'_> {
         match end {
             Ok(End::Told) => Some(()),
             Ok(End::Ok(text)) => self.end(class, &format!("{tag} OK {text}")),
+            Ok(End::Denied) => {
+                // nothing is locked: the one who guesses waits, and nobody else
+                thread::sleep(self.wrong_delay);
+                self.end(class, &format!("{tag} NO [AUTHENTICATIONFAILED] no"))
+            }
             Ok(End::Bye) => {
                 self.end(class, &format!("{tag} OK bye"));
                 None

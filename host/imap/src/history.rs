@@ -96,7 +96,7 @@ mod tests {
 
     /// What a library has of the mailbox behind its records, all of which it takes.
     fn handed(mailbox: &Mailbox) -> (u32, u64, Vec<(u32, u64)>) {
-        let mut push = Push::new(1024);
+        let mut push = Push::new(1024, None);
         let name = mailbox.name.as_bytes();
         let row = records::create(mailbox.id, 0x33, Notice::Quiet, 7, LOWEST, name);
         assert_eq!(push.call(&row), Answer::Done);

@@ -12,12 +12,18 @@ const LITERALS_OF_STRANGERS: usize = 1 << 12;
 pub struct Input<'a> {
     reader: BufReader<TcpStream>,
     session: &'a Session,
+    /// The command may hold a password: no transcript shows the rest of it.
+    veiled: bool,
 }
 
 impl<'a> Input<'a> {
     pub fn new(socket: TcpStream, session: &'a Session) -> Input<'a> {
         let reader = BufReader::new(socket);
-        Input { reader, session }
+        Input {
+            reader,
+            session,
+            veiled: false,
+        }
     }
 
     /// One line without its end. None when the connection ends, or ought to.
@@ -32,12 +38,15 @@ impl<'a> Input<'a> {
         if line.last() == Some(&b'\r') {
             line.pop();
         }
-        self.session.transcript.note('C', &line);
+        let stranger = self.session.lock().user.is_empty();
+        let transcript = &self.session.transcript;
+        self.veiled = transcript.note_line(&line, stranger, self.veiled);
         Some(line)
     }
 
     /// A whole command, its literals inside.
     pub fn command(&mut self) -> Option<Vec<u8>> {
+        self.veiled = false;
         let mut command = Vec::new();
         let mut left = match self.session.lock().user.is_empty() {
             true => LITERALS_OF_STRANGERS,

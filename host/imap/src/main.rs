@@ -18,6 +18,7 @@ mod options;
 mod outgoing;
 mod parse;
 mod push;
+mod recording;
 mod search;
 mod session;
 mod store;
@@ -26,8 +27,10 @@ mod transcript;
 mod writer;
 
 use options::{Asked, Options};
+use std::fs::{self, File};
 use std::io::{self, Write};
-use std::net::TcpListener;
+use std::net::{TcpListener, TcpStream};
+use std::path::Path;
 use std::process::ExitCode;
 use std::sync::{Arc, Mutex};
 use std::thread;
@@ -55,17 +58,48 @@ fn main() -> ExitCode {
 }
 
 fn serve(options: Options) -> io::Result<()> {
+    for folder in [&options.log, &options.record].into_iter().flatten() {
+        prepare(folder).map_err(|fault| about(folder, &fault))?;
+    }
     let listener = TcpListener::bind((options.bind.as_str(), options.port))?;
     println!("imap: listening on {}", listener.local_addr()?);
     io::stdout().flush()?;
+    let connections = options.connections;
     let store = Arc::new(Mutex::new(Store::new(options)));
-    for (number, socket) in (1..).zip(listener.incoming()) {
-        let store = store.clone();
-        let serve = move || connection::serve(socket?, &store, number);
+    // each connection holds this as long as it lasts
+    let place = Arc::new(());
+    for (number, socket) in (1..).zip(listener.incoming().flatten()) {
+        if Arc::strong_count(&place) > connections {
+            turn_away(socket);
+            continue;
+        }
+        let (store, place) = (store.clone(), place.clone());
+        let serve = move || {
+            let _place = place;
+            connection::serve(socket, &store, number)
+        };
         let thread = thread::Builder::new().stack_size(connection::STACK);
         if let Err(fault) = thread.spawn(serve) {
             eprintln!("imap: a connection was not taken: {fault}");
         }
     }
     Ok(())
+}
+
+/// A folder that files are to go to is made, and tried, before anybody is served.
+fn prepare(folder: &Path) -> io::Result<()> {
+    fs::create_dir_all(folder)?;
+    let trial = folder.join("0.trial");
+    File::create(&trial)?;
+    fs::remove_file(&trial)
+}
+
+fn about(folder: &Path, fault: &io::Error) -> io::Error {
+    let text = format!("no files can be written to {}: {fault}", folder.display());
+    io::Error::new(fault.kind(), text)
+}
+
+/// There is no place left. The line finds room in a socket that nothing was written to, so this doesn't wait.
+fn turn_away(mut socket: TcpStream) {
+    let _ = socket.write_all(b"* BYE [LIMIT] too many connections\r\n");
 }

@@ -1,6 +1,7 @@
 //! The library, as the host sees it: a call for each record, a queue to write out, a view to number by. No other file knows
 //! which library stands behind this.
 
+use crate::recording::Recording;
 use borjavid::memory::{MAILBOXES, MESSAGES};
 use borjavid::Memory;
 
@@ -11,17 +12,23 @@ pub use borjavid::{Answer, Refusal};
 pub struct Push {
     memory: Memory,
     drained: u64,
+    recording: Option<Recording>,
 }
 
 impl Push {
-    pub fn new(queue: usize) -> Push {
+    pub fn new(queue: usize, recording: Option<Recording>) -> Push {
         Push {
             memory: Memory::new(queue),
             drained: 0,
+            recording,
         }
     }
 
+    /// One record. No other call reaches the step, so what is recorded is all that it got.
     pub fn call(&mut self, record: &[u8]) -> Answer {
+        if let Some(recording) = &mut self.recording {
+            recording.note(record);
+        }
         self.memory.step(record)
     }
 
@@ -33,7 +40,7 @@ impl Push {
     /// So many octets of the queue went out to the client.
     pub fn drained(&mut self, count: usize) -> Answer {
         self.drained += count as u64;
-        self.memory.drain(count)
+        self.call(&records::drained(count))
     }
 
     /// How much ever came to the queue. Its length alone doesn't show that a record wrote something, since the writer may

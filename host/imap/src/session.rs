@@ -5,10 +5,12 @@ use crate::adapt::Adapted;
 use crate::options::Options;
 use crate::outgoing::{Batch, Outgoing, Part};
 use crate::push::{records, Answer, Class, Push, Refusal};
+use crate::recording::Recording;
 use crate::store::Store;
 use crate::transcript::Transcript;
 use std::collections::HashSet;
 use std::sync::{Condvar, Mutex, MutexGuard};
+use std::time::Duration;
 
 /// How many octets of answers may wait for the writer when the next command is read.
 const BEHIND: u64 = 1 << 16;
@@ -46,8 +48,9 @@ pub struct State {
 
 impl Session {
     pub fn new(number: u64, options: &Options) -> Session {
+        let recording = Recording::new(options.record.as_deref(), number);
         let state = State {
-            push: Push::new(options.queue),
+            push: Push::new(options.queue, recording),
             user: String::new(),
             handed: HashSet::new(),
             read_only: false,
@@ -79,6 +82,15 @@ impl Session {
 
     pub fn wait<'a>(&self, state: MutexGuard<'a, State>) -> MutexGuard<'a, State> {
         self.changed.wait(state).unwrap()
+    }
+
+    /// As `wait`, but not longer than so.
+    pub fn wait_for<'a>(
+        &self,
+        state: MutexGuard<'a, State>,
+        time: Duration,
+    ) -> MutexGuard<'a, State> {
+        self.changed.wait_timeout(state, time).unwrap().0
     }
 
     /// A line of the host's own.

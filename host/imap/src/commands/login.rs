@@ -32,7 +32,7 @@ impl Run<'_> {
 
     fn enter(&mut self, user: &str, password: &str) -> Read<End> {
         if !USERS.contains(&user) || password != PASSWORD {
-            return no("[AUTHENTICATIONFAILED] no");
+            return Ok(End::Denied);
         }
         if self.store().named(user, names::INBOX).is_none() {
             let by = self.session.number;

@@ -23,6 +23,8 @@ pub enum End {
     Ok(String),
     /// The library wrote the tagged line.
     Told,
+    /// A wrong password.
+    Denied,
     Bye,
 }
 

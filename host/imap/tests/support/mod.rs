@@ -1,6 +1,8 @@
 //! A server of its own for each test, and clients that speak to it over the loopback.
 #![allow(dead_code)]
 
+pub mod folder;
+pub mod stream;
 pub mod watch;
 
 use std::io::{BufRead, BufReader, Read, Write};
@@ -23,7 +25,7 @@ impl Server {
 
     pub fn with(options: &[&str]) -> Server {
         let mut process = Command::new(env!("CARGO_BIN_EXE_imap"))
-            .args(["--port", "0"])
+            .args(["--port", "0", "--wrong-delay", "0"])
             .args(options)
             .stdout(Stdio::piped())
             .stderr(Stdio::piped())
@@ -37,19 +39,24 @@ impl Server {
         Server { process, port }
     }
 
-    /// A connection with nobody logged in.
-    pub fn connect(&self) -> Client {
+    /// A connection that may be turned away.
+    pub fn knock(&self) -> Client {
         let socket = TcpStream::connect(("127.0.0.1", self.port)).expect("a connection");
         socket.set_nodelay(true).expect("no delay");
         socket.set_read_timeout(Some(DEADLINE)).expect("a limit");
         socket.set_write_timeout(Some(DEADLINE)).expect("a limit");
         let reader = BufReader::new(socket.try_clone().expect("a second handle"));
-        let mut client = Client {
+        Client {
             socket,
             reader,
             commands: 0,
             octets: Vec::new(),
-        };
+        }
+    }
+
+    /// A connection with nobody logged in.
+    pub fn connect(&self) -> Client {
+        let mut client = self.knock();
         assert!(client.line().starts_with("* OK"));
         client
     }
@@ -72,12 +79,17 @@ impl Server {
     }
 
     /// Ends it: no panic and no record refused on the way, for both are written to its standard error.
-    pub fn end(mut self) {
+    pub fn end(self) {
+        assert_eq!(self.log(), "", "the server complained");
+    }
+
+    /// Ends it, and answers all that it wrote to its standard error.
+    pub fn log(mut self) -> String {
         self.process.kill().expect("its end");
         let mut said = String::new();
         let mut stderr = self.process.stderr.take().expect("its errors");
         stderr.read_to_string(&mut said).expect("text");
-        assert_eq!(said, "", "the server complained");
+        said
     }
 }
 

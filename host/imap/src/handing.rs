@@ -102,16 +102,16 @@ impl Store {
 
     /// No mailbox is selected any more. One that was revoked meanwhile goes now.
     pub fn leave(&self, state: &mut State) {
-        let id = state.push.selected();
+        let id = state.selected();
         if id == 0 {
             return;
         }
-        state.call(self, &records::select(0));
+        state.deselect(self);
         let seen = self
             .mailboxes
             .get(&id)
             .is_some_and(|m| m.is_visible(&state.user));
-        if !seen {
+        if !seen && state.handed.contains(&id) {
             self.withdraw(state, id, Notice::Quiet);
         }
     }

@@ -9,7 +9,7 @@ const SERVERS: u64 = 10;
 const CONNECTIONS: usize = 60;
 const COMMANDS: usize = 60;
 
-const WHOLE: [&str; 47] = [
+const WHOLE: [&str; 50] = [
     "SELECT INBOX",
     "EXAMINE a/b",
     "FETCH 1:* (FLAGS BODY.PEEK[HEADER.FIELDS (A \"B c\")]<0.9> ENVELOPE BODYSTRUCTURE)",
@@ -57,6 +57,9 @@ const WHOLE: [&str; 47] = [
     "SETACL Shared/x alice -r",
     "DELETEACL Shared/x alice",
     "GETACL Shared/x",
+    "LISTRIGHTS Shared/x anyone",
+    "SETACL Shared/x anyone +lr",
+    "LIST \"\" (% Shared/%)",
     "IDLE\r\nDONE",
     "ENABLE QRESYNC",
 ];

@@ -21,10 +21,18 @@ impl Server {
         Server::with(&[])
     }
 
+    /// UIDVALIDITY is the same in each run.
     pub fn with(options: &[&str]) -> Server {
+        Server::started(Some(1), options)
+    }
+
+    /// A server that takes this for the time of its start, or its clock's.
+    pub fn started(start: Option<u64>, options: &[&str]) -> Server {
         let mut process = Command::new(env!("CARGO_BIN_EXE_imap"))
             .args(["--port", "0"])
             .args(options)
+            .env_remove("IMAP_START")
+            .envs(start.map(|start| ("IMAP_START", start.to_string())))
             .stdout(Stdio::piped())
             .stderr(Stdio::piped())
             .spawn()
@@ -72,12 +80,17 @@ impl Server {
     }
 
     /// Ends it: no panic and no record refused on the way, for both are written to its standard error.
-    pub fn end(mut self) {
+    pub fn end(self) {
+        self.end_with("");
+    }
+
+    /// The same, and these lines were to be written there.
+    pub fn end_with(mut self, log: &str) {
         self.process.kill().expect("its end");
         let mut said = String::new();
         let mut stderr = self.process.stderr.take().expect("its errors");
         stderr.read_to_string(&mut said).expect("text");
-        assert_eq!(said, "", "the server complained");
+        assert_eq!(said, log, "what the server wrote to its log");
     }
 }
 

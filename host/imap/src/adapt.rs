@@ -169,12 +169,16 @@ impl State {
     /// The counter up to which such a client knows of all changes when its command has ended.
     pub fn highest(&self, store: &Store) -> Option<u64> {
         let mailbox = store.mailboxes.get(&self.selected())?;
-        let adapted = self.adapted.as_ref().filter(|a| a.qresync)?;
-        let knows = match self.large {
-            Some(_) => mailbox.is_open(&self.user),
-            None => !adapted.followed.lost,
+        let knows = match &self.large {
+            Some(large) => !large.lost && mailbox.is_open(&self.user),
+            None => !self.has_lost(),
         };
-        knows.then_some(mailbox.counter)
+        (self.is_resynced() && knows).then_some(mailbox.counter)
+    }
+
+    /// Whether the client is never told of some change in the mailbox that the library has selected.
+    pub fn has_lost(&self) -> bool {
+        self.adapted.as_ref().is_some_and(|a| a.followed.lost)
     }
 }
 

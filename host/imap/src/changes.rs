@@ -34,11 +34,12 @@ impl Store {
 
     fn tell(&self, id: u16, record: &[u8]) {
         self.each(|_, state| {
-            if !state.handed.contains(&id) {
-                state.look(self, id);
-            } else if state.feed(self, record) == Answer::Refused(Refusal::TableFull) {
-                self.cut_off(state, id);
+            if state.handed.contains(&id)
+                && state.feed(self, record) == Answer::Refused(Refusal::TableFull)
+            {
+                self.cut_off(state, &self.mailboxes[&id], record);
             }
+            state.look(self, id);
         });
     }
 

@@ -116,12 +116,19 @@ impl Store {
         }
     }
 
-    /// The library had no room for a message. A mailbox that it knows in part would be shown with wrong numbers: it goes, and
-    /// if it is the selected one the view can't be kept.
-    pub fn cut_off(&self, state: &mut State, id: u16) {
-        if state.push.selected() == id {
-            state.bye("[LIMIT] mailbox too large");
-        } else {
+    /// The library had no room for a message. A mailbox that it knows in part would be shown with wrong numbers, so it goes; but
+    /// the selected one gets the room of all others, and if that is too little the host goes on without the library.
+    pub fn cut_off(&self, state: &mut State, mailbox: &Mailbox, record: &[u8]) {
+        let id = mailbox.id;
+        if state.push.selected() != id {
+            return self.withdraw(state, id, Notice::Quiet);
+        }
+        let others: Vec<u16> = state.handed.iter().copied().collect();
+        for other in others.into_iter().filter(|&other| other != id) {
+            self.withdraw(state, other, Notice::Quiet);
+        }
+        if state.feed(self, record) != Answer::Done {
+            state.take_over(self, mailbox);
             self.withdraw(state, id, Notice::Quiet);
         }
     }

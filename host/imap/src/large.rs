@@ -20,17 +20,36 @@ pub struct Large {
     settled: u64,
     /// VANISHED was written, and no counter behind it yet.
     vanished: bool,
+    /// The client is never told of some change that the library was to tell, so no counter may say that it knows all.
+    pub lost: bool,
 }
 
 impl State {
     /// Selects a mailbox that the library can't have.
     pub fn open_large(&mut self, mailbox: &Mailbox) {
-        let (name, count) = (&mailbox.name, mailbox.messages.len());
-        let user = &self.user;
-        eprintln!(
-            "imap: {name} has {count} messages, too many for the library: {user} has it without"
-        );
+        self.log_large(mailbox);
         self.large = Some(Large::new(mailbox));
+    }
+
+    /// The selected mailbox has outgrown the library: the view goes on as the library left it, what waits goes on waiting.
+    pub fn take_over(&mut self, store: &Store, mailbox: &Mailbox) {
+        self.log_large(mailbox);
+        let (view, next) = self.push.known();
+        let lost = self.has_lost();
+        self.deselect(store);
+        self.large = Some(Large {
+            view,
+            next,
+            settled: 0,
+            lost,
+            ..Large::new(mailbox)
+        });
+    }
+
+    fn log_large(&self, mailbox: &Mailbox) {
+        let (name, count, user) = (&mailbox.name, mailbox.messages.len(), &self.user);
+        let why = "too many for the library";
+        eprintln!("imap: {name} has {count} messages, {why}: {user} has it without");
     }
 
     /// As `owes`: whether anything is left. A client that doesn't read has it waiting, as no queue limits these lines.
@@ -73,6 +92,7 @@ impl Large {
             next: mailbox.uid_next,
             settled: mailbox.counter,
             vanished: false,
+            lost: false,
         }
     }
 
@@ -150,7 +170,7 @@ impl Large {
     /// All was told up to this counter.
     fn settle(&mut self, counter: u64, lines: &mut Vec<u8>) {
         self.settled = counter;
-        if std::mem::take(&mut self.vanished) {
+        if std::mem::take(&mut self.vanished) && !self.lost {
             lines.extend(fetch::highest(counter).bytes());
         }
     }

@@ -132,6 +132,67 @@ fn expunges_vanish() {
     end(watch, 2600);
 }
 
+/// The open mailbox outgrows the library: what waits goes on waiting, and nobody has to open it again.
+#[test]
+fn it_grows_while_it_is_open() {
+    let mut watch = Watch::new(1024, &[]);
+    watch.bob.ok("SELECT Shared/Open");
+    let mut idle = watch.server.log_in("bob");
+    idle.ok("SELECT Shared/Open");
+    idle.start("IDLE");
+    idle.until("+");
+    let Watch { alice, bob, .. } = &mut watch;
+    alice.ok("SELECT Shared/Open");
+    alice.ok("STORE 5,9 +FLAGS (\\Deleted)");
+    alice.ok("UID EXPUNGE 5");
+    alice.ok("STORE 1 FLAGS (\\Seen)");
+    alice.append_many((0..2).map(|_| "Shared/Open".into()));
+    let told = [
+        "* 5 EXPUNGE".into(),
+        "* 1025 EXISTS".into(),
+        flags(1, 1, "\\Seen", 1029),
+        flags(8, 9, "\\Deleted", 1027),
+    ];
+    assert_eq!(bob.ok("NOOP"), told);
+    assert_eq!(bob.ok("FETCH 1025 (UID)"), ["* 1025 FETCH (UID 1026)"]);
+    let at_once = [
+        flags(5, 5, "\\Deleted", 1026),
+        flags(9, 9, "\\Deleted", 1027),
+        "* 5 EXPUNGE".into(),
+        flags(1, 1, "\\Seen", 1029),
+        "* 1024 EXISTS".into(),
+        "* 1025 EXISTS".into(),
+    ];
+    assert_eq!(idle.lines(6), at_once);
+    idle.send(b"DONE\r\n");
+    idle.until("t3 OK");
+    let refused = idle.answer("NOTIFY SET (personal (MailboxName))");
+    assert_eq!(refused, "NO [NOTIFICATIONOVERFLOW] account too large");
+    // the one that waits has an entry too
+    let all = [log("bob", 1024), log("alice", 1025), log("bob", 1025)];
+    watch.server.end_with(&all.concat());
+}
+
+/// With a NOTIFY the client hears at once that it has ended.
+#[test]
+fn it_grows_under_a_notify() {
+    let mut watch = Watch::new(1024, &["--adapt"]);
+    watch.bob.ok("ENABLE QRESYNC");
+    watch.bob.ok("SELECT Shared/Open");
+    watch.notify("(selected (MessageNew MessageExpunge))");
+    let Watch { alice, bob, .. } = &mut watch;
+    alice.ok("SELECT Shared/Open");
+    alice.ok("STORE 5:6 +FLAGS (\\Deleted)");
+    alice.append("Shared/Open");
+    let ended = "* OK [NOTIFICATIONOVERFLOW] account too large";
+    assert_eq!(bob.ok("NOOP"), [ended, "* 1025 EXISTS"]);
+    // the flags that it didn't ask for are lost to it, so no counter says that it knows all
+    alice.ok("UID EXPUNGE 5");
+    assert_eq!(bob.ok("NOOP"), ["* VANISHED 5"]);
+    assert_eq!(bob.run("UID EXPUNGE 6"), ["* VANISHED 6", "OK done"]);
+    end(watch, 1025);
+}
+
 /// What bob has learned of the messages: their flags, where he was told.
 #[derive(Default)]
 struct Picture(Vec<Option<String>>);

@@ -6,6 +6,8 @@ use crate::parse::joined;
 use crate::push::Class;
 use crate::session::State;
 use crate::store::{Mailbox, Message, Store};
+use std::iter::Peekable;
+use std::slice::Iter;
 
 /// Lines, or UIDs that are gone, that are told at a time.
 const MOST: usize = 1000;
@@ -80,6 +82,12 @@ impl State {
     }
 }
 
+/// The message of this UID, if it is there. They are gone through by rising UIDs, as the view is.
+fn reach<'a>(messages: &mut Peekable<Iter<'a, Message>>, uid: u32) -> Option<&'a Message> {
+    while messages.next_if(|message| message.uid < uid).is_some() {}
+    messages.next_if(|message| message.uid == uid)
+}
+
 fn known(message: &Message) -> (u32, u64) {
     (message.uid, message.counter)
 }
@@ -123,8 +131,9 @@ impl Large {
 
     fn tell_gone(&mut self, mailbox: &Mailbox, qresync: bool, lines: &mut Vec<u8>) -> usize {
         let (mut gone, mut kept) = (Vec::new(), 0);
+        let mut messages = mailbox.messages.iter().peekable();
         self.view.retain(|&(uid, _)| {
-            let stays = gone.len() == MOST || mailbox.place(uid).is_some();
+            let stays = gone.len() == MOST || reach(&mut messages, uid).is_some();
             match stays {
                 true => kept += 1,
                 false => gone.push((uid, kept + 1)),
@@ -156,8 +165,9 @@ impl Large {
 
     fn tell_changed(&mut self, mailbox: &Mailbox, most: usize, lines: &mut Vec<u8>) -> usize {
         let mut told = 0;
+        let mut messages = mailbox.messages.iter().peekable();
         for (number, (uid, counter)) in (1..).zip(&mut self.view) {
-            let changed = mailbox.message(*uid).filter(|m| m.counter > *counter);
+            let changed = reach(&mut messages, *uid).filter(|m| m.counter > *counter);
             if let Some(message) = changed.filter(|_| told < most) {
                 lines.extend(fetch::line(number, &fetch::CHANGED, message));
                 *counter = message.counter;

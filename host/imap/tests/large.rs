@@ -30,7 +30,7 @@ fn opened(messages: usize, options: &[&str]) -> Watch {
 
 fn end(watch: Watch, messages: usize) {
     let both = log("alice", messages) + &log("bob", messages);
-    watch.server.end_with(&both);
+    assert_eq!(watch.server.log(), both);
 }
 
 #[test]
@@ -170,7 +170,7 @@ fn it_grows_while_it_is_open() {
     assert_eq!(refused, "NO [NOTIFICATIONOVERFLOW] account too large");
     // the one that waits has an entry too
     let all = [log("bob", 1024), log("alice", 1025), log("bob", 1025)];
-    watch.server.end_with(&all.concat());
+    assert_eq!(watch.server.log(), all.concat());
 }
 
 /// With a NOTIFY the client hears at once that it has ended.
@@ -191,6 +191,33 @@ fn it_grows_under_a_notify() {
     assert_eq!(bob.ok("NOOP"), ["* VANISHED 5"]);
     assert_eq!(bob.run("UID EXPUNGE 6"), ["* VANISHED 6", "OK done"]);
     end(watch, 1025);
+}
+
+/// In IDLE a client that doesn't read makes the server no larger: it hears of each message's last flags when it does.
+#[test]
+fn idle_waits_for_a_client_that_does_not_read() {
+    let mut watch = opened(MANY, &[]);
+    let Watch { alice, bob, .. } = &mut watch;
+    // no socket's buffers hold these answers
+    let large = "x".repeat(24 << 20);
+    let append = format!("APPEND Shared/Open {{{}+}}\r\n{large}", large.len());
+    alice.ok(&append);
+    bob.ok("NOOP");
+    let tag = bob.start("FETCH 1026 (BODY.PEEK[])");
+    bob.until("* 1026 FETCH");
+    bob.start("IDLE");
+    (0..200).for_each(|_| drop(alice.ok("NOOP")));
+    let rounds = 20;
+    for round in 0..rounds {
+        let flag = ["\\Seen", "\\Draft"][round % 2];
+        alice.ok(&format!("STORE 1:1025 FLAGS.SILENT ({flag})"));
+    }
+    bob.until(&format!("{tag} OK"));
+    let last = MANY + 2 + MANY * rounds;
+    let lines = bob.until(&flags(MANY, MANY, "\\Draft", last));
+    let told = lines.iter().filter(|line| line.contains("FETCH (UID"));
+    assert!(told.count() < 5 * MANY, "{}", lines.len());
+    end(watch, MANY);
 }
 
 /// What bob has learned of the messages: their flags, where he was told.

@@ -118,7 +118,7 @@ fn an_account_outgrows_the_messages() {
     assert!(next.ok("SELECT Shared/Open").contains(&exists));
     assert!(next.ok("SELECT INBOX").contains(&"* 2 EXISTS".into()));
     let log = "imap: Shared/Open has 1033 messages, too many for the library: bob has it without\n";
-    watch.server.end_with(&log.repeat(2));
+    assert_eq!(watch.server.log(), log.repeat(2));
 }
 
 /// The one that is open gets the room of the others, and its notices stay the library's.

@@ -81,16 +81,16 @@ impl Server {
 
     /// Ends it: no panic and no record refused on the way, for both are written to its standard error.
     pub fn end(self) {
-        self.end_with("");
+        assert_eq!(self.log(), "", "the server complained");
     }
 
-    /// The same, and these lines were to be written there.
-    pub fn end_with(mut self, log: &str) {
+    /// Ends it, and answers all that it wrote to its standard error.
+    pub fn log(mut self) -> String {
         self.process.kill().expect("its end");
         let mut said = String::new();
         let mut stderr = self.process.stderr.take().expect("its errors");
         stderr.read_to_string(&mut said).expect("text");
-        assert_eq!(said, log, "what the server wrote to its log");
+        said
     }
 }
 

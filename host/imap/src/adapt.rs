@@ -60,9 +60,31 @@ impl Followed {
 impl Adapted {
     /// One record; what it puts into the queue is rewritten at once, while the store is as the line says.
     pub fn call(&mut self, push: &mut Push, store: &Store, user: &str, record: &[u8]) -> Answer {
-        let mut view = push.view();
-        let before = push.queue().len();
+        let (view, before) = (push.view(), push.queue().len());
         let answer = push.call(record);
+        let (wrote, flags) = self.rewrite(push, store, view, before);
+        let Some(mailbox) = store.mailboxes.get(&push.selected()) else {
+            self.followed = Followed::default();
+            return answer;
+        };
+        let drops_flags = record.starts_with(b"FL") && push.notified() && !flags;
+        self.followed.follow(mailbox, user, drops_flags);
+        // before the first NOTIFY only a command's end tells all
+        let ended = record.starts_with(b"CE") && answer.count() == Some(0);
+        if wrote && (push.notified() || ended) && self.followed.is_due(push, mailbox) {
+            self.tell_counter(mailbox);
+        }
+        answer
+    }
+
+    /// The queue's lines from there on, by the view before them. Answers whether there are any, and one of changed flags.
+    fn rewrite(
+        &mut self,
+        push: &Push,
+        store: &Store,
+        mut view: Vec<u32>,
+        before: usize,
+    ) -> (bool, bool) {
         let new = &push.queue()[before..];
         let (mut announced, mut flags) = (false, false);
         for line in new.split_inclusive(|&octet| octet == b'\n') {
@@ -93,23 +115,10 @@ impl Adapted {
             let written = written.unwrap_or_else(|| line.to_vec());
             self.lines.push_back((line.len(), written));
         }
-        let is_flags = record.starts_with(b"FL");
-        let ended = record.starts_with(b"CE") && answer.count() == Some(0);
-        let waits = !push.notified() && !ended;
-        match store.mailboxes.get(&push.selected()) {
-            None => self.followed = Followed::default(),
-            Some(mailbox) => {
-                let drops_flags = is_flags && push.notified() && !flags;
-                self.followed.follow(mailbox, user, drops_flags);
-                if !waits && self.followed.is_due(push, mailbox) {
-                    self.tell_counter(mailbox);
-                }
-            }
-        }
-        answer
+        (!new.is_empty(), flags)
     }
 
-    /// Behind the last line.
+    /// Behind the last line, which is new: an older one may be with the writer.
     fn tell_counter(&mut self, mailbox: &Mailbox) {
         if let Some((_, last)) = self.lines.back_mut() {
             last.extend(fetch::highest(mailbox.counter).bytes());

@@ -54,11 +54,8 @@ impl State {
         eprintln!("imap: {name} has {count} messages, {why}: {user} has it without");
     }
 
-    /// As `owes`: whether anything is left. A client that doesn't read has it waiting, as no queue limits these lines.
+    /// As `owes`: whether anything is left.
     pub fn owes_large(&mut self, store: &Store, class: Class) -> u64 {
-        if self.is_behind() {
-            return 1;
-        }
         let qresync = self.is_resynced();
         let Some(large) = &mut self.large else {
             return 0;

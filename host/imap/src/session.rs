@@ -200,8 +200,14 @@ impl State {
     }
 
     pub fn idle_turn(&mut self, store: &Store) {
+        // no queue limits the lines of a large mailbox: they wait where the client doesn't read
+        let waits = self.large.is_some() && self.is_behind();
         if self.idle {
-            self.owed = self.owes(store, Class::Rest);
+            self.owed = if waits {
+                1
+            } else {
+                self.owes(store, Class::Rest)
+            };
         }
     }
 

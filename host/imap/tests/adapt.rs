@@ -138,22 +138,20 @@ fn the_counter_is_the_last() {
     watch.alice.ok("STORE 1:200 FLAGS (\\Deleted)");
     watch.alice.ok("EXPUNGE");
     watch.alice.append("Shared/Open");
+    watch.alice.ok("STORE 1:101 FLAGS (\\Seen)");
     let heard = watch.bob.ok("NOOP");
-    assert_eq!(heard.len(), 202, "{heard:?}");
-    assert!(heard[..200]
-        .iter()
-        .all(|line| line.starts_with("* VANISHED ")));
-    assert_eq!(
-        heard[200..],
-        ["* 101 EXISTS", "* OK [HIGHESTMODSEQ 702] ok"]
-    );
+    assert_eq!(heard.len(), 200 + 1 + 100 + 1, "{heard:?}");
+    let gone = |line: &String| line.starts_with("* VANISHED ");
+    assert!(heard[..200].iter().all(gone));
+    assert_eq!(heard[200], "* 101 EXISTS");
+    assert_eq!(heard[301], "* OK [HIGHESTMODSEQ 803] ok");
     watch.bob.start("IDLE");
     watch.bob.until("+");
     watch.alice.ok("STORE 1 FLAGS (\\Deleted)");
     watch.alice.ok("EXPUNGE");
     assert_eq!(
         watch.bob.lines(3)[1..],
-        ["* VANISHED 201", "* OK [HIGHESTMODSEQ 704] ok"]
+        ["* VANISHED 201", "* OK [HIGHESTMODSEQ 805] ok"]
     );
     watch.end();
 }
@@ -177,11 +175,22 @@ fn no_counter_where_something_was_lost() {
         watch.heard()[1..],
         ["* VANISHED 3", "* OK [HIGHESTMODSEQ 12] ok"]
     );
-    // and a right was missing
+    watch.end();
+}
+
+/// What waited when a right was missing waits on when the right is back, and no counter may stand before it.
+#[test]
+fn no_counter_where_something_waits() {
+    let mut watch = resynced(3, &[]);
+    watch.alice.ok("STORE 3 FLAGS (\\Deleted)");
+    watch.bob.ok("NOOP");
+    watch.alice.ok("STORE 1 FLAGS (\\Seen)");
     watch.alice.ok("SETACL Shared/Open bob r");
-    watch.alice.ok("STORE 1 FLAGS (\\Deleted)");
-    watch.alice.ok("SETACL Shared/Open bob lr");
+    watch.notify(SELECTED);
+    watch.alice.ok("SETACL Shared/Open bob lrswite");
     watch.alice.ok("EXPUNGE");
-    assert_eq!(watch.heard(), ["* VANISHED 4"]);
+    assert_eq!(watch.heard(), ["* VANISHED 3"]);
+    let seen = "* 1 FETCH (UID 1 FLAGS (\\Seen) MODSEQ (6))";
+    assert_eq!(watch.bob.ok("NOOP"), [seen]);
     watch.end();
 }

@@ -196,9 +196,11 @@ fn it_grows_under_a_notify() {
 /// In IDLE a client that doesn't read makes the server no larger: it hears of each message's last flags when it does.
 #[test]
 fn idle_waits_for_a_client_that_does_not_read() {
-    let mut watch = opened(MANY, &[]);
+    let folder = std::env::temp_dir().join(format!("imap-large-{}", std::process::id()));
+    std::fs::create_dir_all(&folder).expect("a folder");
+    let mut watch = opened(MANY, &["--log", folder.to_str().expect("a path in UTF-8")]);
     let Watch { alice, bob, .. } = &mut watch;
-    // no socket's buffers hold these answers
+    // no socket's buffers hold this answer
     let large = "x".repeat(24 << 20);
     let append = format!("APPEND Shared/Open {{{}+}}\r\n{large}", large.len());
     alice.ok(&append);
@@ -206,7 +208,11 @@ fn idle_waits_for_a_client_that_does_not_read() {
     let tag = bob.start("FETCH 1026 (BODY.PEEK[])");
     bob.until("* 1026 FETCH");
     bob.start("IDLE");
-    (0..200).for_each(|_| drop(alice.ok("NOOP")));
+    // bob's transcript shows when the server has read that
+    let transcript = || std::fs::read_to_string(folder.join("2.txt")).unwrap_or_default();
+    while !transcript().contains(" IDLE") {
+        alice.ok("NOOP");
+    }
     let rounds = 20;
     for round in 0..rounds {
         let flag = ["\\Seen", "\\Draft"][round % 2];
@@ -218,6 +224,7 @@ fn idle_waits_for_a_client_that_does_not_read() {
     let told = lines.iter().filter(|line| line.contains("FETCH (UID"));
     assert!(told.count() < 5 * MANY, "{}", lines.len());
     end(watch, MANY);
+    std::fs::remove_dir_all(&folder).expect("its end");
 }
 
 /// What bob has learned of the messages: their flags, where he was told.

@@ -3,8 +3,9 @@
 //! (RFC 7162) asks of a server. Nothing that was proved speaks of lines that went through here.
 
 use crate::fetch::{self, Item};
-use crate::parse::{is_within, joined, Read, Reader, Set, Stop};
+use crate::parse::{bad, is_within, joined, Read, Reader, Set};
 use crate::push::{Answer, Push};
+use crate::session::State;
 use crate::store::{Mailbox, Message, Store};
 use std::collections::VecDeque;
 
@@ -18,16 +19,74 @@ pub struct Adapted {
     more: Vec<Item>,
     /// Each line of the queue: its octets there, and what is written for it.
     lines: VecDeque<(usize, Vec<u8>)>,
+    followed: Followed,
+}
+
+/// What a client of QRESYNC knows of the selected mailbox. A counter tells it that it knows of all changes up to there: one that
+/// is told too early loses changes for it.
+#[derive(Default)]
+struct Followed {
+    mailbox: u16,
+    /// The mailbox's counter at the last record.
+    counter: u64,
+    /// There was a change that it is never told of.
+    lost: bool,
+    /// VANISHED was written, and no counter behind it yet.
+    vanished: bool,
+}
+
+impl Followed {
+    /// Flags that nobody asked for are lost, and so is what changes while a right is missing.
+    fn follow(&mut self, mailbox: &Mailbox, user: &str, drops_flags: bool) {
+        if self.mailbox != mailbox.id {
+            *self = Followed {
+                mailbox: mailbox.id,
+                counter: mailbox.counter,
+                ..Followed::default()
+            };
+        }
+        let changed = mailbox.counter > self.counter;
+        self.counter = mailbox.counter;
+        self.lost |= (changed && drops_flags) || !mailbox.is_open(user);
+    }
+
+    /// Whether a counter is due: nothing waits for a command's end.
+    fn is_due(&self, push: &Push, mailbox: &Mailbox) -> bool {
+        let uids = mailbox.messages.iter().map(|m| m.uid);
+        self.vanished && !self.lost && push.view().into_iter().eq(uids)
+    }
 }
 
 impl Adapted {
     /// One record; what it puts into the queue is rewritten at once, while the store is as the line says.
-    pub fn call(&mut self, push: &mut Push, store: &Store, record: &[u8]) -> Answer {
-        let mut view = push.view();
-        let before = push.queue().len();
+    pub fn call(&mut self, push: &mut Push, store: &Store, user: &str, record: &[u8]) -> Answer {
+        let (view, before) = (push.view(), push.queue().len());
         let answer = push.call(record);
+        let (wrote, flags) = self.rewrite(push, store, view, before);
+        let Some(mailbox) = store.mailboxes.get(&push.selected()) else {
+            self.followed = Followed::default();
+            return answer;
+        };
+        let drops_flags = record.starts_with(b"FL") && push.notified() && !flags;
+        self.followed.follow(mailbox, user, drops_flags);
+        // before the first NOTIFY only a command's end tells all
+        let ended = record.starts_with(b"CE") && answer.count() == Some(0);
+        if wrote && (push.notified() || ended) && self.followed.is_due(push, mailbox) {
+            self.tell_counter(mailbox);
+        }
+        answer
+    }
+
+    /// The queue's lines from there on, by the view before them. Answers whether there are any, and one of changed flags.
+    fn rewrite(
+        &mut self,
+        push: &Push,
+        store: &Store,
+        mut view: Vec<u32>,
+        before: usize,
+    ) -> (bool, bool) {
         let new = &push.queue()[before..];
-        let mut announced = false;
+        let (mut announced, mut flags) = (false, false);
         for line in new.split_inclusive(|&octet| octet == b'\n') {
             let text = String::from_utf8_lossy(line);
             let words: Vec<&str> = text.trim_end().splitn(4, ' ').collect();
@@ -35,6 +94,7 @@ impl Adapted {
             let written = match (number, words.get(2).copied()) {
                 (Some(number), Some("EXPUNGE")) if number <= view.len() => {
                     let uid = view.remove(number - 1);
+                    self.followed.vanished = self.qresync;
                     self.qresync.then(|| format!("* VANISHED {uid}\r\n").into())
                 }
                 (Some(_), Some("EXISTS")) => {
@@ -46,12 +106,24 @@ impl Adapted {
                     let mailbox = store.mailboxes.get(&push.selected());
                     mailbox.and_then(|m| self.fetch_line(line, m, view[number - 1]))
                 }
+                (Some(_), Some("FETCH")) => {
+                    flags = true;
+                    None
+                }
                 _ => None,
             };
             let written = written.unwrap_or_else(|| line.to_vec());
             self.lines.push_back((line.len(), written));
         }
-        answer
+        (!new.is_empty(), flags)
+    }
+
+    /// Behind the last line, which is new: an older one may be with the writer.
+    fn tell_counter(&mut self, mailbox: &Mailbox) {
+        if let Some((_, last)) = self.lines.back_mut() {
+            last.extend(fetch::highest(mailbox.counter).bytes());
+            self.followed.vanished = false;
+        }
     }
 
     fn fetch_line(&self, line: &[u8], mailbox: &Mailbox, uid: u32) -> Option<Vec<u8>> {
@@ -94,6 +166,28 @@ impl Adapted {
         if last.is_some_and(|line| line.starts_with(accepted.as_bytes())) {
             self.more = more;
         }
+    }
+}
+
+impl State {
+    /// Whether the client wants VANISHED.
+    pub fn is_resynced(&self) -> bool {
+        self.adapted.as_ref().is_some_and(|a| a.qresync)
+    }
+
+    /// The counter up to which such a client knows of all changes when its command has ended.
+    pub fn highest(&self, store: &Store) -> Option<u64> {
+        let mailbox = store.mailboxes.get(&self.selected())?;
+        let knows = match &self.large {
+            Some(large) => !large.lost && mailbox.is_open(&self.user),
+            None => !self.has_lost(),
+        };
+        (self.is_resynced() && knows).then_some(mailbox.counter)
+    }
+
+    /// Whether the client is never told of some change in the mailbox that the library has selected.
+    pub fn has_lost(&self) -> bool {
+        self.adapted.as_ref().is_some_and(|a| a.followed.lost)
     }
 }
 
@@ -141,7 +235,7 @@ pub fn select_parameter(reader: &mut Reader) -> Read<Option<Known>> {
             reader.space()?;
             Some(known(reader)?)
         }
-        _ => return Err(Stop::Bad),
+        _ => return bad("no such parameter"),
     };
     reader.need(b')')?;
     Ok(known)
@@ -172,8 +266,8 @@ fn known(reader: &mut Reader) -> Read<Known> {
 }
 
 /// What SELECT tells such a client.
-pub fn selected(mailbox: &Mailbox, known: Option<Known>, qresync: bool) -> Vec<u8> {
-    let valid = |known: &Known| qresync && known.validity == u64::from(mailbox.uid_validity);
+pub fn selected(mailbox: &Mailbox, known: Option<Known>) -> Vec<u8> {
+    let valid = |known: &Known| known.validity == u64::from(mailbox.uid_validity);
     let Some(known) = known.filter(valid) else {
         return Vec::new();
     };

@@ -4,7 +4,7 @@
 use crate::names;
 use crate::push::{records, Answer, Notice, Refusal};
 use crate::session::{Session, State};
-use crate::store::{Mailbox, Message, Store, ALL_RIGHTS};
+use crate::store::{Mailbox, Message, Store, ALL_RIGHTS, ANYONE};
 use std::collections::{BTreeMap, BTreeSet};
 use std::sync::Arc;
 
@@ -37,8 +37,9 @@ impl Store {
             if state.handed.contains(&id)
                 && state.feed(self, record) == Answer::Refused(Refusal::TableFull)
             {
-                self.cut_off(state, id);
+                self.cut_off(state, &self.mailboxes[&id], record);
             }
+            state.look(self, id);
         });
     }
 
@@ -78,14 +79,13 @@ impl Store {
     pub fn delete(&mut self, id: u16, by: u64) {
         self.mailboxes.remove(&id);
         self.each(|session, state| {
-            if !state.handed.contains(&id) {
-                return;
-            }
-            if state.push.selected() == id {
-                state.call(self, &records::select(0));
+            if state.selected() == id {
+                state.deselect(self);
                 state.own(b"* OK [CLOSED] mailbox deleted\r\n".to_vec());
             }
-            self.withdraw(state, id, notice(session, by));
+            if state.handed.contains(&id) {
+                self.withdraw(state, id, notice(session, by));
+            }
         });
     }
 
@@ -150,12 +150,13 @@ impl Store {
         };
         let mailbox = &self.mailboxes[&id];
         self.each(|_, state| {
-            if state.user != user {
+            let meant = state.user == user || user == ANYONE;
+            if !meant || state.user.is_empty() {
                 return;
             }
             if state.handed.contains(&id) {
                 self.regrant(state, mailbox);
-            } else if mailbox.is_visible(user) {
+            } else if mailbox.is_visible(&state.user) {
                 self.offer(state, mailbox, Notice::Owed);
             }
         });
@@ -180,19 +181,25 @@ impl Store {
         Some(uid)
     }
 
-    pub fn set_flags(&mut self, id: u16, uid: u32, flags: u8) {
-        let Some(mailbox) = self.mailboxes.get_mut(&id) else {
-            return;
-        };
-        let Some(place) = mailbox.place(uid) else {
-            return;
-        };
-        let Some(counter) = mailbox.count() else {
-            return;
-        };
+    /// Answers whether that is a change. What the message has already is none, and takes no counter.
+    pub fn set_flags(&mut self, id: u16, uid: u32, flags: u8) -> bool {
+        let changed = self.change_flags(id, uid, flags);
+        if let Some(counter) = changed {
+            self.tell(id, &records::flags(id, uid, flags, counter));
+        }
+        changed.is_some()
+    }
+
+    fn change_flags(&mut self, id: u16, uid: u32, flags: u8) -> Option<u64> {
+        let mailbox = self.mailboxes.get_mut(&id)?;
+        let place = mailbox.place(uid)?;
+        if mailbox.messages[place].flags == flags {
+            return None;
+        }
+        let counter = mailbox.count()?;
         mailbox.messages[place].flags = flags;
         mailbox.messages[place].counter = counter;
-        self.tell(id, &records::flags(id, uid, flags, counter));
+        Some(counter)
     }
 
     pub fn expunge(&mut self, id: u16, uid: u32) {

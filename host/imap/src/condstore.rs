@@ -1,28 +1,31 @@
 //! What is left of CONDSTORE (RFC 7162) to a host whose library writes MODSEQ and HIGHESTMODSEQ: the words in the client's own
 //! commands, and that it asked for them.
 
-use crate::parse::{Read, Reader, Stop};
+use crate::parse::{bad, Read, Reader};
 
 /// `(CONDSTORE)` behind SELECT.
 pub fn select_parameter(reader: &mut Reader) -> Read<()> {
     reader.need(b'(')?;
     if !reader.has_word("CONDSTORE") {
-        return Err(Stop::Bad);
+        return bad("no such parameter");
     }
     reader.need(b')')
 }
 
 /// `(CHANGEDSINCE n)` behind FETCH, and other words that the caller knows.
-pub fn changed_since(reader: &mut Reader, mut other: impl FnMut(&str) -> bool) -> Read<u64> {
-    let mut since = 0;
+pub fn changed_since(
+    reader: &mut Reader,
+    mut other: impl FnMut(&str) -> bool,
+) -> Read<Option<u64>> {
+    let mut since = None;
     reader.list(|reader| {
         match reader.word()?.as_str() {
             "CHANGEDSINCE" => {
                 reader.space()?;
-                since = reader.number()?;
+                since = Some(reader.number()?);
             }
             word if other(word) => {}
-            _ => return Err(Stop::Bad),
+            _ => return bad("no such modifier"),
         }
         Ok(())
     })?;
@@ -35,7 +38,7 @@ pub fn unchanged_since(reader: &mut Reader) -> Read<Option<u64>> {
         return Ok(None);
     }
     if !reader.has_word("UNCHANGEDSINCE") {
-        return Err(Stop::Bad);
+        return bad("no such modifier");
     }
     reader.space()?;
     let counter = reader.number()?;

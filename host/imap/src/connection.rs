@@ -75,7 +75,7 @@ impl Connection<'_> {
         let space = command.iter().position(|&octet| octet == b' ');
         let tag = &command[..space.unwrap_or(command.len())];
         if !is_tag(tag) {
-            return self.end(Class::Rest, "* BAD refused");
+            return self.end(Class::Rest, "* BAD no tag");
         }
         let tag = String::from_utf8_lossy(tag).into_owned();
         let at = tag.len() + 1;
@@ -106,7 +106,7 @@ impl Connection<'_> {
                 None
             }
             Err(Stop::No(text)) => self.end(class, &format!("{tag} NO {text}")),
-            Err(Stop::Bad) => self.end(class, &format!("{tag} BAD refused")),
+            Err(Stop::Bad(why)) => self.end(class, &format!("{tag} BAD {why}")),
             Err(Stop::Gone) => None,
         }
     }

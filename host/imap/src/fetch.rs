@@ -1,8 +1,8 @@
 //! FETCH attributes: reading and writing them.
 
 use crate::flags;
-use crate::mime;
-use crate::parse::{is_atom, quoted, Read, Reader, Stop};
+use crate::mime::{self, Part};
+use crate::parse::{bad, is_atom, quoted, Read, Reader};
 use crate::store::Message;
 use crate::structure;
 
@@ -35,6 +35,8 @@ pub struct Section {
 enum What {
     All,
     Header,
+    /// The header of a part.
+    Mime,
     Text,
     /// Of the header these fields, or all but these.
     Fields(Vec<String>, bool),
@@ -72,7 +74,7 @@ pub fn item(reader: &mut Reader) -> Read<Vec<Item>> {
         "BODY" if reader.peek() == b'[' => vec![section(reader, false)?],
         "BODY.PEEK" => vec![section(reader, true)?],
         "BODY" => vec![body],
-        _ => return Err(Stop::Bad),
+        _ => return bad("no such fetch attribute"),
     })
 }
 
@@ -99,8 +101,8 @@ fn section(reader: &mut Reader, peek: bool) -> Read<Item> {
     let mut name = String::from("BODY[");
     let mut path = Vec::new();
     while reader.peek().is_ascii_digit() {
-        let number = reader.number()?;
-        path.push(usize::try_from(number).map_err(|_| Stop::Bad)?);
+        let number = reader.size()?;
+        path.push(number);
         name += &number.to_string();
         if !reader.eat(b'.') {
             break;
@@ -111,7 +113,8 @@ fn section(reader: &mut Reader, peek: bool) -> Read<Item> {
     name += &word;
     let what = match word.as_str() {
         "" => What::All,
-        "HEADER" | "MIME" => What::Header,
+        "HEADER" => What::Header,
+        "MIME" if !path.is_empty() => What::Mime,
         "TEXT" => What::Text,
         "HEADER.FIELDS" | "HEADER.FIELDS.NOT" => {
             reader.space()?;
@@ -119,7 +122,7 @@ fn section(reader: &mut Reader, peek: bool) -> Read<Item> {
             name += &format!(" ({})", field_names(&fields)?);
             What::Fields(fields, word.ends_with("NOT"))
         }
-        _ => return Err(Stop::Bad),
+        _ => return bad("no such section"),
     };
     reader.need(b']')?;
     name.push(']');
@@ -141,7 +144,7 @@ fn field_names(fields: &[String]) -> Read<String> {
     let name = |field: &String| match field.as_bytes() {
         octets if !octets.is_empty() && octets.iter().all(|&o| is_atom(o)) => Ok(field.clone()),
         octets if octets.iter().all(|o| (0x20..0x7f).contains(o)) => Ok(quoted(field)),
-        _ => Err(Stop::Bad),
+        _ => bad("no such field name"),
     };
     let names: Read<Vec<String>> = fields.iter().map(name).collect();
     Ok(names?.join(" "))
@@ -151,11 +154,16 @@ fn cut(reader: &mut Reader) -> Read<Option<(usize, usize)>> {
     if !reader.eat(b'<') {
         return Ok(None);
     }
-    let from = usize::try_from(reader.number()?).map_err(|_| Stop::Bad)?;
+    let from = reader.size()?;
     reader.need(b'.')?;
-    let count = usize::try_from(reader.number()?).map_err(|_| Stop::Bad)?;
+    let count = reader.size()?;
     reader.need(b'>')?;
     Ok(Some((from, count)))
+}
+
+/// The line that tells a mailbox's counter.
+pub fn highest(counter: u64) -> String {
+    format!("* OK [HIGHESTMODSEQ {counter}] ok\r\n")
 }
 
 /// The line of a message.
@@ -206,26 +214,29 @@ fn write_section(out: &mut Vec<u8>, section: &Section, octets: &[u8]) {
 
 impl Section {
     fn octets(&self, message: &[u8]) -> Option<Vec<u8>> {
-        if self.path.is_empty() {
-            let (header, body) = mime::split(message);
-            return Some(self.of(message, header, header, body));
-        }
         let whole = mime::parse(message);
+        if self.path.is_empty() {
+            return match self.what {
+                What::All => Some(message.to_vec()),
+                _ => self.of_message(&whole),
+            };
+        }
         let part = mime::find(&whole, &self.path)?;
-        // the header and text of a message inside this one are the inner message's
-        let (header, text) = match part.parts.first() {
-            Some(inner) => (inner.header, inner.body),
-            None => (part.header, part.body),
-        };
-        Some(self.of(part.body, part.header, header, text))
+        match self.what {
+            What::All => Some(part.body.to_vec()),
+            What::Mime => Some(part.header.to_vec()),
+            // of all parts only a message has a header and a text
+            _ if part.kind == "MESSAGE" => self.of_message(part.parts.first()?),
+            _ => None,
+        }
     }
 
-    fn of(&self, all: &[u8], header: &[u8], fields: &[u8], text: &[u8]) -> Vec<u8> {
+    fn of_message(&self, message: &Part) -> Option<Vec<u8>> {
         match &self.what {
-            What::All => all.to_vec(),
-            What::Header => header.to_vec(),
-            What::Text => text.to_vec(),
-            What::Fields(names, not) => some_fields(fields, names, *not),
+            What::Header => Some(message.header.to_vec()),
+            What::Text => Some(message.body.to_vec()),
+            What::Fields(names, not) => Some(some_fields(message.header, names, *not)),
+            What::All | What::Mime => None,
         }
     }
 }

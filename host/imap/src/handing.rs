@@ -102,26 +102,33 @@ impl Store {
 
     /// No mailbox is selected any more. One that was revoked meanwhile goes now.
     pub fn leave(&self, state: &mut State) {
-        let id = state.push.selected();
+        let id = state.selected();
         if id == 0 {
             return;
         }
-        state.call(self, &records::select(0));
+        state.deselect(self);
         let seen = self
             .mailboxes
             .get(&id)
             .is_some_and(|m| m.is_visible(&state.user));
-        if !seen {
+        if !seen && state.handed.contains(&id) {
             self.withdraw(state, id, Notice::Quiet);
         }
     }
 
-    /// The library had no room for a message. A mailbox that it knows in part would be shown with wrong numbers: it goes, and
-    /// if it is the selected one the view can't be kept.
-    pub fn cut_off(&self, state: &mut State, id: u16) {
-        if state.push.selected() == id {
-            state.bye("[LIMIT] mailbox too large");
-        } else {
+    /// The library had no room for a message. A mailbox that it knows in part would be shown with wrong numbers, so it goes; but
+    /// the selected one gets the room of all others, and if that is too little the host goes on without the library.
+    pub fn cut_off(&self, state: &mut State, mailbox: &Mailbox, record: &[u8]) {
+        let id = mailbox.id;
+        if state.push.selected() != id {
+            return self.withdraw(state, id, Notice::Quiet);
+        }
+        let others: Vec<u16> = state.handed.iter().copied().collect();
+        for other in others.into_iter().filter(|&other| other != id) {
+            self.withdraw(state, other, Notice::Quiet);
+        }
+        if state.feed(self, record) != Answer::Done {
+            state.take_over(self, mailbox);
             self.withdraw(state, id, Notice::Quiet);
         }
     }

@@ -74,6 +74,13 @@ mod tests {
         }
     }
 
+    /// Sets a flag, or takes it away again: either is a change.
+    fn flag(store: &mut Store, id: u16, uid: u32) {
+        let message = store.mailboxes[&id].message(uid);
+        let flags = message.expect("it is there").flags ^ 1;
+        assert!(store.set_flags(id, uid, flags));
+    }
+
     /// A mailbox after changes, each a letter and a UID: `a` arrives (the next UID), `f` is flagged, `x` is expunged.
     fn after(changes: &str) -> Mailbox {
         let mut store = store();
@@ -87,7 +94,7 @@ mod tests {
                     Some(uid),
                     "{change}"
                 ),
-                "f" => store.set_flags(id, uid, 1),
+                "f" => flag(&mut store, id, uid),
                 _ => store.expunge(id, uid),
             }
         }

@@ -1,7 +1,8 @@
 //! A small IMAP server. Every notice that a client gets, at once, at a command's end or in IDLE, comes out of the library's
-//! queue and from nowhere else.
+//! queue and from nowhere else; only what happens in an open mailbox that is too large for it is told by `large`.
 
 mod adapt;
+mod addresses;
 mod changes;
 mod commands;
 mod condstore;
@@ -12,6 +13,7 @@ mod flags;
 mod handing;
 mod history;
 mod input;
+mod large;
 mod mime;
 mod names;
 mod options;

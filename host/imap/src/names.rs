@@ -31,12 +31,15 @@ pub fn is_beneath(name: &str, upper: &str) -> bool {
         .is_some_and(|rest| rest.starts_with('/'))
 }
 
+/// The names above this one, from the top.
+pub fn parents(name: &str) -> impl Iterator<Item = String> + '_ {
+    name.match_indices('/').map(|(at, _)| fold(&name[..at]))
+}
+
 /// The name's parents from the top, and the name itself. The root of the shared ones is no mailbox.
 pub fn with_parents(name: &str) -> Vec<String> {
-    (name.match_indices('/').map(|(at, _)| &name[..at]))
-        .chain([name])
-        .filter(|upper| *upper != SHARED)
-        .map(fold)
+    (parents(name).chain([fold(name)]))
+        .filter(|upper| upper != SHARED)
         .collect()
 }
 

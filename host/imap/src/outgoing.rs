@@ -116,3 +116,25 @@ impl Outgoing {
         self.done = batch.promised;
     }
 }
+
+#[cfg(test)]
+mod tests {
+    use super::*;
+
+    /// Nothing comes behind BYE, whatever is put in line until it is written.
+    #[test]
+    fn sealed() {
+        let mut outgoing = Outgoing::default();
+        outgoing.own(10, b"* BYE\r\n".to_vec());
+        outgoing.seal();
+        outgoing.own(20, b"* 1 EXISTS\r\n".to_vec());
+        assert_eq!(outgoing.place(30), 17);
+        let batch = outgoing.take(30);
+        let [Part::Queue(0, 10), Part::Own(own)] = &batch.parts[..] else {
+            panic!("{} parts", batch.parts.len());
+        };
+        assert_eq!((&own[..], batch.drains), (&b"* BYE\r\n"[..], 10));
+        outgoing.finish(&batch);
+        assert!(outgoing.is_done(17) && !outgoing.is_waiting(20));
+    }
+}

@@ -4,8 +4,8 @@ use crate::names;
 
 /// Why a command ends before its time.
 pub enum Stop {
-    /// It is not of the grammar: BAD.
-    Bad,
+    /// It is not of the grammar: BAD, and why. The reason lies in what the client sent, never in what the store hides.
+    Bad(&'static str),
     /// NO, and this text.
     No(String),
     /// The connection is gone.
@@ -14,8 +14,15 @@ pub enum Stop {
 
 pub type Read<T> = Result<T, Stop>;
 
+pub fn bad<T>(why: &'static str) -> Read<T> {
+    Err(Stop::Bad(why))
+}
+
 /// Ranges of numbers or UIDs; 0 stands for `*`.
 pub type Set = Vec<(u32, u32)>;
+
+/// What a number too large for its place gets.
+pub const TOO_LARGE: Stop = Stop::Bad("number too large");
 
 pub fn is_atom(octet: u8) -> bool {
     (0x21..0x7f).contains(&octet) && !b"(){%*\"\\]".contains(&octet)
@@ -50,7 +57,10 @@ impl<'a> Reader<'a> {
     }
 
     pub fn end(&self) -> Read<()> {
-        self.is_end().then_some(()).ok_or(Stop::Bad)
+        match self.is_end() {
+            true => Ok(()),
+            false => bad("more than the command takes"),
+        }
     }
 
     pub fn eat(&mut self, octet: u8) -> bool {
@@ -60,7 +70,18 @@ impl<'a> Reader<'a> {
     }
 
     pub fn need(&mut self, octet: u8) -> Read<()> {
-        self.eat(octet).then_some(()).ok_or(Stop::Bad)
+        if self.eat(octet) {
+            return Ok(());
+        }
+        bad(match octet {
+            b' ' => "a space is missing",
+            b'(' => "( is missing",
+            b')' => ") is missing",
+            b'[' => "[ is missing",
+            b']' => "] is missing",
+            b'{' => "a string is missing",
+            _ => "wrong punctuation",
+        })
     }
 
     pub fn space(&mut self) -> Read<()> {
@@ -72,7 +93,10 @@ impl<'a> Reader<'a> {
         let rest = self.rest();
         let len = rest.iter().take_while(|&&octet| so(octet)).count();
         self.at += len;
-        (len > 0).then_some(&rest[..len]).ok_or(Stop::Bad)
+        match len {
+            0 => bad("a word is missing"),
+            _ => Ok(&rest[..len]),
+        }
     }
 
     /// An atom in capitals.
@@ -95,15 +119,25 @@ impl<'a> Reader<'a> {
     }
 
     pub fn number(&mut self) -> Read<u64> {
-        let digits = self.run(|octet| octet.is_ascii_digit())?;
-        text(digits).parse().map_err(|_| Stop::Bad)
+        let digits = self.run(|octet| octet.is_ascii_digit());
+        let digits = digits.map_err(|_| Stop::Bad("a number is missing"))?;
+        text(digits).parse().map_err(|_| TOO_LARGE)
     }
 
-    /// A quoted string or a literal.
+    /// A number of octets, or of parts.
+    pub fn size(&mut self) -> Read<usize> {
+        usize::try_from(self.number()?).map_err(|_| TOO_LARGE)
+    }
+
+    /// A quoted string or a literal. Neither may have NUL in it.
     pub fn string(&mut self) -> Read<Vec<u8>> {
-        match self.eat(b'"') {
-            true => self.quoted(),
-            false => self.literal(),
+        let string = match self.eat(b'"') {
+            true => self.quoted()?,
+            false => self.literal()?,
+        };
+        match string.contains(&0) {
+            true => bad("NUL in a string"),
+            false => Ok(string),
         }
     }
 
@@ -123,19 +157,20 @@ impl<'a> Reader<'a> {
                     string.push(octet);
                     self.at += 1;
                 }
-                _ => return Err(Stop::Bad),
+                _ => return bad("a quoted string has no end"),
             }
         }
     }
 
     fn literal(&mut self) -> Read<Vec<u8>> {
         self.need(b'{')?;
-        let len = usize::try_from(self.number()?).map_err(|_| Stop::Bad)?;
+        let len = self.size()?;
         self.eat(b'+');
         self.need(b'}')?;
         self.need(b'\r')?;
         self.need(b'\n')?;
-        let string = self.rest().get(..len).ok_or(Stop::Bad)?;
+        let string = self.rest().get(..len);
+        let string = string.ok_or(Stop::Bad("a literal is cut off"))?;
         self.at += len;
         Ok(string.to_vec())
     }
@@ -193,8 +228,10 @@ impl<'a> Reader<'a> {
         if self.eat(b'*') {
             return Ok(0);
         }
-        let number = u32::try_from(self.number()?).map_err(|_| Stop::Bad)?;
-        (number > 0).then_some(number).ok_or(Stop::Bad)
+        match u32::try_from(self.number()?) {
+            Ok(0) => bad("there is no number 0"),
+            number => number.map_err(|_| TOO_LARGE),
+        }
     }
 }
 

@@ -8,6 +8,11 @@ use borjavid::Memory;
 pub use borjavid::records::{self, Class, Notice};
 pub use borjavid::{Answer, Refusal};
 
+/// Words of a message's entry: mailbox, UID, flags, size, states, counter.
+const ENTRY: usize = 6;
+/// Among the states: a change of flags waits to be told.
+const MARKED: u64 = 2;
+
 /// The memory that one connection lends.
 pub struct Push {
     memory: Memory,
@@ -54,6 +59,24 @@ impl Push {
         self.memory.view()
     }
 
+    /// The view with what the client knows of it: each message's counter, or 0 where it is still to hear of a change. And the UID
+    /// below which messages were announced.
+    pub fn known(&mut self) -> (Vec<(u32, u64)>, u32) {
+        let (selected, told) = (self.selected(), self.memory.session().told);
+        let lent = self.memory.lend();
+        let used = lent.words.chunks_exact(ENTRY);
+        let own = used
+            .take(lent.counts.messages as usize)
+            .filter(|entry| entry[0] == u64::from(selected) && entry[1] < u64::from(told));
+        let known = |entry: &[u64]| match entry[4] & MARKED {
+            0 => (entry[1] as u32, entry[5]),
+            _ => (entry[1] as u32, 0),
+        };
+        let mut all: Vec<(u32, u64)> = own.map(known).collect();
+        all.sort_unstable();
+        (all, told)
+    }
+
     /// The selected mailbox, 0 for none.
     pub fn selected(&self) -> u16 {
         self.memory.session().selected
@@ -87,7 +110,7 @@ impl Push {
     pub fn counters(&mut self, id: u16) -> (u32, u64, Vec<(u32, u64)>) {
         let lent = self.memory.lend();
         let row = lent.rows[lent.find_id(id).expect("a mailbox")];
-        let entries = lent.words.chunks_exact(6);
+        let entries = lent.words.chunks_exact(ENTRY);
         let used = entries.take(lent.counts.messages as usize);
         let own = used.filter(|entry| entry[0] == u64::from(id));
         let own = own.map(|entry| (entry[1] as u32, entry[5]));

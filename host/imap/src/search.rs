@@ -4,7 +4,7 @@ use crate::condstore;
 use crate::date;
 use crate::flags::{DELETED, SEEN};
 use crate::mime;
-use crate::parse::{is_within, Read, Reader, Set, Stop};
+use crate::parse::{bad, is_within, Read, Reader, Set, Stop};
 use crate::push::records::{ANSWERED, DRAFT, FLAGGED};
 use crate::store::Message;
 use std::cmp::Ordering;
@@ -53,7 +53,7 @@ pub fn keys(reader: &mut Reader) -> Read<Vec<Key>> {
 
 fn key(reader: &mut Reader, depth: u32) -> Read<Key> {
     if depth > DEPTH {
-        return Err(Stop::Bad);
+        return bad("keys too deep in each other");
     }
     match reader.peek() {
         b'(' => Ok(Key::List(reader.list(|reader| key(reader, depth + 1))?)),
@@ -93,7 +93,7 @@ fn named(word: &str, reader: &mut Reader, depth: u32) -> Read<Key> {
         "SENTSINCE" => dated(true, Ordering::Greater, reader)?,
         "NOT" => Key::Not(inner(reader, depth)?),
         "OR" => Key::Or(inner(reader, depth)?, inner(reader, depth)?),
-        _ => return Err(Stop::Bad),
+        _ => return bad("no such search key"),
     })
 }
 
@@ -129,7 +129,7 @@ fn number(reader: &mut Reader) -> Read<u64> {
 }
 
 fn dated(sent: bool, than: Ordering, reader: &mut Reader) -> Read<Key> {
-    let day = date::day(&text(reader)?).ok_or(Stop::Bad)?;
+    let day = date::day(&text(reader)?).ok_or(Stop::Bad("no such date"))?;
     Ok(Key::Date { sent, than, day })
 }
 

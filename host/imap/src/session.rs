@@ -2,6 +2,7 @@
 //! lock or without it, and the store is never locked inside it.
 
 use crate::adapt::Adapted;
+use crate::large::Large;
 use crate::options::Options;
 use crate::outgoing::{Batch, Outgoing, Part};
 use crate::push::{records, Answer, Class, Push, Refusal};
@@ -28,6 +29,8 @@ pub struct State {
     pub user: String,
     /// The mailboxes that the library has.
     pub handed: HashSet<u16>,
+    /// The selected mailbox, where it is too large for the library.
+    pub large: Option<Large>,
     pub read_only: bool,
     /// The account is larger than the tables: no NOTIFY and no ESEARCH on this connection.
     pub outgrown: bool,
@@ -53,6 +56,7 @@ impl Session {
             push: Push::new(options.queue, recording),
             user: String::new(),
             handed: HashSet::new(),
+            large: None,
             read_only: false,
             outgrown: false,
             ending: false,
@@ -114,7 +118,7 @@ impl Session {
     /// Waits while much of earlier answers waits for the writer: what a client doesn't read makes its own commands wait.
     pub fn caught_up(&self) -> bool {
         let mut state = self.lock();
-        while !state.dead && state.outgoing.behind() > BEHIND {
+        while !state.dead && state.is_behind() {
             state = self.wait(state);
         }
         !state.dead
@@ -145,7 +149,7 @@ impl State {
     pub fn call(&mut self, store: &Store, record: &[u8]) -> Answer {
         match &mut self.adapted {
             None => self.push.call(record),
-            Some(adapted) => adapted.call(&mut self.push, store, record),
+            Some(adapted) => adapted.call(&mut self.push, store, &self.user, record),
         }
     }
 
@@ -161,8 +165,29 @@ impl State {
         answer
     }
 
+    /// The selected mailbox, 0 for none.
+    pub fn selected(&self) -> u16 {
+        let large = self.large.as_ref().map(|large| large.id);
+        large.unwrap_or_else(|| self.push.selected())
+    }
+
+    /// UIDs of the client's view: message n is at n - 1.
+    pub fn view(&self) -> Vec<u32> {
+        let large = self.large.as_ref().map(Large::view);
+        large.unwrap_or_else(|| self.push.view())
+    }
+
+    pub fn deselect(&mut self, store: &Store) {
+        if self.large.take().is_none() {
+            self.call(store, &records::select(0));
+        }
+    }
+
     /// `CE`: what the class may hear now. Answers how many lines found no room.
     pub fn owes(&mut self, store: &Store, class: Class) -> u64 {
+        if self.large.is_some() {
+            return self.owes_large(store, class);
+        }
         self.call(store, &records::command_ended(class))
             .count()
             .unwrap_or(0)
@@ -186,15 +211,26 @@ impl State {
         self.owed = 0;
     }
 
-    fn idle_turn(&mut self, store: &Store) {
+    pub fn idle_turn(&mut self, store: &Store) {
+        // no queue limits the lines of a large mailbox: they wait where the client doesn't read
+        let waits = self.large.is_some() && self.is_behind();
         if self.idle {
-            self.owed = self.owes(store, Class::Rest);
+            self.owed = if waits {
+                1
+            } else {
+                self.owes(store, Class::Rest)
+            };
         }
     }
 
     /// Lines of the host's own, behind all that the queue holds.
     pub fn own(&mut self, octets: Vec<u8>) {
         self.outgoing.own(self.push.queue().len(), octets);
+    }
+
+    /// Whether much of earlier lines waits for the writer.
+    pub fn is_behind(&self) -> bool {
+        self.outgoing.behind() > BEHIND
     }
 
     fn place(&mut self) -> u64 {

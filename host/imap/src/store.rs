@@ -7,12 +7,20 @@ use std::collections::hash_map::DefaultHasher;
 use std::collections::{BTreeMap, BTreeSet, HashMap};
 use std::hash::{Hash, Hasher};
 use std::sync::Arc;
+use std::time::{Duration, UNIX_EPOCH};
 
 pub const USERS: [&str; 3] = ["alice", "bob", "carol"];
 pub const PASSWORD: &str = "pw";
+/// What is given to this one every user has.
+pub const ANYONE: &str = "anyone";
 /// Who makes the mailboxes beneath `Shared/`.
 pub const ADMINISTRATOR: &str = "alice";
 pub const ALL_RIGHTS: &str = "lrswipkxtea";
+
+/// A name's part of its UIDVALIDITY is below this.
+const NAMES_PART: u32 = 1 << 28;
+/// From 1970 to 2026.
+const EPOCH: Duration = Duration::from_secs(1_767_225_600);
 
 pub struct Message {
     pub uid: u32,
@@ -42,16 +50,21 @@ pub struct Mailbox {
 }
 
 impl Mailbox {
-    pub fn rights(&self, user: &str) -> &str {
-        match &self.owner {
-            Some(owner) if owner == user => ALL_RIGHTS,
-            Some(_) => "",
-            None => self.rights.get(user).map_or("", |rights| rights),
-        }
+    /// What a shared one's list says of the user.
+    pub fn given(&self, user: &str) -> &str {
+        self.rights.get(user).map_or("", |rights| rights)
     }
 
     pub fn may(&self, user: &str, right: char) -> bool {
-        self.rights(user).contains(right)
+        match &self.owner {
+            Some(owner) => owner == user,
+            None => self.given(user).contains(right) || self.given(ANYONE).contains(right),
+        }
+    }
+
+    pub fn rights(&self, user: &str) -> String {
+        let has = |&right: &char| self.may(user, right);
+        ALL_RIGHTS.chars().filter(has).collect()
     }
 
     /// The two rights that the library knows.
@@ -63,6 +76,11 @@ impl Mailbox {
     /// Whether there is such a mailbox, as far as the user can know.
     pub fn is_visible(&self, user: &str) -> bool {
         self.bits(user) != 0
+    }
+
+    /// Whether the user hears of what happens there.
+    pub fn is_open(&self, user: &str) -> bool {
+        self.bits(user) == records::LOOKUP | records::READ
     }
 
     pub fn attributes(&self, user: &str) -> u8 {
@@ -115,6 +133,8 @@ pub struct Store {
     pub sessions: Vec<Arc<Session>>,
     pub options: Options,
     last_id: u16,
+    /// When the server started, by `start`.
+    start: u32,
     /// The last UIDVALIDITY of each name. One counter for all would tell everybody of mailboxes that they may not see.
     validities: HashMap<(Option<String>, String), u32>,
 }
@@ -126,6 +146,7 @@ impl Store {
             sessions: Vec::new(),
             options,
             last_id: 0,
+            start: start(),
             validities: HashMap::new(),
         }
     }
@@ -157,12 +178,13 @@ impl Store {
         }
     }
 
-    /// The UIDVALIDITY of a new mailbox: drawn from its name at first, then one above the name's last.
+    /// The UIDVALIDITY of a new mailbox: drawn from its name and the server's start at first, then one above the name's
+    /// last. The name's part keeps it from that of another mailbox which is renamed to it.
     pub fn new_validity(&mut self, owner: &Option<String>, name: &str) -> u32 {
         let key = (owner.clone(), name.to_string());
         let mut hasher = DefaultHasher::new();
         key.hash(&mut hasher);
-        let first = (hasher.finish() as u32 >> 2) + 1;
+        let first = hasher.finish() as u32 % NAMES_PART + self.start + 1;
         let validity = self.validities.get(&key).map_or(first, |last| last + 1);
         self.validities.insert(key, validity);
         validity
@@ -174,4 +196,16 @@ impl Store {
         let last = self.validities.entry(key).or_insert(validity);
         *last = validity.max(*last);
     }
+}
+
+/// The server's start in eighths of a second from 2026 on: after a restart nothing is kept, and a name's first UIDVALIDITY must
+/// be above those it was given before. They last until 2040. IMAP_START gives the number instead, for runs that must agree.
+fn start() -> u32 {
+    let given = std::env::var("IMAP_START").ok();
+    let eighths = given.and_then(|text| text.parse().ok()).unwrap_or_else(|| {
+        let since = (UNIX_EPOCH + EPOCH).elapsed();
+        since.unwrap_or_default().as_millis() / 125
+    });
+    // the name's part, and as many uses of a name, have room above it
+    (eighths % u128::from(u32::MAX - 2 * NAMES_PART)) as u32
 }

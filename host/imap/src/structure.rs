@@ -1,16 +1,17 @@
 //! BODYSTRUCTURE and ENVELOPE, which mail programs ask for.
 
+use crate::addresses;
 use crate::mime::{self, Part};
 use crate::parse::quoted;
 
-fn string(text: &str) -> String {
+pub fn string(text: &str) -> String {
     match text.bytes().all(|octet| (0x20..0x7f).contains(&octet)) {
         true => quoted(text),
         false => format!("{{{}}}\r\n{text}", text.len()),
     }
 }
 
-fn string_or_nil(text: Option<String>) -> String {
+pub fn string_or_nil(text: Option<String>) -> String {
     text.map_or("NIL".into(), |text| string(&text))
 }
 
@@ -72,47 +73,20 @@ fn single(part: &Part, extended: bool) -> String {
 
 pub fn envelope(header: &[u8]) -> String {
     let field = |name: &str| mime::value(header, name);
-    let from = addresses(field("From"));
-    let or_from = |name: &str| field(name).map_or(from.clone(), |value| addresses(Some(value)));
+    let from = addresses::list(field("From"));
+    let or_from =
+        |name: &str| field(name).map_or(from.clone(), |value| addresses::list(Some(value)));
     let parts = [
         string_or_nil(field("Date")),
         string_or_nil(field("Subject")),
         from.clone(),
         or_from("Sender"),
         or_from("Reply-To"),
-        addresses(field("To")),
-        addresses(field("Cc")),
-        addresses(field("Bcc")),
+        addresses::list(field("To")),
+        addresses::list(field("Cc")),
+        addresses::list(field("Bcc")),
         string_or_nil(field("In-Reply-To")),
         string_or_nil(field("Message-Id")),
     ];
     format!("({})", parts.join(" "))
-}
-
-fn addresses(value: Option<String>) -> String {
-    let all: String = value
-        .iter()
-        .flat_map(|v| v.split(','))
-        .map(address)
-        .collect();
-    match all.is_empty() {
-        true => "NIL".into(),
-        false => format!("({all})"),
-    }
-}
-
-fn address(text: &str) -> String {
-    let (name, address) = match (text.find('<'), text.rfind('>')) {
-        (Some(open), Some(close)) if open < close => {
-            let name = text[..open].trim().trim_matches('"');
-            (Some(name.to_string()), &text[open + 1..close])
-        }
-        _ => (None, text.trim()),
-    };
-    if address.is_empty() {
-        return String::new();
-    }
-    let (user, host) = address.split_once('@').unwrap_or((address, "localhost"));
-    let name = string_or_nil(name.filter(|name| !name.is_empty()));
-    format!("({name} NIL {} {})", string(user), string(host))
 }

@@ -154,10 +154,10 @@ fn messages() {
     assert!(client.answer("STORE 1 FLAGS ()").starts_with("NO "));
     assert!(client.answer("EXPUNGE").starts_with("NO "));
     assert!(client.answer("SELECT nowhere").starts_with("NO "));
-    assert_eq!(client.answer("FETCH 1 FLAGS"), "BAD refused");
+    assert_eq!(client.answer("FETCH 1 FLAGS"), "BAD no mailbox selected");
     client.ok("SELECT INBOX");
     client.ok("UNSELECT");
-    assert_eq!(client.answer("FETCH 1 FLAGS"), "BAD refused");
+    assert_eq!(client.answer("FETCH 1 FLAGS"), "BAD no mailbox selected");
     client.start("LOGOUT");
     assert!(client.all_the_rest().starts_with("* BYE"));
     server.end();
@@ -169,15 +169,130 @@ fn what_is_not_promised_is_not_there() {
     assert!(!client.ok("CAPABILITY")[0].contains("QRESYNC"));
     assert_eq!(client.ok("ENABLE QRESYNC"), ["* ENABLED"]);
     client.ok("SELECT work (CONDSTORE)");
-    for command in [
-        "SELECT work (QRESYNC (1 1))",
-        "UID FETCH 1 (UID) (CHANGEDSINCE 1 VANISHED)",
-        "NOTIFY SET (selected (MessageNew (MODSEQ) MessageExpunge))",
-        "ESEARCH IN (personal) MODSEQ 5",
+    for (command, answer) in [
+        ("SELECT work (QRESYNC (1 1))", "BAD no such parameter"),
+        (
+            "UID FETCH 1 (UID) (CHANGEDSINCE 1 VANISHED)",
+            "BAD no such modifier",
+        ),
+        // the library's own
+        (
+            "NOTIFY SET (selected (MessageNew (MODSEQ) MessageExpunge))",
+            "BAD refused",
+        ),
+        ("ESEARCH IN (personal) MODSEQ 5", "BAD refused"),
     ] {
-        assert_eq!(client.answer(command), "BAD refused", "{command}");
+        assert_eq!(client.answer(command), answer, "{command}");
     }
     let more = "NOTIFY SET (selected (MessageNew (UID BODYSTRUCTURE) MessageExpunge))";
     assert_eq!(client.answer(more), "NO unsupported");
+    server.end();
+}
+
+/// A message with one inside it, which has parts of its own.
+const FORWARD: &str =
+    "Subject: outer\r\nMIME-Version: 1.0\r\nContent-Type: multipart/mixed; boundary=oo\r\n\r\n\
+    --oo\r\nContent-Type: text/plain\r\n\r\nsee below\r\n\
+    --oo\r\nContent-Type: message/rfc822\r\nX-Part: two\r\n\r\n\
+    Subject: inner\r\nContent-Type: multipart/mixed; boundary=ii\r\n\r\n\
+    --ii\r\n\r\ninmost\r\n--ii--\r\n\
+    --oo--\r\n";
+
+#[test]
+fn sections_of_a_message_inside_a_message() {
+    let server = Server::start();
+    let mut client = server.log_in("alice");
+    append(&mut client, "INBOX", FORWARD);
+    client.ok("SELECT INBOX");
+    let inner = "Subject: inner\nContent-Type: multipart/mixed; boundary=ii\n\n";
+    for (section, wanted) in [
+        ("2.HEADER", format!("{{62}}\n{inner})")),
+        (
+            "2.MIME",
+            "{45}\nContent-Type: message/rfc822\nX-Part: two\n\n)".into(),
+        ),
+        (
+            "2.HEADER.FIELDS (Subject)",
+            "{18}\nSubject: inner\n\n)".into(),
+        ),
+        ("2.TEXT", "{22}\n--ii\n\ninmost\n--ii--)".into()),
+        ("2.1", "{6}\ninmost)".into()),
+        // no message, so it has neither
+        ("1.HEADER", "NIL)".into()),
+        ("1.TEXT", "NIL)".into()),
+        ("1.MIME", "{28}\nContent-Type: text/plain\n\n)".into()),
+    ] {
+        let command = format!("FETCH 1 (BODY.PEEK[{section}])");
+        let wanted = format!("* 1 FETCH (BODY[{section}] {wanted}");
+        assert_eq!(client.ok(&command).join("\n"), wanted);
+    }
+    server.end();
+}
+
+#[test]
+fn an_envelope_s_addresses() {
+    let server = Server::start();
+    let mut client = server.log_in("alice");
+    let mail = "From: \"Doe, John\" <john@x.org>, bo@y (b, o)\r\nTo: Team: bo@y;\r\n\r\n";
+    append(&mut client, "INBOX", mail);
+    client.ok("SELECT INBOX");
+    let (doe, bo) = (
+        "(\"Doe, John\" NIL \"john\" \"x.org\")",
+        "(NIL NIL \"bo\" \"y\")",
+    );
+    let from = format!("({doe}{bo})");
+    let to = format!("((NIL NIL \"Team\" NIL){bo}(NIL NIL NIL NIL))");
+    assert_eq!(
+        client.ok("FETCH 1 ENVELOPE"),
+        [format!(
+            "* 1 FETCH (ENVELOPE (NIL NIL {from} {from} {from} {to} NIL NIL NIL NIL))"
+        )]
+    );
+    server.end();
+}
+
+/// Every BAD says what is wrong with the command.
+#[test]
+fn reasons() {
+    let (server, mut client) = two_messages();
+    client.ok("SELECT work");
+    for (command, why) in [
+        ("NOSUCH", "no such command"),
+        ("UID NOSUCH", "no such command"),
+        ("LOGIN alice pw", "logged in already"),
+        ("SELECT", "a space is missing"),
+        ("SELECT ", "a word is missing"),
+        ("SELECT \"work", "a quoted string has no end"),
+        ("SELECT work more", "( is missing"),
+        ("STATUS work MESSAGES", "( is missing"),
+        ("STATUS work (NOSUCH)", "no such status item"),
+        ("UNSUBSCRIBE work more", "more than the command takes"),
+        ("LIST \"\" * NOSUCH", "RETURN is missing"),
+        ("FETCH x FLAGS", "a number is missing"),
+        ("FETCH 0 FLAGS", "there is no number 0"),
+        ("FETCH 4294967296 FLAGS", "number too large"),
+        ("FETCH 1 NOSUCH", "no such fetch attribute"),
+        ("FETCH 1 BODY[NOSUCH]", "no such section"),
+        ("FETCH 1 BODY[MIME]", "no such section"),
+        ("FETCH 1 BODY[1", "] is missing"),
+        ("STORE 1 *FLAGS ()", "a word is missing"),
+        ("STORE 1 FLAG ()", "no such change of flags"),
+        ("SEARCH NOSUCH", "no such search key"),
+        ("SEARCH SINCE yesterday", "no such date"),
+        ("SETACL Shared/x bob", "a space is missing"),
+        ("APPEND work \"now\" {2+}\r\nhi", "no such date-time"),
+        ("APPEND work \"hi\"", "a space is missing"),
+        ("APPEND work hi", "a message comes as a literal"),
+        ("APPEND work {3+}\r\nh\0i", "NUL in a string"),
+        ("SELECT \"wo\0rk\"", "NUL in a string"),
+    ] {
+        assert_eq!(client.answer(command), format!("BAD {why}"), "{command}");
+    }
+    assert_eq!(
+        client.ok("STATUS work (MESSAGES)"),
+        ["* STATUS \"work\" (MESSAGES 2)"]
+    );
+    client.send(b"\r\n");
+    assert_eq!(client.line(), "* BAD no tag");
     server.end();
 }

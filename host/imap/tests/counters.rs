@@ -103,8 +103,11 @@ fn flags_elsewhere() {
     let validity = validity.trim_end_matches(')');
     watch.alice.ok("SELECT Shared/Open");
     watch.alice.ok("STORE 1:3 FLAGS (\\Seen)");
-    // no bit differs, and the counters rise all the same
-    watch.alice.ok("STORE 2 FLAGS (\\Seen)");
+    // no bit differs: no change, no counter, and nobody hears of it
+    let same = "* 2 FETCH (UID 2 FLAGS (\\Seen) MODSEQ (6))";
+    assert_eq!(watch.alice.ok("STORE 2 FLAGS (\\Seen)"), [same]);
+    watch.alice.ok("STORE 1:2 +FLAGS.SILENT (\\Seen)");
+    watch.alice.ok("STORE 1 +FLAGS (\\Draft)");
     let line =
         |counter: u64| format!("* STATUS \"Shared/Open\" ({validity} HIGHESTMODSEQ {counter})");
     assert_eq!(watch.heard(), [5, 6, 7, 8].map(line));
@@ -154,6 +157,10 @@ fn a_client_resumes_from_a_counter() {
             "* 2 FETCH (FLAGS (\\Seen) MODSEQ (5))",
             "* 4 FETCH (FLAGS () MODSEQ (6))"
         ]
+    );
+    assert_eq!(
+        bob.ok("FETCH 3 (FLAGS) (CHANGEDSINCE 0)"),
+        ["* 3 FETCH (FLAGS () MODSEQ (4))"]
     );
     assert_eq!(bob.ok("SEARCH MODSEQ 5 UNSEEN"), ["* SEARCH 4 (MODSEQ 6)"]);
     let named = "UID SEARCH MODSEQ \"/flags/\\\\Draft\" all 4";

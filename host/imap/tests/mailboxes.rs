@@ -20,10 +20,17 @@ fn answers(watch: &mut Watch, name: &str) -> Vec<String> {
         "UNSUBSCRIBE x",
         "GETACL x",
         "SETACL x bob lr",
+        "SETACL x anyone lr",
+        "SETACL x bob q",
         "DELETEACL x bob",
+        "LISTRIGHTS x bob",
         "MYRIGHTS x",
         "LIST \"\" x",
+        "LIST \"\" x%",
+        "LIST \"\" %",
         "LSUB \"\" x",
+        "STATUS x (NOSUCH)",
+        "SELECT x (NOSUCH)",
         "LIST \"\" * RETURN (STATUS (MESSAGES))",
         "APPEND x {2+}\r\nhi",
         "ESEARCH IN (mailboxes (x)) ALL",
@@ -187,7 +194,7 @@ fn the_selected_mailbox_is_deleted() {
     let gone = "* LIST (\\NonExistent) \"/\" \"Shared/Open\"";
     assert_eq!(watch.heard(), ["* OK [CLOSED] mailbox deleted", gone]);
     for client in [&mut watch.alice, &mut watch.bob] {
-        assert_eq!(client.answer("FETCH 1 (UID)"), "BAD refused");
+        assert_eq!(client.answer("FETCH 1 (UID)"), "BAD no mailbox selected");
         assert_eq!(client.ok("NOOP"), [""; 0]);
     }
     watch.alice.ok("CREATE Shared/Open");

@@ -3,13 +3,13 @@
 
 mod support;
 
-use support::{Chance, Server};
+use support::{Chance, Client, Server};
 
 const SERVERS: u64 = 10;
 const CONNECTIONS: usize = 60;
 const COMMANDS: usize = 60;
 
-const WHOLE: [&str; 47] = [
+const WHOLE: [&str; 50] = [
     "SELECT INBOX",
     "EXAMINE a/b",
     "FETCH 1:* (FLAGS BODY.PEEK[HEADER.FIELDS (A \"B c\")]<0.9> ENVELOPE BODYSTRUCTURE)",
@@ -57,6 +57,9 @@ const WHOLE: [&str; 47] = [
     "SETACL Shared/x alice -r",
     "DELETEACL Shared/x alice",
     "GETACL Shared/x",
+    "LISTRIGHTS Shared/x anyone",
+    "SETACL Shared/x anyone +lr",
+    "LIST \"\" (% Shared/%)",
     "IDLE\r\nDONE",
     "ENABLE QRESYNC",
 ];
@@ -97,11 +100,21 @@ fn damage(command: &str, chance: &mut Chance) -> Vec<u8> {
     octets
 }
 
-fn run(seed: u64, options: &[&str]) {
+/// So many messages at least are in INBOX.
+fn fill(alice: &mut Client, least: usize) {
+    let status = alice.ok("STATUS INBOX (MESSAGES)");
+    let count = status[0].trim_end_matches(')').rsplit(' ').next();
+    let count: usize = count.and_then(|n| n.parse().ok()).expect("a number");
+    alice.append_many((count..least).map(|_| "INBOX".into()));
+}
+
+/// All of those commands, each connection with so many messages in INBOX; answers what the server wrote to its log.
+fn run(seed: u64, options: &[&str], messages: usize) -> String {
     let server = Server::with(options);
     let mut chance = Chance::new(seed);
-    let mut watcher = server.log_in("bob");
+    let (mut watcher, mut filler) = (server.log_in("bob"), server.log_in("alice"));
     for _ in 0..CONNECTIONS {
+        fill(&mut filler, messages);
         let mut client = server.log_in("alice");
         let mut octets = Vec::new();
         for number in 0..COMMANDS {
@@ -122,19 +135,30 @@ fn run(seed: u64, options: &[&str]) {
     let mut carol = server.log_in("carol");
     carol.append("INBOX");
     assert!(carol.ok("SELECT INBOX").contains(&"* 1 EXISTS".into()));
-    server.end();
+    server.log()
 }
 
 #[test]
 fn no_damaged_command_ends_the_server() {
     for seed in 0..SERVERS {
-        run(seed, &[]);
+        assert_eq!(run(seed, &[], 0), "");
     }
 }
 
 #[test]
 fn nor_one_that_adapts_with_the_least_queue() {
     for seed in 0..SERVERS {
-        run(SERVERS + seed, &["--adapt", "--queue", "1024"]);
+        let options = ["--adapt", "--queue", "1024"];
+        assert_eq!(run(SERVERS + seed, &options, 0), "");
+    }
+}
+
+#[test]
+fn nor_one_with_a_mailbox_too_large_for_the_library() {
+    let own = "too many for the library: alice has it without";
+    for (seed, options) in [(20, &[][..]), (21, &["--adapt"])] {
+        let log = run(seed, options, 1030);
+        assert!(log.lines().all(|line| line.ends_with(own)), "{log}");
+        assert!(log.lines().count() > CONNECTIONS / 2, "{log}");
     }
 }

@@ -71,13 +71,14 @@ fn class_0_commands_hear_of_the_rest_before_their_tag() {
     for (place, command) in commands.iter().enumerate() {
         watch.alice.append("Shared/Open");
         watch.alice.ok("SELECT Shared/Open");
-        watch.alice.ok("STORE 2 FLAGS (\\Flagged)");
+        let flag = ["\\Flagged", "\\Draft"][place % 2];
+        watch.alice.ok(&format!("STORE 2 FLAGS ({flag})"));
         watch.alice.ok("UNSELECT");
         let lines = watch.bob.run(command);
         let exists = format!("* {} EXISTS", 4 + place);
-        let flags = "* 3 FETCH (UID 3 FLAGS (\\Flagged) MODSEQ (";
+        let flags = format!("* 3 FETCH (UID 3 FLAGS ({flag}) MODSEQ (");
         assert!(lines.contains(&exists), "{command}: {lines:?}");
-        let told = lines.iter().any(|line| line.starts_with(flags));
+        let told = lines.iter().any(|line| line.starts_with(&flags));
         assert!(told, "{command}: {lines:?}");
         assert!(
             !lines.contains(&"* 1 EXPUNGE".into()),
@@ -221,14 +222,15 @@ fn lines_that_the_library_can_t_take_get_their_own_tag() {
     bob.send(b"INBOX (MessageNew MessageExpunge))\r\n");
     assert_eq!(bob.line(), format!("{tag} OK NOTIFY done"));
     let newline = "NOTIFY SET (mailboxes {6+}\r\nIN\r\nBO (MessageNew MessageExpunge))";
-    assert_eq!(bob.answer(newline), "BAD refused");
+    assert_eq!(bob.answer(newline), "BAD such a literal can't be here");
     let long = "NOTIFY SET (mailboxes (".to_string() + &"x".repeat(1024) + ") (MailboxName))";
-    assert_eq!(bob.answer(&long), "BAD refused");
+    assert_eq!(bob.answer(&long), "BAD longer than 1,024 octets");
     let tag = "t".repeat(33);
     bob.send(format!("{tag} NOTIFY NONE\r\n").as_bytes());
-    assert_eq!(bob.line(), format!("{tag} BAD refused"));
+    let why = "the tag is longer than 32 octets";
+    assert_eq!(bob.line(), format!("{tag} BAD {why}"));
     bob.send(b"+ NOOP\r\n\r\n");
-    assert_eq!(bob.lines(2), ["* BAD refused", "* BAD refused"]);
+    assert_eq!(bob.lines(2), ["* BAD no tag", "* BAD no tag"]);
     assert_eq!(
         bob.answer("NOTIFY SET (personal (MessageNew))"),
         "BAD refused"
@@ -271,11 +273,17 @@ fn own_changes_are_told_once() {
     let mut watch = Watch::new(1, &[]);
     let flags = |counter: u64| format!("* 1 FETCH (UID 1 FLAGS (\\Seen) MODSEQ ({counter}))");
     watch.bob.ok("SELECT Shared/Open");
-    assert_eq!(watch.bob.ok("STORE 1 FLAGS (\\Seen)"), [flags(3)]);
+    let set = |watch: &mut Watch| watch.bob.ok("STORE 1 FLAGS (\\Seen)");
+    let clear = |watch: &mut Watch| drop(watch.bob.ok("STORE 1 FLAGS ()"));
+    assert_eq!(set(&mut watch), [flags(3)]);
+    clear(&mut watch);
     watch.notify(ALL);
-    assert_eq!(watch.bob.ok("STORE 1 FLAGS (\\Seen)"), [flags(4)]);
+    assert_eq!(set(&mut watch), [flags(5)]);
+    clear(&mut watch);
     watch.notify("(selected (MessageNew MessageExpunge))");
-    assert_eq!(watch.bob.ok("STORE 1 FLAGS (\\Seen)"), [flags(5)]);
+    assert_eq!(set(&mut watch), [flags(7)]);
+    // what it has already is told, and is no change
+    assert_eq!(set(&mut watch), [flags(7)]);
     assert_eq!(watch.bob.ok("STORE 1 FLAGS.SILENT ()"), [""; 0]);
     watch.end();
 }
@@ -290,7 +298,7 @@ fn nobody_is_served_before_login() {
         "SELECT INBOX",
         "IDLE",
     ] {
-        assert_eq!(stranger.answer(command), "BAD refused");
+        assert_eq!(stranger.answer(command), "BAD not before login");
     }
     assert!(stranger.answer("LOGIN alice no").starts_with("NO "));
     assert!(stranger.answer("LOGIN mallory pw").starts_with("NO "));

@@ -8,10 +8,11 @@ use support::{append, Chance, Client, Server};
 const PAIRS: u64 = 100;
 const STEPS: usize = 80;
 
-const SEEN: [&str; 2] = ["Shared/Open", "Shared/Alarms"];
+/// The last lies beneath one that he may not see.
+const SEEN: [&str; 3] = ["Shared/Open", "Shared/Alarms", "Shared/Up/Sight"];
 
 /// What bob says of folders that may or may not be there.
-const PRYING: [&str; 22] = [
+const PRYING: [&str; 30] = [
     "STATUS Shared/Hid1 (MESSAGES)",
     "SELECT Shared/Hid1",
     "EXAMINE Shared/Hid2",
@@ -33,6 +34,14 @@ const PRYING: [&str; 22] = [
     "LIST \"\" \"Shared/%\" RETURN (CHILDREN SUBSCRIBED STATUS (MESSAGES UIDVALIDITY HIGHESTMODSEQ))",
     "LSUB \"\" *",
     "ESEARCH IN (mailboxes (Shared/Hid1 Shared/Hid2 Shared/Open) subtree Shared personal) RETURN (COUNT ALL) ALL",
+    "LIST \"\" %",
+    "LIST \"\" (\"%/%\" \"Shared/%/%\")",
+    "LSUB \"\" Shared/%",
+    "SUBSCRIBE Shared/Up/Sight",
+    "LISTRIGHTS Shared/Hid2 bob",
+    "STATUS Shared/Hid1 (NOSUCH)",
+    "SETACL Shared/Hid2 anyone q",
+    "MYRIGHTS Shared/Up",
     "CAPABILITY",
 ];
 
@@ -71,7 +80,8 @@ impl Hidden {
 
     /// A name that bob may know, of a folder that he may not.
     fn name(&mut self) -> String {
-        let upper = self.chance.of(&["Shared", "Shared", "Shared/Open"]);
+        let upper = ["Shared", "Shared", "Shared/Open", "Shared/Deep/er"];
+        let upper = self.chance.of(&upper);
         format!("{upper}/Hid{}", self.chance.below(20))
     }
 
@@ -107,6 +117,10 @@ impl Hidden {
                 self.run(alice, "UNSELECT");
             }
             17 => self.run(alice, &format!("SETACL {name} carol lr")),
+            18 if self.chance.below(2) == 0 => {
+                let word = self.chance.of(&["CREATE", "DELETE"]);
+                self.run(alice, &format!("{word} Shared/Up"));
+            }
             18 => self.run(carol, &append("INBOX")),
             _ => self.run(carol, "CREATE mine"),
         }
@@ -132,9 +146,13 @@ fn act_seen(alice: &mut Client, chance: &mut Chance) {
         }
         6 => {
             let rights = chance.of(&["lrswite", "lrswite", "l", "r", "lr", "\"\""]);
-            alice.run(&format!("SETACL {name} bob {rights}"));
+            let user = chance.of(&["bob", "bob", "bob", "anyone"]);
+            alice.run(&format!("SETACL {name} {user} {rights}"));
         }
-        _ => drop(alice.run(&format!("DELETEACL {name} bob"))),
+        _ => {
+            alice.run(&format!("DELETEACL {name} bob"));
+            alice.run(&format!("DELETEACL {name} anyone"));
+        }
     }
 }
 

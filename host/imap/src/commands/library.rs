@@ -2,7 +2,7 @@
 
 use super::{class, no, End, Run};
 use crate::adapt;
-use crate::parse::{without_literals, Read, Stop};
+use crate::parse::{bad, without_literals, Read, Stop};
 use crate::push::{records, Answer, Refusal};
 
 /// The longest tag that the library answers by.
@@ -10,10 +10,10 @@ const TAG: usize = 32;
 
 impl Run<'_> {
     pub(super) fn ask_library(&mut self, word: &str, command: &[u8]) -> Read<End> {
-        let line = without_literals(command).ok_or(Stop::Bad)?;
+        let line = without_literals(command).ok_or(Stop::Bad("such a literal can't be here"))?;
         // the library would answer by `*`, and the client wait for its tag
         if self.tag.len() > TAG {
-            return Err(Stop::Bad);
+            return bad("the tag is longer than 32 octets");
         }
         let set = sets(&line);
         if self.state().outgrown {
@@ -31,7 +31,7 @@ impl Run<'_> {
             match self.ask(word, &line) {
                 // a client that is behind gets its answer when there is room for it
                 None | Some(Answer::Refused(Refusal::NoRoom)) => self.pause()?,
-                Some(Answer::Refused(_)) => return Err(Stop::Bad),
+                Some(Answer::Refused(_)) => return bad("longer than 1,024 octets"),
                 Some(_) => break,
             }
         }

@@ -3,8 +3,9 @@
 use super::{done, End, Run};
 use crate::flags::SEEN;
 use crate::names;
-use crate::parse::{quoted, Read, Reader, Stop};
+use crate::parse::{bad, quoted, Read, Reader};
 use crate::store::Mailbox;
+use std::collections::BTreeMap;
 
 /// What a LIST asks for.
 #[derive(Default)]
@@ -12,6 +13,8 @@ struct Asked {
     patterns: Vec<String>,
     /// Only what is subscribed to.
     subscribed: bool,
+    /// Where a pattern ends with `%`, names above those listed too, with \Noselect if they are not listed themselves.
+    parents: bool,
     /// Says of each whether it is.
     shows: bool,
     /// A STATUS of each with these.
@@ -25,6 +28,7 @@ impl Run<'_> {
             self.line(&format!("* {word} (\\Noselect) \"/\" \"\""));
             return done();
         }
+        asked.parents = word == "LSUB" || !asked.subscribed;
         asked.subscribed |= word == "LSUB";
         for line in self.list_lines(word, &asked)? {
             self.line(&line);
@@ -33,22 +37,38 @@ impl Run<'_> {
     }
 
     fn list_lines(&self, word: &str, asked: &Asked) -> Read<Vec<String>> {
-        let like = |name: &str| asked.patterns.iter().any(|p| names::is_like(name, p));
-        let mut listed: Vec<&Mailbox> = (self.store().visible(&self.user))
-            .filter(|m| m.may(&self.user, 'l') && like(&m.name))
-            .filter(|m| !asked.subscribed || m.subscribers.contains(&self.user))
-            .collect();
-        listed.sort_by(|a, b| a.name.cmp(&b.name));
         let mut lines = Vec::new();
-        for mailbox in listed {
-            let attributes = self.list_attributes(mailbox, asked);
-            let name = quoted(&mailbox.name);
-            lines.push(format!("* {word} ({attributes}) \"/\" {name}"));
-            if !asked.status.is_empty() && mailbox.may(&self.user, 'r') {
+        for (name, mailbox) in self.listed(asked) {
+            let attributes = match mailbox {
+                Some(mailbox) => self.list_attributes(mailbox, asked),
+                None => "\\Noselect \\HasChildren".into(),
+            };
+            lines.push(format!("* {word} ({attributes}) \"/\" {}", quoted(&name)));
+            let read = mailbox.filter(|m| m.may(&self.user, 'r'));
+            if let Some(mailbox) = read.filter(|_| !asked.status.is_empty()) {
                 lines.push(self.status_line(mailbox, &asked.status)?);
             }
         }
         Ok(lines)
+    }
+
+    /// Names in their order, none of them twice. One without a mailbox stands above a mailbox that the user may list, and
+    /// whether there is a hidden one of that name makes no difference.
+    fn listed(&self, asked: &Asked) -> BTreeMap<String, Option<&Mailbox>> {
+        let like = |name: &str| asked.patterns.iter().any(|p| names::is_like(name, p));
+        let open: Vec<&str> = (asked.patterns.iter().map(|p| &p[..]))
+            .filter(|p| asked.parents && p.ends_with('%'))
+            .collect();
+        let above = |name: &String| open.iter().any(|p| names::is_like(name, p));
+        let all: Vec<&Mailbox> = (self.store().visible(&self.user))
+            .filter(|m| m.may(&self.user, 'l'))
+            .filter(|m| !asked.subscribed || m.subscribers.contains(&self.user))
+            .collect();
+        let parents = all.iter().flat_map(|m| names::parents(&m.name));
+        let parents = parents.filter(above).map(|name| (name, None));
+        let mailboxes = all.iter().filter(|m| like(&m.name));
+        let mailboxes = mailboxes.map(|&m| (m.name.clone(), Some(m)));
+        parents.chain(mailboxes).collect()
     }
 
     /// Children count where the user may list them.
@@ -93,7 +113,7 @@ impl Run<'_> {
                     self.state().condstore = true;
                     mailbox.counter
                 }
-                _ => return Err(Stop::Bad),
+                _ => return bad("no such status item"),
             };
             values.push(format!("{item} {value}"));
         }
@@ -131,7 +151,7 @@ fn asked(reader: &mut Reader) -> Read<Asked> {
 
 fn returned(reader: &mut Reader, asked: &mut Asked) -> Read<()> {
     if !reader.has_word("RETURN") {
-        return Err(Stop::Bad);
+        return bad("RETURN is missing");
     }
     reader.space()?;
     reader.list(|reader| {

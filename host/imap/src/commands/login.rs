@@ -18,15 +18,15 @@ impl Run<'_> {
             }
             "AUTHENTICATE" if reader.has_word("PLAIN") => {
                 reader.space()?;
-                let response = base64(reader.rest()).ok_or(Stop::Bad)?;
-                let text = String::from_utf8(response).map_err(|_| Stop::Bad)?;
+                let response = base64(reader.rest()).ok_or(Stop::Bad("no base64"))?;
+                let text = String::from_utf8(response).map_err(|_| Stop::Bad("no UTF-8"))?;
                 match text.split('\0').collect::<Vec<_>>()[..] {
                     [_, user, password] => self.enter(user, password),
-                    _ => Err(Stop::Bad),
+                    _ => Err(Stop::Bad("not three parts")),
                 }
             }
             "AUTHENTICATE" => no("no such mechanism"),
-            _ => Err(Stop::Bad),
+            _ => Err(Stop::Bad("not before login")),
         }
     }
 

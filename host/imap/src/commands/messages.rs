@@ -6,7 +6,7 @@ use crate::adapt;
 use crate::condstore;
 use crate::fetch::{self, Item};
 use crate::flags::{self, DELETED, SEEN};
-use crate::parse::{is_within, joined, Read, Reader, Set, Stop};
+use crate::parse::{bad, is_within, joined, Read, Reader, Set};
 use crate::store::Mailbox;
 
 /// Octets of the queue for each message that a command goes through before it waits: no line is longer than this.
@@ -30,7 +30,7 @@ impl Run<'_> {
 
     /// UIDs of the view that a set of numbers or UIDs names.
     pub(super) fn chosen(&self, set: &Set, uid: bool) -> Vec<u32> {
-        let view = self.state().push.view();
+        let view = self.state().view();
         let (last, last_uid) = (view.len() as u32, view.last().copied().unwrap_or(0));
         let is_chosen = |&(number, message): &(u32, u32)| match uid {
             true => is_within(set, message, last_uid),
@@ -51,11 +51,11 @@ impl Run<'_> {
         mut act: impl FnMut(&mut Self, u16, usize, u32) -> Read<()>,
     ) -> Read<()> {
         let id = self.selected()?.id;
-        let (mut view, mut left) = (self.state().push.view(), self.few());
+        let (mut view, mut left) = (self.state().view(), self.few());
         for &uid in uids {
             if left == 0 || self.out.len() > MOST {
                 self.pause()?;
-                (view, left) = (self.state().push.view(), self.few());
+                (view, left) = (self.state().view(), self.few());
             }
             left -= 1;
             let there = |mailbox: &Mailbox| mailbox.id == id && mailbox.has(uid, &self.user);
@@ -89,7 +89,7 @@ impl Run<'_> {
         reader.space()?;
         let mut items = fetch::items(reader)?;
         let adapts = self.store().options.adapt;
-        let (mut since, mut vanished) = (0, false);
+        let (mut since, mut vanished) = (None, false);
         if reader.eat(b' ') {
             since = condstore::changed_since(reader, |word| {
                 vanished = adapts && word == "VANISHED";
@@ -101,7 +101,8 @@ impl Run<'_> {
         if uid && !items.contains(&Item::Uid) {
             items.insert(0, Item::Uid);
         }
-        self.show_counters(&mut items, since);
+        self.show_counters(&mut items, since.is_some());
+        let since = since.unwrap_or(0);
         if vanished {
             let text = adapt::vanished(self.selected()?, since, &set);
             self.out.extend(text.bytes());
@@ -120,12 +121,12 @@ impl Run<'_> {
     }
 
     /// MODSEQ where it goes without saying. Who asks for it, or for what changed, is a client of CONDSTORE.
-    fn show_counters(&self, items: &mut Vec<Item>, since: u64) {
+    fn show_counters(&self, items: &mut Vec<Item>, changed: bool) {
         let mut state = self.state();
-        let always = state.adapted.as_ref().is_some_and(|a| a.qresync);
+        let always = state.is_resynced();
         let asked = items.contains(&Item::Modseq);
-        state.condstore |= asked || since > 0;
-        if (always || since > 0) && !asked {
+        state.condstore |= asked || changed;
+        if (always || changed) && !asked {
             items.push(Item::Modseq);
         }
     }
@@ -179,12 +180,12 @@ impl Run<'_> {
     /// Where the library tells the change to this client too, the host's own FETCH is left out.
     fn store_one(&mut self, id: u16, number: usize, uid: u32, flags: u8, silent: bool) {
         let before = self.state().push.told();
-        self.store_mut().set_flags(id, uid, flags);
+        let changed = self.store_mut().set_flags(id, uid, flags);
         let mailbox = &self.store().mailboxes[&id];
         let state = self.state();
-        let waits =
-            !state.push.notified() && mailbox.may(&self.user, 'l') && mailbox.may(&self.user, 'r');
-        let told = waits || state.push.told() > before;
+        let waits = state.large.is_some() || !state.push.notified();
+        let waits = waits && mailbox.is_open(&self.user);
+        let told = changed && waits || state.push.told() > before;
         let wanted = !silent || state.condstore;
         drop(state);
         if told || !wanted {
@@ -199,13 +200,17 @@ impl Run<'_> {
     pub(super) fn expunge(&mut self, uids: Option<Set>) -> Read<End> {
         let id = self.selected()?.id;
         self.needs_to_change(&['e'])?;
-        self.expunge_deleted(id, uids)?;
-        done()
+        let any = self.expunge_deleted(id, uids)?;
+        let counter = self.state().highest(self.store()).filter(|_| any);
+        match counter {
+            Some(counter) => Ok(End::Ok(format!("[HIGHESTMODSEQ {counter}] done"))),
+            None => done(),
+        }
     }
 
-    /// All that has \Deleted, or those among the UIDs.
-    pub(super) fn expunge_deleted(&mut self, id: u16, uids: Option<Set>) -> Read<()> {
-        let last = self.state().push.view().last().copied().unwrap_or(0);
+    /// All that has \Deleted, or those among the UIDs. Answers whether there were any.
+    pub(super) fn expunge_deleted(&mut self, id: u16, uids: Option<Set>) -> Read<bool> {
+        let last = self.state().view().last().copied().unwrap_or(0);
         let messages = self.store().mailboxes[&id].messages.iter();
         let gone: Vec<u32> = (messages.filter(|m| m.flags & DELETED != 0))
             .map(|m| m.uid)
@@ -221,7 +226,7 @@ impl Run<'_> {
                 break;
             }
         }
-        Ok(())
+        Ok(!gone.is_empty())
     }
 }
 
@@ -236,7 +241,7 @@ fn flag_change(reader: &mut Reader) -> Read<(u8, bool, u8)> {
         "FLAGS" => b'=',
         "+FLAGS" => b'+',
         "-FLAGS" => b'-',
-        _ => return Err(Stop::Bad),
+        _ => return bad("no such change of flags"),
     };
     reader.space()?;
     let mut names = Vec::new();

@@ -12,7 +12,7 @@ mod selecting;
 mod transfer;
 
 use crate::adapt;
-use crate::parse::{Read, Reader, Stop};
+use crate::parse::{bad, Read, Reader, Stop};
 use crate::push::Class;
 use crate::session::{Session, State};
 use crate::store::{Mailbox, Store};
@@ -124,8 +124,11 @@ impl<'a> Run<'a> {
     }
 
     fn selected(&self) -> Read<&Mailbox> {
-        let id = self.state().push.selected();
-        self.store().mailboxes.get(&id).ok_or(Stop::Bad)
+        let id = self.state().selected();
+        self.store()
+            .mailboxes
+            .get(&id)
+            .ok_or(Stop::Bad("no mailbox selected"))
     }
 
     pub fn run(&mut self, word: &str, reader: &mut Reader) -> Read<End> {
@@ -134,7 +137,9 @@ impl<'a> Run<'a> {
             "NOOP" => done(),
             "ID" => self.id(),
             "LOGOUT" => self.logout(),
-            _ if self.user.is_empty() => self.log_in(word, reader),
+            "LOGIN" | "AUTHENTICATE" if self.user.is_empty() => self.log_in(word, reader),
+            "LOGIN" | "AUTHENTICATE" => bad("logged in already"),
+            _ if self.user.is_empty() => bad("not before login"),
             "CHECK" => done(),
             "NAMESPACE" => self.namespace(),
             "ENABLE" => self.enable(reader),
@@ -150,6 +155,7 @@ impl<'a> Run<'a> {
             "SUBSCRIBE" | "UNSUBSCRIBE" => self.subscribe(word == "SUBSCRIBE", reader),
             "SETACL" | "DELETEACL" => self.set_rights(word == "SETACL", reader),
             "GETACL" => self.all_rights(reader),
+            "LISTRIGHTS" => self.possible_rights(reader),
             "MYRIGHTS" => self.my_rights(reader),
             "APPEND" => self.append(reader),
             "EXPUNGE" => {
@@ -178,7 +184,7 @@ impl<'a> Run<'a> {
                 reader.end()?;
                 self.expunge(Some(uids))
             }
-            _ => Err(Stop::Bad),
+            _ => bad("no such command"),
         }
     }
 

@@ -1,8 +1,8 @@
-//! SETACL, DELETEACL, GETACL, MYRIGHTS.
+//! SETACL, DELETEACL, GETACL, LISTRIGHTS, MYRIGHTS.
 
 use super::{done, no, End, Run};
 use crate::parse::{quoted, Read, Reader, Stop};
-use crate::store::ALL_RIGHTS;
+use crate::store::{ALL_RIGHTS, ANYONE, USERS};
 
 impl Run<'_> {
     pub(super) fn set_rights(&mut self, set: bool, reader: &mut Reader) -> Read<End> {
@@ -16,11 +16,9 @@ impl Run<'_> {
             change = reader.astring()?;
         }
         reader.end()?;
-        if !user.bytes().all(|octet| octet.is_ascii_alphanumeric()) || user.is_empty() {
-            return no("[CANNOT] no such user");
-        }
+        check_user(&user)?;
         let mailbox = self.find(&name, 'a')?;
-        let rights = changed(mailbox.rights(&user), &change).ok_or(Stop::Bad)?;
+        let rights = changed(mailbox.given(&user), &change).ok_or(Stop::Bad("no such right"))?;
         if mailbox.owner.is_some() {
             return no("[CANNOT] personal");
         }
@@ -44,15 +42,43 @@ impl Run<'_> {
         done()
     }
 
+    /// What the user has in any case, and then what can be given, each right apart.
+    pub(super) fn possible_rights(&mut self, reader: &mut Reader) -> Read<End> {
+        reader.space()?;
+        let name = reader.mailbox()?;
+        reader.space()?;
+        let user = reader.astring()?;
+        reader.end()?;
+        check_user(&user)?;
+        let mailbox = self.find(&name, 'a')?;
+        let mut rights = match mailbox.owner.as_deref() == Some(&user) {
+            true => ALL_RIGHTS.to_string(),
+            false => "\"\"".into(),
+        };
+        if mailbox.owner.is_none() {
+            rights.extend(ALL_RIGHTS.chars().flat_map(|right| [' ', right]));
+        }
+        self.line(&format!("* LISTRIGHTS {} {user} {rights}", quoted(&name)));
+        done()
+    }
+
     pub(super) fn my_rights(&mut self, reader: &mut Reader) -> Read<End> {
         reader.space()?;
         let name = reader.mailbox()?;
         reader.end()?;
         // any right will do, and a mailbox that is found at all has l or r
         let mailbox = self.find(&name, 'l').or_else(|_| self.find(&name, 'r'))?;
-        let rights = mailbox.rights(&self.user).to_string();
+        let rights = mailbox.rights(&self.user);
         self.line(&format!("* MYRIGHTS {} {rights}", quoted(&name)));
         done()
+    }
+}
+
+/// Whether rights can be given to such a one.
+fn check_user(user: &str) -> Read<()> {
+    match user == ANYONE || USERS.contains(&user) {
+        true => Ok(()),
+        false => no("[CANNOT] no such user"),
     }
 }
 

@@ -21,7 +21,7 @@ impl Run<'_> {
         if !mailbox.may(&self.user, 'r') {
             return no("[NOPERM] denied");
         }
-        let view = self.state().push.view();
+        let view = self.state().view();
         let (last, last_uid) = (view.len() as u32, view.last().copied().unwrap_or(0));
         let mut line = String::from("* SEARCH");
         let mut highest = 0;

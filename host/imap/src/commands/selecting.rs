@@ -24,18 +24,17 @@ impl Run<'_> {
             self.store().hand_only(&mut state, mailbox);
         }
         if !state.handed.contains(&mailbox.id) {
-            return no("[LIMIT] mailbox too large");
-        }
-        if state.call(self.store(), &records::select(mailbox.id)) != Answer::Done {
+            state.open_large(mailbox);
+        } else if state.call(self.store(), &records::select(mailbox.id)) != Answer::Done {
             return no("[CANNOT] not selectable");
         }
         let changes = ['w', 's', 't', 'e', 'i'];
         state.read_only = examine || !mailbox.rights(&self.user).contains(changes);
-        let (read_only, exists) = (state.read_only, state.push.view().len());
+        let (read_only, exists) = (state.read_only, state.view().len());
         drop(state);
         let mut told = opened(mailbox, exists, read_only).into_bytes();
-        if let Some(adapted) = &self.state().adapted {
-            told.extend(adapt::selected(mailbox, known, adapted.qresync));
+        if self.state().is_resynced() {
+            told.extend(adapt::selected(mailbox, known));
         }
         self.out.extend(told);
         Ok(End::Ok(match read_only {
@@ -57,7 +56,7 @@ impl Run<'_> {
     /// What the old mailbox still owes goes with it, whether the new one can be had or not.
     fn leave(&mut self) {
         let mut state = self.state();
-        let was_open = state.push.selected() != 0;
+        let was_open = state.selected() != 0;
         self.store().leave(&mut state);
         let says = state.condstore;
         drop(state);

@@ -3,7 +3,7 @@
 use super::{End, Run};
 use crate::date;
 use crate::flags;
-use crate::parse::{joined, Read, Reader, Stop};
+use crate::parse::{bad, joined, Read, Reader, Stop};
 use crate::store::Mailbox;
 
 impl Run<'_> {
@@ -28,11 +28,15 @@ impl Run<'_> {
         }
         let mut date = date::now();
         if reader.peek() == b'"' {
-            date = String::from_utf8(reader.string()?).map_err(|_| Stop::Bad)?;
+            date =
+                String::from_utf8(reader.string()?).map_err(|_| Stop::Bad("no such date-time"))?;
             reader.space()?;
         }
-        if reader.peek() != b'{' || !date::is_date_time(&date) {
-            return Err(Stop::Bad);
+        if !date::is_date_time(&date) {
+            return bad("no such date-time");
+        }
+        if reader.peek() != b'{' {
+            return bad("a message comes as a literal");
         }
         let octets = reader.string()?;
         reader.end()?;

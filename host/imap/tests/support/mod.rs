@@ -23,10 +23,18 @@ impl Server {
         Server::with(&[])
     }
 
+    /// UIDVALIDITY is the same in each run.
     pub fn with(options: &[&str]) -> Server {
+        Server::started(Some(1), options)
+    }
+
+    /// A server that takes this for the time of its start, or its clock's.
+    pub fn started(start: Option<u64>, options: &[&str]) -> Server {
         let mut process = Command::new(env!("CARGO_BIN_EXE_imap"))
             .args(["--port", "0", "--wrong-delay", "0"])
             .args(options)
+            .env_remove("IMAP_START")
+            .envs(start.map(|start| ("IMAP_START", start.to_string())))
             .stdout(Stdio::piped())
             .stderr(Stdio::piped())
             .spawn()

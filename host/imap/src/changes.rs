@@ -82,7 +82,7 @@ impl Store {
                 return;
             }
             if state.push.selected() == id {
-                state.call(self, &records::select(0));
+                let _ = state.call(self, &records::select(0));
                 state.own(b"* OK [CLOSED] mailbox deleted\r\n".to_vec());
             }
             self.withdraw(state, id, notice(session, by));
@@ -120,7 +120,7 @@ impl Store {
         self.each(|session, state| {
             if state.handed.contains(&id) {
                 let record = records::rename(id, notice(session), new.as_bytes());
-                state.feed(self, &record);
+                let _ = state.feed(self, &record);
             }
         });
     }
@@ -135,7 +135,7 @@ impl Store {
         };
         self.each(|session, state| {
             if state.user == user && state.handed.contains(&id) {
-                state.feed(self, &records::subscribe(id, on, notice(session, by)));
+                let _ = state.feed(self, &records::subscribe(id, on, notice(session, by)));
             }
         });
     }

@@ -14,47 +14,47 @@ void borjavid_find_name(void) { abort(); }
 void borjavid_set_row(void) { abort(); }
 "#;
 
-fn succeeds(command: &mut Command) {
-    let output = command.output().expect("it starts");
+/// Runs a program in the folder, and it must do its work.
+fn run(folder: &Path, program: &str, words: &[&str]) {
+    let mut command = Command::new(program);
+    let output = command.current_dir(folder).args(words).output();
+    let output = output.unwrap_or_else(|fault| panic!("{program}: {fault}"));
     assert!(output.status.success(), "{command:?}: {output:?}");
 }
 
-/// A folder that has the other library.
+/// A folder that has the other library, and the wrapper on it. rustc alone is quicker than a second cargo.
 fn other_library() -> PathBuf {
     let folder = Path::new(env!("CARGO_TARGET_TMPDIR")).join("layout");
     std::fs::create_dir_all(&folder).expect("a folder");
     std::fs::write(folder.join("other.c"), OTHER).expect("a file");
-    succeeds(
-        Command::new("cc")
-            .current_dir(&folder)
-            .args(["-c", "other.c"]),
-    );
-    succeeds(
-        Command::new("ar")
-            .current_dir(&folder)
-            .args(["rcs", "libexported.a", "other.o"]),
+    run(&folder, "cc", &["-c", "other.c"]);
+    run(&folder, "ar", &["rcs", "libexported.a", "other.o"]);
+    let source = concat!(env!("CARGO_MANIFEST_DIR"), "/src/lib.rs");
+    let wrapper = [
+        "--edition=2021",
+        "--crate-type=rlib",
+        "--crate-name=borjavid",
+    ];
+    let library = ["-L", ".", "-l", "static=exported"];
+    run(
+        &folder,
+        "rustc",
+        &[&wrapper[..], &library, &[source]].concat(),
     );
     folder
 }
 
 /// An example of this package on the library in the folder.
-fn run(example: &str, folder: &Path) -> Output {
-    Command::new(env!("CARGO"))
-        .args([
-            "run",
-            "--quiet",
-            "--offline",
-            "--example",
-            example,
-            "--manifest-path",
-        ])
-        .arg(Path::new(env!("CARGO_MANIFEST_DIR")).join("Cargo.toml"))
-        // it runs for a moment, after it was compiled
-        .args(["--config", "profile.dev.opt-level=0", "--target-dir"])
-        .arg(folder.join("target"))
-        .env("BORJAVID_LIB", folder)
-        .output()
-        .expect("cargo starts")
+fn example(name: &str, folder: &Path) -> Output {
+    let source = format!("{}/examples/{name}.rs", env!("CARGO_MANIFEST_DIR"));
+    let words = [
+        "--edition=2021",
+        "--extern",
+        "borjavid=libborjavid.rlib",
+        &source,
+    ];
+    run(folder, "rustc", &words);
+    Command::new(folder.join(name)).output().expect("it starts")
 }
 
 #[test]
@@ -71,11 +71,11 @@ fn a_library_with_another_layout_is_refused() {
         "{sentence}"
     );
     // by the memory that is made, and by who asks
-    for (example, status) in [("alarm", 101), ("lent", 1)] {
-        let output = run(example, &folder);
+    for (name, status) in [("alarm", 101), ("lent", 1)] {
+        let output = example(name, &folder);
         let said = String::from_utf8_lossy(&output.stderr);
-        assert!(said.contains(&sentence), "{example}: {said}");
-        assert_eq!(output.status.code(), Some(status), "{example}: {said}");
-        assert!(output.stdout.is_empty(), "{example}");
+        assert!(said.contains(&sentence), "{name}: {said}");
+        assert_eq!(output.status.code(), Some(status), "{name}: {said}");
+        assert!(output.stdout.is_empty(), "{name}");
     }
 }

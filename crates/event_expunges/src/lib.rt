@@ -105,7 +105,7 @@ pub fn expunge(
         let on = event_message::is_told(s, x, chosen, 1);
         return drop_one(words, used, queue, s, filled, k, x, on);
     }
-    let rights = event_mailbox::both(x.attributes);
+    let rights = table_mailboxes::row::has_rights(x.attributes);
     let asked = match_groups::immediate_asks(s, 1);
     if event_message::both(rights, asked) {
         let n = table_messages::place_of(words, used, s.selected as u64, below, uid);

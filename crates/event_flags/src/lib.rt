@@ -40,7 +40,7 @@ fn flag_now(
 {
     let e = table_messages::get(words, k);
     let uid = e.uid;
-    let said = line_message::say_fetch(queue, filled, n, uid, flags, counter);
+    let said = line_fetch::say_fetch(queue, filled, n, uid, flags, counter);
     let states = pick(said.fits, 0, e.states);
     table_messages::put(words, k, table_messages::changed(e, flags, states, counter));
     let kept = line_put::hear(s, said);
@@ -112,7 +112,7 @@ pub fn flag(
         let n = table_messages::place_of(words, used, s.selected as u64, below, uid);
         return flag_now(words, used, queue, s, filled, k, flags, counter, n);
     }
-    let rights = event_mailbox::both(x.attributes);
+    let rights = table_mailboxes::row::has_rights(x.attributes);
     let waits = event_message::both(seen, event_message::both(rights, s.notified == 0));
     let states = pick(waits, 2, e.states);
     let on = event_message::is_told(s, x, chosen, 2);

@@ -22,13 +22,14 @@ use Rattle.model.specs.declared.Message.{Message}
 use Rattle.table_mailboxes.specs.Walks.{row-at}
 use Rattle.table_mailboxes.specs.Rows.{boxes-long, put-at, add-at}
 use Rattle.table_mailboxes.specs.Shift.{closed}
-use Rattle.event_mailbox.specs.Heard.{Heard, After}
+use Rattle.line_put.specs.Heard.{Heard, After}
 use Rattle.event_mailbox.specs.Rights.{grantTold, grantMark, grantAfter, rights-when}
 use Rattle.event_mailbox.specs.Subscriptions.{subscribeTold, subscribeMark, subscribeAfter, loud-when}
 use Rattle.event_mailbox.specs.Creating.{createTold, createAfter}
 use Rattle.event_mailbox.specs.Renaming.{renameTold, renameAfter}
 use Rattle.event_mailbox.specs.Deleting.{deleteHeard}
-use Rattle.event_mailbox.specs.Free.{law-room, grant-free, subscribe-free, create-free, rename-free}
+use Rattle.laws.specs.Room.{law-room}
+use Rattle.event_mailbox.specs.Free.{grant-free, subscribe-free, create-free, rename-free}
 use Rattle.event_mailbox.specs.Dropping.{drop-at}
 use Rattle.event_mailbox.specs.Telling.{told-made}
 

@@ -10,7 +10,7 @@ use Rattle.model.specs.Lines.{ListMark, list, render}
 use Rattle.model.specs.Events.{listMark}
 use Rattle.model.specs.declared.Mailbox.{Mailbox}
 use Rattle.model.specs.declared.Session.{Session}
-use Rattle.event_mailbox.specs.Heard.{After, heard, Hears, Leaves, leaves}
+use Rattle.line_put.specs.Heard.{After, heard, Hears, Leaves, leaves}
 
 -- somebody is told of it, as of a delete: with both rights, if a group asks
 abbrev pub createTold : Session → Mailbox → ℕ → Bool

@@ -5,7 +5,7 @@ use Rattle.model.specs.Memory.{nameOf}
 use Rattle.model.specs.Lines.{list, nonExistent, render}
 use Rattle.model.specs.declared.Mailbox.{Mailbox}
 use Rattle.model.specs.declared.Session.{Session}
-use Rattle.event_mailbox.specs.Heard.{Heard, heard}
+use Rattle.line_put.specs.Heard.{Heard, heard}
 use Rattle.event_mailbox.specs.Creating.{createTold}
 
 -- who is told of a delete is told as of a create

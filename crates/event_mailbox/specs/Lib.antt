@@ -1,4 +1,3 @@
-pub mod Heard
 pub mod Rights
 pub mod Subscriptions
 pub mod Creating

@@ -11,7 +11,7 @@ use Rattle.model.specs.Lines.{ListMark, renamed, render}
 use Rattle.model.specs.Events.{listMark}
 use Rattle.model.specs.declared.Mailbox.{Mailbox}
 use Rattle.model.specs.declared.Session.{Session}
-use Rattle.event_mailbox.specs.Heard.{After, heard, Hears, Leaves, leaves}
+use Rattle.line_put.specs.Heard.{After, heard, Hears, Leaves, leaves}
 
 -- somebody is told: a group asks by the old name or by the new one
 abbrev pub renameTold : Session → Mailbox → Mailbox → ℕ → Bool

@@ -10,7 +10,7 @@ use Rattle.model.specs.Lines.{ListMark, nonExistent, list, render}
 use Rattle.model.specs.Events.{listMark, createLines, deleteLines, rightsLines, withRights}
 use Rattle.model.specs.declared.Mailbox.{Mailbox}
 use Rattle.model.specs.declared.Session.{Session}
-use Rattle.event_mailbox.specs.Heard.{After, heard, Hears, Leaves, leaves}
+use Rattle.line_put.specs.Heard.{After, heard, Hears, Leaves, leaves}
 
 -- l was lost, or gained: somebody asks for the mailbox as it was, or as it is
 abbrev pub byChange : (was is lost gained : Bool) → Bool

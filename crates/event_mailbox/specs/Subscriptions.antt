@@ -12,7 +12,7 @@ use Rattle.model.specs.Lines.{Line, ListMark, plain, subscribed, list, render}
 use Rattle.model.specs.Events.{loud, withSubscribed}
 use Rattle.model.specs.declared.Mailbox.{Mailbox}
 use Rattle.model.specs.declared.Session.{Session}
-use Rattle.event_mailbox.specs.Heard.{After, heard, Hears, Leaves, leaves}
+use Rattle.line_put.specs.Heard.{After, heard, Hears, Leaves, leaves}
 
 -- bit 3 is not b
 abbrev pub differs : ℕ → ℕ → Bool

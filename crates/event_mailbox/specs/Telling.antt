@@ -3,27 +3,18 @@ use mathlib.Core.Path.{_≡_, refl, ap, _∙_}
 use mathlib.Core.Bool.{Bool, true, false}
 use mathlib.Core.List.{List}
 use Prim.Native.Nat.{ℕ, _+_, _-_, _≤_}
-use native.Mathlib.Omega.{arith}
 use lib.Dec.{leb}
 use lib.ListN.{length}
-use borrow.Author.Tests.{leb-true, leb-false, le-leb, lt-leb}
 use Rattle.model.specs.Lists.{when}
 use Rattle.model.specs.Memory.{Memory, filled}
 use Rattle.model.specs.Lines.{Line, overflow, render}
 use Rattle.model.specs.Queue.{room, written, enqueue, effect}
 use Rattle.model.specs.Events.{Event, silence}
 use Rattle.model.specs.Rules.{Outcome, told}
+use Rattle.laws.specs.Room.{room-same}
 use Rattle.laws.specs.Telling.{told-none, told-one, told-over}
 use Rattle.line_put.specs.Says.{hasRoom}
-use Rattle.event_mailbox.specs.Heard.{Heard, heard}
-
--- room below the last 64 octets, counted from the front or from what is filled
-room-same : (f a b : ℕ) → f ≤ b → leb (f + a) b ≡ leb a (b - f)
-room-same f a b h = go (leb a (b - f)) refl
-  where
-    go : (c : Bool) → leb a (b - f) ≡ c → leb (f + a) b ≡ c
-    go true q = let z = leb-true a (b - f) q in le-leb (f + a) b (omega arith)
-    go false q = let z = leb-false a (b - f) q in lt-leb (f + a) b (omega arith)
+use Rattle.line_put.specs.Heard.{Heard, heard}
 
 -- nothing was heard
 abbrev pub unheard : Memory → Heard

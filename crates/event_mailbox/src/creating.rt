@@ -6,8 +6,8 @@ ghost use mathlib.Core.Path.{_≡_};
 ghost use lib.ListN.{length};
 ghost use Rattle.model.specs.Names.{argument};
 ghost use Rattle.model.specs.Events.{newBox};
-ghost use Rattle.event_mailbox.specs.Heard.{Leaves};
-ghost use Rattle.event_mailbox.specs.Free.{Room};
+ghost use Rattle.line_put.specs.Heard.{Leaves};
+ghost use Rattle.laws.specs.Room.{Room};
 ghost use Rattle.event_mailbox.specs.Creating.{createTold, createAfter};
 
 // Whether somebody is told of row x, at its create or its delete.

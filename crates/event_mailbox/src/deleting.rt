@@ -4,8 +4,8 @@ use line_put::Kept;
 use model::Mailbox;
 use model::Session;
 ghost use lib.ListN.{length};
-ghost use Rattle.event_mailbox.specs.Heard.{Hears};
-ghost use Rattle.event_mailbox.specs.Free.{Room};
+ghost use Rattle.line_put.specs.Heard.{Hears};
+ghost use Rattle.laws.specs.Room.{Room};
 ghost use Rattle.event_mailbox.specs.Deleting.{deleteHeard};
 
 // What is said of row x before it goes: asked and allowed as a create is.

@@ -21,7 +21,7 @@ ghost use Rattle.model.specs.Lines.{list, render};
 ghost use Rattle.model.specs.Events.{listMark};
 ghost use Rattle.match_groups.specs.Asking.{asksBit};
 ghost use Rattle.line_mailbox.specs.Texts.{markOf};
-ghost use Rattle.event_mailbox.specs.Heard.{Hears, heard};
+ghost use Rattle.line_put.specs.Heard.{Hears, heard};
 
 // A row that has changed or is new, and what else is left.
 pub struct Changed {
@@ -57,13 +57,6 @@ fn tell_list(queue: &mut [u8], s: Session, filled: usize, on: bool, mark: Mark, 
     }
 }
 
-// Where a row's name ends.
-pub fn name_end(x: Mailbox) -> usize
-    ensures { λ r. ⌜ (r ≤ 64) × (length (x .name) ≡ 64) × (take r (x .name) ≡ nameOf x) ⌝ }
-{
-    table_mailboxes::clip(x.namelen)
-}
-
 // A LIST line about a row, by its name.
 pub fn tell_row(
     queue: &mut [u8],
@@ -77,27 +70,17 @@ pub fn tell_row(
     ensures { λ r. ⌜ Hears (heard (now (queue .entry)) s filled on (render (list (markOf mark) (nameOf x)))) (now (queue .exit)) (r .session) (r .filled) ⌝ }
 {
     let o = x.name;
-    let n = name_end(x);
+    let n = table_mailboxes::row::name_end(x);
     tell_list(queue, s, filled, on, mark, &o[..n])
 }
 
 // ---- who is told
 
-// Both rights, which every notice needs.
-pub fn both(a: u8) -> bool
-    ensures { λ r. ⌜ r ≡ (bit 4 a && bit 5 a) ⌝ }
-{
-    if !table_mailboxes::has(a, 4) {
-        return false;
-    }
-    table_mailboxes::has(a, 5)
-}
-
 // Both rights, and a group asks for event k.
 fn noticed(s: Session, x: Mailbox, k: u8) -> bool
     ensures { λ r. ⌜ r ≡ (bothRights x && askedOf s x (asksBit k)) ⌝ }
 {
-    if !both(x.attributes) {
+    if !table_mailboxes::row::has_rights(x.attributes) {
         return false;
     }
     match_groups::is_asked_of(s, x, k)

@@ -14,8 +14,8 @@ ghost use Rattle.model.specs.Names.{argument};
 ghost use Rattle.model.specs.Lines.{renamed, render};
 ghost use Rattle.line_put.specs.Says.{Says};
 ghost use Rattle.line_mailbox.specs.Texts.{markOf};
-ghost use Rattle.event_mailbox.specs.Heard.{Hears, Leaves, heard};
-ghost use Rattle.event_mailbox.specs.Free.{Room};
+ghost use Rattle.line_put.specs.Heard.{Hears, Leaves, heard};
+ghost use Rattle.laws.specs.Room.{Room};
 ghost use Rattle.event_mailbox.specs.Renaming.{renameTold, renameAfter};
 
 // The LIST line of row y that was x, or the overflow line.
@@ -25,8 +25,8 @@ fn say_rows(queue: &mut [u8], at: usize, mark: Mark, y: Mailbox, x: Mailbox) -> 
 {
     let new = y.name;
     let old = x.name;
-    let m = crate::name_end(y);
-    let n = crate::name_end(x);
+    let m = table_mailboxes::row::name_end(y);
+    let n = table_mailboxes::row::name_end(x);
     line_mailbox::say_renamed(queue, at, mark, &new[..m], &old[..n])
 }
 
@@ -88,7 +88,7 @@ fn rename_told(s: Session, x: Mailbox, y: Mailbox, quiet: u8) -> bool
     if quiet != 0 {
         return false;
     }
-    if !crate::both(x.attributes) {
+    if !table_mailboxes::row::has_rights(x.attributes) {
         return false;
     }
     if match_groups::is_asked_of(s, x, 3) {

@@ -8,8 +8,8 @@ ghost use Prim.Native.Nat.{_≤_};
 ghost use lib.ListN.{length};
 ghost use Rattle.model.specs.Events.{withRights};
 ghost use Rattle.line_mailbox.specs.Texts.{markOf};
-ghost use Rattle.event_mailbox.specs.Heard.{Leaves};
-ghost use Rattle.event_mailbox.specs.Free.{Room};
+ghost use Rattle.line_put.specs.Heard.{Leaves};
+ghost use Rattle.laws.specs.Room.{Room};
 ghost use Rattle.event_mailbox.specs.Rights.{grantTold, grantMark, grantAfter};
 
 // The row with these rights.

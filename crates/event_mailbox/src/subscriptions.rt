@@ -8,8 +8,8 @@ ghost use Prim.Native.Nat.{_≤_};
 ghost use lib.ListN.{length};
 ghost use Rattle.model.specs.Events.{withSubscribed};
 ghost use Rattle.line_mailbox.specs.Texts.{markOf};
-ghost use Rattle.event_mailbox.specs.Heard.{Leaves};
-ghost use Rattle.event_mailbox.specs.Free.{Room};
+ghost use Rattle.line_put.specs.Heard.{Leaves};
+ghost use Rattle.laws.specs.Room.{Room};
 ghost use Rattle.event_mailbox.specs.Subscriptions.{differs, subscribeTold, subscribeMark, subscribeAfter};
 
 // Attributes with bit 3 as b says.
@@ -40,7 +40,7 @@ fn subscribe_told(s: Session, x: Mailbox, b: u8, quiet: u8) -> bool
     if !does_differ(x.attributes, b) {
         return false;
     }
-    if !crate::both(x.attributes) {
+    if !table_mailboxes::row::has_rights(x.attributes) {
         return false;
     }
     let y = crate::with_attributes(x, with_subscribed(x.attributes, 1));

@@ -2,11 +2,10 @@
 use mathlib.Core.Path.{_≡_, refl, ap, sym, _∙_}
 use mathlib.Core.Bool.{Bool, true, false, not, cond, _&&_}
 use mathlib.Core.List.{List, []}
-use Prim.Native.Nat.{ℕ, _+_, _-_, _<_, _≤_}
-use native.Mathlib.Omega.{arith}
+use Prim.Native.Nat.{ℕ, _-_, _<_, _≤_}
 use lib.Dec.{eqb, leb}
 use lib.ListN.{length, getD}
-use borrow.Author.Tests.{leb-true, leb-false, le-leb, lt-leb, eqb-true}
+use borrow.Author.Tests.{eqb-true}
 use Rattle.model.specs.Laws.{and-l, and-r, and-false}
 use Rattle.model.specs.Lists.{when}
 use Rattle.model.specs.Memory.{Memory, boxes, filled, nameOf, noMessage, theMailbox, selectedBox, bothRights, isSelected, isMessage, withStates, dropMails, changeMails}
@@ -20,13 +19,14 @@ use Rattle.demands.specs.Lasting.Law.{Law}
 use Rattle.model.specs.declared.Group.{Group}
 use Rattle.model.specs.declared.Mailbox.{Mailbox}
 use Rattle.model.specs.declared.Message.{Message}
+use Rattle.laws.specs.Room.{room-same}
 use Rattle.laws.specs.Changing.{setEntry, change-at}
 use Rattle.laws.specs.Telling.{told-none, told-one, told-over}
 use Rattle.table_mailboxes.specs.Rows.{rowsAre}
 use Rattle.line_put.specs.Says.{hasRoom}
 use Rattle.table_messages.specs.Taken.{shut}
 use Rattle.line_message.specs.Counts.{expunge-text}
-use Rattle.event_mailbox.specs.Heard.{heard}
+use Rattle.line_put.specs.Heard.{heard}
 use Rattle.event_message.specs.Taken.{tablesAre, drop-at}
 use Rattle.event_message.specs.After.{After, dropAfter, waitAfter, onceAfter, removeAfter}
 
@@ -39,14 +39,6 @@ left m rs x = record {
   session = x .heard .session;
   queue = x .heard .queue;
 }
-
--- room below the last 64 octets, counted from the front or from what is filled
-pub room-same : (f a b : ℕ) → f ≤ b → leb (f + a) b ≡ leb a (b - f)
-room-same f a b h = go (leb a (b - f)) refl
-  where
-    go : (c : Bool) → leb a (b - f) ≡ c → leb (f + a) b ≡ c
-    go true q = let z = leb-true a (b - f) q in le-leb (f + a) b (omega arith)
-    go false q = let z = leb-false a (b - f) q in lt-leb (f + a) b (omega arith)
 
 -- a record that changes the tables and owes at most a line that ends nothing
 module _ (m : Memory) (event : Memory → Event) (rs : List Mailbox) (es : List Message) (n : ℕ) (l : Line)

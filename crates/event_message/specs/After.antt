@@ -14,10 +14,10 @@ use Rattle.line_put.specs.Says.{hasRoom, spoken, Says}
 use Rattle.table_messages.specs.Words.{messages, stored}
 use Rattle.table_messages.specs.Laid.{laid, laid-own, laid-entries, laid-put}
 use Rattle.table_messages.specs.Taken.{shut}
-use Rattle.line_message.specs.declared.Shows.{Shows}
+use Rattle.line_fetch.specs.declared.Shows.{Shows}
 use Rattle.line_message.specs.Counts.{countText, expungeWord}
 use Rattle.line_message.specs.Whole.{newsText}
-use Rattle.event_mailbox.specs.Heard.{Heard, Hears, heard}
+use Rattle.line_put.specs.Heard.{Heard, Hears, heard}
 
 pub record After : Type 0 where
   pub entries : List Message

@@ -22,15 +22,16 @@ use Rattle.demands.specs.Lasting.Rows.{all-snoc}
 use Rattle.demands.specs.Isolation.Alike.{boxes-with, mails-with}
 use Rattle.model.specs.declared.Mailbox.{Mailbox}
 use Rattle.model.specs.declared.Message.{Message}
+use Rattle.laws.specs.Room.{room-same}
 use Rattle.table_mailboxes.specs.Rows.{rowsAre, boxes-long, put-at}
 use Rattle.laws.specs.Announcing.{told-many, told-past, exists-effect, new-effects, among}
 use Rattle.line_put.specs.Says.{hasRoom}
-use Rattle.line_message.specs.declared.Shows.{Shows}
-use Rattle.line_message.specs.Items.{shown}
+use Rattle.line_fetch.specs.declared.Shows.{Shows}
+use Rattle.line_fetch.specs.Items.{shown}
 use Rattle.line_message.specs.Whole.{newsText, news-text}
 use Rattle.event_message.specs.Taken.{tablesAre}
 use Rattle.event_message.specs.After.{newsOf, newsAfter, statusAfter, arriveAfter}
-use Rattle.event_message.specs.Accepted.{left, awayTold, told-tables, room-same}
+use Rattle.event_message.specs.Accepted.{left, awayTold, told-tables}
 
 -- an entry is put behind the last
 pub add-mail-at : (m : Memory) (e : Message) → m .counts .messages < length (m .entries) → addMail m e ≡ tablesAre m (m .rows) (set (m .entries) (m .counts .messages) e) (m .counts .messages + 1)

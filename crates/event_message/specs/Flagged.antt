@@ -11,8 +11,8 @@ use Rattle.model.specs.declared.Session.{Session}
 use Rattle.line_put.specs.Says.{hasRoom, Says}
 use Rattle.table_messages.specs.Words.{messages, stored}
 use Rattle.table_messages.specs.Laid.{laid}
-use Rattle.line_message.specs.Fetch.{fetchText}
-use Rattle.event_mailbox.specs.Heard.{Hears, heard}
+use Rattle.line_fetch.specs.Fetch.{fetchText}
+use Rattle.line_put.specs.Heard.{Hears, heard}
 use Rattle.event_message.specs.After.{After, Leaves, changeText, hears-said, put-one}
 
 module _ (es : List Message) (used : ℕ) (q : List ℕ) (s : Session) (at : ℕ) where

@@ -16,14 +16,15 @@ use Rattle.model.specs.Events.{inView, message, reflag, reflagged, changesOf, s
 use Rattle.model.specs.Rules.{Outcome, told}
 use Rattle.demands.specs.Lasting.Law.{Law}
 use Rattle.model.specs.declared.Mailbox.{Mailbox}
+use Rattle.laws.specs.Room.{room-same}
 use Rattle.laws.specs.Changing.{setEntry}
 use Rattle.table_mailboxes.specs.Rows.{rowsAre}
 use Rattle.line_put.specs.Says.{hasRoom}
-use Rattle.line_message.specs.Fetch.{fetchText, fetch-text}
-use Rattle.event_mailbox.specs.Heard.{heard}
+use Rattle.line_fetch.specs.Fetch.{fetchText, fetch-text}
+use Rattle.line_put.specs.Heard.{heard}
 use Rattle.event_message.specs.After.{After}
 use Rattle.event_message.specs.Flagged.{toldAfter, keptAfter, flagAfter}
-use Rattle.event_message.specs.Accepted.{left, awayTold, room-same, told-tables, status-when}
+use Rattle.event_message.specs.Accepted.{left, awayTold, told-tables, status-when}
 use Rattle.event_message.specs.Reflagging.{plain, fl-plain, fl-waits, fl-told, fl-over}
 
 module _ (b : Memory) (law : Law b) (rs : List Mailbox) (many i u f c k : ℕ) (h : k < b .counts .messages) (is : isMessage i u (getD (b .entries) k noMessage) ≡ true) where

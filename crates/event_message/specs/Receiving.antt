@@ -20,7 +20,7 @@ use Rattle.model.specs.declared.Message.{Message}
 use Rattle.model.specs.declared.Session.{Session}
 use Rattle.table_mailboxes.specs.Rows.{rowsAre}
 use Rattle.match_groups.specs.Asking.{asksBit}
-use Rattle.line_message.specs.declared.Shows.{Shows}
+use Rattle.line_fetch.specs.declared.Shows.{Shows}
 use Rattle.event_message.specs.After.{After, arriveAfter}
 use Rattle.event_message.specs.Accepted.{left}
 use Rattle.event_message.specs.Arriving.{arrive-told}

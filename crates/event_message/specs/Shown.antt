@@ -13,8 +13,8 @@ use Rattle.model.specs.declared.LentGroup.{LentGroup}
 use Rattle.model.specs.declared.Message.{Message}
 use Rattle.model.specs.declared.Session.{Session}
 use Rattle.lawful_session.specs.Tests.{selecting}
-use Rattle.line_message.specs.declared.Shows.{Shows}
-use Rattle.line_message.specs.Items.{shown}
+use Rattle.line_fetch.specs.declared.Shows.{Shows}
+use Rattle.line_fetch.specs.Items.{shown}
 
 -- attributes hold part k: 0 is anything at all, then UID, FLAGS and RFC822.SIZE
 abbrev pub part : ℕ → ℕ → Bool

@@ -1,6 +1,6 @@
 -- The message table of memory with an entry taken out of it: what the code makes is what the rules say. Assumes nothing.
 use mathlib.Core.Path.{_≡_, refl, ap, ap₂, sym, _∙_}
-use mathlib.Core.Bool.{Bool, true, false, not, _&&_, _||_}
+use mathlib.Core.Bool.{Bool, true, false, not, _&&_}
 use mathlib.Core.List.{List, [], _∷_, _++_}
 use Prim.Native.Nat.{ℕ, zero, suc, _+_, _-_, _<_, _≤_, max}
 use native.Mathlib.Omega.{arith}
@@ -8,7 +8,7 @@ use lib.Dec.{eqb}
 use lib.ListN.{length, take, drop, getD}
 use lib.Seq.{length-take-le, getD-take, take-take, take-add, take-append-add, drop-at as dropped-at}
 use borrow.Author.Tests.{eqb-true, leb-true, not-true}
-use Rattle.model.specs.Laws.{and-l, and-r, or-l, or-r, tf}
+use Rattle.model.specs.Laws.{and-l, and-r, or-l, or-r, tf, or-true}
 use Rattle.model.specs.Lists.{filterb, keep, anyb, apart}
 use Rattle.model.specs.Memory.{Memory, mails, noMessage, uidOf, isMessage, refill, dropMails}
 use Rattle.model.specs.Lawful.{twin}
@@ -40,11 +40,7 @@ module _ (i u : ℕ) where
   hit : (x : Message) (l : List Message) (k : ℕ) → k < length l → isMessage i u (getD l k noMessage) ≡ true → isMessage i u x ≡ true → anyb (λ (y : Message). twin x y) l ≡ true
   hit x [] k h e q = absurd (let z : ⊥ = omega arith in z)
   hit x (y ∷ l) zero h e q = rw (twin-is x y q, e)
-  hit x (y ∷ l) (suc k) h e q = rw (hit x l k (omega arith) e q) (or-t (twin x y))
-    where
-      or-t : (b : Bool) → (b || true) ≡ true
-      or-t true = refl
-      or-t false = refl
+  hit x (y ∷ l) (suc k) h e q = rw (hit x l k (omega arith) e q) (or-true (twin x y))
 
   pub out : (l : List Message) (k : ℕ) → apart twin l ≡ true → k < length l → isMessage i u (getD l k noMessage) ≡ true → filterb stays l ≡ without k l
   out [] k a h e = absurd (let z : ⊥ = omega arith in z)

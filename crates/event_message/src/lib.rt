@@ -83,7 +83,7 @@ pub fn say_row(words: &[u64], used: usize, queue: &mut [u8], at: usize, x: Mailb
     let o = x.name;
     let next = x.uidnext as u64;
     let highest = table_mailboxes::counter_of(x);
-    let end = event_mailbox::name_end(x);
+    let end = table_mailboxes::row::name_end(x);
     say_status(queue, at, &o[..end], next, n, highest)
 }
 
@@ -109,7 +109,7 @@ pub fn say_change(queue: &mut [u8], at: usize, x: Mailbox) -> Said
     let o = x.name;
     let validity = x.uidvalidity as u64;
     let highest = table_mailboxes::counter_of(x);
-    let end = event_mailbox::name_end(x);
+    let end = table_mailboxes::row::name_end(x);
     say_flag_status(queue, at, &o[..end], validity, highest)
 }
 
@@ -120,7 +120,7 @@ pub fn is_told(s: Session, x: Mailbox, selected: bool, k: u8) -> bool
     if selected {
         return false;
     }
-    if !event_mailbox::both(x.attributes) {
+    if !table_mailboxes::row::has_rights(x.attributes) {
         return false;
     }
     match_groups::is_asked_of(s, x, k)
@@ -133,7 +133,7 @@ pub fn is_soon(s: Session, x: Mailbox, seen: bool, k: u8) -> bool
     if !seen {
         return false;
     }
-    if !event_mailbox::both(x.attributes) {
+    if !table_mailboxes::row::has_rights(x.attributes) {
         return false;
     }
     match_groups::selected_asks(s, k)

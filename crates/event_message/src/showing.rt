@@ -1,5 +1,5 @@
 // What a FETCH of a new message shows: the attributes that the selected group asks for.
-use line_message::Shows;
+use line_fetch::Shows;
 use model::LentGroup;
 use model::Session;
 ghost use mathlib.Core.Path.{_≡_};

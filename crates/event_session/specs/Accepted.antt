@@ -16,8 +16,9 @@ use Rattle.model.specs.Records.{ended}
 use Rattle.model.specs.declared.Message.{Message}
 use Rattle.model.specs.declared.Answer.the-variants.{Counted}
 use Rattle.order_messages.specs.Counts.{stays, fresh}
-use Rattle.event_session.specs.Saying.{part, start, firstPart}
-use Rattle.event_session.specs.Ending.{endRest, first, second, third}
+use Rattle.event_view.specs.Saying.{part, start, firstPart}
+use Rattle.event_view.specs.Speaking.{first, second, third}
+use Rattle.event_session.specs.Ending.{endRest}
 use Rattle.event_session.specs.Sunk.{Sunk, sunk-start, sunk-part}
 use Rattle.event_session.specs.Runs.{seen, viewOf, stayers, uids, zeros, runE-sunk, runM-sunk, exists-sunk}
 

@@ -18,9 +18,9 @@ use Rattle.model.specs.declared.Session.{Session}
 use Rattle.model.specs.declared.Answer.the-variants.{Done}
 use Rattle.laws.specs.Changing.{used-long}
 use Rattle.laws.specs.Dropping.{refill-twice}
-use Rattle.table_messages.specs.Swept.{kept}
-use Rattle.table_messages.specs.declared.Sweep.{Sweep}
-use Rattle.table_messages.specs.declared.Sweep.the-variants.{Rested, Told}
+use Rattle.table_sweep.specs.Swept.{kept}
+use Rattle.table_sweep.specs.declared.Sweep.{Sweep}
+use Rattle.table_sweep.specs.declared.Sweep.the-variants.{Rested, Told}
 
 pub record After : Type 0 where
   pub entries : List Message

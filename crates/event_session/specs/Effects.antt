@@ -9,10 +9,10 @@ use lib.ListN.{length, take, drop, length-append, length-map, length-take, take-
 use lib.Seq.{take-all}
 use borrow.Author.Tests.{leb-true, leb-false}
 use Rattle.model.specs.Lists.{filterb, keep, anyb}
-use Rattle.model.specs.Laws.{filter-length, cond-same}
+use Rattle.model.specs.Laws.{filter-length, cond-same, filter-twice}
 use Rattle.model.specs.Memory.{Memory, boxes, mails, filled, theMailbox, noMessage, uidOf, isMessage, expunged, marked, withStates, withMails, withSession, withView, dropMails, changeMails}
 use Rattle.model.specs.Lines.{Line, expunge}
-use Rattle.model.specs.Queue.{fitting, effect, effects, unmark}
+use Rattle.model.specs.Queue.{fitting, effects, unmark}
 use Rattle.model.specs.View.{expungeLines, markedLines, existsLine, flagsLine}
 use Rattle.demands.specs.Lasting.Owing.{fitting-take}
 use Rattle.demands.specs.Isolation.Alike.{mails-with}
@@ -58,11 +58,6 @@ module _ {A : Type 0} where
       go true e = let z = leb-true n k e in let m : min n k ≡ n = omega arith in rw m
       go false e = let z = leb-false n k e in let m : min n k ≡ k = omega arith in rw m (take-all k l h ∙ sym (take-all n l (omega arith)))
 
-pub effects-append : (m : Memory) (a b : List Line) → effects m (a ++ b) ≡ effects (effects m a) b
-unfolding effects
-effects-append m [] b = refl
-effects-append m (l ∷ a) b = effects-append (effect m l) a b
-
 -- ---- what lines end, together
 unfoldable pub dropAll : ℕ → List ℕ → List Message → List Message
 dropAll i [] l = l
@@ -71,15 +66,6 @@ dropAll i (u ∷ us) l = dropAll i us (filterb (λ (e : Message). not (isMessage
 unfoldable pub clearAll : ℕ → List ℕ → List Message → List Message
 clearAll i [] l = l
 clearAll i (u ∷ us) l = clearAll i us (map (unmark i u) l)
-
-filter-twice : (p q : Message → Bool) (l : List Message) → filterb (λ (e : Message). not (q e)) (filterb (λ (e : Message). not (p e)) l) ≡ filterb (λ (e : Message). not (p e || q e)) l
-filter-twice p q [] = refl
-filter-twice p q (x ∷ l) = go (p x) (filter-twice p q l)
-  where
-    go : (b : Bool) → filterb (λ (e : Message). not (q e)) (filterb (λ (e : Message). not (p e)) l) ≡ filterb (λ (e : Message). not (p e || q e)) l
-        → filterb (λ (e : Message). not (q e)) (keep (not b) x (filterb (λ (e : Message). not (p e)) l)) ≡ keep (not (b || q x)) x (filterb (λ (e : Message). not (p e || q e)) l)
-    go true ih = ih
-    go false ih = ap (keep (not (q x)) x) ih
 
 filter-all : (l : List Message) → filterb (λ (e : Message). true) l ≡ l
 filter-all [] = refl

@@ -1,6 +1,4 @@
 pub mod Shift
-pub mod Saying
-pub mod Coded
 pub mod After
 pub mod Ending
 pub mod Quiet

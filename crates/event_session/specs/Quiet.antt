@@ -16,12 +16,13 @@ use Rattle.model.specs.declared.Message.{Message}
 use Rattle.model.specs.declared.Session.{Session}
 use Rattle.table_messages.specs.Words.{messages, messages-length}
 use Rattle.table_messages.specs.Laid.{laid-own}
-use Rattle.table_messages.specs.Swept.{unsettled}
+use Rattle.table_sweep.specs.Swept.{unsettled}
 use Rattle.order_messages.specs.Counts.{fresh}
-use Rattle.event_session.specs.Saying.{State, more, part, start, stepE, runE, stepM, runM, sayExists, firstPart}
+use Rattle.event_view.specs.Saying.{State, more, part, start, stepE, runE, stepM, runM, sayExists, firstPart}
 use Rattle.event_session.specs.After.{toldTo}
-use Rattle.event_session.specs.Ending.{first, second, third, Speaks, Leaves, endAfter, endRest, leaves-none, leaves-some}
-use Rattle.event_session.specs.declared.Spoken.{Spoken}
+use Rattle.event_view.specs.Speaking.{first, second, third, Speaks}
+use Rattle.event_session.specs.Ending.{Leaves, endAfter, endRest, leaves-none, leaves-some}
+use Rattle.event_view.specs.declared.Spoken.{Spoken}
 
 -- the client does not have it yet, or it is expunged or marked
 abbrev pub waits : ℕ → Message → Bool

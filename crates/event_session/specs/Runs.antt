@@ -12,9 +12,9 @@ use Rattle.model.specs.Memory.{uidOf, expunged, marked}
 use Rattle.model.specs.Lines.{Line, exists, expunge, render}
 use Rattle.model.specs.View.{expungeLines, markedLines, flagsLine, existsLine}
 use Rattle.model.specs.declared.Message.{Message}
-use Rattle.line_message.specs.Fetch.{fetchText, fetch-line}
+use Rattle.line_fetch.specs.Fetch.{fetchText, fetch-line}
 use Rattle.line_message.specs.Counts.{countText, expungeWord, existsWord, expunge-text, exists-text}
-use Rattle.event_session.specs.Saying.{State, say, more, runE, runM, sayExists}
+use Rattle.event_view.specs.Saying.{State, say, more, runE, runM, sayExists}
 use Rattle.event_session.specs.Sunk.{Sunk, sunk-more, sunk-say}
 
 abbrev pub seen : ℕ → Message → Bool

@@ -1,7 +1,7 @@
 -- Lines offered one after the other are as many as fit. Assumes nothing.
 use mathlib.Core.Path.{_≡_, refl, ap, ap₂, sym, _∙_}
 use mathlib.Core.Bool.{Bool, true, false, cond, _&&_}
-use mathlib.Core.List.{List, [], _∷_, _++_, append-assoc, append-nil}
+use mathlib.Core.List.{List, [], _∷_, _++_, append-nil}
 use Prim.Native.Nat.{ℕ, _+_, _-_, _<_, _≤_}
 use native.Mathlib.Nat.{add-zero}
 use native.Mathlib.Omega.{arith}
@@ -10,11 +10,12 @@ use lib.ListN.{length, take, length-append}
 use lib.Seq.{take-all, take-append-le, take-nil}
 use borrow.Author.Tests.{leb-true, leb-false, le-leb, lt-leb}
 use Rattle.model.specs.Laws.{tf}
-use Rattle.model.specs.Lines.{Line, render, renderAll, text, crlf}
+use Rattle.model.specs.Lines.{Line, render, renderAll}
 use Rattle.model.specs.Queue.{written, fitting}
+use Rattle.model.specs.Rendered.{render-append, render-some}
 use Rattle.laws.specs.Fitting.{size, fitting-append}
 use Rattle.line_put.specs.Wrote.{written-none, written-then}
-use Rattle.event_session.specs.Saying.{State, goes, say, more, part, start}
+use Rattle.event_view.specs.Saying.{State, goes, say, more, part, start}
 
 -- one more than the last of a list of UIDs, 0 where there is none
 unfoldable pub topOf : ℕ → List ℕ → ℕ
@@ -25,15 +26,6 @@ top-snoc : (b : ℕ) (us : List ℕ) (u : ℕ) → topOf b (us ++ (u ∷ [])) �
 unfolding topOf
 top-snoc b [] u = refl
 top-snoc b (v ∷ us) u = top-snoc (v + 1) us u
-
-some-octets : (l : Line) → 0 < length (render l)
-unfolding render
-some-octets l = let a = length-append (text l) crlf in omega arith
-
-render-append : (a b : List Line) → renderAll (a ++ b) ≡ renderAll a ++ renderAll b
-unfolding renderAll
-render-append [] b = refl
-render-append (l ∷ a) b = ap (λ (t : List ℕ). render l ++ t) (render-append a b) ∙ sym (append-assoc (render l) (renderAll a) (renderAll b))
 
 render-one : (l : Line) → renderAll (l ∷ []) ≡ render l
 unfolding renderAll
@@ -138,7 +130,7 @@ module _ (q : List ℕ) (at lim : ℕ) where
     goes-is true e =
         let n = x .ends in
         let f = ap size (fitting-all free ls e) in
-        let o = some-octets l in
+        let o = render-some l in
         let d : lim - s .end ≡ free - size ls = omega arith in
         room-same (s .end) (length (render l)) lim o ∙ ap (λ (k : ℕ). leb (length (render l)) k) d
 
@@ -164,7 +156,7 @@ module _ (q : List ℕ) (at lim : ℕ) where
             let n = x .ends in
             let z = size-snoc ls l in
             let y = leb-true (size (ls ++ (l ∷ []))) free g in
-            let o = some-octets l in
+            let o = render-some l in
             let i = ap size k in
             let j = ap length k in
             let c = x .counts in

@@ -1,12 +1,7 @@
 // `CE`, `SE` and `DR`: the end of a command, a selection, octets that were sent.
-mod lines;
-mod view;
-
-use model::MessageNumber;
 use model::Session;
 use model::Uid;
-use table_messages::Sweep;
-use view::speak;
+use table_sweep::Sweep;
 ghost use mathlib.Core.Path.{_≡_};
 ghost use mathlib.Core.Bool.{false, cond};
 ghost use Prim.Native.Nat.{ℕ, _+_, _*_, _-_, _≤_, _<_};
@@ -60,7 +55,7 @@ pub fn select(words: &mut [u64], used: usize, s: Session, id: u16, next: u32) ->
     requires { ⌜ used * 6 ≤ length (now words) ⌝ }
     ensures { λ r. ⌜ (now (words .exit) ≡ laid (now (words .entry)) (selectEntries (messages (now (words .entry))) used)) × (r .used ≡ length (rests (take used (messages (now (words .entry)))))) × (r .session ≡ withView s id next) ⌝ }
 {
-    let used = table_messages::settle(words, used, Sweep::Rested);
+    let used = table_sweep::settle(words, used, Sweep::Rested);
     Chose {
         session: viewed(s, id, next),
         used,
@@ -68,25 +63,6 @@ pub fn select(words: &mut [u64], used: usize, s: Session, id: u16, next: u32) ->
 }
 
 // ---- `CE`
-// Where the queue ends, whether all lines fitted so far, how many did not, the next place, one more than the UID of the last line written.
-pub struct Going {
-    pub end: usize,
-    pub whole: bool,
-    pub rest: u64,
-    pub next: MessageNumber,
-    pub bound: Uid,
-}
-
-// What was written: where the queue ends, whether EXISTS stands there, and the bounds of the EXPUNGE and FETCH lines; and how many lines
-// did not fit.
-pub struct Spoken {
-    pub end: usize,
-    pub rest: u64,
-    pub gone: Uid,
-    pub news: bool,
-    pub shown: Uid,
-}
-
 // Whether entry i is of the mailbox, and new to the client, expunged or marked.
 fn owes_one(words: &[u64], i: usize, id: u64, told: Uid) -> bool
     requires { ⌜ (i + 1) * 6 ≤ length (now words) ⌝ }
@@ -162,10 +138,10 @@ pub fn end_command(
     let told = s.told as u64;
     let limit = queue.len() - 64;
     let n = order_messages::by_uid(words, used, id, order);
-    let t = speak(words, order, n, Uid(told), class, queue, limit, filled);
+    let t = event_view::speak(words, order, n, Uid(told), class, queue, limit, filled);
     let gone = t.gone;
     let shown = t.shown;
-    let left = table_messages::settle(words, used, Sweep::Told(id, gone, shown));
+    let left = table_sweep::settle(words, used, Sweep::Told(id, gone, shown));
     Closed {
         session: announced(s, t.news, next),
         used: left,

@@ -18,7 +18,7 @@ ghost use Rattle.model.specs.declared.Mailbox.{Mailbox};
 ghost use Rattle.table_messages.specs.Words.{messages};
 ghost use Rattle.table_mailboxes.specs.Columns.{Column, Laid};
 ghost use Rattle.lawful_quick.specs.Passing.{Owners, entryOk, tablesOk};
-ghost use Rattle.lawful_quick.specs.Distinct.{Low};
+ghost use Rattle.lawful_digests.specs.Distinct.{Low};
 ghost use Rattle.lawful_messages.specs.Clashing.{Called};
 ghost use Rattle.lawful.specs.Lent.{Lent, memory, filledBy, sizesBy, viewBy};
 
@@ -36,14 +36,14 @@ fn rows_differ(
     requires { ⌜ (n ≤ 64) × (now slots ≡ replicate 1024 0) × (now chain ≡ replicate 64 0) ⌝ }
     ensures { λ r. ⌜ ((l : List Mailbox) → length l ≡ n → Called l (now (ids .entry)) (now (lens .entry)) (now (names .entry)) → allb mailboxOk l ≡ true → r ≡ apart clash l) × Low (now (slots .exit)) n × Low (now (chain .exit)) n ⌝ }
 {
-    if !lawful_quick::differ(ids, n, slots, chain) {
+    if !lawful_digests::differ(ids, n, slots, chain) {
         return rows_apart(ids, lens, names, n);
     }
     let all = &names[..];
-    let digests = lawful_quick::digests_of(all, n);
+    let digests = lawful_digests::digests_of(all, n);
     let mut marks = [0u8; 1024];
     let mut links = [0u8; 64];
-    if lawful_quick::differ(&digests, n, &mut marks, &mut links) {
+    if lawful_digests::differ(&digests, n, &mut marks, &mut links) {
         return true;
     }
     rows_apart(ids, lens, names, n)

@@ -13,12 +13,12 @@ use Rattle.model.specs.Laws.{tf, and-l, and-r}
 use Rattle.model.specs.Text.{sameWord, upper}
 use Rattle.model.specs.Names.{Name, printable, inbox}
 use Rattle.model.specs.Lawful.{zeros}
+use Rattle.demands.specs.Lasting.NameLaws.{same-true}
 use Rattle.names.specs.Once.{textOk, textFrom, text-next, text-past, some-octets}
 use Rattle.names.specs.Folding.{folded-other}
 use Rattle.table_mailboxes.specs.Walks.{mapped-length}
 use Rattle.table_mailboxes.specs.Columns.{block, all-below}
-use Rattle.lawful_quick.specs.Distinct.{same-equal}
-use Rattle.lawful_quick.specs.Digest.{word}
+use Rattle.lawful_digests.specs.Digest.{word}
 use Rattle.lawful_mailboxes.specs.Fields.{nameBy}
 
 -- a zero stands before a zero; an octet of a name before any, but no slash before a slash
@@ -188,7 +188,7 @@ module _ (l : List ℕ) (k len : ℕ) (w : length l ≡ 4096) (h : k < 64) (e : 
   not-inbox = go (sameWord n inbox) refl
     where
       go : (c : Bool) → sameWord n inbox ≡ c → c ≡ false
-      go true z = absurd (e .other (sym n-long ∙ mapped-length ℕ ℕ upper n 5 (ap length (same-equal _ _ z))))
+      go true z = absurd (e .other (sym n-long ∙ mapped-length ℕ ℕ upper n 5 (ap length (same-true _ _ z))))
       go false z = refl
 
   rest : zeros (drop len o) ≡ true

@@ -87,10 +87,10 @@ fn short_seen(octets: &[u8], from: usize) -> bool
     if misplaced_from(octets, from, 48) != 0 {
         return false;
     }
-    if lawful_quick::word(octets, from + 48) != 0 {
+    if lawful_digests::word(octets, from + 48) != 0 {
         return false;
     }
-    lawful_quick::word(octets, from + 56) == 0
+    lawful_digests::word(octets, from + 56) == 0
 }
 
 // The name of row k is seen to be in order: none of the row's octets is misplaced. A no says nothing.

@@ -13,7 +13,8 @@ use Rattle.model.specs.Lists.{allb, apart, same}
 use Rattle.model.specs.Memory.{noMailbox, nameOf}
 use Rattle.model.specs.Lawful.{zeros, mailboxOk, clash}
 use Rattle.model.specs.declared.Mailbox.{Mailbox}
-use Rattle.lawful_quick.specs.Distinct.{Differ, differ-apart, same-equal}
+use Rattle.demands.specs.Lasting.NameLaws.{same-true}
+use Rattle.lawful_digests.specs.Distinct.{Differ, differ-apart}
 use Rattle.lawful_quick.specs.Passing.{all-get}
 use Rattle.table_mailboxes.specs.Columns.{Column, Names, nameAt, name-at, block}
 use Rattle.lawful_mailboxes.specs.Fields.{fieldTests}
@@ -80,5 +81,5 @@ module _ (l : List Mailbox) (ids lens names d : List ℕ) (w : Called l ids lens
       unlike a b h = go (same a b) refl
         where
           go : (c : Bool) → same a b ≡ c → c ≡ false
-          go true q = absurd (h (same-equal a b q))
+          go true q = absurd (h (same-true a b q))
           go false q = refl

@@ -1,6 +1,6 @@
 -- One pass over the messages: what each entry must meet, and why that is enough. Assumes nothing.
 use mathlib.Core.Path.{_≡_, refl, ap, sym, _∙_}
-use mathlib.Core.Bool.{Bool, true, false, not, cond, _&&_, _||_}
+use mathlib.Core.Bool.{Bool, true, false, _&&_, _||_}
 use mathlib.Core.List.{List, [], _∷_, _++_}
 use Prim.Native.Nat.{ℕ, zero, suc, _+_, _*_, _/_, _%_, _<_, _≤_}
 use native.Mathlib.Omega.{arith}
@@ -9,8 +9,8 @@ use lib.Bits.{bitOr}
 use lib.ListN.{length, take, getD, set}
 use lib.Seq.{take-suc, getD-set-same, getD-set-other}
 use borrow.Author.Tests.{eq-eqb, ne-eqb, lt-ltb, le-leb, leb-true, ltb-true, eqb-true, eqb-false}
-use Rattle.model.specs.Laws.{and-l, and-r, or-r, or-true, tf, each, all-hold}
-use Rattle.model.specs.Lists.{allb, anyb, apart, every}
+use Rattle.model.specs.Laws.{and-l, and-r, or-true, each, all-hold}
+use Rattle.model.specs.Lists.{allb, apart, every}
 use Rattle.model.specs.Memory.{noMailbox, noMessage, uidOf, place, known, theMailbox, counterOf}
 use Rattle.model.specs.Lawful.{counterOk, clash, mailboxOk, messageOk, twin, owned}
 use Rattle.demands.specs.Lasting.Rows.{all-snoc, all-imp, all-both, any-none, apart-snoc}
@@ -20,7 +20,7 @@ use Rattle.table_messages.specs.Joined.{join-l, join-r}
 use Rattle.model.specs.declared.Mailbox.{Mailbox}
 use Rattle.model.specs.declared.Message.{Message}
 use Rattle.lawful_quick.specs.declared.Pass.{Pass}
-use Rattle.lawful_quick.specs.Distinct.{Low}
+use Rattle.lawful_digests.specs.Distinct.{Low, place-own}
 
 -- the ids and the UIDNEXTs of the rows, by which the owner of a message is known
 pub record Owners (l : List Mailbox) (ids nexts : List ℕ) : Type 0 where
@@ -64,7 +64,9 @@ okUpTo flags size e = every (
 
 module _ (e : Message) (flags size : ℕ) where
   ok-up-to : 1 ≤ uidOf e → e .flags ≤ flags → e .size ≤ size → e .states ≤ 2 → 1 ≤ e .counter → okUpTo flags size e ≡ true
-  ok-up-to u f z s c = all-hold (leb 1 (uidOf e) ∷ leb (e .flags) flags ∷ leb (e .size) size ∷ leb (e .states) 2 ∷ leb 1 (e .counter) ∷ []) (le-leb 1 (uidOf e) u, (le-leb (e .flags) flags f, (le-leb (e .size) size z, (le-leb (e .states) 2 s, (le-leb 1 (e .counter) c, tt)))))
+  ok-up-to u f z s c =
+      all-hold (leb 1 (uidOf e) ∷ leb (e .flags) flags ∷ leb (e .size) size ∷ leb (e .states) 2 ∷ leb 1 (e .counter) ∷ [])
+      (le-leb 1 (uidOf e) u, (le-leb (e .flags) flags f, (le-leb (e .size) size z, (le-leb (e .states) 2 s, (le-leb 1 (e .counter) c, tt)))))
 
   ok-wider : (low small : ℕ) → low ≤ flags → small ≤ size → okUpTo low small e ≡ true → okUpTo flags size e ≡ true
   ok-wider low small h k o =
@@ -76,7 +78,8 @@ module _ (e : Message) (flags size : ℕ) where
 in-range : (e : Message) → okUpTo 31 4294967295 e ≡ true → e .counter ≤ 9223372036854775807 → messageOk e ≡ true
 in-range e o h =
     let p = each (leb 1 (uidOf e) ∷ leb (e .flags) 31 ∷ leb (e .size) 4294967295 ∷ leb (e .states) 2 ∷ leb 1 (e .counter) ∷ []) o in
-    all-hold (leb 1 (uidOf e) ∷ leb (e .flags) 31 ∷ leb (e .size) 4294967295 ∷ leb (e .states) 2 ∷ counterOk (e .counter) ∷ []) (p .0, (p .1 .0, (p .1 .1 .0, (p .1 .1 .1 .0, (rw (p .1 .1 .1 .1 .0) (le-leb (e .counter) 9223372036854775807 h), tt)))))
+    all-hold (leb 1 (uidOf e) ∷ leb (e .flags) 31 ∷ leb (e .size) 4294967295 ∷ leb (e .states) 2 ∷ counterOk (e .counter) ∷ [])
+    (p .0, (p .1 .0, (p .1 .1 .0, (p .1 .1 .1 .0, (rw (p .1 .1 .1 .1 .0) (le-leb (e .counter) 9223372036854775807 h), tt)))))
 
 -- a row in order, and its counter
 pub all-get : (l : List Mailbox) (k : ℕ) → allb mailboxOk l ≡ true → k < length l → mailboxOk (getD l k noMailbox) ≡ true
@@ -129,30 +132,8 @@ pub record Ran (ws : List ℕ) (end : ℕ) (ids counters slots : List ℕ) (sele
   pub inside : p .at ≤ end
   pub whole : p .at % 6 ≡ 0
   pub long : length last ≡ 64
-  pub kept : (l : List Mailbox) (nexts : List ℕ) → Owners l ids nexts → Column counterOf l counters → apart clash l ≡ true → 1 ≤ length l → Low slots (length l) → Passed ws l selected told from before → Passed ws l selected told p last
-
--- ids that differ: the place of an id is where it stands
-none-here : (o : ℕ) (x : Mailbox) (l : List Mailbox) (k : ℕ) → x .id ≡ o → k < length l → getD l k noMailbox .id ≡ o → anyb (λ (y : Mailbox). clash x y) l ≡ false → ⊥
-none-here o x [] k e h f n = omega arith
-none-here o x (y ∷ l) zero e h f n = let z : _≡_ {A = Bool} true false = sym (rw (eq-eqb (x .id) (y .id) (e ∙ sym f)) refl) ∙ n in tf true refl z
-none-here o x (y ∷ l) (suc k) e h f n = none-here o x l k e (omega arith) f (or-r (clash x y) (anyb (λ (y : Mailbox). clash x y) l) n)
-
-pub place-own : (o : ℕ) (l : List Mailbox) (k : ℕ) → apart clash l ≡ true → k < length l → getD l k noMailbox .id ≡ o → place o l ≡ k
-unfolding place
-place-own o [] k a h e = absurd (omega arith)
-place-own o (x ∷ l) zero a h e = rw (eq-eqb (x .id) o e)
-place-own o (x ∷ l) (suc k) a h e = go (eqb (x .id) o) refl (place-own o l k (and-r (not (anyb (λ (y : Mailbox). clash x y) l)) (apart clash l) a) (omega arith) e)
-  where
-    n : not (anyb (λ (y : Mailbox). clash x y) l) ≡ true
-    n = and-l (not (anyb (λ (y : Mailbox). clash x y) l)) (apart clash l) a
-
-    f : (b : Bool) → not b ≡ true → b ≡ false
-    f true q = tf false q refl
-    f false q = refl
-
-    go : (b : Bool) → eqb (x .id) o ≡ b → place o l ≡ k → cond b 0 (suc (place o l)) ≡ suc k
-    go true q ih = absurd (none-here o x l k (eqb-true (x .id) o q) (omega arith) e (f (anyb (λ (y : Mailbox). clash x y) l) n))
-    go false q ih = ap suc ih
+  pub kept : (l : List Mailbox) (nexts : List ℕ) → Owners l ids nexts → Column counterOf l counters → apart clash l ≡ true → 1 ≤ length l → Low slots (length l)
+      → Passed ws l selected told from before → Passed ws l selected told p last
 
 module _ (l : List Mailbox) (ids nexts counters : List ℕ) (w : Owners l ids nexts) (v : Column counterOf l counters) (a : apart clash l ≡ true) (selected told : ℕ) (last : List ℕ) where
   at-most : (d : Message) → atMost l last d ≡ true → uidOf d ≤ getD last (place (d .mailbox) l) 0
@@ -172,7 +153,11 @@ module _ (l : List Mailbox) (ids nexts counters : List ℕ) (w : Owners l ids ne
         b = at-most d h
 
         go : (c : Bool) → eqb (d .mailbox) (e .mailbox) ≡ c → c && eqb (uidOf d) (uidOf e) ≡ false
-        go true q = ne-eqb (uidOf d) (uidOf e) (λ z. let p : place (d .mailbox) l ≡ k = ap (λ (i : ℕ). place i l) (eqb-true (d .mailbox) (e .mailbox) q) ∙ here in let u : uidOf d ≤ getD last k 0 = rw p at b in let v = f .above in omega arith)
+        go true q =
+            ne-eqb (uidOf d) (uidOf e)
+            (λ z.
+            let p : place (d .mailbox) l ≡ k = ap (λ (i : ℕ). place i l) (eqb-true (d .mailbox) (e .mailbox) q) ∙ here in
+            let u : uidOf d ≤ getD last k 0 = rw p at b in let v = f .above in omega arith)
         go false q = refl
 
     lower : k < length last → (d : Message) → atMost l last d ≡ true → atMost l (set last k (uidOf e)) d ≡ true
@@ -182,7 +167,9 @@ module _ (l : List Mailbox) (ids nexts counters : List ℕ) (w : Owners l ids ne
         b = at-most d q
 
         go : (c : Bool) → eqb (place (d .mailbox) l) k ≡ c → leb (uidOf d) (getD (set last k (uidOf e)) (place (d .mailbox) l) 0) ≡ true
-        go true r = let p = eqb-true (place (d .mailbox) l) k r in let u : uidOf d ≤ getD last k 0 = rw p at b in let v = f .above in rw (p, getD-set-same last k (uidOf e) 0 h) (le-leb (uidOf d) (uidOf e) (omega arith))
+        go true r =
+            let p = eqb-true (place (d .mailbox) l) k r in
+            let u : uidOf d ≤ getD last k 0 = rw p at b in let v = f .above in rw (p, getD-set-same last k (uidOf e) 0 h) (le-leb (uidOf d) (uidOf e) (omega arith))
         go false r = rw (getD-set-other last k (place (d .mailbox) l) (uidOf e) 0 (eqb-false (place (d .mailbox) l) k r)) (le-leb _ _ b)
 
     -- the join of the flags so far, or of the sizes, takes the entry's in
@@ -197,12 +184,15 @@ module _ (l : List Mailbox) (ids nexts counters : List ℕ) (w : Owners l ids ne
     its-own : e .counter ≤ counterOf (getD l k noMailbox)
     its-own = rw (v k inside) at (f .counted)
 
-    pub going-next : (flags size : ℕ) → k < length last → Going l selected told flags size last es → Going l selected told (bitOr flags (e .flags)) (bitOr size (e .size)) (set last k (uidOf e)) (es ++ (e ∷ []))
+    pub going-next : (flags size : ℕ) → k < length last → Going l selected told flags size last es
+        → Going l selected told (bitOr flags (e .flags)) (bitOr size (e .size)) (set last k (uidOf e)) (es ++ (e ∷ []))
     going-next flags size h g = record {
       mail = in-order flags size (g .mail);
       states = all-snoc (stateAt selected told) es e (g .states) (f .viewed .state);
       twins = apart-snoc twin es e (g .twins) (any-none (atMost l last) (λ (d : Message). twin d e) other es (g .low));
-      low = all-snoc (atMost l (set last k (uidOf e))) es e (all-imp (atMost l last) (atMost l (set last k (uidOf e))) (lower h) es (g .low)) (rw (here, lt-ltb k (length l) inside, le-leb (e .counter) (counterOf (getD l k noMailbox)) its-own, getD-set-same last k (uidOf e) 0 h) (le-leb (uidOf e) (uidOf e) (omega arith)));
+      low =
+          all-snoc (atMost l (set last k (uidOf e))) es e (all-imp (atMost l last) (atMost l (set last k (uidOf e))) (lower h) es (g .low))
+          (rw (here, lt-ltb k (length l) inside, le-leb (e .counter) (counterOf (getD l k noMailbox)) its-own, getD-set-same last k (uidOf e) 0 h) (le-leb (uidOf e) (uidOf e) (omega arith)));
     }
 
   -- where the last UIDs are below the UIDNEXTs, all are
@@ -224,10 +214,20 @@ module _ (l : List Mailbox) (ids nexts counters : List ℕ) (w : Owners l ids ne
         in-range d (ok-wider d 31 4294967295 flags size f z o) (omega arith)
 
     pub gone : (es : List Message) (flags size : ℕ) → flags ≤ 31 → size ≤ 4294967295 → Going l selected told flags size last es → Good l selected told es
-    gone es flags size f z g = record { mail = all-both (okUpTo flags size) (atMost l last) messageOk (is-ok flags size f z) es (g .mail) (g .low); owners = all-imp (atMost l last) (owned l) is-owned es (g .low); states = g .states; twins = g .twins }
+    gone es flags size f z g =
+        record {
+          mail = all-both (okUpTo flags size) (atMost l last) messageOk (is-ok flags size f z) es (g .mail) (g .low);
+          owners = all-imp (atMost l last) (owned l) is-owned es (g .low);
+          states = g .states;
+          twins = g .twins;
+        }
 
 -- a pass with one entry more
-pub passed-next : (ws ids nexts counters : List ℕ) (l : List Mailbox) → Owners l ids nexts → Column counterOf l counters → apart clash l ≡ true → (selected told : ℕ) (p : Pass) (last : List ℕ) (k : ℕ) → p .at % 6 ≡ 0 → p .at + 6 ≤ length ws → k < length l → k < length last → Fits (entryAt ws (p .at)) (getD ids k 0) (getD last k 0) (getD counters k 0) selected told → Passed ws l selected told p last → Passed ws l selected told (record { at = p .at + 6; flags = bitOr (p .flags) (getD ws (p .at + 2) 0); size = bitOr (p .size) (getD ws (p .at + 3) 0) }) (set last k (getD ws (p .at + 1) 0))
+pub passed-next : (ws ids nexts counters : List ℕ) (l : List Mailbox) → Owners l ids nexts → Column counterOf l counters → apart clash l ≡ true
+    → (selected told : ℕ) (p : Pass) (last : List ℕ) (k : ℕ) → p .at % 6 ≡ 0 → p .at + 6 ≤ length ws → k < length l → k < length last
+    → Fits (entryAt ws (p .at)) (getD ids k 0) (getD last k 0) (getD counters k 0) selected told → Passed ws l selected told p last
+    → Passed ws l selected told (record { at = p .at + 6; flags = bitOr (p .flags) (getD ws (p .at + 2) 0); size = bitOr (p .size) (getD ws (p .at + 3) 0) })
+    (set last k (getD ws (p .at + 1) 0))
 passed-next ws ids nexts counters l w v a selected told p last k r whole inside low f g =
     let es = messages ws in
     let i = p .at / 6 in
@@ -290,7 +290,9 @@ all-three l s t [] = refl
 all-three l s t (e ∷ es) = rw (all-three l s t es) (both (messageOk e) (owned l e) (stateAt s t e) (allb messageOk es) (allb (owned l) es) (allb (stateAt s t) es))
 
 pub slow-order : (l : List Mailbox) (es : List Message) (s t : ℕ) → every (tablesOk l es s t) ≡ (apart clash l && (allb (entryOk l s t) es && apart twin es))
-slow-order l es s t = regroup (apart clash l) (allb messageOk es) (apart twin es) (allb (owned l) es) (allb (stateAt s t) es) ∙ sym (ap (λ (b : Bool). apart clash l && (b && apart twin es)) (all-three l s t es))
+slow-order l es s t =
+    regroup (apart clash l) (allb messageOk es) (apart twin es) (allb (owned l) es) (allb (stateAt s t) es)
+    ∙ sym (ap (λ (b : Bool). apart clash l && (b && apart twin es)) (all-three l s t es))
 
 pub good-decides : (l : List Mailbox) (es : List Message) (s t : ℕ) → Good l s t es → (allb (entryOk l s t) es && apart twin es) ≡ true
 good-decides l es s t g = rw (all-three l s t es, g .mail, g .owners, g .states, g .twins)

@@ -1,14 +1,14 @@
 // What one entry of the messages is tested for, and the last UIDs of the rows.
-use super::row;
-use super::seek;
-use super::slot;
+use lawful_digests::row;
+use lawful_digests::seek;
+use lawful_digests::slot;
 use model::Uid;
 ghost use mathlib.Core.Path.{_≡_};
 ghost use mathlib.Core.Bool.{true};
 ghost use Prim.Native.Nat.{_+_, _≤_, _<_};
 ghost use lib.ListN.{length};
 ghost use Rattle.lawful_quick.specs.Passing.{Viewed, Fits, Below, entryAt};
-ghost use Rattle.lawful_quick.specs.Distinct.{Low};
+ghost use Rattle.lawful_digests.specs.Distinct.{Low};
 
 // The row of the n that has the id, where there is one: that of its slot, the one chained to it, or else by a search. The caller tests it.
 pub fn owner(slots: &[u8; 1024], chain: &[u8; 64], ids: &[u64; 64], n: usize, id: u64) -> usize

@@ -5,3 +5,4 @@ pub mod Counting
 pub mod Dropping
 pub mod Fitting
 pub mod Announcing
+pub mod Room

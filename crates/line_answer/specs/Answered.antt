@@ -1,7 +1,7 @@
 -- The answer to a command as the rules have it, from what was measured and written: the reply, refusal 8, and the memory left. Assumes nothing.
 use mathlib.Core.Path.{_≡_, refl, ap, ap₂, sym, _∙_}
 use mathlib.Core.Bool.{Bool, true, false, not, cond, _&&_}
-use mathlib.Core.List.{List, [], _∷_, _++_, append-nil, append-assoc}
+use mathlib.Core.List.{List, [], _∷_, _++_, append-nil}
 use Prim.Native.Nat.{ℕ, _+_, _-_}
 use lib.Dec.{leb}
 use lib.ListN.{length}
@@ -23,11 +23,12 @@ use Rattle.model.specs.declared.Message.{Message}
 use Rattle.model.specs.declared.Session.{Session}
 use Rattle.model.specs.declared.Reply.{Reply}
 use Rattle.model.specs.declared.Reply.the-variants.{Bad, BadEvent, Unsupported, BadCharset, TooLarge, Accepted}
+use Rattle.model.specs.Rendered.{effects-append}
 use Rattle.read_commands.specs.Judging.{wordOf, judgedOf}
 use Rattle.read_commands.specs.declared.Judged.{Judged}
 use Rattle.line_answer.specs.Sizes.{Whole}
 use Rattle.line_answer.specs.Tagged.{word-verb}
-use Rattle.line_answer.specs.Effects.{effects-enqueue, effects-both, still-both, still-one, still-listing, still-found}
+use Rattle.line_answer.specs.Effects.{effects-enqueue, still-both, still-one, still-listing, still-found}
 
 -- memory with other entries, another session, another queue
 abbrev pub leftAs : Memory → List Message → ℕ → Session → List ℕ → ℕ → Memory
@@ -48,19 +49,14 @@ module _ (m : Memory) (tag : List ℕ) (p : ℕ) where
   set-effects wanted gs =
       let l : List Line = listing m (watching (m .session) gs) wanted in
       let a : List Line = answer tag notify Accepted ∷ [] in
-      effects-both m (owed m 1 ++ l) a
-      ∙ (ap (λ (j : Memory). effects j a) (effects-both m (owed m 1) l)
+      effects-append m (owed m 1 ++ l) a
+      ∙ (ap (λ (j : Memory). effects j a) (effects-append m (owed m 1) l)
       ∙ (still-one (answer tag notify Accepted) (λ j. refl) (effects (effects m (owed m 1)) l) ∙ still-listing m (watching (m .session) gs) wanted (effects m (owed m 1))))
 
   search-effects : (a : Search) → effects m (acceptedLines m tag (ok p (search a))) ≡ m
   search-effects a = still-both (foundLines m tag a) (answer tag esearch Accepted ∷ []) (still-found m tag a) (still-one (answer tag esearch Accepted) (λ j. refl)) m
 
 -- ---- what an accepted command writes, part after part; with the limit 0 it is measured
-render-both : (a b : List Line) → renderAll (a ++ b) ≡ renderAll a ++ renderAll b
-unfolding renderAll
-render-both [] b = refl
-render-both (x ∷ a) b = ap (λ (l : List ℕ). render x ++ l) (render-both a b) ∙ sym (append-assoc (render x) (renderAll a) (renderAll b))
-
 -- ---- the reply
 -- all that the command writes if it is accepted
 abbrev pub wholeText : Memory → List ℕ → List ℕ

@@ -15,6 +15,7 @@ use Rattle.model.specs.Searching.{foundLine, foundLines, searched, orSelected, 
 use Rattle.model.specs.declared.Mailbox.{Mailbox}
 use Rattle.model.specs.declared.Session.{Session}
 use Rattle.model.specs.declared.Uid.{Uid}
+use Rattle.model.specs.Rendered.{effects-append}
 
 -- lines that are written and what they end do not meddle
 effect-enqueue : (m : Memory) (t : List ℕ) (l : Line) → effect (enqueue m t) l ≡ enqueue (effect m l) t
@@ -38,11 +39,6 @@ unfolding effects
 effects-enqueue m t [] = refl
 effects-enqueue m t (l ∷ ls) = ap (λ (j : Memory). effects j ls) (effect-enqueue m t l) ∙ effects-enqueue (effect m l) t ls
 
-pub effects-both : (m : Memory) (a b : List Line) → effects m (a ++ b) ≡ effects (effects m a) b
-unfolding effects
-effects-both m [] b = refl
-effects-both m (l ∷ a) b = effects-both (effect m l) a b
-
 -- ---- lines that end nothing
 abbrev pub Still : List Line → Type 0
 Still ls = (j : Memory) → effects j ls ≡ j
@@ -56,7 +52,7 @@ unfolding effects
 still-one l h j = h j
 
 pub still-both : (a b : List Line) → Still a → Still b → Still (a ++ b)
-still-both a b x y j = effects-both j a b ∙ (ap (λ (k : Memory). effects k b) (x j) ∙ y j)
+still-both a b x y j = effects-append j a b ∙ (ap (λ (k : Memory). effects k b) (x j) ∙ y j)
 
 still-each : {A : Type 0} (f : A → List Line) → ((x : A) → Still (f x)) → (l : List A) → Still (concatMap f l)
 still-each f h [] = still-none

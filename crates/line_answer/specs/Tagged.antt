@@ -2,17 +2,16 @@
 use mathlib.Core.Path.{_≡_, refl}
 use mathlib.Core.Bool.{true, false, _&&_}
 use mathlib.Core.List.{List, _++_, append-assoc}
-use Prim.Native.Nat.{ℕ, _<_, _≤_}
-use native.Mathlib.Omega.{arith}
+use Prim.Native.Nat.{ℕ, _≤_}
 use lib.Dec.{leb}
-use lib.ListN.{length, take, length-append}
+use lib.ListN.{take}
 use borrow.Author.Tests.{leb-true}
 use Rattle.model.specs.Laws.{and-l, and-r}
 use Rattle.model.specs.Text.{octets}
 use Rattle.model.specs.Requests.{Verb as Word, notify, esearch, otherVerb}
 use Rattle.model.specs.Reading.{stands}
 use Rattle.model.specs.Commands.{tagEnd, tagged, tagOf}
-use Rattle.model.specs.Lines.{Line, answer, render, text, replyText, crlf, space}
+use Rattle.model.specs.Lines.{answer, render, replyText, crlf, space}
 use Rattle.model.specs.declared.Reply.{Reply}
 use Rattle.read_options.specs.Heads.{verbOf}
 use Rattle.read_commands.specs.Judging.{wordOf}
@@ -43,8 +42,3 @@ four a b c d = simp append-assoc
 pub answer-text : (tag : List ℕ) (w : Word) (r : Reply) → ((tag ++ space) ++ replyText w r) ++ crlf ≡ render (answer tag w r)
 unfolding render
 answer-text tag w r = four tag space (replyText w r) crlf
-
--- every line has octets
-pub some-octets : (l : Line) → 0 < length (render l)
-unfolding render
-some-octets l = let z = length-append (text l) crlf in omega arith

@@ -1,6 +1,6 @@
 -- What a command line that is a search gives to the code: its keys in the cells, its sources in the list. Assumes nothing.
 use mathlib.Core.Path.{_≡_, refl, ap, ap₂, sym, _∙_, subst}
-use mathlib.Core.Bool.{Bool, true, false, cond, _||_}
+use mathlib.Core.Bool.{Bool, true, false, cond}
 use mathlib.Core.List.{List, [], _∷_}
 use Prim.Native.Nat.{ℕ, _+_, _≤_}
 use native.Mathlib.Omega.{arith}
@@ -14,13 +14,14 @@ use Rattle.model.specs.Reading.{Parsed, bad, ok, andThen, stands, afterBy}
 use Rattle.model.specs.SearchGrammar.{programAt, searchFor, searchAt}
 use Rattle.model.specs.Commands.{commandBy, wholeLine}
 use Rattle.model.specs.Searching.{orSelected}
+use Rattle.model.specs.Laws.{or-l, or-r}
 use Rattle.read_options.specs.declared.Returns.{Returns}
 use Rattle.read_keys.specs.Table.{codes}
 use Rattle.read_search.specs.Parts.{inAt, returnAt, charsetPartAt}
 use Rattle.read_search.specs.Searched.{Cells, readSearch, askedOf}
-use Rattle.read_search.specs.Listing.{allNames, nothingListed, addAll, keptSources}
+use Rattle.read_sources.specs.Listing.{allNames, nothingListed, addAll, keptSources}
 use Rattle.read_search.specs.declared.Asked.{Asked}
-use Rattle.read_search.specs.declared.ListedRead.{ListedRead}
+use Rattle.read_sources.specs.declared.ListedRead.{ListedRead}
 use Rattle.read_search.specs.declared.SearchRead.{SearchRead}
 use Rattle.read_search.specs.declared.SearchRead.the-variants.{Is}
 use Rattle.match_keys.specs.Read.{read-proper, read-cells}
@@ -105,25 +106,16 @@ names-count : (fs : List Filter) → length (allNames fs) ≡ nameCount fs
 names-count [] = refl
 names-count (f ∷ fs) = let a = length-append (namesOf f) (allNames fs) in let b = names-count fs in omega arith
 
-or-left : (a b : Bool) → (a || b) ≡ false → a ≡ false
-or-left true b h = h
-or-left false b h = refl
-
-or-right : (a b : Bool) → (a || b) ≡ false → b ≡ false
-or-right true true h = h
-or-right true false h = refl
-or-right false b h = h
-
 few-of : (fs : List Filter) → tooManyFilters limits fs ≡ false → Few (orSelected fs)
 few-of [] h = record { sources = omega arith; names = omega arith }
 few-of (f ∷ fs) h =
-    let a = ltb-false 8 (length (f ∷ fs)) (or-left (ltb 8 (length (f ∷ fs))) (ltb 16 (nameCount (f ∷ fs))) h) in
-    let b = ltb-false 16 (nameCount (f ∷ fs)) (or-right (ltb 8 (length (f ∷ fs))) (ltb 16 (nameCount (f ∷ fs))) h) in
+    let a = ltb-false 8 (length (f ∷ fs)) (or-l (ltb 8 (length (f ∷ fs))) (ltb 16 (nameCount (f ∷ fs))) h) in
+    let b = ltb-false 16 (nameCount (f ∷ fs)) (or-r (ltb 8 (length (f ∷ fs))) (ltb 16 (nameCount (f ∷ fs))) h) in
     let c = names-count (f ∷ fs) in
     record { sources = omega arith; names = omega arith }
 
 pub few-read : (q : Search) → tooLarge limits (search q) ≡ false → Few (orSelected (q .sources))
-few-read q h = few-of (q .sources) (or-left (tooManyFilters limits (q .sources)) (tooManyKeys limits (q .keys)) h)
+few-read q h = few-of (q .sources) (or-l (tooManyFilters limits (q .sources)) (tooManyKeys limits (q .keys)) h)
 
 -- what it is to return
 abbrev pub wantedBy : Returns → Wanted

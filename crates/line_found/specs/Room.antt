@@ -1,6 +1,6 @@
 -- Every entry has one mailbox: those of mailboxes with different ids are together no more than all. Assumes nothing.
 use mathlib.Core.Path.{_≡_, refl, ap, ap₂, sym, _∙_}
-use mathlib.Core.Bool.{Bool, true, false, not, cond, _&&_, _||_}
+use mathlib.Core.Bool.{Bool, true, false, not, cond, _&&_}
 use mathlib.Core.List.{List, [], _∷_}
 use Prim.Native.Nat.{ℕ, zero, suc, _+_, _%_, _<_, _≤_}
 use native.Mathlib.Omega.{arith}
@@ -8,15 +8,15 @@ use borrow.Author.Tests.{eqb-true}
 use lib.Dec.{eqb}
 use lib.ListN.{length, getD}
 use Rattle.model.specs.Lists.{anyb, apart, filterb, sorted, same}
-use Rattle.model.specs.Memory.{inMailbox, messagesOf, nameOf}
+use Rattle.model.specs.Memory.{byUid, inMailbox, messagesOf, nameOf}
 use Rattle.model.specs.Lawful.{clash}
 use Rattle.model.specs.Listing.{byName}
 use Rattle.model.specs.declared.Mailbox.{Mailbox}
 use Rattle.model.specs.declared.Message.{Message}
+use Rattle.model.specs.Laws.{or-l, or-r, and-r, sorted-length}
 use Rattle.laws.specs.Counting.{countb, filter-count, filter-both, count-sorted}
 use Rattle.table_mailboxes.specs.Columns.{Column}
 use Rattle.order_mailboxes.specs.Named.{chosen, Below}
-use Rattle.search_find.specs.Searched.{sorted-long}
 use Rattle.search_find.specs.Runs.{idAt, sizes}
 
 -- ---- entries of several mailboxes together
@@ -53,36 +53,22 @@ single-filtered p q l = let a = count-sorted p byName (filterb q l) in let b = f
     fewer [] = omega arith
     fewer (x ∷ l) = one (q x) (p x) (countb (λ (x : Mailbox). q x && p x) l) (countb p l) (fewer l)
 
-or-left : (a b : Bool) → (a || b) ≡ false → a ≡ false
-or-left true b h = h
-or-left false b h = refl
-
-or-right : (a b : Bool) → (a || b) ≡ false → b ≡ false
-or-right true true h = h
-or-right true false h = refl
-or-right false b h = h
-
 and-left : (a b : Bool) → (not a && b) ≡ true → a ≡ false
 and-left true b h = sym h
 and-left false b h = refl
-
-and-right : (a b : Bool) → (a && b) ≡ true → b ≡ true
-and-right true b h = h
-and-right false true h = refl
-and-right false false h = h
 
 -- none of the others has the id of one that clashes with none of them
 others : (i : ℕ) (x : Mailbox) (l : List Mailbox) → eqb i (x .id) ≡ true → anyb (λ (y : Mailbox). clash x y) l ≡ false → countb (λ (y : Mailbox). eqb i (y .id)) l ≡ 0
 others i x [] e h = refl
 others i x (y ∷ l) e h =
-    let t = or-right (clash x y) (anyb (λ (z : Mailbox). clash x z) l) h in
-    let u = or-left (eqb (x .id) (y .id)) (same (nameOf x) (nameOf y)) (or-left (clash x y) (anyb (λ (z : Mailbox). clash x z) l) h) in
+    let t = or-r (clash x y) (anyb (λ (z : Mailbox). clash x z) l) h in
+    let u = or-l (eqb (x .id) (y .id)) (same (nameOf x) (nameOf y)) (or-l (clash x y) (anyb (λ (z : Mailbox). clash x z) l) h) in
     let r = others i x l e t in
     ap (λ (b : Bool). cond b 1 0 + countb (λ (z : Mailbox). eqb i (z .id)) l) (ap (λ (k : ℕ). eqb k (y .id)) (eqb-true i (x .id) e) ∙ u) ∙ (let z : 0 + countb (λ (z : Mailbox). eqb i (z .id)) l ≡ 0 = omega arith in z)
 
 single-apart : (l : List Mailbox) → apart clash l ≡ true → Single l
 single-apart [] h e = omega arith
-single-apart (x ∷ l) h e = go (eqb (e .mailbox) (x .id)) refl (single-apart l (and-right (not (anyb (λ (y : Mailbox). clash x y) l)) (apart clash l) h) e)
+single-apart (x ∷ l) h e = go (eqb (e .mailbox) (x .id)) refl (single-apart l (and-r (not (anyb (λ (y : Mailbox). clash x y) l)) (apart clash l) h) e)
   where
     go : (b : Bool) → eqb (e .mailbox) (x .id) ≡ b → countb (λ (y : Mailbox). eqb (e .mailbox) (y .id)) l ≤ 1 → cond b 1 0 + countb (λ (y : Mailbox). eqb (e .mailbox) (y .id)) l ≤ 1
     go true q r = let z = others (e .mailbox) x l q (and-left (anyb (λ (y : Mailbox). clash x y) l) (apart clash l) h) in omega arith
@@ -91,7 +77,7 @@ single-apart (x ∷ l) h e = go (eqb (e .mailbox) (x .id)) refl (single-apart l 
 -- ---- the entries at the places of an order of rows
 module _ (es : List Message) (l : List Mailbox) (ids rows : List ℕ) (w : length l ≤ 64) (c : Column (λ x. x .id) l ids) where
   box-size : (i : ℕ) → length (messagesOf i es) ≡ countb (inMailbox i) es
-  box-size i = sorted-long (filterb (inMailbox i) es) ∙ filter-count (inMailbox i) es
+  box-size i = sorted-length byUid (filterb (inMailbox i) es) ∙ filter-count (inMailbox i) es
 
   sizes-total : (n : ℕ) → Below rows n (length l) → sizes es ids rows n ≡ total es (chosen l rows n)
   unfolding sizes chosen

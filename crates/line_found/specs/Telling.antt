@@ -1,14 +1,14 @@
 -- The lines of several mailboxes, one after the other, and that they are the definition's. Assumes nothing.
 use mathlib.Core.Path.{_≡_, refl, ap, ap₂, sym, _∙_}
 use mathlib.Core.Bool.{true, _&&_}
-use mathlib.Core.List.{List, [], _∷_, _++_, append-assoc}
+use mathlib.Core.List.{List, [], _++_}
 use Prim.Native.Nat.{ℕ, zero, suc, _+_, _-_, _%_, _<_, _≤_}
 use native.Mathlib.Omega.{arith}
 use lib.ListN.{length, take, drop, getD}
 use lib.Seq.{take-take}
 use Rattle.model.specs.Lists.{anyb, apart, filterb, sorted, concatMap}
 use Rattle.model.specs.Lawful.{clash}
-use Rattle.model.specs.Lines.{Line, render, renderAll}
+use Rattle.model.specs.Lines.{Line, renderAll}
 use Rattle.model.specs.Names.{Name}
 use Rattle.model.specs.Memory.{Memory, boxes, mails, mayRead, noMailbox}
 use Rattle.model.specs.Requests.{Search}
@@ -16,6 +16,7 @@ use Rattle.model.specs.Searching.{matches, candidates, admits, orSelected, foun
 use Rattle.model.specs.Listing.{byName}
 use Rattle.model.specs.declared.Mailbox.{Mailbox}
 use Rattle.model.specs.declared.Uid.{Uid}
+use Rattle.model.specs.Rendered.{render-append}
 use Rattle.line_put.specs.Put.{Put, put-none, put-as, _then_}
 use Rattle.table_mailboxes.specs.Columns.{Column, Names}
 use Rattle.match_sources.specs.Picking.{nameAt}
@@ -65,11 +66,6 @@ module _ (tag lens names validities rows : List ℕ) (w : Wanted) (uids starts c
   pub goes-end : (q : List ℕ) (at lim n : ℕ) (q′ : List ℕ) (o i : ℕ) → lim ≤ length q′ → i ≤ 0 → Goes q at lim n q′ o i → Put q at lim (texts n) q′ o
   goes-end q at lim n q′ o i w h g = g q′ o (put-as (put-none q′ o lim w) (sym (texts-none) ∙ ap texts (let z : 0 ≡ i = omega arith in z)))
 
-pub render-both : (a b : List Line) → renderAll (a ++ b) ≡ renderAll a ++ renderAll b
-unfolding renderAll
-render-both [] b = refl
-render-both (x ∷ a) b = ap (λ (l : List ℕ). render x ++ l) (render-both a b) ∙ sym (append-assoc (render x) (renderAll a) (renderAll b))
-
 -- ---- they are the definition's, where the columns are those of its mailboxes and the runs are what its keys find
 module _ (m : Memory) (q : Search) (tag : List ℕ) (l : List Mailbox) (few : length l ≤ 64)
     (ids lens names validities rows : List ℕ) (ci : Column (λ x. x .id) l ids) (cl : Column (λ x. x .namelen) l lens) (cn : Names l names) (cv : Column (λ x. x .uidvalidity) l validities)
@@ -94,7 +90,7 @@ module _ (m : Memory) (q : Search) (tag : List ℕ) (l : List Mailbox) (few : le
       let h = b n (omega arith) in
       let k : getD rows n 0 % 64 < length l = omega arith in
       ap₂ (λ (x y : List ℕ). x ++ y) (place-is n (getD rows n 0 % 64) refl k (r n (omega arith))) (texts-are n (λ j z. b j (omega arith)) (λ j z. r j (omega arith)))
-      ∙ sym (render-both (lineOf (getD l (getD rows n 0 % 64) noMailbox)) (concatMap lineOf (chosen l rows n)))
+      ∙ sym (render-append (lineOf (getD l (getD rows n 0 % 64) noMailbox)) (concatMap lineOf (chosen l rows n)))
 
   -- the whole answer of a search
   pub lines-are : (n : ℕ) (cells : List ℕ) (filled : ℕ) → boxes m ≡ l → length (mails m) ≤ 1024 → apart clash l ≡ true → Below rows n (length l)

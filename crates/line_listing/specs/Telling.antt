@@ -1,7 +1,7 @@
 -- The texts of the listing: of one row on plain values, of an order from its top. Assumes nothing.
 use mathlib.Core.Path.{_≡_, refl, ap, ap₂, sym, _∙_, subst}
 use mathlib.Core.Bool.{Bool, true, false, not, cond, _&&_}
-use mathlib.Core.List.{List, [], _∷_, _++_, append-assoc}
+use mathlib.Core.List.{List, [], _∷_, _++_}
 use Prim.Native.Nat.{ℕ, zero, suc, _+_, _-_, _<_, _≤_, _%_}
 use native.Mathlib.Numerals.{add-one}
 use native.Mathlib.Omega.{arith}
@@ -14,6 +14,7 @@ use Rattle.model.specs.Listing.{listingLine, listing, concerns, byName}
 use Rattle.model.specs.declared.Mailbox.{Mailbox}
 use Rattle.model.specs.declared.Session.{Session}
 use Rattle.model.specs.Text.{bit}
+use Rattle.model.specs.Rendered.{render-append}
 use Rattle.table_mailboxes.specs.Columns.{Column, Names, nameAt, name-at}
 use Rattle.line_put.specs.Put.{Put, put-none, put-as, _then_}
 use Rattle.order_mailboxes.specs.Named.{chosen, rowAt, noted, Below}
@@ -88,11 +89,6 @@ module _ (attributes lens validities nexts counters names at counts asks : List 
   unfolding texts
   texts-none = refl
 
-render-both : (a b : List Line) → renderAll (a ++ b) ≡ renderAll a ++ renderAll b
-unfolding renderAll
-render-both [] b = refl
-render-both (x ∷ a) b = ap (λ (l : List ℕ). render x ++ l) (render-both a b) ∙ sym (append-assoc (render x) (renderAll a) (renderAll b))
-
 small : (k m : ℕ) → k < m → m ≤ 64 → k % 64 ≡ k
 small k m h w = omega arith
 
@@ -106,7 +102,7 @@ module _ (f : Mailbox → List Line) (l : List Mailbox) (attributes lens validit
   pub texts-are : (n : ℕ) → Below at n (length l) → texts attributes lens validities nexts counters names at counts asks n ≡ renderAll (concatMap f (chosen l at n))
   unfolding texts chosen renderAll
   texts-are zero b = refl
-  texts-are (suc n) b = ap₂ (λ (a c : List ℕ). a ++ c) (place-is (getD at n 0) (b n (omega arith))) (texts-are n (λ j h. b j (omega arith))) ∙ sym (render-both (f (rowAt l (getD at n 0))) (concatMap f (chosen l at n)))
+  texts-are (suc n) b = ap₂ (λ (a c : List ℕ). a ++ c) (place-is (getD at n 0) (b n (omega arith))) (texts-are n (λ j h. b j (omega arith))) ∙ sym (render-append (f (rowAt l (getD at n 0))) (concatMap f (chosen l at n)))
 
 -- what is still to be written, when i places are left
 abbrev pub Goes : List ℕ → ℕ → ℕ → List ℕ → List ℕ → ℕ → List ℕ → Type 0

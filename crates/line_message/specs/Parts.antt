@@ -17,12 +17,12 @@ use Rattle.line_put.specs.Put.{Put, put-as, put-none, Goes, goes-on}
 use Rattle.order_messages.specs.Chosen.{chosen}
 use Rattle.order_messages.specs.Counts.{stays, chosen-top}
 use Rattle.line_message.specs.declared.Went.{Went}
-use Rattle.line_message.specs.declared.Shows.{Shows}
+use Rattle.line_fetch.specs.declared.Shows.{Shows}
 use Rattle.line_message.specs.declared.Part.{Part}
 use Rattle.line_message.specs.declared.Part.the-variants.{Expunged, Marked, New}
 use Rattle.line_message.specs.Counts.{countText, expungeWord, expunge-text}
-use Rattle.line_message.specs.Fetch.{fetchText, fetch-line}
-use Rattle.line_message.specs.Items.{newText, new-text, shown}
+use Rattle.line_fetch.specs.Fetch.{fetchText, fetch-line}
+use Rattle.line_fetch.specs.Items.{newText, new-text, shown}
 
 -- what is written for an entry whose place is n, and the place of the next: the client was told of UIDs below `told`
 abbrev pub textOf : Part → ℕ → ℕ → Message → List ℕ

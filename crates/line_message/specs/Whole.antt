@@ -7,14 +7,16 @@ use lib.Dec.{ltb}
 use lib.ListN.{length}
 use Rattle.model.specs.Lists.{filterb, keep}
 use Rattle.model.specs.Memory.{Memory, uidOf, expunged}
-use Rattle.model.specs.Lines.{Line, render, renderAll}
+use Rattle.model.specs.Lines.{Line, renderAll}
 use Rattle.model.specs.View.{view, unannounced, selectedMessages, expungeLines, existsLine, markedLines, newLines, owedLines, announcing, showsAny, shownItems}
 use Rattle.model.specs.declared.Message.{Message}
+use Rattle.model.specs.Rendered.{render-append}
+use Rattle.model.specs.Laws.{and-true}
 use Rattle.order_messages.specs.Counts.{stays, fresh}
-use Rattle.line_message.specs.declared.Shows.{Shows}
+use Rattle.line_fetch.specs.declared.Shows.{Shows}
 use Rattle.line_message.specs.declared.Part.the-variants.{Expunged, Marked, New}
 use Rattle.line_message.specs.Counts.{existsText, exists-line}
-use Rattle.line_message.specs.Items.{shown}
+use Rattle.line_fetch.specs.Items.{shown}
 use Rattle.line_message.specs.Parts.{partText, gone-lines, marked-lines, new-lines}
 
 -- what class 1 owes, along a mailbox's entries by UID
@@ -38,19 +40,10 @@ module _ (told : ℕ) (w : Shows) (l : List Message) (k n : ℕ) (e : k ≡ leng
   unfolding newsText
   news-full a = rw (a, ← e, ← f)
 
-pub render-both : (a b : List Line) → renderAll (a ++ b) ≡ renderAll a ++ renderAll b
-unfolding renderAll
-render-both [] b = refl
-render-both (l ∷ a) b = ap (λ (t : List ℕ). render l ++ t) (render-both a b) ∙ sym (append-assoc (render l) (renderAll a) (renderAll b))
-
 -- those that the client has, and those of them that exist
 has-all : (told : ℕ) (l : List Message) → filterb (stays told false) l ≡ filterb (λ (e : Message). ltb (uidOf e) told) l
 has-all told [] = refl
-has-all told (e ∷ l) = ap₂ (λ (b : Bool) (t : List Message). keep b e t) (and-yes (ltb (uidOf e) told)) (has-all told l)
-  where
-    and-yes : (b : Bool) → (b && true) ≡ b
-    and-yes true = refl
-    and-yes false = refl
+has-all told (e ∷ l) = ap₂ (λ (b : Bool) (t : List Message). keep b e t) (and-true (ltb (uidOf e) told)) (has-all told l)
 
 has-live : (told : ℕ) (l : List Message) → filterb (stays told true) l ≡ filterb (λ (e : Message). not (expunged e)) (filterb (λ (e : Message). ltb (uidOf e) told) l)
 has-live told [] = refl
@@ -64,7 +57,7 @@ has-live told (e ∷ l) = go (ltb (uidOf e) told) (has-live told l)
     go false h = h
 
 gather : (a b c : List Line) → (renderAll a ++ renderAll b) ++ renderAll c ≡ renderAll (a ++ (b ++ c))
-gather a b c = append-assoc (renderAll a) (renderAll b) (renderAll c) ∙ sym (render-both a (b ++ c) ∙ ap (λ (x : List ℕ). renderAll a ++ x) (render-both b c))
+gather a b c = append-assoc (renderAll a) (renderAll b) (renderAll c) ∙ sym (render-append a (b ++ c) ∙ ap (λ (x : List ℕ). renderAll a ++ x) (render-append b c))
 
 some-lines : (b : Bool) (ls : List Line) → cond b (renderAll ls) [] ≡ renderAll (cond b ls [])
 unfolding renderAll
@@ -95,4 +88,4 @@ module _ (m : Memory) where
       ap (λ (v : List Message). existsText (length v) (length (unannounced m)) ++ cond (w .any) (partText (New w) t (length v + 1) all) []) (has-all t all)
       ∙ (ap₂ _++_ (exists-line (length (view m)) (unannounced m))
       (ap₂ (λ (b : Bool) (x : List ℕ). cond b x []) any (new-lines t w (m .session) is (length (view m) + 1) all) ∙ some-lines (showsAny (m .session)) (newLines (m .session) (length (view m) + 1) (unannounced m)))
-      ∙ sym (render-both (existsLine (length (view m)) (unannounced m)) (cond (showsAny (m .session)) (newLines (m .session) (length (view m) + 1) (unannounced m)) [])))
+      ∙ sym (render-append (existsLine (length (view m)) (unannounced m)) (cond (showsAny (m .session)) (newLines (m .session) (length (view m) + 1) (unannounced m)) [])))

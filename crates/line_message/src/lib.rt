@@ -1,10 +1,7 @@
-// Lines about messages: EXISTS, EXPUNGE and FETCH, a line alone and all lines of a part along the mailbox's entries by UID.
-mod flags;
-mod items;
+// Lines about messages: EXISTS and EXPUNGE, a line alone; and with FETCH all lines of a part along the mailbox's entries by UID.
 mod parts;
 
-use items::put_flag_item;
-use items::put_modseq;
+use line_fetch::Shows;
 use line_put::Said;
 use model::MessageNumber;
 use model::Uid;
@@ -15,33 +12,10 @@ ghost use Rattle.line_put.specs.Put.{Put};
 ghost use Rattle.line_put.specs.Says.{Says};
 ghost use Rattle.table_messages.specs.Words.{messages};
 ghost use Rattle.order_messages.specs.Chosen.{chosen};
-ghost use Rattle.line_message.specs.Fetch.{fetchText};
 ghost use Rattle.line_message.specs.Counts.{countText, expungeWord, existsText};
 ghost use Rattle.line_message.specs.Whole.{owedText, newsText};
 
 // ---- one line
-// `* n FETCH (UID u FLAGS (..) MODSEQ (c))`
-pub fn put_fetch(
-    queue: &mut [u8],
-    at: usize,
-    limit: usize,
-    n: MessageNumber,
-    uid: Uid,
-    flags: u64,
-    counter: u64,
-) -> usize
-    requires { ⌜ (limit ≤ length (now queue)) × (at ≤ 16777216) ⌝ }
-    ensures { λ r. ⌜ (Put (now (queue .entry)) at limit (fetchText (n .0) (uid .0) flags counter) (now (queue .exit)) r) × (r ≤ at + 200) ⌝ }
-{
-    let a = line_put::put(queue, at, limit, b"* ");
-    let b = line_put::put_number(queue, a, limit, n.0);
-    let c = line_put::put(queue, b, limit, b" FETCH (UID ");
-    let d = line_put::put_number(queue, c, limit, uid.0);
-    let e = put_flag_item(queue, d, limit, true, true, flags);
-    let f = put_modseq(queue, e, limit, true, counter);
-    line_put::put(queue, f, limit, b")\r\n")
-}
-
 // `* n` and a word.
 pub fn put_count(queue: &mut [u8], at: usize, limit: usize, n: MessageNumber, word: &[u8]) -> usize
     requires { ⌜ (limit ≤ length (now queue)) × (at ≤ 16777216) × (length (now word) ≤ 16) ⌝ }
@@ -71,28 +45,7 @@ pub fn put_exists(queue: &mut [u8], at: usize, limit: usize, has: u64, new: u64)
     put_count(queue, at, limit, MessageNumber(has + new), b" EXISTS\r\n")
 }
 
-// The FETCH line, if it leaves the last 64 octets free, else the overflow line.
-pub fn say_fetch(
-    queue: &mut [u8],
-    at: usize,
-    n: MessageNumber,
-    uid: Uid,
-    flags: u64,
-    counter: u64,
-) -> Said
-    requires { ⌜ (64 ≤ length (now queue)) × (length (now queue) ≤ 65536) × (at ≤ length (now queue) - 64) ⌝ }
-    ensures { λ r. ⌜ Says (now (queue .entry)) at (fetchText (n .0) (uid .0) flags counter) (now (queue .exit)) (r .fits) (r .end) ⌝ }
-{
-    let limit = queue.len() - 64;
-    let end = put_fetch(queue, at, 0, n, uid, flags, counter);
-    if end <= limit {
-        let e = put_fetch(queue, at, limit, n, uid, flags, counter);
-        return Said { fits: true, end: e };
-    }
-    line_put::overflow(queue, at)
-}
-
-// The same of an EXPUNGE line.
+// The EXPUNGE line, if it leaves the last 64 octets free, else the overflow line.
 pub fn say_expunge(queue: &mut [u8], at: usize, n: MessageNumber) -> Said
     requires { ⌜ (64 ≤ length (now queue)) × (length (now queue) ≤ 65536) × (at ≤ length (now queue) - 64) ⌝ }
     ensures { λ r. ⌜ Says (now (queue .entry)) at (countText (n .0) expungeWord) (now (queue .exit)) (r .fits) (r .end) ⌝ }
@@ -104,15 +57,6 @@ pub fn say_expunge(queue: &mut [u8], at: usize, n: MessageNumber) -> Said
         return Said { fits: true, end: e };
     }
     line_put::overflow(queue, at)
-}
-
-// ---- a new message
-// What a FETCH of a new message shows: anything at all, its UID, its flags, its size.
-pub struct Shows {
-    pub any: bool,
-    pub uid: bool,
-    pub flags: bool,
-    pub size: bool,
 }
 
 // ---- all lines of a part

@@ -1,10 +1,10 @@
 // The lines of a part, entry by entry along an order.
 use super::Part;
-use super::Shows;
 use super::Went;
-use super::items::put_new;
 use super::put_expunge;
-use super::put_fetch;
+use line_fetch::Shows;
+use line_fetch::put_fetch;
+use line_fetch::put_new;
 use model::Message;
 use model::MessageNumber;
 use model::Uid;

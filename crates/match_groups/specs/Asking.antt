@@ -2,13 +2,12 @@
 use mathlib.Core.Path.{_≡_, refl, ap, ap₂, sym, _∙_}
 use mathlib.Core.Bool.{Bool, true, false, not, cond, _&&_, _||_}
 use mathlib.Core.List.{List, [], _∷_, map}
-use Prim.Native.Nat.{ℕ, zero, suc, _+_, _-_, _/_, _<_, _≤_}
+use Prim.Native.Nat.{ℕ, zero, suc, _+_, _-_, _<_, _≤_}
 use native.Mathlib.Omega.{arith}
 use lib.Dec.{eqb}
 use lib.ListN.{length, take, drop, getD}
-use lib.Seq.{take-all, take-nil}
 use borrow.Author.Tests.{ne-eqb}
-use Rattle.model.specs.Laws.{tf}
+use Rattle.model.specs.Laws.{tf, take-drop}
 use Rattle.model.specs.Lists.{anyb, same}
 use Rattle.model.specs.Selectors.{takenByInboxes, takenByPersonal}
 use Rattle.model.specs.Text.{bit}
@@ -33,10 +32,6 @@ vacantGroup = record { selector = 0; first = 0; count = 0; events = 0; attribute
 -- a group asks for event k, by its bit
 abbrev pub asksBit : ℕ → Group → Bool
 asksBit k g = bit k (g .events)
-
-pub bit-down : (k n : ℕ) → 0 < k → bit k n ≡ bit (k - 1) (n / 2)
-bit-down zero n h = absurd (let z : ⊥ = omega arith in z)
-bit-down (suc k) n h = let e : suc k - 1 ≡ k = omega arith in rw e
 
 -- ---- names
 abbrev pub hit : Bool → Name → Name → Bool
@@ -64,15 +59,6 @@ module _ (a : ℕ) where
       go true false e = tf false e refl
       go false c e = tf false e refl
 
-module _ {A : Type 0} where
-  pub take-within : (n k : ℕ) (l : List A) → length l ≡ k → k < n → take k l ≡ take n l
-  take-within n k l e h = take-all k l (omega arith) ∙ sym (take-all n l (omega arith))
-
-  pub run : (f c : ℕ) (l : List A) → take c (drop f l) ≡ drop f (take (f + c) l)
-  run zero c l = let e : 0 + c ≡ c = omega arith in rw e
-  run (suc f) c [] = take-nil c ∙ sym (ap (λ (l : List A). drop (suc f) l) (take-nil (suc f + c)))
-  run (suc f) c (x ∷ l) = let e : suc f + c ≡ suc (f + c) = omega arith in rw e (run f c l)
-
 pub any-map : {A B : Type 0} (p : B → Bool) (f : A → B) (l : List A) → anyb p (map f l) ≡ anyb (λ (x : A). p (f x)) l
 any-map p f [] = refl
 any-map p f (x ∷ l) = ap (λ (b : Bool). p (f x) || b) (any-map p f l)
@@ -80,7 +66,7 @@ any-map p f (x ∷ l) = ap (λ (b : Bool). p (f x) || b) (any-map p f l)
 -- the names of a range, as a loop over the table meets them
 pub names-run : (p : Name → Bool) (s : Session) (r : NameRange) (n : ℕ) → take n (s .names) ≡ take (r .first + r .count) (s .names)
     → anyb p (namesIn s r) ≡ anyb (λ (x : LentName). p (lentName x)) (drop (r .first) (take n (s .names)))
-names-run p s r n e = any-map p lentName (take (r .count) (drop (r .first) (s .names))) ∙ ap (anyb (λ (x : LentName). p (lentName x))) (run (r .first) (r .count) (s .names) ∙ ap (drop (r .first)) (sym e))
+names-run p s r n e = any-map p lentName (take (r .count) (drop (r .first) (s .names))) ∙ ap (anyb (λ (x : LentName). p (lentName x))) (take-drop (r .first) (r .count) (s .names) ∙ ap (drop (r .first)) (sym e))
 
 -- ---- the number of the first that passes, or 0
 abbrev pub later : ℕ → ℕ → ℕ

@@ -1,7 +1,4 @@
 // Who is told: the groups of a session against a mailbox's name and attributes.
-pub mod marking;
-pub mod picking;
-
 use model::Group;
 use model::LentName;
 use model::Mailbox;
@@ -23,7 +20,7 @@ ghost use Rattle.model.specs.declared.LentName.{LentName};
 ghost use Rattle.match_groups.specs.Asking.{hit, number, asksBit, selecting, standing};
 
 // An octet as it is, as a place.
-fn wide(x: u8) -> usize
+pub fn wide(x: u8) -> usize
     ensures { λ r. ⌜ (r ≡ x) × (r < 256) ⌝ }
 {
     x as usize
@@ -42,7 +39,7 @@ fn hits(x: LentName, name: &[u8], deep: bool) -> bool
 }
 
 // Where a run of names ends.
-fn reach(first: u8, count: u8) -> usize
+pub fn reach(first: u8, count: u8) -> usize
     ensures { λ r. ⌜ (r ≤ 16) × ((l : List LentName) → length l ≡ 16 → take r l ≡ take (first + count) l) ⌝ }
 {
     let end = wide(first) + wide(count);
@@ -71,7 +68,7 @@ fn any_name(s: Session, range: NameRange, name: &[u8], deep: bool) -> bool
 // ---- whom a selector takes
 
 // Selectable, personal and for delivery.
-fn takes_inboxes(a: u8) -> bool
+pub fn takes_inboxes(a: u8) -> bool
     ensures { λ r. ⌜ r ≡ takenByInboxes a ⌝ }
 {
     if !takes_personal(a) {
@@ -81,7 +78,7 @@ fn takes_inboxes(a: u8) -> bool
 }
 
 // Selectable and personal.
-fn takes_personal(a: u8) -> bool
+pub fn takes_personal(a: u8) -> bool
     ensures { λ r. ⌜ r ≡ takenByPersonal a ⌝ }
 {
     if !table_mailboxes::has(a, 0) {
@@ -127,7 +124,7 @@ fn asks(s: Session, g: Group, name: &[u8], a: u8, k: u8) -> bool
 }
 
 // How many groups a session has.
-fn groups(count: u8) -> usize
+pub fn groups(count: u8) -> usize
     ensures { λ r. ⌜ (r ≤ 8) × ((l : List LentGroup) → length l ≡ 8 → take r l ≡ take count l) ⌝ }
 {
     let n = wide(count);

@@ -2,12 +2,12 @@
 use mathlib.Core.Path.{_≡_, refl, ap, ap₂, sym, _∙_}
 use mathlib.Core.Bool.{Bool, true, false, cond, _&&_, _||_}
 use mathlib.Core.List.{List, [], _∷_, _++_, map, append-assoc}
-use Prim.Native.Nat.{ℕ, zero, suc, _+_, _-_, _<_, _≤_}
+use Prim.Native.Nat.{ℕ, suc, _+_, _-_, _≤_}
 use native.Mathlib.Omega.{arith}
 use borrow.Author.Tests.{eq-eqb, ne-eqb}
 use lib.Dec.{eqb}
 use lib.ListN.{length, take, drop, replicate, length-map, length-replicate}
-use lib.Seq.{take-nil, sets-eq, take-all, take-append-seam, drop-append-add, drop-drop, take-at}
+use lib.Seq.{sets-eq, take-append-seam, drop-append-add, drop-drop, take-at}
 use Rattle.model.specs.Lists.{anyb, same}
 use Rattle.model.specs.Names.{Name, argument, subtree as beneathOrSame, subtreeOne as oneLevelOrSame}
 use Rattle.model.specs.Text.{bit}
@@ -18,11 +18,12 @@ use Rattle.model.specs.Listing.{lendName}
 use Rattle.model.specs.Searching.{admits}
 use Rattle.model.specs.declared.Mailbox.{Mailbox}
 use Rattle.model.specs.declared.LentName.{LentName}
+use Rattle.model.specs.Laws.{take-drop}
 use Rattle.read_filters.specs.Scopes.{scopeFor}
-use Rattle.read_search.specs.Listing.{scopeNumber, sourceFrom, sourcesFrom, allNames, nothingListed, addAll}
-use Rattle.read_search.specs.declared.Source.{Source}
-use Rattle.read_search.specs.declared.Listed.{Listed}
-use Rattle.read_search.proofs.Folding.{listed-all}
+use Rattle.read_sources.specs.Listing.{scopeNumber, sourceFrom, sourcesFrom, allNames, nothingListed, addAll}
+use Rattle.read_sources.specs.declared.Source.{Source}
+use Rattle.read_sources.specs.declared.Listed.{Listed}
+use Rattle.read_sources.proofs.Folding.{listed-all}
 
 -- ---- as the code answers
 abbrev pub rightsBy : ℕ → Bool → Bool → Bool → Bool → Bool → Bool → Bool
@@ -70,18 +71,8 @@ module _ (t : Listed) (a : ℕ) (n : Name) (here : Bool) where
   searched-by e = sym (ap (λ (b : Bool). b && anyb (admitsIn (t .kept .names) a n here) (take (t .count) (t .sources))) e)
 
 -- ---- a run of names, as a loop meets it
-module _ {A : Type 0} where
-  run : (f c : ℕ) (l : List A) → take c (drop f l) ≡ drop f (take (f + c) l)
-  run zero c l = let e : 0 + c ≡ c = omega arith in rw e
-  run (suc f) c [] = take-nil c ∙ sym (ap (λ (l : List A). drop (suc f) l) (take-nil (suc f + c)))
-  run (suc f) c (x ∷ l) = let e : suc f + c ≡ suc (f + c) = omega arith in rw e (run f c l)
-
-  -- a list of k is the same up to any number above k
-  pub take-within : (n k : ℕ) (l : List A) → length l ≡ k → k < n → take k l ≡ take n l
-  take-within n k l e h = take-all k l (omega arith) ∙ sym (take-all n l (omega arith))
-
 pub named-run : (names : List LentName) (n : Name) (s : Source) (end : ℕ) → take end names ≡ take (s .first + s .count) names → anyb (λ (x : LentName). meant (s .scope) (lentName x) n) (drop (s .first) (take end names)) ≡ namedIn names n s
-named-run names n s end e = ap (λ (l : List LentName). anyb (λ (x : LentName). meant (s .scope) (lentName x) n) l) (ap (drop (s .first)) e ∙ sym (run (s .first) (s .count) names))
+named-run names n s end e = ap (λ (l : List LentName). anyb (λ (x : LentName). meant (s .scope) (lentName x) n) l) (ap (drop (s .first)) e ∙ sym (take-drop (s .first) (s .count) names))
 
 -- the defaults that the code's arrays have
 abbrev pub vacantName : LentName

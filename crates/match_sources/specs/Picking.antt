@@ -14,8 +14,8 @@ use Rattle.model.specs.Requests.{Filter}
 use Rattle.model.specs.Memory.{Memory, mayRead, noMailbox}
 use Rattle.model.specs.Searching.{admits}
 use Rattle.model.specs.declared.Mailbox.{Mailbox}
-use Rattle.read_search.specs.Listing.{nothingListed, addAll}
-use Rattle.read_search.specs.declared.Listed.{Listed}
+use Rattle.read_sources.specs.Listing.{nothingListed, addAll}
+use Rattle.read_sources.specs.declared.Listed.{Listed}
 use Rattle.match_sources.specs.Admitting.{searchedBy, Few, searched-is}
 use Rattle.table_mailboxes.specs.Columns.{Column, Names}
 

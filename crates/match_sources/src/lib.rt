@@ -1,8 +1,8 @@
 // Which mailboxes an ESEARCH searches: whom a source admits, by its scope, its names and the mailbox's attributes, and whom one of several does.
 use model::LentName;
 use read_filters::Kept;
-use read_search::Listed;
-use read_search::Source;
+use read_sources::Listed;
+use read_sources::Source;
 ghost use mathlib.Core.Path.{_≡_};
 ghost use mathlib.Core.List.{List};
 ghost use Prim.Native.Nat.{_+_, _≤_, _<_};
@@ -10,7 +10,7 @@ ghost use lib.ListN.{length, take};
 ghost use Rattle.model.specs.Lists.{anyb};
 ghost use Rattle.model.specs.Groups.{lentName};
 ghost use Rattle.model.specs.declared.LentName.{LentName};
-ghost use Rattle.read_search.specs.declared.Source.{Source};
+ghost use Rattle.read_sources.specs.declared.Source.{Source};
 ghost use Rattle.match_sources.specs.Admitting.{rightsBy, admitsBy, meant, namedIn, admitsIn, searchedBy};
 ghost use Rattle.match_sources.specs.Picking.{selectedBy, nameAt, noted, Noted};
 

@@ -47,9 +47,16 @@ abbrev pub notices : List Line → List Line
 notices ls = filterb isNotice ls
 
 -- ---- how the account is kept
--- by call n, what waits is told by the first line that tells it, or dropped; else it waits on. All other fates are final
+-- what waits is told by the first line of call n that tells it, or dropped; else it waits on
+abbrev pub settledDebt : Memory → ℕ → Record → List Line → Debt → Fate
+settledDebt w n r ls d =
+    cond (tells ls d) (told n)
+    (cond (reselects r) (dropped reselected n)
+    (cond (expungesFirst w r d) (dropped expungedFirst n) (waits d)))
+
+-- all other fates are final
 abbrev pub settle : Memory → ℕ → Record → List Line → Fate → Fate
-settle w n r ls f = ifWaits (λ (d : Debt). cond (tells ls d) (told n) (cond (reselects r) (dropped reselected n) (cond (expungesFirst w r d) (dropped expungedFirst n) (waits d)))) f f
+settle w n r ls f = ifWaits (settledDebt w n r ls) f f
 
 -- after the overflow line the event is treated as after NOTIFY NONE: what then waits, waits; else it is lost (Written, 22)
 abbrev pub overflowed : Due → Fate

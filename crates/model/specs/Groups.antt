@@ -1,6 +1,6 @@
 -- The groups of a session: how they are kept, whom each meets, what it asks (01, Matches, 1 to 4; Forms, 10).
 use mathlib.Core.List.{List, map}
-use mathlib.Core.Bool.{Bool, true, false, cond, _&&_, _||_}
+use mathlib.Core.Bool.{Bool, true, false, not, cond, _&&_, _||_}
 use Prim.Native.Nat.{ℕ}
 use lib.Dec.{eqb}
 use lib.ListN.{take, drop}
@@ -57,7 +57,20 @@ asksName g = bit 3 (g .events)
 abbrev pub asksSubscription : Group → Bool
 asksSubscription g = bit 4 (g .events)
 
--- the message events, and the two mailbox events
+-- ---- the attributes that a FETCH of new messages is to show, a bit each
+abbrev pub fetchesUid : Group → Bool
+fetchesUid g = bit 0 (g .attributes)
+
+abbrev pub fetchesFlags : Group → Bool
+fetchesFlags g = bit 1 (g .attributes)
+
+abbrev pub fetchesSize : Group → Bool
+fetchesSize g = bit 2 (g .attributes)
+
+abbrev pub fetchesSome : Group → Bool
+fetchesSome g = not (eqb (g .attributes) 0)
+
+-- ---- the message events, and the two mailbox events
 abbrev pub asksMessages : Group → Bool
 asksMessages g = asksNew g || asksExpunge g || asksFlags g
 

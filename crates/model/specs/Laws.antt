@@ -1,11 +1,13 @@
 -- Laws of the tests and list functions of Lists. Assumes nothing.
-use mathlib.Core.Path.{_≡_, refl, _∙_, ap, ap₂}
+use mathlib.Core.Path.{_≡_, refl, _∙_, sym, ap, ap₂}
 use mathlib.Core.List.{List, [], _∷_, _++_, map}
 use mathlib.Core.Bool.{Bool, true, false, not, cond, _&&_, _||_}
-use Prim.Native.Nat.{ℕ, suc, _≤_}
+use Prim.Native.Nat.{ℕ, zero, suc, _+_, _≤_, _<_}
 use native.Mathlib.Omega.{arith}
-use lib.ListN.{length}
-use Rattle.model.specs.Lists.{keep, filterb, anyb, allb, every, sorted, insert, concatMap}
+use lib.Dec.{eqb}
+use lib.ListN.{length, take, drop, length-map}
+use lib.Seq.{take-all, take-nil}
+use Rattle.model.specs.Lists.{keep, filterb, anyb, allb, every, same, sorted, insert, concatMap}
 
 -- ---- tests
 pub tf : {A : Type 0} (b : Bool) → b ≡ true → b ≡ false → A
@@ -43,6 +45,10 @@ pub and-false : (a : Bool) → (a && false) ≡ false
 and-false true = refl
 and-false false = refl
 
+pub or-assoc : (a b c : Bool) → (a || (b || c)) ≡ ((a || b) || c)
+or-assoc true b c = refl
+or-assoc false b c = refl
+
 pub cond-same : {A : Type 0} (b : Bool) (x : A) → cond b x x ≡ x
 cond-same true x = refl
 cond-same false x = refl
@@ -60,8 +66,50 @@ pub all-hold : (bs : List Bool) → Each bs → every bs ≡ true
 all-hold [] e = refl
 all-hold (b ∷ bs) e = rw (e .0) (all-hold bs (e .1))
 
+-- ---- lists of octets that are the same
+pub same-lengths : (a b : List ℕ) → (length a ≡ length b → ⊥) → same a b ≡ false
+unfolding same
+same-lengths [] [] h = absurd (h refl)
+same-lengths [] (y ∷ b) h = refl
+same-lengths (x ∷ a) [] h = refl
+same-lengths (x ∷ a) (y ∷ b) h = go (eqb x y) (same-lengths a b (λ e. h (ap suc e)))
+  where
+    go : (c : Bool) → same a b ≡ false → cond c (same a b) false ≡ false
+    go true ih = ih
+    go false ih = refl
+
+-- ---- parts and maps of a list
+module _ {A : Type 0} where
+  -- a list of k is the same up to any number above k
+  pub take-within : (n k : ℕ) (l : List A) → length l ≡ k → k < n → take k l ≡ take n l
+  take-within n k l e h = take-all k l (omega arith) ∙ sym (take-all n l (omega arith))
+
+  -- c behind the first f are the first f + c without the first f
+  pub take-drop : (f c : ℕ) (l : List A) → take c (drop f l) ≡ drop f (take (f + c) l)
+  take-drop zero c l = let e : 0 + c ≡ c = omega arith in rw e
+  take-drop (suc f) c [] = take-nil c ∙ sym (ap (λ (l : List A). drop (suc f) l) (take-nil (suc f + c)))
+  take-drop (suc f) c (x ∷ l) = let e : suc f + c ≡ suc (f + c) = omega arith in rw e (take-drop f c l)
+
+module _ {A B : Type 0} where
+  pub map-append : (f : A → B) (l r : List A) → map f (l ++ r) ≡ map f l ++ map f r
+  map-append f [] r = refl
+  map-append f (x ∷ l) r = ap (λ t. f x ∷ t) (map-append f l r)
+
+  pub mapped : (f : A → B) (l : List A) {n : ℕ} → length (map f l) ≡ n → length l ≡ n
+  mapped f l e = rw length-map at e
+
 -- ---- filters
 module _ {A : Type 0} where
+  -- those that neither of two tests takes out
+  pub filter-twice : (p q : A → Bool) (l : List A) → filterb (λ (x : A). not (q x)) (filterb (λ (x : A). not (p x)) l) ≡ filterb (λ (x : A). not (p x || q x)) l
+  filter-twice p q [] = refl
+  filter-twice p q (x ∷ l) = go (p x) (filter-twice p q l)
+    where
+      go : (b : Bool) → filterb (λ (x : A). not (q x)) (filterb (λ (x : A). not (p x)) l) ≡ filterb (λ (x : A). not (p x || q x)) l
+          → filterb (λ (x : A). not (q x)) (keep (not b) x (filterb (λ (x : A). not (p x)) l)) ≡ keep (not (b || q x)) x (filterb (λ (x : A). not (p x || q x)) l)
+      go true ih = ih
+      go false ih = ap (keep (not (q x)) x) ih
+
   pub filter-append : (p : A → Bool) (l r : List A) → filterb p (l ++ r) ≡ filterb p l ++ filterb p r
   filter-append p [] r = refl
   filter-append p (x ∷ l) r = go (p x) (filter-append p l r)
@@ -172,6 +220,20 @@ module _ {A : Type 0} (f : A → A) (p : A → Bool) (k : (x : A) → p x ≡ tr
   pub map-none : (l : List A) → allb p l ≡ true → map f l ≡ l
   map-none [] h = refl
   map-none (x ∷ l) h = ap₂ _∷_ (k x (and-l (p x) _ h)) (map-none l (and-r (p x) _ h))
+
+-- ---- orders
+module _ {A : Type 0} (before : A → A → Bool) where
+  pub insert-length : (x : A) (l : List A) → length (insert before x l) ≡ suc (length l)
+  insert-length x [] = refl
+  insert-length x (y ∷ l) = go (before x y) (insert-length x l)
+    where
+      go : (b : Bool) → length (insert before x l) ≡ suc (length l) → length (cond b (x ∷ y ∷ l) (y ∷ insert before x l)) ≡ suc (suc (length l))
+      go true h = refl
+      go false h = ap suc h
+
+  pub sorted-length : (l : List A) → length (sorted before l) ≡ length l
+  sorted-length [] = refl
+  sorted-length (x ∷ l) = insert-length x (sorted before l) ∙ ap suc (sorted-length l)
 
 -- a map that keeps the order
 module _ {A : Type 0} (before : A → A → Bool) (f : A → A) (h : (x y : A) → before (f x) (f y) ≡ before x y) where

@@ -36,3 +36,4 @@ pub mod Tally
 pub mod Pushrun
 pub mod Examples
 pub mod Laws
+pub mod Rendered

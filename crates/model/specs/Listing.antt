@@ -1,22 +1,27 @@
 -- What an accepted NOTIFY does: the session that it sets, and the lines that NOTIFY SET writes (01, Matches, 6 and 7; Commands, 4 and 20).
+use mathlib.Core.Path.{_≡_, refl}
 use mathlib.Core.List.{List, [], _∷_, _++_, map}
-use mathlib.Core.Bool.{Bool, true, false, not, cond, _&&_, _||_}
+use mathlib.Core.Bool.{Bool, not, cond, _&&_, _||_}
 use Prim.Native.Nat.{ℕ, _+_, _-_}
 use lib.Dec.{eqb}
 use lib.ListN.{length, replicate}
 use Rattle.model.specs.Lists.{anyb, filterb, sorted, concatMap, when}
 use Rattle.model.specs.Names.{argument, before}
 use Rattle.model.specs.Text.{pack}
-use Rattle.model.specs.Requests.{Filter, selected, delayed, inboxes, personal, subscribed, subtree, subtreeOne, mailboxes, namesOf, Attribute, uid, flags, size, otherAttribute, Event, isNew, isExpunge, isFlagChange, isMailboxName, isSubscriptionChange, attributesOf, Asked}
+use Rattle.model.specs.Requests.{Filter, selected, delayed, inboxes, personal, subscribed, subtree, subtreeOne, mailboxes, namesOf, Attribute, isUidAttribute, isFlagsAttribute, isSizeAttribute, Event, isNew, isExpunge, isFlagChange, isMailboxName, isSubscriptionChange, attributesOf, Asked}
 use Rattle.model.specs.Memory.{Memory, boxes, mails, nameOf, mayList, mayRead, counterOf, isSelected, existing, noGroup, noName, stored}
-use Rattle.model.specs.Groups.{askedOf, selectedAsks, asksMessages, asksMailbox}
+use Rattle.model.specs.Groups.{selectorOf, askedOf, selectedAsks, asksMessages, asksMailbox}
 use Rattle.model.specs.Lines.{Line, list, status, setItems, noAccess}
 use Rattle.model.specs.declared.Mailbox.{Mailbox}
+use Rattle.model.specs.declared.NameRange.{NameRange}
+use Rattle.model.specs.declared.Selector.{Selector}
+use Rattle.model.specs.declared.Selector.the-variants.{Selected, Delayed, Inboxes, Personal, Subscribed, Subtree, Mailboxes}
 use Rattle.model.specs.declared.Group.{Group}
 use Rattle.model.specs.declared.LentGroup.{LentGroup}
 use Rattle.model.specs.declared.LentName.{LentName}
 use Rattle.model.specs.declared.Session.{Session}
 
+-- the number by which a group's selector is kept
 abbrev pub selectorNumber : Filter → ℕ
 selectorNumber selected = 0
 selectorNumber delayed = 1
@@ -27,29 +32,32 @@ selectorNumber (subtree n ns) = 5
 selectorNumber (subtreeOne n ns) = 5
 selectorNumber (mailboxes n ns) = 6
 
+-- and the selector that this number is read as
+abbrev pub selectorFor : Filter → NameRange → Selector
+selectorFor selected r = Selected
+selectorFor delayed r = Delayed
+selectorFor inboxes r = Inboxes
+selectorFor personal r = Personal
+selectorFor subscribed r = Subscribed
+selectorFor (subtree n ns) r = Subtree r
+selectorFor (subtreeOne n ns) r = Subtree r
+selectorFor (mailboxes n ns) r = Mailboxes r
+
+pub selector-read : (f : Filter) (r : NameRange) → selectorOf (selectorNumber f) r ≡ selectorFor f r
+selector-read selected r = refl
+selector-read delayed r = refl
+selector-read inboxes r = refl
+selector-read personal r = refl
+selector-read subscribed r = refl
+selector-read (subtree n ns) r = refl
+selector-read (subtreeOne n ns) r = refl
+selector-read (mailboxes n ns) r = refl
+
 -- the events of a group, a bit each; repeated ones add nothing
 abbrev pub eventBits : List Event → ℕ
 eventBits es = pack (anyb isNew es ∷ anyb isExpunge es ∷ anyb isFlagChange es ∷ anyb isMailboxName es ∷ anyb isSubscriptionChange es ∷ [])
 
 -- the attributes asked with MessageNew, a bit each
-abbrev pub isUidAttribute : Attribute → Bool
-isUidAttribute uid = true
-isUidAttribute flags = false
-isUidAttribute size = false
-isUidAttribute otherAttribute = false
-
-abbrev pub isFlagsAttribute : Attribute → Bool
-isFlagsAttribute uid = false
-isFlagsAttribute flags = true
-isFlagsAttribute size = false
-isFlagsAttribute otherAttribute = false
-
-abbrev pub isSizeAttribute : Attribute → Bool
-isSizeAttribute uid = false
-isSizeAttribute flags = false
-isSizeAttribute size = true
-isSizeAttribute otherAttribute = false
-
 abbrev pub attributeBits : List Attribute → ℕ
 attributeBits l = pack (anyb isUidAttribute l ∷ anyb isFlagsAttribute l ∷ anyb isSizeAttribute l ∷ [])
 

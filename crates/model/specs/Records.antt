@@ -153,20 +153,37 @@ pub data Record : Type 0 where
   drained : (n : ℕ) → Record
   noRecord : Record
 
+-- the values of the fields in their order; 0 where there are fewer
+module _ (v : List ℕ) where
+  abbrev pub first : ℕ
+  first = getD v 0 0
+
+  abbrev pub second : ℕ
+  second = getD v 1 0
+
+  abbrev pub third : ℕ
+  third = getD v 2 0
+
+  abbrev pub fourth : ℕ
+  fourth = getD v 3 0
+
+  abbrev pub fifth : ℕ
+  fifth = getD v 4 0
+
 -- by its kind, from the values of its fields and what follows them; a name is INBOX where it is so in any case (Records, 20)
 abbrev pub recordBy : Kind → List ℕ → List ℕ → Record
-recordBy MB v t = create (getD v 0 0) (getD v 1 0) (getD v 2 0) (getD v 3 0) (getD v 4 0) (fold t)
-recordBy DL v t = delete (getD v 0 0) (getD v 1 0)
-recordBy RN v t = rename (getD v 0 0) (getD v 1 0) (fold t)
-recordBy SB v t = subscribe (getD v 0 0) (getD v 1 0) (getD v 2 0)
-recordBy RT v t = grant (getD v 0 0) (getD v 1 0)
-recordBy ME v t = arrive (getD v 0 0) (getD v 1 0) (getD v 2 0) (getD v 3 0) (getD v 4 0)
-recordBy XP v t = expunge (getD v 0 0) (getD v 1 0) (getD v 2 0)
-recordBy FL v t = reflag (getD v 0 0) (getD v 1 0) (getD v 2 0) (getD v 3 0)
-recordBy SE v t = select (getD v 0 0)
-recordBy CE v t = ended (getD v 0 0)
+recordBy MB v t = create (first v) (second v) (third v) (fourth v) (fifth v) (fold t)
+recordBy DL v t = delete (first v) (second v)
+recordBy RN v t = rename (first v) (second v) (fold t)
+recordBy SB v t = subscribe (first v) (second v) (third v)
+recordBy RT v t = grant (first v) (second v)
+recordBy ME v t = arrive (first v) (second v) (third v) (fourth v) (fifth v)
+recordBy XP v t = expunge (first v) (second v) (third v)
+recordBy FL v t = reflag (first v) (second v) (third v) (fourth v)
+recordBy SE v t = select (first v)
+recordBy CE v t = ended (first v)
 recordBy CM v t = command t
-recordBy DR v t = drained (getD v 0 0)
+recordBy DR v t = drained (first v)
 recordBy unknown v t = noRecord
 
 abbrev pub fieldsOf : List ℕ → List Field

@@ -6,8 +6,8 @@ use lib.Dec.{ltb}
 use lib.ListN.{length}
 use Rattle.model.specs.Lists.{anyb, filterb}
 use Rattle.model.specs.Requests.{Filter, selected, delayed, inboxes, personal, subscribed, subtree, subtreeOne, mailboxes, ofSelected}
-use Rattle.model.specs.Requests.{Attribute, uid, flags, size, otherAttribute, Asked}
-use Rattle.model.specs.Requests.{Event, messageNew, messageExpunge, flagChange, annotationChange, mailboxName, subscriptionChange, otherEvent, isNew, isExpunge, attributesOf}
+use Rattle.model.specs.Requests.{Attribute, isOtherAttribute, Asked}
+use Rattle.model.specs.Requests.{Event, isNew, isExpunge, isFlagChange, isAnnotationChange, isOther, attributesOf}
 use Rattle.model.specs.Requests.{Test, all, unsupported, flagged, larger, smaller, uids, numbers}
 use Rattle.model.specs.Requests.{Charset, none, known, unknown, Command, notifyNone, notifySet, search}
 use Rattle.model.specs.Reading.{Parsed, bad, ok}
@@ -27,13 +27,7 @@ selectedTwice gs = ltb 1 (length (filterb selectedGroup gs))
 
 -- events about messages: a group about the selected mailbox may ask no others
 abbrev pub messageEvent : Event → Bool
-messageEvent (messageNew l) = true
-messageEvent messageExpunge = true
-messageEvent flagChange = true
-messageEvent annotationChange = true
-messageEvent mailboxName = false
-messageEvent subscriptionChange = false
-messageEvent otherEvent = false
+messageEvent e = (isNew e || isExpunge e) || (isFlagChange e || isAnnotationChange e)
 
 abbrev pub misplacedEvent : Asked → Bool
 misplacedEvent g = selectedGroup g && anyb (λ (e : Event). not (messageEvent e)) (g .events)
@@ -76,13 +70,7 @@ refused hasSelected (search q) = anyb isDelayed (q .sources) || (not hasSelected
 
 -- ---- line 2: an event that is not among the five that are supported (Commands, 14)
 abbrev pub unsupportedEvent : Event → Bool
-unsupportedEvent (messageNew l) = false
-unsupportedEvent messageExpunge = false
-unsupportedEvent flagChange = false
-unsupportedEvent annotationChange = true
-unsupportedEvent mailboxName = false
-unsupportedEvent subscriptionChange = false
-unsupportedEvent otherEvent = true
+unsupportedEvent e = isAnnotationChange e || isOther e
 
 abbrev pub badEvent : Command → Bool
 badEvent notifyNone = false
@@ -91,10 +79,7 @@ badEvent (search q) = false
 
 -- ---- line 3: an attribute or a key that is read and not supported (Commands, 15)
 abbrev pub unsupportedAttribute : Attribute → Bool
-unsupportedAttribute uid = false
-unsupportedAttribute flags = false
-unsupportedAttribute size = false
-unsupportedAttribute otherAttribute = true
+unsupportedAttribute a = isOtherAttribute a
 
 abbrev pub asksUnsupported : Event → Bool
 asksUnsupported e = anyb unsupportedAttribute (attributesOf e)

@@ -2,6 +2,7 @@
 use mathlib.Core.List.{List, [], _∷_}
 use mathlib.Core.Bool.{Bool, true, false}
 use Prim.Native.Nat.{ℕ}
+use lib.Dec.{eqb}
 
 -- whom a group of NOTIFY or a source of ESEARCH is about; one name or more, as the command wrote them, without quotes and escapes
 pub data Filter : Type 0 where
@@ -33,56 +34,60 @@ ofSelected (mailboxes n ns) = false
 pub data Attribute : Type 0 where
   uid flags size otherAttribute : Attribute
 
+-- which attribute it is, as a number: the three in the order of their bits, then any other
+abbrev pub attributePlace : Attribute → ℕ
+attributePlace uid = 0
+attributePlace flags = 1
+attributePlace size = 2
+attributePlace otherAttribute = 3
+
+abbrev pub isUidAttribute : Attribute → Bool
+isUidAttribute a = eqb (attributePlace a) 0
+
+abbrev pub isFlagsAttribute : Attribute → Bool
+isFlagsAttribute a = eqb (attributePlace a) 1
+
+abbrev pub isSizeAttribute : Attribute → Bool
+isSizeAttribute a = eqb (attributePlace a) 2
+
+abbrev pub isOtherAttribute : Attribute → Bool
+isOtherAttribute a = eqb (attributePlace a) 3
+
 -- an event of a group; MessageNew with the fetch attributes written after it, if any
 pub data Event : Type 0 where
   messageNew : List Attribute → Event
   messageExpunge flagChange annotationChange mailboxName subscriptionChange otherEvent : Event
 
--- which event it is
+-- which event it is, as a number: the five that are supported in the order of their bits, then the two kinds that are not
+abbrev pub eventPlace : Event → ℕ
+eventPlace (messageNew l) = 0
+eventPlace messageExpunge = 1
+eventPlace flagChange = 2
+eventPlace mailboxName = 3
+eventPlace subscriptionChange = 4
+eventPlace annotationChange = 5
+eventPlace otherEvent = 6
+
 abbrev pub isNew : Event → Bool
-isNew (messageNew l) = true
-isNew messageExpunge = false
-isNew flagChange = false
-isNew annotationChange = false
-isNew mailboxName = false
-isNew subscriptionChange = false
-isNew otherEvent = false
+isNew e = eqb (eventPlace e) 0
 
 abbrev pub isExpunge : Event → Bool
-isExpunge (messageNew l) = false
-isExpunge messageExpunge = true
-isExpunge flagChange = false
-isExpunge annotationChange = false
-isExpunge mailboxName = false
-isExpunge subscriptionChange = false
-isExpunge otherEvent = false
+isExpunge e = eqb (eventPlace e) 1
 
 abbrev pub isFlagChange : Event → Bool
-isFlagChange (messageNew l) = false
-isFlagChange messageExpunge = false
-isFlagChange flagChange = true
-isFlagChange annotationChange = false
-isFlagChange mailboxName = false
-isFlagChange subscriptionChange = false
-isFlagChange otherEvent = false
+isFlagChange e = eqb (eventPlace e) 2
 
 abbrev pub isMailboxName : Event → Bool
-isMailboxName (messageNew l) = false
-isMailboxName messageExpunge = false
-isMailboxName flagChange = false
-isMailboxName annotationChange = false
-isMailboxName mailboxName = true
-isMailboxName subscriptionChange = false
-isMailboxName otherEvent = false
+isMailboxName e = eqb (eventPlace e) 3
 
 abbrev pub isSubscriptionChange : Event → Bool
-isSubscriptionChange (messageNew l) = false
-isSubscriptionChange messageExpunge = false
-isSubscriptionChange flagChange = false
-isSubscriptionChange annotationChange = false
-isSubscriptionChange mailboxName = false
-isSubscriptionChange subscriptionChange = true
-isSubscriptionChange otherEvent = false
+isSubscriptionChange e = eqb (eventPlace e) 4
+
+abbrev pub isAnnotationChange : Event → Bool
+isAnnotationChange e = eqb (eventPlace e) 5
+
+abbrev pub isOther : Event → Bool
+isOther e = eqb (eventPlace e) 6
 
 -- the fetch attributes that stand with it
 abbrev pub attributesOf : Event → List Attribute

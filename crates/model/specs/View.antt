@@ -5,13 +5,11 @@ use Prim.Native.Nat.{ℕ, _+_}
 use lib.Dec.{eqb, ltb}
 use lib.ListN.{length}
 use Rattle.model.specs.Lists.{filterb}
-use Rattle.model.specs.Text.{bit}
 use Rattle.model.specs.Memory.{Memory, mails, selectedBox, bothRights, uidOf, expunged, marked, messagesOf}
-use Rattle.model.specs.Groups.{asksNew, asksExpunge, asksFlags, selectedAsks, immediateAsks}
+use Rattle.model.specs.Groups.{asksNew, asksExpunge, asksFlags, fetchesUid, fetchesFlags, fetchesSize, fetchesSome, selectedAsks, immediateAsks}
 use Rattle.model.specs.Lines.{Line, exists, expunge, fetch, Item, uid, flags, size, modseq}
 use Rattle.model.specs.declared.Message.{Message}
 use Rattle.model.specs.declared.MessageNumber.{MessageNumber}
-use Rattle.model.specs.declared.Group.{Group}
 use Rattle.model.specs.declared.Session.{Session}
 
 -- the selected mailbox's entries by UID; the client was told of those with a UID below `told` (Written, 11)
@@ -89,12 +87,12 @@ flagsWait m = bothRights (selectedBox m) && eqb (m .session .notified) 0
 -- each FETCH, and none is written for its sake (02, 1)
 abbrev pub shownItems : Session → Message → List Item
 shownItems s e =
-    cond (selectedAsks s (λ (g : Group). bit 0 (g .attributes))) (uid (e .uid) ∷ []) []
-    ++ (cond (selectedAsks s (λ (g : Group). bit 1 (g .attributes))) (flags (e .flags) ∷ []) []
-    ++ cond (selectedAsks s (λ (g : Group). bit 2 (g .attributes))) (size (e .size) ∷ []) [])
+    cond (selectedAsks s fetchesUid) (uid (e .uid) ∷ []) []
+    ++ (cond (selectedAsks s fetchesFlags) (flags (e .flags) ∷ []) []
+    ++ cond (selectedAsks s fetchesSize) (size (e .size) ∷ []) [])
 
 abbrev pub showsAny : Session → Bool
-showsAny s = selectedAsks s (λ (g : Group). not (eqb (g .attributes) 0))
+showsAny s = selectedAsks s fetchesSome
 
 unfoldable pub newLines : Session → ℕ → List Message → List Line
 newLines s n [] = []

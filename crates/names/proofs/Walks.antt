@@ -1,5 +1,5 @@
 -- What each test on names says from a place on: the way to the next place, and the ways out. Assumes nothing.
-use mathlib.Core.Path.{_≡_, refl, ap, sym, _∙_}
+use mathlib.Core.Path.{_≡_, refl, sym, _∙_}
 use mathlib.Core.Bool.{Bool, true, false, cond}
 use mathlib.Core.List.{List, [], _∷_, _++_, map}
 use Prim.Native.Nat.{ℕ, suc, _+_, _-_, _<_, _≤_}
@@ -13,6 +13,7 @@ use Rattle.model.specs.Lists.{same, anyb}
 use Rattle.model.specs.Text.{upper, sameWord}
 use Rattle.model.specs.Names.{leads, before}
 use Rattle.model.specs.declared.LentName.{LentName}
+use Rattle.model.specs.Laws.{same-lengths}
 use Rattle.names.specs.Kept.{keptName}
 
 -- a test that fails whichever way it goes, and one that is its answer
@@ -25,13 +26,6 @@ itself true = refl
 itself false = refl
 
 -- ---- the same octets
-pub same-lengths : (a b : List ℕ) → (length a ≡ length b → ⊥) → same a b ≡ false
-unfolding same
-same-lengths [] [] h = absurd (h refl)
-same-lengths [] (y ∷ b) h = refl
-same-lengths (x ∷ a) [] h = refl
-same-lengths (x ∷ a) (y ∷ b) h = neither (eqb x y) (same a b) (same-lengths a b (λ e. h (ap suc e)))
-
 module _ (a b : List ℕ) (i : ℕ) where
   pub same-next : i < length a → i < length b → getD a i 0 ≡ getD b i 0 → same (drop i a) (drop i b) ≡ same (drop (i + 1) a) (drop (i + 1) b)
   unfolding same

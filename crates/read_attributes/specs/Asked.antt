@@ -7,7 +7,7 @@ use Prim.Native.String.{String}
 use lib.ListN.{length}
 use Rattle.model.specs.Lists.{anyb}
 use Rattle.model.specs.Requests.{Attribute, uid, flags, size, otherAttribute}
-use Rattle.model.specs.Listing.{isUidAttribute, isFlagsAttribute, isSizeAttribute}
+use Rattle.model.specs.Requests.{isUidAttribute, isFlagsAttribute, isSizeAttribute}
 use Rattle.model.specs.Replies.{unsupportedAttribute}
 use Rattle.model.specs.Reading.{Parsed, bad, ok, rowAt, closing, nextAt}
 use Rattle.model.specs.Attributes.{Label, plain, body, peek, unlabelled, attributeAt}

@@ -11,7 +11,7 @@ use Rattle.model.specs.Lists.{anyb, concatMap, same}
 use Rattle.model.specs.Text.{octets, sameWord}
 use Rattle.model.specs.Octets.{atomOctet}
 use Rattle.model.specs.Requests.{Attribute, Event, messageNew, attributesOf}
-use Rattle.model.specs.Listing.{isUidAttribute, isFlagsAttribute, isSizeAttribute}
+use Rattle.model.specs.Requests.{isUidAttribute, isFlagsAttribute, isSizeAttribute}
 use Rattle.model.specs.Replies.{unsupportedAttribute}
 use Rattle.model.specs.Reading.{Parsed, bad, ok, andThen, endOf, piece, runAt, wordAt, Next as RowNext, another, over, neither, rowBy, rowAt, closing, nextAt, listAt}
 use Rattle.model.specs.Attributes.{attributeAt}

@@ -1,12 +1,12 @@
 -- What the readers of events answer: which events are asked for, and which attributes behind them. Assumes nothing: these are definitions.
 use mathlib.Core.Path.{_≡_}
-use mathlib.Core.Bool.{Bool, true, false, _||_}
+use mathlib.Core.Bool.{true, false, _||_}
 use mathlib.Core.List.{List, []}
 use Prim.Native.Nat.{ℕ, _+_, _-_, _≤_, _<_}
 use lib.ListN.{length}
 use Rattle.model.specs.Lists.{anyb, concatMap}
 use Rattle.model.specs.Requests.{Event, messageNew, messageExpunge, flagChange, annotationChange, mailboxName, subscriptionChange, otherEvent}
-use Rattle.model.specs.Requests.{isNew, isExpunge, isFlagChange, isMailboxName, isSubscriptionChange, attributesOf}
+use Rattle.model.specs.Requests.{isNew, isExpunge, isFlagChange, isAnnotationChange, isMailboxName, isSubscriptionChange, isOther, attributesOf}
 use Rattle.model.specs.Replies.{hasAttributes}
 use Rattle.model.specs.Reading.{Parsed, bad, ok, rowAt, closing, nextAt}
 use Rattle.model.specs.NotifyGrammar.{eventAt}
@@ -34,25 +34,6 @@ eventOfKind Other = otherEvent
 abbrev pub eventFor : Named → Event
 eventFor New = messageNew []
 eventFor (Plain k) = eventOfKind k
-
--- the two kinds that the model's rules have no test for
-abbrev pub isAnnotationChange : Event → Bool
-isAnnotationChange (messageNew l) = false
-isAnnotationChange messageExpunge = false
-isAnnotationChange flagChange = false
-isAnnotationChange annotationChange = true
-isAnnotationChange mailboxName = false
-isAnnotationChange subscriptionChange = false
-isAnnotationChange otherEvent = false
-
-abbrev pub isOther : Event → Bool
-isOther (messageNew l) = false
-isOther messageExpunge = false
-isOther flagChange = false
-isOther annotationChange = false
-isOther mailboxName = false
-isOther subscriptionChange = false
-isOther otherEvent = true
 
 -- which events occur in a list, whether attributes stand behind one of them, and which
 abbrev pub gatherEvents : List Event → Events

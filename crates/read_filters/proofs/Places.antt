@@ -1,9 +1,9 @@
 -- The places that names are kept in, over plain values. Assumes nothing.
 use mathlib.Core.Path.{_≡_, sym, ap, _∙_}
-use mathlib.Core.List.{List, [], map}
+use mathlib.Core.List.{List, []}
 use Prim.Native.Nat.{ℕ, _+_, _-_, _≤_, _<_}
 use native.Mathlib.Omega.{arith}
-use lib.ListN.{length, take, drop, length-map}
+use lib.ListN.{length, take, drop}
 use lib.Seq.{set-out, take-all, take-append-seam}
 use borrow.Author.Tests.{le-leb, lt-leb}
 use Rattle.model.specs.Listing.{lendName}
@@ -11,11 +11,6 @@ use Rattle.octets.specs.Values.{fill}
 use Rattle.model.specs.declared.LentName.{LentName}
 use Rattle.read_filters.specs.Keeping.{withOne}
 use Rattle.read_filters.specs.declared.Kept.{Kept}
-
-module _ {A B : Type 0} where
-  -- a list is as long as what it is turned into
-  pub mapped : (f : A → B) (l : List A) {n : ℕ} → length (map f l) ≡ n → length l ≡ n
-  mapped f l e = rw length-map at e
 
 -- a name that finds no place is counted
 pub one-dropped : (k : Kept) (n : LentName) → length (k .names) ≤ k .count → record { count = k .count + 1; names = k .names } ≡ withOne k n

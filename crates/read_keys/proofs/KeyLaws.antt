@@ -14,19 +14,20 @@ use Rattle.model.specs.Limits.{partsOf, keyCount, keyDepth, someTest, someTests
 use Rattle.model.specs.Replies.{unsupportedTest}
 use Rattle.model.specs.Reading.{Parsed, bad, ok, andThen, after, Next, another, over, neither, Ending as Way, closing, overAt, nextAt}
 use Rattle.model.specs.SearchGrammar.{Start as Shape, single, negation, alternation, opening, wrong, startAt, keyBy, keysBy, keyAt, keysAt}
-use Rattle.read_keys.specs.Table.{testCode, code, codes, partsMost, partsMosts}
-use Rattle.read_keys.specs.Begin.{Begun, Inside}
+use Rattle.read_tests.specs.Table.{testCode}
+use Rattle.read_keys.specs.Table.{code, codes, partsMost, partsMosts}
+use Rattle.read_tests.specs.Begin.{Begun, Inside}
 use Rattle.read_keys.specs.Keys.{endingOf, afterOf, Small, join, endAt, Closable, Closed, keyFound, WroteKey, WroteKeys, Within}
-use Rattle.read_keys.specs.declared.Start.{Start}
-use Rattle.read_keys.specs.declared.Start.the-variants.{One, Negation, Alternation, Opening, Wrong}
+use Rattle.read_tests.specs.declared.Start.{Start}
+use Rattle.read_tests.specs.declared.Start.the-variants.{One, Negation, Alternation, Opening, Wrong}
 use Rattle.read_keys.specs.declared.Read.{Read}
 use Rattle.read_keys.specs.declared.Read.the-variants.{Found, Bad}
 use Rattle.read_keys.specs.declared.Ending.{Ending}
 use Rattle.read_keys.specs.declared.Ending.the-variants.{Closing, LineEnd}
 use Rattle.read_keys.specs.declared.After.the-variants.{Another, Over, Neither}
 use Rattle.octets.specs.Stores.{sets-append}
-use Rattle.read_keys.proofs.Cells.{sets-head}
-use Rattle.read_keys.proofs.Shapes.{after-yes, after-no}
+use Rattle.read_tests.proofs.Cells.{sets-head}
+use Rattle.read_words.proofs.Behind.{after-yes, after-no}
 
 -- ---- one step of the readers
 
@@ -144,7 +145,10 @@ module _ (b b₁ b₂ : List ℕ) (n u : ℕ) (r₁ r₂ j : Read) (f : j ≡ jo
   join-cells : (xs : List ℕ) → b₂ ≡ sets b₁ u xs → b₂ ≡ sets b n (code a ++ xs)
   join-cells xs w = w ∙ rw (h, g) (sym (sets-append b n (code a) xs))
 
-  join-key : (c : Key) {q : ℕ} → r₂ ≡ keyFound u q c → j ≡ Found q (n + length (code a ++ code c)) (keyCount a + keyCount c) (max (keyDepth a) (keyDepth c)) (someTest unsupportedTest a || someTest unsupportedTest c) (max (partsMost a) (partsMost c))
+  join-key : (c : Key) {q : ℕ} → r₂ ≡ keyFound u q c
+      → j
+      ≡ Found q (n + length (code a ++ code c)) (keyCount a + keyCount c) (max (keyDepth a) (keyDepth c)) (someTest unsupportedTest a || someTest unsupportedTest c)
+      (max (partsMost a) (partsMost c))
   join-key c {q} w =
       f ∙ rw (e, w) (found-is q (max (partsMost a) (partsMost c)) (someTest unsupportedTest a || someTest unsupportedTest c) (omega (arith, length-append (code a) (code c))) refl refl)
 
@@ -163,7 +167,8 @@ module _ (b b₁ b₂ b₃ : List ℕ) (n u : ℕ) (r₁ r₂ j q : Read) (l : j
   unfolding code keyCount keyDepth someTest partsMost
   wrote-either bad w = close-bad 9 0 b b₂ b₃ n j q (join-bad b b₁ b₂ (n + 2) u r₁ r₂ j l a e f g w) c
   wrote-either (ok o k) w =
-      let t = close-found 9 0 b b₂ b₃ n j q (code a ++ code k) (join-key b b₁ b₂ (n + 2) u r₁ r₂ j l a e f g k (w .0)) (join-cells b b₁ b₂ (n + 2) u r₁ r₂ j l a e f g (code k) (w .1)) c in
+      let t = close-found 9 0 b b₂ b₃ n j q (code a ++ code k) (join-key b b₁ b₂ (n + 2) u r₁ r₂ j l a e f g k (w .0))
+      (join-cells b b₁ b₂ (n + 2) u r₁ r₂ j l a e f g (code k) (w .1)) c in
       (t .0 ∙ found-is o (max (partsMost a) (partsMost k)) (someTest unsupportedTest a || someTest unsupportedTest k) refl (omega arith) (omega arith), t .1)
 
 max-none : (i : ℕ) → max i 0 ≡ i
@@ -173,7 +178,8 @@ add-none : (i : ℕ) → i + 0 ≡ i
 add-none i = omega arith
 
 -- the last key of a list
-wrote-last : (b b₁ : List ℕ) (n : ℕ) {p p₁ : ℕ} (r j : Read) → j ≡ endAt p₁ r → (a : Key) → r ≡ keyFound n p a → b₁ ≡ sets b n (code a) → WroteKeys j b b₁ n (ok p₁ (more a end))
+wrote-last : (b b₁ : List ℕ) (n : ℕ) {p p₁ : ℕ} (r j : Read) → j ≡ endAt p₁ r → (a : Key) → r ≡ keyFound n p a → b₁ ≡ sets b n (code a)
+    → WroteKeys j b b₁ n (ok p₁ (more a end))
 unfolding code keyCount keyDepth someTest partsMost
 wrote-last b b₁ n r j l a e f =
     (l ∙ rw (e, append-nil (code a), or-false (someTest unsupportedTest a), max-none (partsMost a), max-none (keyDepth a), add-none (keyCount a)), f ∙ rw (append-nil (code a)))
@@ -200,7 +206,8 @@ module _ (s : List ℕ) (at m : ℕ) where
         let i = begun-negation r b b₀ n (startAt s at) w e in
         rw (key-by h (i .0)) (wrote-non b b₁ b₂ n r₁ q (keyAt (m - 1) s p) (rw (i .1) at v) z)
 
-    pub key-group : 0 < m → {p : ℕ} → r ≡ Opening p → (b₁ b₂ : List ℕ) (r₁ q : Read) → WroteKeys r₁ b₀ b₁ (n + 2) (keysAt (m - 1) closing s p) → Closed 10 1 n r₁ b₁ b₂ q
+    pub key-group : 0 < m → {p : ℕ} → r ≡ Opening p → (b₁ b₂ : List ℕ) (r₁ q : Read) → WroteKeys r₁ b₀ b₁ (n + 2) (keysAt (m - 1) closing s p)
+        → Closed 10 1 n r₁ b₁ b₂ q
         → WroteKey q b b₂ n (keyAt m s at)
     key-group h {p} e b₁ b₂ r₁ q v z =
         let i = begun-opening r b b₀ n (startAt s at) w e in
@@ -227,7 +234,8 @@ module _ (s : List ℕ) (at m : ℕ) where
         either-two g b₂ b₃ r₂ j q z l c =
             let i = key-found r₁ b₀ b₁ (n + 2) (keyAt (m - 1) s p₀) v f in
             rw (either-by (i .1), after-yes s p (λ t. andThen (keyAt (m - 1) s t) (λ o c. ok o (either (i .0) c))) g)
-            (wrote-either b b₁ b₂ b₃ n u r₁ r₂ j q l c (i .0) (i .2 .0) (i .2 .1) (i .3 ∙ ap (λ (x : List ℕ). sets x (n + 2) (code (i .0))) (begun-alternation r b b₀ n (startAt s at) w e .1)) (keyAt (m - 1) s (p + 1)) z)
+            (wrote-either b b₁ b₂ b₃ n u r₁ r₂ j q l c (i .0) (i .2 .0) (i .2 .1)
+            (i .3 ∙ ap (λ (x : List ℕ). sets x (n + 2) (code (i .0))) (begun-alternation r b b₀ n (startAt s at) w e .1)) (keyAt (m - 1) s (p + 1)) z)
 
 -- ---- what follows a key
 
@@ -275,7 +283,9 @@ module _ (e : Way) (s : List ℕ) (at m : ℕ) (h : 0 < m) (b b₁ : List ℕ) (
   keys-none f = rw (keys-by (key-missing r₁ b b₁ n (keyAt (m - 1) s at) v f)) refl
 
   module _ {p u k d o : ℕ} {y : Bool} (f : r₁ ≡ Found p u k d y o) where
-    keys-next : {x : Next} → nextAt e s p ≡ x → (a : Key) × (keysAt m e s at ≡ keysBy x (λ r. keysAt (m - 1) e s r) a) × ((r₁ ≡ keyFound n p a) × (u ≡ n + length (code a))) × (b₁ ≡ sets b n (code a))
+    keys-next : {x : Next} → nextAt e s p ≡ x
+        → (a : Key) × (keysAt m e s at ≡ keysBy x (λ r. keysAt (m - 1) e s r) a) × ((r₁ ≡ keyFound n p a) × (u ≡ n + length (code a)))
+        × (b₁ ≡ sets b n (code a))
     keys-next g =
         let i = key-found r₁ b b₁ n (keyAt (m - 1) s at) v f in
         (i .0, keys-by (i .1) ∙ ap (λ (x : Next). keysBy x (λ r. keysAt (m - 1) e s r) (i .0)) g, i .2, i .3)
@@ -283,7 +293,8 @@ module _ (e : Way) (s : List ℕ) (at m : ℕ) (h : 0 < m) (b b₁ : List ℕ) (
     pub keys-wrong : Neither ≡ afterOf (nextAt e s p) → WroteKeys Bad b b₁ n (keysAt m e s at)
     keys-wrong g = let i = keys-next (is-neither (nextAt e s p) g) in rw (i .1) refl
 
-    pub keys-more : {p₁ : ℕ} → Another p₁ ≡ afterOf (nextAt e s p) → (b₂ : List ℕ) (r₂ j : Read) → WroteKeys r₂ b₁ b₂ u (keysAt (m - 1) e s p₁) → j ≡ join r₁ r₂ → WroteKeys j b b₂ n (keysAt m e s at)
+    pub keys-more : {p₁ : ℕ} → Another p₁ ≡ afterOf (nextAt e s p) → (b₂ : List ℕ) (r₂ j : Read) → WroteKeys r₂ b₁ b₂ u (keysAt (m - 1) e s p₁)
+        → j ≡ join r₁ r₂ → WroteKeys j b b₂ n (keysAt m e s at)
     keys-more {p₁} g b₂ r₂ j z l =
         let i = keys-next (is-another (nextAt e s p) g) in
         rw (i .1) (wrote-more b b₁ b₂ n u r₁ r₂ j l (i .0) (i .2 .0) (i .2 .1) (i .3) (keysAt (m - 1) e s p₁) z)
@@ -314,15 +325,18 @@ module _ (s : List ℕ) (at p₀ n : ℕ) (kind deeper : ℕ) (b b′ : List ℕ
       go v = omega arith
   within-closed Bad h f c w = rw c tt
 
-pub within-join : (s : List ℕ) (at n p p₁ u k d m : ℕ) (y : Bool) (r : Read) → p ≤ p₁ → Within s at n (Found p u k d y m) → Within s p₁ u r → Within s at n (join (Found p u k d y m) r)
+pub within-join : (s : List ℕ) (at n p p₁ u k d m : ℕ) (y : Bool) (r : Read) → p ≤ p₁ → Within s at n (Found p u k d y m) → Within s p₁ u r
+    → Within s at n (join (Found p u k d y m) r)
 within-join s at n p p₁ u k d m y (Found p′ u′ k′ d′ y′ m′) h v w = omega arith
 within-join s at n p p₁ u k d m y Bad h v w = tt
 
 pub within-end : (s : List ℕ) (at n p p₁ u k d m : ℕ) (y : Bool) → p ≤ p₁ → p₁ ≤ length s → Within s at n (Found p u k d y m) → Within s at n (endAt p₁ (Found p u k d y m))
 within-end s at n p p₁ u k d m y h f w = omega arith
 
-pub within-joined : (s : List ℕ) (at n p₁ : ℕ) {p u k d m : ℕ} {y : Bool} (r₁ r₂ j : Read) → j ≡ join r₁ r₂ → r₁ ≡ Found p u k d y m → p ≤ p₁ → Within s at n r₁ → Within s p₁ u r₂ → Within s at n j
+pub within-joined : (s : List ℕ) (at n p₁ : ℕ) {p u k d m : ℕ} {y : Bool} (r₁ r₂ j : Read) → j ≡ join r₁ r₂ → r₁ ≡ Found p u k d y m → p ≤ p₁
+    → Within s at n r₁ → Within s p₁ u r₂ → Within s at n j
 within-joined s at n p₁ {p} {u} {k} {d} {m} {y} r₁ r₂ j e f h v w = rw (e, f) (within-join s at n p p₁ u k d m y r₂ h (rw f at v) w)
 
-pub within-ended : (s : List ℕ) (at n p₁ : ℕ) {p u k d m : ℕ} {y : Bool} (r j : Read) → j ≡ endAt p₁ r → r ≡ Found p u k d y m → p ≤ p₁ → p₁ ≤ length s → Within s at n r → Within s at n j
+pub within-ended : (s : List ℕ) (at n p₁ : ℕ) {p u k d m : ℕ} {y : Bool} (r j : Read) → j ≡ endAt p₁ r → r ≡ Found p u k d y m → p ≤ p₁ → p₁ ≤ length s
+    → Within s at n r → Within s at n j
 within-ended s at n p₁ {p} {u} {k} {d} {m} {y} r j e f h g v = rw (e, f) (within-end s at n p p₁ u k d m y h g (rw f at v))

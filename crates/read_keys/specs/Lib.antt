@@ -1,7 +1,4 @@
--- Definitions that the contracts of `keys` cite.
-pub mod Words
+-- Definitions that the contracts of `read_keys` cite.
 pub mod Table
-pub mod Sets
-pub mod Begin
 pub mod Keys
 pub mod Examples

@@ -6,13 +6,13 @@ use Prim.Native.Nat.{ℕ, _+_, _-_, _≤_}
 use native.Mathlib.Omega.{arith}
 use lib.ListN.{length}
 use Rattle.model.specs.Lists.{anyb, keep, filterb, concatMap}
-use Rattle.model.specs.Laws.{or-false}
+use Rattle.model.specs.Laws.{or-false, or-assoc}
 use Rattle.model.specs.Text.{one}
 use Rattle.model.specs.Requests.{Filter, selected, delayed, inboxes, personal, subscribed, subtree, subtreeOne, mailboxes, namesOf, ofSelected, Asked}
-use Rattle.model.specs.Requests.{Event, messageNew, messageExpunge, flagChange, annotationChange, mailboxName, subscriptionChange, otherEvent, isNew, isExpunge, isFlagChange, isMailboxName, isSubscriptionChange, attributesOf}
+use Rattle.model.specs.Requests.{Event, messageNew, messageExpunge, flagChange, annotationChange, mailboxName, subscriptionChange, otherEvent, isNew, isExpunge, isFlagChange, isAnnotationChange, isMailboxName, isSubscriptionChange, isOther, attributesOf}
 use Rattle.model.specs.Replies.{selectedGroup, messageEvent, misplacedEvent, hasAttributes, misplacedAttributes, unpaired, unsupportedEvent, unsupportedAttribute, asksUnsupported}
 use Rattle.read_filters.specs.Scopes.{scopeFor}
-use Rattle.read_events.specs.Gathered.{gatherEvents, isAnnotationChange, isOther}
+use Rattle.read_events.specs.Gathered.{gatherEvents}
 use Rattle.read_notify.specs.Tallies.{noTally, tallyOf, aboutSelected, asksMessages, asksOthers, tallyBy, add}
 use Rattle.read_notify.specs.declared.Tally.{Tally}
 
@@ -22,10 +22,6 @@ or-swap true b c d = refl
 or-swap false true true d = refl
 or-swap false true false d = refl
 or-swap false false c d = refl
-
-or-assoc : (a b c : Bool) → (a || (b || c)) ≡ ((a || b) || c)
-or-assoc true b c = refl
-or-assoc false b c = refl
 
 module _ {A : Type 0} where
   -- a test that is one of two
@@ -43,15 +39,6 @@ module _ {A B : Type 0} where
   any-concat p f (x ∷ l) = any-append p (f x) (concatMap f l) ∙ ap (λ b. anyb p (f x) || b) (any-concat p f l)
 
 -- ---- the events of a group
-is-message : (e : Event) → messageEvent e ≡ ((isNew e || isExpunge e) || (isFlagChange e || isAnnotationChange e))
-is-message (messageNew l) = refl
-is-message messageExpunge = refl
-is-message flagChange = refl
-is-message annotationChange = refl
-is-message mailboxName = refl
-is-message subscriptionChange = refl
-is-message otherEvent = refl
-
 is-another : (e : Event) → not (messageEvent e) ≡ (isMailboxName e || (isSubscriptionChange e || isOther e))
 is-another (messageNew l) = refl
 is-another messageExpunge = refl
@@ -61,19 +48,10 @@ is-another mailboxName = refl
 is-another subscriptionChange = refl
 is-another otherEvent = refl
 
-is-unsupported : (e : Event) → unsupportedEvent e ≡ (isAnnotationChange e || isOther e)
-is-unsupported (messageNew l) = refl
-is-unsupported messageExpunge = refl
-is-unsupported flagChange = refl
-is-unsupported annotationChange = refl
-is-unsupported mailboxName = refl
-is-unsupported subscriptionChange = refl
-is-unsupported otherEvent = refl
-
 module _ (es : List Event) where
   some-messages : asksMessages (gatherEvents es) ≡ anyb messageEvent es
   some-messages = sym (
-      any-or messageEvent (λ (e : Event). isNew e || isExpunge e) (λ (e : Event). isFlagChange e || isAnnotationChange e) is-message es
+      any-or messageEvent (λ (e : Event). isNew e || isExpunge e) (λ (e : Event). isFlagChange e || isAnnotationChange e) (λ e. refl) es
       ∙ rw (any-or (λ (e : Event). isNew e || isExpunge e) isNew isExpunge (λ e. refl) es, any-or (λ (e : Event). isFlagChange e || isAnnotationChange e) isFlagChange isAnnotationChange (λ e. refl) es)
       )
 
@@ -84,7 +62,7 @@ module _ (es : List Event) where
       )
 
   some-unsupported : (anyb isAnnotationChange es || anyb isOther es) ≡ anyb unsupportedEvent es
-  some-unsupported = sym (any-or unsupportedEvent isAnnotationChange isOther is-unsupported es)
+  some-unsupported = sym (any-or unsupportedEvent isAnnotationChange isOther (λ e. refl) es)
 
   some-asked : anyb unsupportedAttribute (concatMap attributesOf es) ≡ anyb asksUnsupported es
   some-asked = any-concat unsupportedAttribute attributesOf es

@@ -1,18 +1,17 @@
 -- The names of charsets. Assumes nothing.
 use mathlib.Core.Path.{_≡_, refl, sym, ap, _∙_}
-use mathlib.Core.List.{List, [], _∷_, map}
+use mathlib.Core.List.{List, map}
 use mathlib.Core.Bool.{Bool, true, false, cond, _||_, or-false}
-use Prim.Native.Nat.{ℕ, suc, _-_, _≤_, _<_}
+use Prim.Native.Nat.{ℕ, _-_, _≤_, _<_}
 use native.Mathlib.Omega.{arith}
-use lib.Dec.{eqb}
 use lib.ListN.{length, drop, length-map}
 use lib.Seq.{take-all, take-at}
-use Rattle.model.specs.Lists.{same}
 use Rattle.model.specs.Text.{octets, upper, sameWord}
 use Rattle.model.specs.Octets.{atomOctet}
 use Rattle.model.specs.Requests.{known, unknown}
 use Rattle.model.specs.Reading.{Parsed, bad, ok, andThen, piece, is, textAt}
 use Rattle.model.specs.SearchGrammar.{charsetOf, charsetAt}
+use Rattle.model.specs.Laws.{same-lengths}
 use Rattle.octets.specs.Found.{nextOf}
 use Rattle.octets.specs.Values.{valueOf, fill}
 use Rattle.octets.specs.declared.Next.the-variants.{At, Bad as NoNext}
@@ -31,13 +30,6 @@ module _ (w : List ℕ) where
 test-fails : (b c : Bool) → c ≡ false → cond b c false ≡ false
 test-fails true c h = h
 test-fails false c h = refl
-
-same-lengths : (a b : List ℕ) → (length a ≡ length b → ⊥) → same a b ≡ false
-unfolding same
-same-lengths [] [] h = absurd (h refl)
-same-lengths [] (y ∷ b) h = refl
-same-lengths (x ∷ a) [] h = refl
-same-lengths (x ∷ a) (y ∷ b) h = test-fails (eqb x y) (same a b) (same-lengths a b (λ e. h (ap suc e)))
 
 word-lengths : (a b : List ℕ) → (length a ≡ length b → ⊥) → sameWord a b ≡ false
 word-lengths a b h = same-lengths (map upper a) (map upper b) (λ e. h (sym (length-map a upper) ∙ e ∙ length-map b upper))

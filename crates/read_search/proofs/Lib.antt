@@ -1,8 +1,6 @@
--- The lemmas that the proofs of `search` cite.
+-- The lemmas that the proofs of `read_search` cite.
 pub mod Rows
 pub mod Optional
 pub mod Searches
 pub mod Replying
 pub mod Judging
-pub mod Keeping
-pub mod Folding

@@ -1,9 +1,7 @@
--- Worked examples: how searches are answered, and the list of their sources. Assumes nothing.
+-- Worked examples: how searches are answered. Assumes nothing.
 use mathlib.Core.Path.{_≡_, refl}
 use mathlib.Core.Bool.{true, false}
-use mathlib.Core.List.{[], _∷_}
 use Prim.Native.String.{String}
-use lib.ListN.{take}
 use Rattle.model.specs.Lists.{same}
 use Rattle.model.specs.Text.{octets}
 use Rattle.model.specs.Limits.{limits, keyCount, keyDepth, someTest}
@@ -13,10 +11,8 @@ use Rattle.model.specs.SearchGrammar.{keywordOf, startAt, keyAt, returnsAt, cha
 use Rattle.model.specs.declared.Reply.{Reply}
 use Rattle.model.specs.declared.Reply.the-variants.{Bad, Unsupported, BadCharset, TooLarge, Accepted}
 use Rattle.read_keys.specs.Table.{code, partsMost}
-use Rattle.read_search.specs.Parts.{inAt}
 use Rattle.read_search.specs.Searched.{readSearch}
 use Rattle.read_search.specs.Judged.{replyByRead}
-use Rattle.read_search.specs.Listing.{keptSources}
 
 -- the reply to what stands behind ESEARCH, with a mailbox selected and with none
 abbrev selected : String → Reply
@@ -39,9 +35,3 @@ answered = (refl, refl, refl, refl, refl, refl, refl)
 unsupported-first : unselected "IN (personal) CHARSET x OLD" ≡ Unsupported
 unfolding searchAt filterAt scopeOf returnsAt charsetAt keyAt startAt keywordOf setAt rowAt numberAt dateAt runLength unquote valueFrom same keyCount keyDepth someTest code partsMost
 unsupported-first = refl
-
--- ---- sources
-listed : take 3 (keptSources (inAt (octets "IN (personal mailboxes (a b) subtree c) ALL") 0) .listed .sources)
-    ≡ record { scope = 3; first = 0; count = 0 } ∷ record { scope = 7; first = 0; count = 2 } ∷ record { scope = 5; first = 2; count = 1 } ∷ []
-unfolding filterAt scopeOf rowAt runLength unquote same
-listed = refl

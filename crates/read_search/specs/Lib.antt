@@ -1,7 +1,6 @@
--- Definitions that the contracts of `search` cite.
+-- Definitions that the contracts of `read_search` cite.
 pub mod Sourced
 pub mod Parts
 pub mod Searched
 pub mod Judged
-pub mod Listing
 pub mod Examples

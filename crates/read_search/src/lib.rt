@@ -1,16 +1,13 @@
 // ESEARCH behind its verb: its sources, what it is to return, its charset and its keys, and how it is answered.
 pub mod counts;
 pub mod parts;
-pub mod stored;
 pub mod whole;
 
 pub use counts::sources_at;
 pub use parts::charset_part_at;
 pub use parts::in_at;
 pub use parts::return_at;
-use read_filters::Kept;
 use read_options::Returns;
-pub use stored::keep_sources;
 pub use whole::reply_for;
 pub use whole::search_at;
 
@@ -51,25 +48,4 @@ pub struct Asked {
 pub enum SearchRead {
     Is(Asked, usize),
     Bad,
-}
-
-// A source: whom it is about, by number, and which of the names that are kept are its own.
-pub struct Source {
-    pub scope: u64,
-    pub first: u64,
-    pub count: u64,
-}
-
-// Sources that were read: how many there were, the first 8 of them, and their names.
-pub struct Listed {
-    pub count: u64,
-    pub sources: [Source; 8],
-    pub kept: Kept,
-}
-
-// What listing sources answers: whether they fit, the position behind them, and the list.
-pub struct ListedRead {
-    pub ok: bool,
-    pub next: usize,
-    pub listed: Listed,
 }

@@ -20,8 +20,8 @@ use Rattle.demands.specs.Lasting.Law.{Law}
 use Rattle.table_messages.specs.Words.{messages}
 use Rattle.table_mailboxes.specs.Columns.{Column, Names, Laid}
 use Rattle.table_mailboxes.specs.Rows.{boxes-long}
-use Rattle.match_groups.specs.Picked.{picked-is}
-use Rattle.match_groups.specs.Notes.{NotesAll}
+use Rattle.match_rows.specs.Picked.{picked-is}
+use Rattle.match_rows.specs.Notes.{NotesAll}
 use Rattle.order_mailboxes.specs.Named.{Picks, Ordered}
 use Rattle.line_listing.specs.Telling.{Shown, Tells, tells-listing}
 use Rattle.record_outcome.specs.Coming.{Lends}

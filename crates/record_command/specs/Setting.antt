@@ -19,14 +19,13 @@ use Rattle.model.specs.declared.Session.{Session}
 use Rattle.model.specs.declared.Reply.the-variants.{TooLarge, Accepted}
 use Rattle.model.specs.declared.Answer.the-variants.{Done}
 use Rattle.model.specs.Records.{command}
+use Rattle.model.specs.Rendered.{render-append, render-some}
 use Rattle.demands.specs.Lasting.Law.{Law}
 use Rattle.line_put.specs.Put.{Put, _then_, put-as}
-use Rattle.line_message.specs.Whole.{render-both}
 use Rattle.event_session.specs.After.{After}
 use Rattle.event_session.specs.Ending.{Leaves, endAfter}
 use Rattle.event_session.specs.declared.Closed.{Closed}
 use Rattle.line_answer.specs.Sizes.{Whole}
-use Rattle.line_answer.specs.Tagged.{some-octets}
 use Rattle.line_answer.specs.Answered.{leftAs, wholeText, no-room-is, text-accepted, set-left}
 use Rattle.table_messages.specs.Words.{messages}
 use Rattle.record_outcome.specs.Coming.{Lends, Comes, ladder, quiet}
@@ -57,8 +56,8 @@ module _ (m : Memory) (t : List ℕ) (p : ℕ) (wanted : Bool) (gs : List Asked)
       let a : Line = answer (tagOf t) notify Accepted in
       sym (
       ap (λ (x : Parsed Command). renderAll (acceptedLines m (tagOf t) x)) c
-      ∙ (render-both (owed m 1 ++ l) (a ∷ [])
-      ∙ (ap₂ _++_ (render-both (owed m 1) l) (append-nil (render a))
+      ∙ (render-append (owed m 1 ++ l) (a ∷ [])
+      ∙ (ap₂ _++_ (render-append (owed m 1) l) (append-nil (render a))
       ∙ append-assoc (renderAll (owed m 1)) (renderAll l) (render a))))
 
   pub set-size : length (wholeText m t) ≡ length O + length W
@@ -67,7 +66,7 @@ module _ (m : Memory) (t : List ℕ) (p : ℕ) (wanted : Bool) (gs : List Asked)
   work-some : 0 < length W
   work-some =
       let a = length-append (renderAll (listing m (watching (m .session) gs) wanted)) (render (answer (tagOf t) notify Accepted)) in
-      let b = some-octets (answer (tagOf t) notify Accepted) in
+      let b = render-some (answer (tagOf t) notify Accepted) in
       omega arith
 
   pub set-verb : notify ≡ verb (commandOf t)

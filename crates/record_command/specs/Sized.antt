@@ -19,7 +19,7 @@ use Rattle.model.specs.declared.Reply.the-variants.{TooLarge, Accepted}
 use Rattle.model.specs.declared.Refusal.the-variants.{NoRoom}
 use Rattle.model.specs.declared.Answer.the-variants.{Done}
 use Rattle.model.specs.Records.{command}
-use Rattle.event_mailbox.specs.Free.{Room, sizes}
+use Rattle.laws.specs.Room.{Room, sizes}
 use Rattle.read_notify.specs.Watched.{watchedBy}
 use Rattle.line_answer.specs.Sizes.{Whole, reply-small, reply-large}
 use Rattle.line_answer.specs.Tagged.{tag-none, tag-some, tag-short, answer-text}

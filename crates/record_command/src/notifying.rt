@@ -19,7 +19,7 @@ ghost use Rattle.model.specs.Records.{command};
 ghost use Rattle.model.specs.Memory.{Memory, boxes, selectedBox};
 ghost use Rattle.demands.specs.Lasting.Law.{Law};
 ghost use Rattle.table_mailboxes.specs.Columns.{Laid};
-ghost use Rattle.event_mailbox.specs.Free.{Room};
+ghost use Rattle.laws.specs.Room.{Room};
 ghost use Rattle.record_outcome.specs.Coming.{Lends, Ready, Comes, ladder};
 ghost use Rattle.read_commands.specs.Judging.{wholeBy};
 

@@ -261,7 +261,7 @@ pub fn set(
     let used = counts.messages as usize;
     let mut picked = [0u8; 64];
     let mut asks = [0u8; 64];
-    match_groups::picking::note_rows(
+    match_rows::note_rows(
         asked,
         status,
         ids,
@@ -275,7 +275,7 @@ pub fn set(
     let mut listed = [0usize; 64];
     let r = order_mailboxes::by_name(lens, names, n, &picked, &mut listed);
     let tally = existing(words, used, ids, n, status);
-    let rights = event_mailbox::both(x.attributes);
+    let rights = table_mailboxes::row::has_rights(x.attributes);
     set_noted(
         words,
         queue,

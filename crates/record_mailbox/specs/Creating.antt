@@ -19,7 +19,7 @@ use Rattle.model.specs.declared.Session.{Session}
 use Rattle.model.specs.declared.Refusal.the-variants.{WrongId, NameHeld, TableFull}
 use Rattle.model.specs.declared.Answer.the-variants.{Done}
 use Rattle.demands.specs.Lasting.Law.{Law}
-use Rattle.event_mailbox.specs.Heard.{Leaves}
+use Rattle.line_put.specs.Heard.{Leaves}
 use Rattle.event_mailbox.specs.Creating.{createAfter}
 use Rattle.event_mailbox.specs.Accepted.{create-accepted}
 use Rattle.record_outcome.specs.Coming.{Lends, Placed, Comes, refusal, putting, ladder}

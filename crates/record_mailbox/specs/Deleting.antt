@@ -17,9 +17,9 @@ use Rattle.model.specs.declared.Answer.the-variants.{Done}
 use Rattle.demands.specs.Lasting.Law.{Law}
 use Rattle.table_messages.specs.Words.{messages}
 use Rattle.table_messages.specs.Laid.{laid}
-use Rattle.table_messages.specs.Swept.{kept, kept-deleted}
-use Rattle.table_messages.specs.declared.Sweep.the-variants.{Deleted}
-use Rattle.event_mailbox.specs.Heard.{Hears}
+use Rattle.table_sweep.specs.Swept.{kept, kept-deleted}
+use Rattle.table_sweep.specs.declared.Sweep.the-variants.{Deleted}
+use Rattle.line_put.specs.Heard.{Hears}
 use Rattle.event_mailbox.specs.Deleting.{deleteHeard}
 use Rattle.event_mailbox.specs.Accepted.{staying, leftWithout, delete-accepted}
 use Rattle.record_outcome.specs.Coming.{Lends, Placed, Comes, changed, refusal, ladder}

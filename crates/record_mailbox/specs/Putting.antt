@@ -15,7 +15,7 @@ use Rattle.model.specs.declared.Answer.the-variants.{Done}
 use Rattle.demands.specs.Lasting.Law.{Law}
 use Rattle.table_mailboxes.specs.Rows.{boxes-long}
 use Rattle.table_messages.specs.Laid.{laid, laid-own}
-use Rattle.event_mailbox.specs.Heard.{After, Leaves}
+use Rattle.line_put.specs.Heard.{After, Leaves}
 use Rattle.event_mailbox.specs.Accepted.{left}
 use Rattle.record_outcome.specs.Coming.{Lends, Placed, Comes, changed, putting}
 use Rattle.record_outcome.specs.Laws.{placed-known}

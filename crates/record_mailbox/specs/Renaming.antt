@@ -14,7 +14,7 @@ use Rattle.model.specs.declared.Session.{Session}
 use Rattle.model.specs.declared.Refusal.the-variants.{WrongId, NameHeld}
 use Rattle.model.specs.declared.Answer.the-variants.{Done}
 use Rattle.demands.specs.Lasting.Law.{Law}
-use Rattle.event_mailbox.specs.Heard.{Leaves}
+use Rattle.line_put.specs.Heard.{Leaves}
 use Rattle.event_mailbox.specs.Renaming.{renameAfter}
 use Rattle.event_mailbox.specs.Accepted.{rename-accepted}
 use Rattle.record_outcome.specs.Coming.{Lends, Placed, Comes, refusal, putting, ladder}

@@ -14,7 +14,7 @@ ghost use Rattle.model.specs.Records.{create};
 ghost use Rattle.model.specs.declared.Mailbox.{Mailbox};
 ghost use Rattle.demands.specs.Lasting.Law.{Law};
 ghost use Rattle.table_mailboxes.specs.Columns.{Column, Names};
-ghost use Rattle.event_mailbox.specs.Free.{Room};
+ghost use Rattle.laws.specs.Room.{Room};
 ghost use Rattle.record_outcome.specs.Coming.{Lends, Placed, Comes, ladder};
 ghost use Rattle.record_mailbox.specs.Creating.{Added};
 

@@ -6,7 +6,7 @@ use model::Refusal;
 use model::Session;
 use record_outcome::Change;
 use record_outcome::Outcome;
-use table_messages::Sweep;
+use table_sweep::Sweep;
 ghost use mathlib.Core.Path.{_≡_};
 ghost use mathlib.Core.Bool.{not, _&&_};
 ghost use Prim.Native.Nat.{_*_, _≤_};
@@ -15,7 +15,7 @@ ghost use lib.ListN.{length};
 ghost use Rattle.model.specs.Memory.{Memory};
 ghost use Rattle.model.specs.Records.{delete};
 ghost use Rattle.demands.specs.Lasting.Law.{Law};
-ghost use Rattle.event_mailbox.specs.Free.{Room};
+ghost use Rattle.laws.specs.Room.{Room};
 ghost use Rattle.record_outcome.specs.Coming.{Lends, Ready, Placed, Comes, ladder};
 ghost use Rattle.record_mailbox.specs.Deleting.{TakenOut};
 
@@ -45,7 +45,7 @@ fn take_out(
 {
     let filled = counts.filled as usize;
     let kept = event_mailbox::deleting::delete(queue, s, filled, x, quiet as u8);
-    let used = table_messages::settle(words, counts.messages as usize, Sweep::Deleted(id));
+    let used = table_sweep::settle(words, counts.messages as usize, Sweep::Deleted(id));
     let session = kept.session;
     let left = counts.mailboxes - 1;
     Outcome {

@@ -15,7 +15,7 @@ ghost use Rattle.model.specs.Records.{rename};
 ghost use Rattle.model.specs.declared.Mailbox.{Mailbox};
 ghost use Rattle.demands.specs.Lasting.Law.{Law};
 ghost use Rattle.table_mailboxes.specs.Columns.{Column, Names};
-ghost use Rattle.event_mailbox.specs.Free.{Room};
+ghost use Rattle.laws.specs.Room.{Room};
 ghost use Rattle.record_outcome.specs.Coming.{Lends, Placed, Comes, ladder};
 
 // Mailbox `id`, which is row x at place k, gets a name that no other has.

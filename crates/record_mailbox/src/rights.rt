@@ -10,7 +10,7 @@ ghost use lib.ListN.{length};
 ghost use Rattle.model.specs.Memory.{Memory};
 ghost use Rattle.model.specs.Records.{grant};
 ghost use Rattle.demands.specs.Lasting.Law.{Law};
-ghost use Rattle.event_mailbox.specs.Free.{Room};
+ghost use Rattle.laws.specs.Room.{Room};
 ghost use Rattle.record_outcome.specs.Coming.{Lends, Placed, Comes, ladder};
 
 // The rights of mailbox `id`, which is row x at place k, become these.

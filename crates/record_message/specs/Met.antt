@@ -22,7 +22,7 @@ use Rattle.laws.specs.Changing.{used-long}
 use Rattle.table_messages.specs.Words.{messages}
 use Rattle.table_messages.specs.Laid.{laid}
 use Rattle.table_messages.specs.Found.{stands, first, first-any, first-passes}
-use Rattle.event_mailbox.specs.Free.{Room}
+use Rattle.laws.specs.Room.{Room}
 use Rattle.event_message.specs.After.{After, Leaves}
 use Rattle.event_message.specs.Accepted.{left}
 use Rattle.record_outcome.specs.Coming.{Lends, Placed, Comes, putting}

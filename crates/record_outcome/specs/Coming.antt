@@ -19,7 +19,7 @@ use Rattle.model.specs.declared.Answer.the-variants.{Done, Refused}
 use Rattle.table_mailboxes.specs.Shift.{closed}
 use Rattle.table_messages.specs.Words.{messages}
 use Rattle.table_messages.specs.Laid.{laid}
-use Rattle.event_mailbox.specs.Free.{Room}
+use Rattle.laws.specs.Room.{Room}
 use Rattle.record_outcome.specs.declared.Change.{Change}
 use Rattle.record_outcome.specs.declared.Change.the-variants.{Nothing, Put, Taken}
 use Rattle.record_outcome.specs.declared.Outcome.{Outcome as Came}

@@ -98,7 +98,7 @@ pub fn end_command(
         return record_outcome::unmoved(Answer::Counted(0), counts, s);
     }
     let mut order = [0usize; 1024];
-    let rights = event_mailbox::both(x.attributes);
+    let rights = table_mailboxes::row::has_rights(x.attributes);
     let closed = event_session::end_command(
         words,
         used,

@@ -11,9 +11,9 @@ use read_commands::Judged;
 use read_notify::NotifyRead;
 use read_options::Returns;
 use read_options::Verb;
-use read_search::Listed;
 use read_search::SearchRead;
-use read_search::Source;
+use read_sources::Listed;
+use read_sources::Source;
 
 fn print(text: &[u8]) {
     io::write_all(1, text);
@@ -102,7 +102,7 @@ fn print_listed(listed: Listed) {
 
 // The sources as they are searched, and their names; they stand behind the space that follows the word.
 fn print_sources(text: &[u8], at: usize) {
-    let read = read_search::keep_sources(text, at);
+    let read = read_sources::keep_sources(text, at);
     let listed = read.listed;
     print_listed(listed);
     let kept = listed.kept;

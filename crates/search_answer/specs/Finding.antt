@@ -18,10 +18,10 @@ use Rattle.model.specs.Searching.{admits, orSelected, foundLines}
 use Rattle.model.specs.declared.Mailbox.{Mailbox}
 use Rattle.read_search.specs.Parts.{inAt}
 use Rattle.read_search.specs.Searched.{readSearch, Within, ReadsSearch}
-use Rattle.read_search.specs.Listing.{nothingListed, addAll, keptSources}
+use Rattle.read_sources.specs.Listing.{nothingListed, addAll, keptSources}
 use Rattle.read_search.specs.declared.Asked.{Asked}
-use Rattle.read_search.specs.declared.Listed.{Listed}
-use Rattle.read_search.specs.declared.ListedRead.{ListedRead}
+use Rattle.read_sources.specs.declared.Listed.{Listed}
+use Rattle.read_sources.specs.declared.ListedRead.{ListedRead}
 use Rattle.read_search.specs.declared.SearchRead.{SearchRead}
 use Rattle.read_search.specs.declared.SearchRead.the-variants.{Is, Bad}
 use Rattle.table_messages.specs.Words.{messages}

@@ -14,10 +14,10 @@ use Rattle.model.specs.Memory.{Memory}
 use Rattle.model.specs.Searching.{foundLines}
 use Rattle.model.specs.Answering.{acceptedLines}
 use Rattle.model.specs.declared.Reply.the-variants.{Accepted}
+use Rattle.model.specs.Rendered.{render-append, render-some}
 use Rattle.line_put.specs.Put.{Put, put-past}
 use Rattle.search_find.specs.Runs.{Bounded}
-use Rattle.line_found.specs.Telling.{texts, render-both}
-use Rattle.line_answer.specs.Tagged.{some-octets}
+use Rattle.line_found.specs.Telling.{texts}
 use Rattle.line_answer.specs.Answered.{wholeText}
 use Rattle.search_answer.specs.Headed.{tagBy, tag-is}
 use Rattle.search_answer.specs.Finding.{Searches, Gathers}
@@ -44,12 +44,12 @@ wholeBy text lens names validities rows uids starts counts h = linesBy text lens
 
 -- it has octets
 pub whole-some : (t : List ℕ) (l : Line) → 0 < length (t ++ render l)
-whole-some t l = let z = some-octets l in let w = length-append t (render l) in omega arith
+whole-some t l = let z = render-some l in let w = length-append t (render l) in omega arith
 
 -- ---- measured part by part, from one place
 pub measured-both : {q q₁ q₂ t : List ℕ} {at a b : ℕ} (l : Line) → Put q at 0 t q₁ a → Put q₁ at 0 (render l) q₂ b → Put q at 0 (t ++ render l) q₂ (a + (b - at))
 measured-both {q} {q₁} {q₂} {t} {at} {a} {b} l x y =
-    let z = some-octets l in
+    let z = render-some l in
     let n = x .next in
     let k = y .next in
     let w = length-append t (render l) in
@@ -69,5 +69,5 @@ module _ (text words : List ℕ) (used s told : ℕ) (ids attributes lens names 
   whole-is =
       let l : Line = answer (tagOf text) esearch Accepted in
       ap₂ (λ (a b : List ℕ). a ++ b) lines-found (sym (append-nil (render l)))
-      ∙ (sym (render-both (foundLines m (tagOf text) q) (l ∷ []))
+      ∙ (sym (render-append (foundLines m (tagOf text) q) (l ∷ []))
       ∙ ap (λ (x : Parsed Command). renderAll (acceptedLines m (tagOf text) x)) (sym c))

@@ -2,7 +2,7 @@
 use super::Hits;
 use super::reading::read;
 use model::Uid;
-use read_search::Listed;
+use read_sources::Listed;
 ghost use Prim.Native.Nat.{_*_, _≤_};
 ghost use lib.ListN.{length};
 ghost use Rattle.search_answer.specs.Finding.{Chooses, Gathers};

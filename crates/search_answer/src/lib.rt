@@ -12,7 +12,7 @@ use model::Counts;
 use model::Refusal;
 use model::Session;
 use model::Uid;
-use read_search::Listed;
+use read_sources::Listed;
 use record_outcome::Outcome;
 pub use saying::put_lines;
 use saying::say;

@@ -32,7 +32,7 @@ pub fn read(text: &[u8], cells: &mut [u64]) -> Question
     ensures { λ r. ⌜ Asks (now (text .entry)) (now (cells .exit)) r ⌝ }
 {
     let at = behind_word(text) + 1;
-    let kept = read_search::keep_sources(text, at);
+    let kept = read_sources::keep_sources(text, at);
     let listed = kept.listed;
     match read_search::search_at(text, at, cells) {
         SearchRead::Is(asked, _) => {

@@ -1,16 +1,17 @@
 -- What the search of one mailbox finds, and that it is the definition's. Assumes nothing.
 use mathlib.Core.Path.{_≡_, refl, ap, _∙_}
-use mathlib.Core.Bool.{Bool, true, false, cond}
+use mathlib.Core.Bool.{Bool, true, false}
 use mathlib.Core.List.{List, [], _∷_}
 use Prim.Native.Nat.{ℕ, zero, suc, _≤_}
 use native.Mathlib.Omega.{arith}
 use lib.Dec.{ltb}
 use lib.ListN.{length, take, length-take}
-use Rattle.model.specs.Lists.{filterb, keep, insert, sorted}
+use Rattle.model.specs.Lists.{filterb, keep}
 use Rattle.model.specs.Memory.{uidOf, byUid, inMailbox, messagesOf}
 use Rattle.model.specs.Requests.{Keys}
 use Rattle.model.specs.Searching.{matches}
 use Rattle.model.specs.declared.Message.{Message}
+use Rattle.model.specs.Laws.{sorted-length}
 use Rattle.order_messages.specs.Chosen.{chosen}
 use Rattle.search_find.specs.Finds.{uidsOf, Held, Finds, Keeps}
 
@@ -31,18 +32,6 @@ pub filter-short : (p : Message → Bool) (l : List Message) → length (filterb
 filter-short p [] = omega arith
 filter-short p (x ∷ l) = keep-short (p x) x (filterb p l) (length l) (filter-short p l)
 
-insert-long : (x : Message) (l : List Message) → length (insert byUid x l) ≡ suc (length l)
-insert-long x [] = refl
-insert-long x (y ∷ l) = go (byUid x y) (insert-long x l)
-  where
-    go : (b : Bool) → length (insert byUid x l) ≡ suc (length l) → length (cond b (x ∷ y ∷ l) (y ∷ insert byUid x l)) ≡ suc (suc (length l))
-    go true h = refl
-    go false h = ap suc h
-
-pub sorted-long : (l : List Message) → length (sorted byUid l) ≡ length l
-sorted-long [] = refl
-sorted-long (x ∷ l) = insert-long x (sorted byUid l) ∙ ap suc (sorted-long l)
-
 chosen-length : (es : List Message) (order : List ℕ) (n : ℕ) → length (chosen es order n) ≡ n
 unfolding chosen
 chosen-length es order zero = refl
@@ -53,7 +42,7 @@ module _ (es : List Message) (used id : ℕ) (order : List ℕ) (n : ℕ) (e : c
   order-few =
       let a = chosen-length es order n in
       let b = ap length e in
-      let c = sorted-long (filterb (inMailbox id) (take used es)) in
+      let c = sorted-length byUid (filterb (inMailbox id) (take used es)) in
       let d = filter-short (inMailbox id) (take used es) in
       let f = length-take used es in
       omega arith

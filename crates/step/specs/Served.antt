@@ -21,7 +21,7 @@ use Rattle.table_messages.specs.Words.{messages, messages-count}
 use Rattle.table_mailboxes.specs.Columns.{Laid}
 use Rattle.lawful.specs.Lent.{Lent as Rows, memory}
 use Rattle.lent_rows.specs.Standing.{Stands}
-use Rattle.event_mailbox.specs.Free.{law-room}
+use Rattle.laws.specs.Room.{law-room}
 use Rattle.record_read.specs.declared.Kind.{Kind}
 use Rattle.record_read.specs.declared.Kind.the-variants.{Create, Delete, Rename, Subscribe, Grant, Arrive, Expunge, Reflag, Select, Ended, Command, Drained, Unknown}
 use Rattle.record_outcome.specs.Coming.{Lends, Ready, Placed, Comes, changed, refusal, ladder}

@@ -17,7 +17,7 @@ use Rattle.model.specs.Memory.{noMailbox}
 use Rattle.model.specs.Lawful.{clash}
 use Rattle.model.specs.declared.Mailbox.{Mailbox}
 use Rattle.table_mailboxes.specs.Columns.{Column}
-use Rattle.lawful_quick.specs.Passing.{place-own}
+use Rattle.lawful_digests.specs.Distinct.{place-own}
 use Rattle.laws.specs.Counting.{countb, filter-count, filter-both, count-sorted}
 
 -- a row with the id, or none

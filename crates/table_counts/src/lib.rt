@@ -32,7 +32,7 @@ fn row_of(slots: &[u8; 1024], ids: &[u64; 64], n: usize, id: u64) -> usize
     requires { ⌜ n ≤ 64 ⌝ }
     ensures { λ r. ⌜ Finds (now (ids .entry)) n id r ⌝ }
 {
-    let k = lawful_quick::guess(slots, ids, id);
+    let k = lawful_digests::guess(slots, ids, id);
     if n <= k {
         return seek(ids, n, id);
     }
@@ -83,7 +83,7 @@ pub fn count(words: &[u64], used: usize, ids: &[u64; 64], n: usize) -> [u64; 64]
     requires { ⌜ (used * 6 ≤ length (now words)) × (used ≤ 1048576) × (n ≤ 64) ⌝ }
     ensures { λ r. ⌜ ((l : List Mailbox) → length l ≡ n → Column (λ (x : Mailbox). x .id) l (now (ids .entry)) → apart clash l ≡ true → (k : ℕ) → k < n → getD r k 0 ≡ length (existing (getD l k noMailbox .id) (take used (messages (now (words .entry)))))) ⌝ }
 {
-    let slots = lawful_quick::guesses(ids, n);
+    let slots = lawful_digests::guesses(ids, n);
     let mut counts = [0u64; 64];
     tally_all(words, used, &slots, ids, n, &mut counts);
     counts

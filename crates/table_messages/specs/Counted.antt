@@ -73,7 +73,9 @@ at-rest id x h = let k : x .states % 2 ≡ 1 → ⊥ = λ z. omega arith in rw (
     all false = refl
 
 -- where the join is zero, so are the states so far and those of the entry
-pub tally-next : (id : ℕ) (ws : List ℕ) (i n r s : ℕ) → (i + 1) * 6 ≤ length ws → (s ≡ 0 → n ≡ countb (lives id) (take i (messages ws))) → r ≡ cond (inMailbox id (getD (messages ws) i noMessage)) 1 0 → bitOr s (getD ws (i * 6 + 4) 0) ≡ 0 → n + r ≡ countb (lives id) (take (i + 1) (messages ws))
+pub tally-next : (id : ℕ) (ws : List ℕ) (i n r s : ℕ) → (i + 1) * 6 ≤ length ws → (s ≡ 0 → n ≡ countb (lives id) (take i (messages ws)))
+    → r ≡ cond (inMailbox id (getD (messages ws) i noMessage)) 1 0 → bitOr s (getD ws (i * 6 + 4) 0) ≡ 0
+    → n + r ≡ countb (lives id) (take (i + 1) (messages ws))
 tally-next id ws i n r s h e q z =
     let es = messages ws in
     let x = getD es i noMessage in

@@ -70,7 +70,10 @@ behind-flat (e ∷ es) ws = behind-flat es ws
 
 -- a store into a whole entry leaves what lies behind
 behind-set : (i : ℕ) (ws : List ℕ) (o u f s k n : ℕ) → at i + 5 < length ws
-    → behind (set (set (set (set (set (set ws (at i) o) (suc (at i)) u) (suc (suc (at i))) f) (suc (suc (suc (at i)))) s) (suc (suc (suc (suc (at i))))) k) (suc (suc (suc (suc (suc (at i)))))) n) ≡ behind ws
+    → behind
+    (set (set (set (set (set (set ws (at i) o) (suc (at i)) u) (suc (suc (at i))) f) (suc (suc (suc (at i)))) s) (suc (suc (suc (suc (at i))))) k)
+    (suc (suc (suc (suc (suc (at i)))))) n)
+    ≡ behind ws
 unfolding behind
 behind-set i [] o u f s k n h = absurd (omega arith)
 behind-set i (a ∷ []) o u f s k n h = absurd (omega arith)

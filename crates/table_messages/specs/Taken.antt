@@ -87,7 +87,8 @@ module _ (k used : ℕ) (vs rest : List ℕ) where
       let d = length-drop k es in
       let front : take (k * 6) vs ≡ flat (take k es) = ap (take (k * 6)) own ∙ flat-take k es (behind vs) (omega arith) in
       let back : drop (k * 6) vs ≡ flat (drop k es) ++ behind vs = ap (drop (k * 6)) own ∙ flat-drop k es (behind vs) (omega arith) in
-      let m : rest ≡ flat (over (drop 1 (drop k es)) (drop k es) n) ++ behind vs = e ∙ (ap (λ (l : List ℕ). over (drop 6 l) l (6 * n)) (rest-lent (k * 6) vs ∙ back) ∙ down-entries (drop k es) (behind vs) n (omega arith)) in
+      let m : rest ≡ flat (over (drop 1 (drop k es)) (drop k es) n) ++ behind vs = e ∙
+      (ap (λ (l : List ℕ). over (drop 6 l) l (6 * n)) (rest-lent (k * 6) vs ∙ back) ∙ down-entries (drop k es) (behind vs) n (omega arith)) in
       let z : k + n ≡ used - 1 = omega arith in
       ap (λ (l : List ℕ). take (k * 6) vs ++ (rest ++ l)) (none-behind (k * 6) vs)
       ∙ (ap₂ (λ (a b : List ℕ). a ++ b) front (append-nil rest ∙ m)

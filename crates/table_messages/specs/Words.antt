@@ -41,7 +41,9 @@ messages-length (suc n) (o ∷ u ∷ f ∷ s ∷ k ∷ []) h = absurd (omega ari
 messages-length (suc n) (o ∷ u ∷ f ∷ s ∷ k ∷ c ∷ ws) h = let r = messages-length n ws (omega arith) in omega arith
 
 get : (i : ℕ) (ws : List ℕ) → at i + 5 < length ws
-    → getD (messages ws) i noMessage ≡ row (getD ws (at i) 0) (getD ws (suc (at i)) 0) (getD ws (suc (suc (at i))) 0) (getD ws (suc (suc (suc (at i)))) 0) (getD ws (suc (suc (suc (suc (at i))))) 0) (getD ws (suc (suc (suc (suc (suc (at i)))))) 0)
+    → getD (messages ws) i noMessage
+    ≡ row (getD ws (at i) 0) (getD ws (suc (at i)) 0) (getD ws (suc (suc (at i))) 0) (getD ws (suc (suc (suc (at i)))) 0) (getD ws (suc (suc (suc (suc (at i))))) 0)
+    (getD ws (suc (suc (suc (suc (suc (at i)))))) 0)
 unfolding messages
 get i [] h = absurd (omega arith)
 get i (o ∷ []) h = absurd (omega arith)
@@ -53,7 +55,10 @@ get zero (o ∷ u ∷ f ∷ s ∷ k ∷ n ∷ ws) h = refl
 get (suc i) (o ∷ u ∷ f ∷ s ∷ k ∷ n ∷ ws) h = get i ws (omega arith)
 
 put : (i : ℕ) (ws : List ℕ) (o u f s k n : ℕ)
-    → messages (set (set (set (set (set (set ws (at i) o) (suc (at i)) u) (suc (suc (at i))) f) (suc (suc (suc (at i)))) s) (suc (suc (suc (suc (at i))))) k) (suc (suc (suc (suc (suc (at i)))))) n) ≡ set (messages ws) i (row o u f s k n)
+    → messages
+    (set (set (set (set (set (set ws (at i) o) (suc (at i)) u) (suc (suc (at i))) f) (suc (suc (suc (at i)))) s) (suc (suc (suc (suc (at i))))) k)
+    (suc (suc (suc (suc (suc (at i)))))) n)
+    ≡ set (messages ws) i (row o u f s k n)
 unfolding messages
 put zero [] o u f s k n = refl
 put zero (a ∷ []) o u f s k n = refl

@@ -1,17 +1,12 @@
-// The message table: a lent slice of words, six to an entry. Entries are read, put, found, counted, taken out and swept.
-mod sweeping;
-
+// The message table: a lent slice of words, six to an entry. Entries are read, put, found, counted and taken out.
 use model::Message;
 use model::MessageNumber;
 use model::Uid;
-use sweeping::compact;
-use sweeping::is_idle;
-use sweeping::wipe;
 ghost use mathlib.Core.Path.{_≡_};
 ghost use mathlib.Core.Bool.{cond};
 ghost use Prim.Native.Nat.{_+_, _*_, _≤_, _<_};
 ghost use lib.ListN.{length, take, drop, getD};
-ghost use Rattle.model.specs.Memory.{noMessage, inMailbox, existing, refill, withFlags, withStates};
+ghost use Rattle.model.specs.Memory.{noMessage, inMailbox, existing, withFlags, withStates};
 ghost use Rattle.model.specs.Events.{message};
 ghost use Rattle.laws.specs.Counting.{countb};
 ghost use Rattle.laws.specs.Shift.{over};
@@ -20,7 +15,6 @@ ghost use Rattle.table_messages.specs.Laid.{laid};
 ghost use Rattle.table_messages.specs.Taken.{shut};
 ghost use Rattle.table_messages.specs.Found.{stands, first};
 ghost use Rattle.table_messages.specs.Counted.{lives, before};
-ghost use Rattle.table_messages.specs.Swept.{kept};
 
 // ---- one entry
 // Entry i.
@@ -264,26 +258,4 @@ pub fn remove(words: &mut [u64], used: usize, k: usize)
     let last = used - 1;
     move_up(&mut words[k * 6..], 6 * (last - k));
     put(words, last, nothing());
-}
-
-// ---- a pass over all
-// What a pass is for: a selection, where the expunged go and nothing waits; lines that were told of a mailbox, the expunged
-// below one UID and the marked below another; a mailbox that is deleted, with all its messages.
-pub enum Sweep {
-    Rested,
-    Told(u64, Uid, Uid),
-    Deleted(u64),
-}
-
-// One pass: what goes is dropped, what stays moves up and is changed, what was freed is nothing. Answers how many stay.
-pub fn settle(words: &mut [u64], used: usize, sweep: Sweep) -> usize
-    requires { ⌜ used * 6 ≤ length (now words) ⌝ }
-    ensures { λ r. ⌜ (now (words .exit) ≡ laid (now (words .entry)) (refill noMessage (messages (now (words .entry))) used (kept sweep (take used (messages (now (words .entry))))))) × (r ≡ length (kept sweep (take used (messages (now (words .entry)))))) × (r ≤ used) ⌝ }
-{
-    if is_idle(sweep) {
-        return used;
-    }
-    let o = compact(words, used, sweep);
-    wipe(words, o, used);
-    o
 }

@@ -1,38 +1,53 @@
-/* The push side of an IMAP server, proved. Link target/staticlib/libexported.a (x86-64, System V); docs/HOSTS.md says which
- * record to send when, and what to do with each answer.
+/* The push side of an IMAP server, proved. Link libborjavid.a of the folder that host/dist makes, or what it is a copy of,
+ * target/staticlib/libexported.a (x86-64, System V). borjavid_records.h has the records and what builds them; docs/HOSTS.md
+ * says which record to send when, and what to do with each answer.
  *
  * The library keeps nothing: all it knows lies in what the host lends for a call, and stays the host's between calls. It
  * takes no lock, allocates nothing, calls nothing of the host's and stops for nothing. One session is one caller at a time;
  * sessions that share no memory may be called at once from any threads.
  *
- * Every slice is a pointer and a count. Pointers are not NULL, not even of empty slices, and are aligned as C aligns their
- * types. No two pieces of what is lent overlap, the record included. That alone is asked of the host: any contents of that
- * memory and any octets as a record get a clear answer. */
+ * This is asked of the host:
+ *   - every slice is a pointer and a count. Pointers are not NULL, not even of empty slices, and are aligned as C aligns their
+ *     types. No two pieces of what is lent overlap, the record included;
+ *   - a thread that calls borjavid_step has 1 MB of stack. A client's line decides how much of it is used: some 0.7 MB
+ *     was the most that we measured. With less, such a line would end the thread;
+ *   - header and library have one layout: borjavid_fits, asked once before anything is lent.
+ * Nothing more: any contents of that memory and any octets as a record get a clear answer. */
 #ifndef BORJAVID_H
 #define BORJAVID_H
 
 #include <stddef.h>
 #include <stdint.h>
 
+#include "borjavid_records.h"
+
 #ifdef __cplusplus
 extern "C" {
 #endif
 
+/* The version of header and library, and as a number: 10,000 times its first part, 100 times the second, the third. CHANGELOG.md
+ * says what each changed. */
+#define BORJAVID_VERSION "0.2.0"
+#define BORJAVID_VERSION_NUMBER 200
+
+/* The layout of lent memory. The number rises when a struct below, an entry or the body of a record changes its layout. */
+#define BORJAVID_LAYOUT 2
+
+/* The layout by which the library was made. */
+uint32_t borjavid_layout(void);
+
+/* Whether header and library have one layout, 1 or 0. At 0 lend nothing: the library would look for fields where they are not.
+ * (A library from before 0.2.0 does not link, as it has no borjavid_layout.) */
+static inline int borjavid_fits(void) {
+    return borjavid_layout() == BORJAVID_LAYOUT;
+}
+
 /* Bounds: longer tables and another queue are refused with 1. Shorter tables are lawful, none at all too. */
 #define BORJAVID_MAILBOXES 64
 #define BORJAVID_MESSAGES 1024
-#define BORJAVID_ENTRY 6 /* words of an entry: mailbox, UID, flags, size, states, counter */
+#define BORJAVID_ENTRY 6 /* words of an entry: mailbox, UID, flags, size, states (1 expunged, 2 its flags wait), counter */
 #define BORJAVID_QUEUE_LEAST 1024
 #define BORJAVID_QUEUE_MOST 65536
-#define BORJAVID_COUNTER_MOST UINT64_C(9223372036854775807) /* change counters are 1 to this */
-
-/* Attribute bits of a mailbox; the last two are the user's rights. */
-#define BORJAVID_SELECTABLE 1
-#define BORJAVID_PERSONAL 2
-#define BORJAVID_DELIVERY 4
-#define BORJAVID_SUBSCRIBED 8
-#define BORJAVID_LOOKUP 16
-#define BORJAVID_READ 32
 
 /* A row of the mailbox table, 84 octets. The library zeroes rows that it frees. */
 typedef struct {
@@ -98,7 +113,8 @@ typedef struct {
 /* The refusals, of which the lowest that applies is given. */
 enum {
     BORJAVID_DONE = 0,
-    BORJAVID_UNLAWFUL_MEMORY = 1, /* the lent memory is not what calls from the empty start leave, or has other sizes */
+    BORJAVID_UNLAWFUL_MEMORY = 1, /* a size or count is out of bounds, a field in use out of its range, or fields don't go
+                                   * together, such as two rows with one id: docs/HOSTS.md, 'Lawful memory' */
     BORJAVID_BAD_RECORD = 2,      /* unknown mark, wrong length, a field out of range, a bad name */
     BORJAVID_WRONG_ID = 3,        /* the id is in use (MB) or unknown (others) */
     BORJAVID_NAME_HELD = 4,       /* another mailbox has the name */

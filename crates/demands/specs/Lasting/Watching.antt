@@ -21,7 +21,8 @@ use Rattle.model.specs.Answers.{replyNumber}
 use Rattle.model.specs.Replies.{replyOf, refused, badEvent, notSupported, badCharset, selectedGroup, selectedTwice, messageEvent, misplacedEvent, hasAttributes, misplacedAttributes, unpaired}
 use Rattle.model.specs.Memory.{noGroup, noName}
 use Rattle.model.specs.Groups.{groupOf, selectorOf, isSelecting}
-use Rattle.model.specs.Listing.{selectorNumber, isUidAttribute, isFlagsAttribute, isSizeAttribute, attributeBits, lendGroup, lendGroups, lendName, allNames, watching}
+use Rattle.model.specs.Requests.{isUidAttribute, isFlagsAttribute, isSizeAttribute}
+use Rattle.model.specs.Listing.{selectorNumber, attributeBits, lendGroup, lendGroups, lendName, allNames, watching}
 use Rattle.model.specs.Lawful.{sessionOk, eventsOk, attributesOk, rangeOk, groupOk, groupsOk, lentNameCount, lentNameOk, blankGroup, blankName, bothSelecting}
 use Rattle.model.specs.declared.NameRange.{NameRange}
 use Rattle.model.specs.declared.Group.{Group}

@@ -43,8 +43,8 @@ flag-kept-requires c κs =
 returns-2 : tie.Need-returns-2
 returns-2 c = let a = c .before .before .before .before .before .before .before .before .before .before .before .before .before .before .before .before .before .before .before .before .before .before .before .before .before .args in
     reflag-keeps (messages (a .words .now)) (a .used) (a .queue .now) (a .s) (a .filled) (a .k) (a .x) (c .before .before .before .before .before .before .before .before .before .before .before .before .before .before .before .before .before .before .before .before .before .get .result) (c .before .before .before .before .before .before .before .before .before .before .before .before .before .before .before .before .before .before .before .before .before .get .ensures) (c .before .before .before .before .before .before .before .before .before .before .before .before .before .before .before .before .before .before .is-chosen .result) (c .before .before .before .before .before .before .before .before .before .before .before .before .before .before .before .both .result) (c .before .before .before .before .before .before .before .before .before .before .before .before .before .before .before .before .before .before .is-chosen .ensures) (c .before .before .before .before .before .before .before .before .before .before .before .before .before .before .before .both .ensures) (a .words .now) _ _ _ _ _
-    (a .flags) (a .counter) (c .before .before .before .before .before .before .before .before .before .before .before .before .before .before .is-soon .result) (c .before .before .before .before .before .before .before .before .before .before .before .before .before .before .is-soon .ensures) (c .before .before .before .before .before .before .before .before .before .both4 .result) (c .before .before .before .before .before .before .before .is-told .result) (c .before .before .before .before .before .before .before .before .pick .result)
-    (c .before .before .before .before .before .before .before .before .before .both4 .ensures ∙ ap (λ (b : Bool). c .before .before .before .before .before .before .before .before .before .before .before .before .before .before .before .both .result && b) (c .before .before .before .before .before .before .before .before .before .before .both3 .ensures ∙ ap (λ (b : Bool). b && eqb (a .s .notified) 0) (c .before .before .before .before .before .before .before .before .before .before .before .before .both2 .ensures)))
+    (a .flags) (a .counter) (c .before .before .before .before .before .before .before .before .before .before .before .before .before .before .is-soon .result) (c .before .before .before .before .before .before .before .before .before .before .before .before .before .before .is-soon .ensures) (c .before .before .before .before .before .before .before .before .before .both3 .result) (c .before .before .before .before .before .before .before .is-told .result) (c .before .before .before .before .before .before .before .before .pick .result)
+    (c .before .before .before .before .before .before .before .before .before .both3 .ensures ∙ ap (λ (b : Bool). c .before .before .before .before .before .before .before .before .before .before .before .before .before .before .before .both .result && b) (c .before .before .before .before .before .before .before .before .before .before .both2 .ensures ∙ ap (λ (b : Bool). b && eqb (a .s .notified) 0) (c .before .before .before .before .before .before .before .before .before .before .before .before .has-rights .ensures)))
     (c .before .before .before .before .before .before .before .is-told .ensures) (c .before .before .before .before .before .before .before .before .before .before .before .before .before .if1 .left) (c .before .before .before .before .before .before .before .before .pick .ensures) (c .before .before .before .before .flag-kept .ensures)
 
 pub flag-spec : {M : Type 1} → statement M

@@ -6,7 +6,7 @@ use native.Mathlib.Omega.{arith}
 use borrow.Author.Tests.{not-true, not-false}
 use Rattle.model.specs.Lines.{list, render}
 use Rattle.line_mailbox.specs.Texts.{markOf}
-use Rattle.event_mailbox.specs.Heard.{hears-none, hears-fits, hears-over}
+use Rattle.line_put.specs.Heard.{hears-none, hears-fits, hears-over}
 
 returns : tie.Need-returns
 returns c = let a = c .before .before .before .args in

@@ -5,12 +5,12 @@ use mathlib.Core.Path.{sym, _∙_}
 use borrow.Author.Tests.{not-true, not-false}
 
 returns-2 : tie.Need-returns-2
-returns-2 c = rw (c .before .before .if1 .left, sym (c .before .both .ensures) ∙ not-true _ (c .if2 .taken))
+returns-2 c = rw (c .before .before .if1 .left, sym (c .before .has-rights .ensures) ∙ not-true _ (c .if2 .taken))
 
 returns-3 : tie.Need-returns-3
 returns-3 c =
     let b = c .before .before .before in let if1 = b .if1 in
-    rw (if1 .left, sym (c .before .before .both .ensures) ∙ not-false _ (c .before .if2 .left)) (c .is-asked-of .ensures)
+    rw (if1 .left, sym (c .before .before .has-rights .ensures) ∙ not-false _ (c .before .if2 .left)) (c .is-asked-of .ensures)
 
 pub is-told-spec : {M : Type 1} → statement M
 is-told-spec =

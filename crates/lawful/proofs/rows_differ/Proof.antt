@@ -3,8 +3,8 @@ use mathlib.Core.Path.{_≡_, sym}
 use native.Mathlib.Omega.{arith}
 use lib.ListN.{length}
 use borrow.Author.Tests.{not-false}
-use Rattle.lawful_quick.specs.Distinct.{Differ}
-use Rattle.lawful_quick.specs.Digest.{digest}
+use Rattle.lawful_digests.specs.Distinct.{Differ}
+use Rattle.lawful_digests.specs.Digest.{digest}
 use Rattle.lawful_messages.specs.Clashing.{digests-apart}
 use borrow.Author.Needs.{needs}
 use Rattle.lawful.proofs.rows_differ.Statement.{statement}

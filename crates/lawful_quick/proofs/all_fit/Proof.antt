@@ -13,14 +13,17 @@ use Rattle.model.specs.Lawful.{clash}
 use Rattle.model.specs.declared.Mailbox.{Mailbox}
 use Rattle.table_messages.specs.Words.{messages}
 use Rattle.table_mailboxes.specs.Columns.{Column}
-use Rattle.lawful_quick.specs.Distinct.{low-wider}
+use Rattle.lawful_digests.specs.Distinct.{low-wider}
 use Rattle.lawful_quick.specs.Passing.{Owners, Passed, Below, good-none, going-start, passed-next, gone}
 use borrow.Author.Needs.{needs}
 use Rattle.lawful_quick.proofs.all_fit.Statement.{statement}
 use Rattle.lawful_quick.proofs.all_fit.Tie as tie
 
 abbrev Inv-loop : tie.InvT-loop
-Inv-loop words used ids nexts counters slots chain n selected told last₀ end p₀ last p = (end ≡ 6 * used) × (p .at ≤ end) × (p .at % 6 ≡ 0) × (length last ≡ 64) × ((l : List Mailbox) → length l ≡ n → Owners l ids nexts → Column counterOf l counters → apart clash l ≡ true → Passed words l selected (told .0) p last)
+Inv-loop words used ids nexts counters slots chain n selected told last₀ end p₀ last p =
+    (end ≡ 6 * used) × (p .at ≤ end) × (p .at % 6 ≡ 0) × (length last ≡ 64)
+    × ((l : List Mailbox) → length l ≡ n → Owners l ids nexts → Column counterOf l counters → apart clash l ≡ true
+    → Passed words l selected (told .0) p last)
 
 abbrev μ-loop : tie.MeasureT-loop
 μ-loop words used ids nexts counters slots chain n selected told last₀ end p₀ last p = end - p .at
@@ -188,7 +191,8 @@ returns-5 c =
     λ l h w v ok a z.
     let below : Below (turn .last) (args .nexts .now) (length l) = rw h (c .below .ensures z) in
     let e : turn .p .at / 6 ≡ args .used = omega arith in
-    gone l (args .ids .now) (args .nexts .now) (args .counters .now) w v a (args .selected) (args .told .0) (turn .last) below ok (take (args .used) (messages (args .words .now))) (turn .p .flags) (turn .p .size) (if4 .left) (c .before .before .if5 .left) (rw e at (turn .inv .4 l h w v a))
+    gone l (args .ids .now) (args .nexts .now) (args .counters .now) w v a (args .selected) (args .told .0) (turn .last) below ok
+    (take (args .used) (messages (args .words .now))) (turn .p .flags) (turn .p .size) (if4 .left) (c .before .before .if5 .left) (rw e at (turn .inv .4 l h w v a))
 
 pub all-fit-spec : {M : Type 1} → statement M
 all-fit-spec =

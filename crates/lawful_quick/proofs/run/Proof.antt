@@ -9,7 +9,9 @@ use Rattle.lawful_quick.proofs.run.Statement.{statement}
 use Rattle.lawful_quick.proofs.run.Tie as tie
 
 abbrev Inv-loop : tie.InvT-loop
-Inv-loop words end ids counters slots last₀ selected told b₀ flags₀ size₀ last b flags size = Ran words end ids counters slots selected (told .0) (record { at = b₀; flags = flags₀; size = size₀ }) last₀ (record { at = b; flags = flags; size = size }) last
+Inv-loop words end ids counters slots last₀ selected told b₀ flags₀ size₀ last b flags size =
+    Ran words end ids counters slots selected (told .0) (record { at = b₀; flags = flags₀; size = size₀ }) last₀ (record { at = b; flags = flags; size = size })
+    last
 
 abbrev μ-loop : tie.MeasureT-loop
 μ-loop words end ids counters slots last₀ selected told b₀ flags₀ size₀ last b flags size = end - b
@@ -39,7 +41,9 @@ mul-entry-fits-3 : tie.Need-mul-entry-fits-3 Inv-loop μ-loop
 mul-entry-fits-3 c = let z = c .before .before .before .before .before .before .before .before .before .pre .5 (omega arith) (c .before .before .before .before .slot .result) in search needs
 
 element-copy-out-entry-fits-3 : tie.Need-element-copy-out-entry-fits-3 Inv-loop μ-loop
-element-copy-out-entry-fits-3 c = let z = c .before .before .before .before .before .before .before .before .before .pre .5 (omega arith) (c .before .before .before .before .slot .result) in search needs
+element-copy-out-entry-fits-3 c =
+    let z = c .before .before .before .before .before .before .before .before .before .pre .5 (omega arith) (c .before .before .before .before .slot .result) in
+    search needs
 
 returns : tie.Need-returns Inv-loop μ-loop
 returns c = c .before .before .before .before .before .before .before .before .before .before .loop .inv
@@ -79,7 +83,9 @@ loop-again c =
       long = simp length-set (turn .inv .long);
       kept = λ l nexts w v a o s g.
           let y = s o at in
-          passed-next (args .words .now) (args .ids .now) nexts (args .counters .now) l w v a (args .selected) (args .told .0) (record { at = turn .b; flags = turn .flags; size = turn .size }) (turn .last) k (turn .inv .whole) (omega arith) (omega arith) (omega arith) fits (turn .inv .kept l nexts w v a o s g);
+          passed-next (args .words .now) (args .ids .now) nexts (args .counters .now) l w v a (args .selected) (args .told .0)
+          (record { at = turn .b; flags = turn .flags; size = turn .size }) (turn .last) k (turn .inv .whole) (omega arith) (omega arith) (omega arith) fits
+          (turn .inv .kept l nexts w v a o s g);
     }
 
 returns-2 : tie.Need-returns-2 Inv-loop μ-loop

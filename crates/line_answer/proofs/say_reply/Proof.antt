@@ -5,9 +5,9 @@ use Rattle.line_answer.proofs.say_reply.Tie as tie
 use native.Mathlib.Omega.{arith}
 use Rattle.model.specs.Commands.{tagOf}
 use Rattle.model.specs.Lines.{answer}
+use Rattle.model.specs.Rendered.{render-some}
 use Rattle.read_commands.specs.Judging.{wordOf}
 use Rattle.line_answer.specs.Sizes.{whole-fits, whole-not}
-use Rattle.line_answer.specs.Tagged.{some-octets}
 use mathlib.Core.Path.{refl}
 
 returns : tie.Need-returns
@@ -17,7 +17,7 @@ returns c =
 
 returns-2 : tie.Need-returns-2
 returns-2 c = let a = c .before .before .before .before .before .before .before .args in
-    whole-not (c .before .before .before .put-reply .ensures .0) (some-octets (answer (tagOf (a .text .now)) (wordOf (a .verb)) (a .reply))) refl (omega arith)
+    whole-not (c .before .before .before .put-reply .ensures .0) (render-some (answer (tagOf (a .text .now)) (wordOf (a .verb)) (a .reply))) refl (omega arith)
 
 pub say-reply-spec : {M : Type 1} → statement M
 say-reply-spec =

@@ -6,7 +6,7 @@ use mathlib.Core.Path.{ap}
 use Prim.Native.Nat.{ℕ}
 use native.Mathlib.Omega.{arith}
 use lib.ListN.{take}
-use Rattle.match_groups.specs.Asking.{take-within}
+use Rattle.model.specs.Laws.{take-within}
 
 returns : tie.Need-returns
 returns c = (omega arith, λ l e. ap (λ (n : ℕ). take n l) (c .before .wide .ensures .0))

@@ -6,7 +6,7 @@ use mathlib.Core.Path.{_≡_, ap}
 use Prim.Native.Nat.{ℕ, _+_}
 use native.Mathlib.Omega.{arith}
 use lib.ListN.{take}
-use Rattle.match_groups.specs.Asking.{take-within}
+use Rattle.model.specs.Laws.{take-within}
 
 returns : tie.Need-returns
 returns c =

@@ -2,7 +2,7 @@ use borrow.Author.Needs.{needs}
 use Rattle.match_sources.proofs.listed_count.Statement.{statement}
 use Rattle.match_sources.proofs.listed_count.Tie as tie
 use native.Mathlib.Omega.{arith}
-use Rattle.match_sources.specs.Admitting.{take-within}
+use Rattle.model.specs.Laws.{take-within}
 
 returns : tie.Need-returns
 returns c = (omega arith, λ l e. take-within (c .before .args .count) 8 l e (omega arith))

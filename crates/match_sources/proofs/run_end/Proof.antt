@@ -2,8 +2,8 @@ use borrow.Author.Needs.{needs}
 use Rattle.match_sources.proofs.run_end.Statement.{statement}
 use Rattle.match_sources.proofs.run_end.Tie as tie
 use native.Mathlib.Omega.{arith}
-use Rattle.match_sources.specs.Admitting.{take-within}
 use Prim.Native.Nat.{_+_}
+use Rattle.model.specs.Laws.{take-within}
 
 returns : tie.Need-returns
 returns c =

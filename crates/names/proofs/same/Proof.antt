@@ -6,7 +6,8 @@ use Prim.Native.Nat.{_≤_, _-_}
 use native.Mathlib.Omega.{arith}
 use lib.ListN.{length, drop}
 use Rattle.model.specs.Lists.{same}
-use Rattle.names.proofs.Walks.{same-next, same-differs, same-past, same-lengths}
+use Rattle.model.specs.Laws.{same-lengths}
+use Rattle.names.proofs.Walks.{same-next, same-differs, same-past}
 use borrow.Author.Needs.{needs}
 
 abbrev Inv-loop : tie.InvT-loop

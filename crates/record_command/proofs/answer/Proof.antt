@@ -7,7 +7,7 @@ use lib.Dec.{eqb}
 use Rattle.model.specs.Limits.{limits}
 use Rattle.model.specs.declared.Reply.the-variants.{Bad}
 use Rattle.read_options.specs.declared.Verb.the-variants.{Other}
-use Rattle.event_mailbox.specs.Free.{sizes}
+use Rattle.laws.specs.Room.{sizes}
 use Rattle.read_commands.specs.Judging.{answerOf, judgedOf}
 use Rattle.record_command.specs.Verbs.{verb-judged, reply-judged}
 use Rattle.record_command.proofs.answer.Statement.{statement}

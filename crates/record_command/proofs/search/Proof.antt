@@ -9,7 +9,7 @@ use Rattle.model.specs.Requests.{esearch}
 use Rattle.model.specs.Commands.{commandOf}
 use Rattle.model.specs.Limits.{limits}
 use Rattle.model.specs.declared.Limits.{Limits}
-use Rattle.event_mailbox.specs.Free.{sizes}
+use Rattle.laws.specs.Room.{sizes}
 use Rattle.read_commands.specs.Judging.{judgedOf, wholeBy}
 use Rattle.record_command.specs.Verbs.{verb-judged, reply-judged, accepted-judged, search-are}
 use Rattle.record_command.proofs.search.Statement.{statement}

@@ -3,7 +3,7 @@ use borrow.Author.Needs.{needs}
 use mathlib.Core.Path.{sym, _∙_}
 use native.Mathlib.Omega.{arith}
 use lib.ListN.{length}
-use Rattle.event_mailbox.specs.Free.{sizes}
+use Rattle.laws.specs.Room.{sizes}
 use Rattle.record_message.specs.Met.{some-free}
 use Rattle.record_message.specs.Arrivals.{arrive-unknown, arrive-used, arrive-stale, arrive-full, arrive-done}
 use Rattle.record_message.proofs.arrive.Statement.{statement}

@@ -5,7 +5,7 @@ use native.Mathlib.Omega.{arith}
 use lib.ListN.{length}
 use Rattle.model.specs.Records.{expunge}
 use Rattle.model.specs.Rules.{accepted}
-use Rattle.event_mailbox.specs.Free.{sizes}
+use Rattle.laws.specs.Room.{sizes}
 use Rattle.record_message.specs.Met.{some-free}
 use Rattle.record_message.specs.Kinds.{no-mailbox, not-above, no-message, expunge-done}
 use Rattle.record_message.proofs.expunge.Statement.{statement}

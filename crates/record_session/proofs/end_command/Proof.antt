@@ -2,7 +2,7 @@
 use borrow.Author.Needs.{needs}
 use native.Mathlib.Omega.{arith}
 use borrow.Author.Tests.{not-true}
-use Rattle.event_mailbox.specs.Free.{sizes}
+use Rattle.laws.specs.Room.{sizes}
 use Rattle.record_session.specs.Leaving.{end-comes, end-unowed}
 use Rattle.record_session.proofs.end_command.Statement.{statement}
 use Rattle.record_session.proofs.end_command.Tie as tie
@@ -27,10 +27,10 @@ end-command-requires c κs = let p = c .before .before .before .before .before .
 returns-2 : tie.Need-returns-2
 returns-2 c =
     let b = c .before .before .before .before .before .before .before in let end-command = b .end-command in
-    let b = b .before .before .before .before in let both = b .both in
+    let b = b .before .before .before .before in let has-rights = b .has-rights in
     let b = b .before .before .before .before .before .before .before .before in let args = b .args in
     λ m lent law is. let a = args in
-    end-comes m (a .words .now) (a .counts) (a .s) (a .queue .now) lent law (a .x) is (a .class) _ (both .result) (both .ensures) (end-command .result) (end-command .ensures) (c .unmoved2 .ensures)
+    end-comes m (a .words .now) (a .counts) (a .s) (a .queue .now) lent law (a .x) is (a .class) _ (has-rights .result) (has-rights .ensures) (end-command .result) (end-command .ensures) (c .unmoved2 .ensures)
 
 pub end-command-spec : {M : Type 1} → statement M
 end-command-spec =

@@ -4,7 +4,7 @@ use Rattle.search_answer.proofs.answer.Statement.{statement}
 use Rattle.search_answer.proofs.answer.Tie as tie
 use native.Mathlib.Omega.{arith}
 use lib.ListN.{length}
-use Rattle.event_mailbox.specs.Free.{sizes}
+use Rattle.laws.specs.Room.{sizes}
 use Rattle.search_answer.specs.Coming.{answer-comes}
 
 tell-requires : tie.Need-tell-requires

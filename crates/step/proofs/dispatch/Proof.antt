@@ -1,6 +1,6 @@
 -- `dispatch`: a record by its kind. Assumes nothing.
 use borrow.Author.Needs.{needs}
-use Rattle.event_mailbox.specs.Free.{sizes}
+use Rattle.laws.specs.Room.{sizes}
 use Rattle.record_read.specs.declared.Kind.the-variants.{Create, Delete, Rename, Subscribe, Grant, Arrive, Select, Command}
 use Rattle.record_read.specs.Laws.{create-bounds, delete-bounds, rename-bounds, subscribe-bounds, grant-bounds, arrive-bounds, select-bounds, command-bounds}
 use Rattle.step.specs.Kinds.{rest, says-of, created, deleted, renamed, subscribed, granted, arrived, expunged, reflagged, selected, finished, answered, emptied, nothing}

@@ -1,3 +1,4 @@
+-- `before_one`: each test that fails leaves the entry out, and what passes all three stands before the message. Assumes nothing.
 use borrow.Author.Needs.{needs}
 use Rattle.table_messages.proofs.before_one.Statement.{statement}
 use Rattle.table_messages.proofs.before_one.Tie as tie

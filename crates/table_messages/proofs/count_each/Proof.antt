@@ -1,3 +1,4 @@
+-- `count_each`: the loop keeps how many of the first i entries exist; these are at most i, so the sum fits. Assumes nothing.
 use Rattle.table_messages.proofs.count_each.Statement.{statement}
 use Rattle.table_messages.proofs.count_each.Tie as tie
 use mathlib.Core.Path.{_≡_, refl}
@@ -25,8 +26,12 @@ loop-again : tie.Need-loop-again Inv-loop μ-loop
 loop-again c =
     let b = c .before .before in let loop = b .loop in
     let b = b .before .before in let args = b .args in
-    let pre = b .pre in
-    (search needs, omega (arith, c .count-one .ensures .1, loop .inv .1), let k = messages-length (args .used) (args .words .now) pre in count-next (lives (args .mailbox)) (messages (args .words .now)) (loop .i) (loop .n) (c .count-one .result) (omega arith) (loop .inv .2) (c .count-one .ensures .0))
+    let ws = args .words .now in
+    let pre = b .pre in (
+      search needs,
+      omega (arith, c .count-one .ensures .1, loop .inv .1),
+      let k = messages-length (args .used) ws pre in count-next (lives (args .mailbox)) (messages ws) (loop .i) (loop .n) (c .count-one .result) (omega arith) (loop .inv .2) (c .count-one .ensures .0),
+    )
 
 returns : tie.Need-returns Inv-loop μ-loop
 returns c =

@@ -1,3 +1,4 @@
+-- `count_one`: an entry of another mailbox or an expunged one counts nothing, any other one. Assumes nothing.
 use borrow.Author.Needs.{needs}
 use Rattle.table_messages.proofs.count_one.Statement.{statement}
 use Rattle.table_messages.proofs.count_one.Tie as tie

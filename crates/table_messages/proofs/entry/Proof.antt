@@ -1,3 +1,4 @@
+-- `entry`: a place behind the last whole entry has nothing; any other has its six words in the slice. Assumes nothing.
 use borrow.Author.Needs.{needs}
 use Rattle.table_messages.proofs.entry.Statement.{statement}
 use Rattle.table_messages.proofs.entry.Tie as tie

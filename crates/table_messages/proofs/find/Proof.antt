@@ -1,3 +1,4 @@
+-- `find`: the loop keeps that none of the first i entries is the message, so the one found is the first. Assumes nothing.
 use Rattle.table_messages.proofs.find.Statement.{statement}
 use Rattle.table_messages.proofs.find.Tie as tie
 use mathlib.Core.Path.{_≡_, sym, _∙_, ap}
@@ -27,7 +28,8 @@ returns c =
     let k = messages-length (a .used) (a .words .now) pre in
     let l = length-take-le (a .used) (messages (a .words .now)) k in
     let d = getD-take (a .used) (messages (a .words .now)) (o .i) noMessage (omega arith) in
-    first-here (stands (a .mailbox) (a .uid .0)) (take (a .used) (messages (a .words .now))) (o .i) (omega arith) (ap (stands (a .mailbox) (a .uid .0)) d ∙ (sym (c .before .is-message .ensures) ∙ c .if1 .taken)) (o .inv .1)
+    first-here (stands (a .mailbox) (a .uid .0)) (take (a .used) (messages (a .words .now))) (o .i) (omega arith)
+    (ap (stands (a .mailbox) (a .uid .0)) d ∙ (sym (c .before .is-message .ensures) ∙ c .if1 .taken)) (o .inv .1)
 
 loop-again : tie.Need-loop-again Inv-loop μ-loop
 loop-again c =
@@ -36,8 +38,10 @@ loop-again c =
     let pre = b .pre in
     let k = messages-length (a .used) (a .words .now) pre in
     let l = length-take-le (a .used) (messages (a .words .now)) k in
-    let d = getD-take (a .used) (messages (a .words .now)) (o .i) noMessage (omega arith) in
-    (search needs, first-next (stands (a .mailbox) (a .uid .0)) (take (a .used) (messages (a .words .now))) (o .i) (omega arith) (ap (stands (a .mailbox) (a .uid .0)) d ∙ (sym (c .before .is-message .ensures) ∙ c .if1 .left)) (o .inv .1))
+    let d = getD-take (a .used) (messages (a .words .now)) (o .i) noMessage (omega arith) in (
+      search needs,
+      first-next (stands (a .mailbox) (a .uid .0)) (take (a .used) (messages (a .words .now))) (o .i) (omega arith) (ap (stands (a .mailbox) (a .uid .0)) d ∙ (sym (c .before .is-message .ensures) ∙ c .if1 .left)) (o .inv .1),
+    )
 
 returns-2 : tie.Need-returns-2 Inv-loop μ-loop
 returns-2 c =

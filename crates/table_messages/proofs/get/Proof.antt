@@ -1,3 +1,4 @@
+-- `get`: six words from 6 i on are entry i. Assumes nothing.
 use borrow.Author.Needs.{needs}
 use Rattle.table_messages.proofs.get.Statement.{statement}
 use Rattle.table_messages.proofs.get.Tie as tie

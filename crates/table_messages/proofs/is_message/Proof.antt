@@ -1,3 +1,4 @@
+-- `is_message`: mailbox, UID and the bit of the expunged are tested one by one, as in the definition. Assumes nothing.
 use borrow.Author.Needs.{needs}
 use Rattle.table_messages.proofs.is_message.Statement.{statement}
 use Rattle.table_messages.proofs.is_message.Tie as tie

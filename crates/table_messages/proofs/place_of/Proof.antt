@@ -1,3 +1,4 @@
+-- `place_of`: the loop keeps how many of the first i entries stand before the message; its place is one more. Assumes nothing.
 use Rattle.table_messages.proofs.place_of.Statement.{statement}
 use Rattle.table_messages.proofs.place_of.Tie as tie
 use mathlib.Core.Path.{_≡_, refl}
@@ -25,8 +26,12 @@ loop-again : tie.Need-loop-again Inv-loop μ-loop
 loop-again c =
     let b = c .before .before in let loop = b .loop in
     let b = b .before .before in let args = b .args in
-    let pre = b .pre in
-    (search needs, omega (arith, c .before-one .ensures .1, loop .inv .1), let k = messages-length (args .used) (args .words .now) pre in count-next (before (args .mailbox) (args .told .0) (args .uid .0)) (messages (args .words .now)) (loop .i) (loop .n) (c .before-one .result) (omega arith) (loop .inv .2) (c .before-one .ensures .0))
+    let ws = args .words .now in
+    let pre = b .pre in (
+      search needs,
+      omega (arith, c .before-one .ensures .1, loop .inv .1),
+      let k = messages-length (args .used) ws pre in count-next (before (args .mailbox) (args .told .0) (args .uid .0)) (messages ws) (loop .i) (loop .n) (c .before-one .result) (omega arith) (loop .inv .2) (c .before-one .ensures .0),
+    )
 
 returns : tie.Need-returns Inv-loop μ-loop
 returns c =

@@ -1,3 +1,4 @@
+-- `put`: six stores from 6 i on are the entry put at i; its bound keeps them within the slice. Assumes nothing.
 use borrow.Author.Needs.{needs}
 use Rattle.table_messages.proofs.put.Statement.{statement}
 use Rattle.table_messages.proofs.put.Tie as tie

@@ -27,8 +27,11 @@ loop-again c =
     let b = c .before .before .before in let loop = b .loop in
     let start = c .before .before .before .before .before in
     let turn = loop in
-    let one = c .before .of-one in
-    (search needs, omega (arith, one .ensures .1, turn .inv .1), tally-next (start .args .mailbox) (start .args .words .now) (turn .i) (turn .count) (one .result) (turn .states) (omega arith) (turn .inv .2) (one .ensures .0))
+    let one = c .before .of-one in (
+      search needs,
+      omega (arith, one .ensures .1, turn .inv .1),
+      tally-next (start .args .mailbox) (start .args .words .now) (turn .i) (turn .count) (one .result) (turn .states) (omega arith) (turn .inv .2) (one .ensures .0),
+    )
 
 returns : tie.Need-returns Inv-loop μ-loop
 returns c = let e : c .before .loop .i ≡ c .before .before .before .args .used = omega arith in rw e at (c .before .loop .inv .2)

@@ -52,31 +52,24 @@ static borjavid_answer step(size_t rows, size_t words, size_t queue, const void 
 
 static int unchanged(void) { return memcmp(&lent, &wanted, sizeof lent) == 0; }
 
-/* a record from its mark and body */
-static size_t record(uint8_t *to, const char *mark, const void *body, size_t length) {
-    memcpy(to, mark, 2);
-    to[2] = length & 255;
-    to[3] = length >> 8 & 255;
-    memcpy(to + 4, body, length);
-    return 4 + length;
+/* the name of the mailbox with this id, three octets, and one more that is not part of it */
+static void name_of(size_t id, uint8_t name[4]) {
+    name[0] = 'm';
+    name[1] = (uint8_t)('a' + id / 26 % 26);
+    name[2] = (uint8_t)('a' + id % 26);
+    name[3] = 'x';
 }
 
-static void put_counter(uint8_t *to, uint64_t counter) {
-    for (int place = 0; place < 8; place++) to[place] = counter >> 8 * place & 255;
+static uint32_t create(size_t rows, size_t words, size_t queue, size_t id) {
+    uint8_t octets[32], name[4];
+    name_of(id, name);
+    return step(rows, words, queue, octets, borjavid_put_create(octets, sizeof octets, (uint16_t)id, 0x33, 0, 7, FIRST, name, 3))
+        .refusal;
 }
 
-static uint32_t create(size_t rows, size_t words, size_t queue, unsigned id) {
-    uint8_t octets[32], body[24] = {id & 255, id >> 8, 0x33, 0, 7};
-    uint8_t name[3] = {'m', 'a' + id / 26 % 26, 'a' + id % 26};
-    put_counter(body + 8, FIRST);
-    memcpy(body + 16, name, sizeof name);
-    return step(rows, words, queue, octets, record(octets, "MB", body, 19)).refusal;
-}
-
-static uint32_t arrive(size_t words, unsigned uid) {
-    uint8_t octets[32], body[19] = {1, 0, uid & 255, uid >> 8 & 255, uid >> 16 & 255, 0, 3, 9};
-    put_counter(body + 11, FIRST + uid);
-    return step(1, words, 1024, octets, record(octets, "ME", body, 19)).refusal;
+static uint32_t arrive(size_t words, size_t uid) {
+    uint8_t octets[32];
+    return step(1, words, 1024, octets, borjavid_put_message(octets, sizeof octets, 1, (uint32_t)uid, 3, 9, FIRST + uid)).refusal;
 }
 
 static void rows_arrive(void) {
@@ -86,8 +79,9 @@ static void rows_arrive(void) {
             uint32_t refusal = rows > 64 ? 1 : place < rows ? 0 : 7;
             CHECK(create(rows, 50, 1024, place + 1) == refusal, "row %zu of %zu", place, rows);
             if (refusal == 0) {
-                uint8_t second = 'a' + (place + 1) / 26 % 26, third = 'a' + (place + 1) % 26;
-                borjavid_mailbox row = {place + 1, 0x33, 3, 7, 1, 0, 0, {'m', second, third}};
+                uint8_t name[4];
+                name_of(place + 1, name);
+                borjavid_mailbox row = {(uint16_t)(place + 1), 0x33, 3, 7, 1, 0, 0, {name[0], name[1], name[2]}};
                 borjavid_row_set_counter(&row, FIRST);
                 CHECK(borjavid_row_counter(&row) == FIRST && row.counterhigh == FIRST >> 32, "row %zu", place);
                 wanted.rows[place] = row;
@@ -108,7 +102,7 @@ static void words_arrive(void) {
             memcpy(lent.words + 6 * place, entry, sizeof entry);
         }
         lent.counts.messages = used;
-        lent.rows[0].uidnext = used + 1;
+        lent.rows[0].uidnext = (uint32_t)(used + 1);
         borjavid_row_set_counter(&lent.rows[0], FIRST + used);
         wanted = lent;
         CHECK(arrive(words, used + 1) == (entries > 1024 ? 1u : entries ? 0u : 7u), "%zu words", words);
@@ -156,8 +150,8 @@ static void records_arrive(void) {
     for (size_t length = 0; length <= 70000; length++) {
         octets[2] = octets[3] = 'x';
         if (length >= 4) {
-            octets[2] = (length - 4) & 255;
-            octets[3] = (length - 4) >> 8 & 255;
+            octets[2] = (uint8_t)(length - 4);
+            octets[3] = (uint8_t)((length - 4) >> 8);
         }
         borjavid_answer answer = step(4, 50, 1024, octets, length);
         if (4 <= length && length <= 1028) {
@@ -191,9 +185,10 @@ static void rows_are_found(void) {
     for (unsigned id = 1; id <= 64; id++) CHECK(create(64, 0, 1024, id) == 0, "%u", id);
     wanted = lent;
     for (size_t used = 0; used <= 64; used++) {
-        for (unsigned id = 1; id <= 65; id++) {
-            uint8_t name[4] = {'m', 'a' + id / 26 % 26, 'a' + id % 26, 'x'};
-            size_t place = id <= used ? id - 1 : used;
+        for (uint16_t id = 1; id <= 65; id++) {
+            uint8_t name[4];
+            size_t place = id <= used ? id - 1u : used;
+            name_of(id, name);
             CHECK(borjavid_find_id(lent.rows, 64, used, id) == place, "id %u of %zu", id, used);
             CHECK(borjavid_find_name(lent.rows, 64, used, name, 3) == place, "name %u of %zu", id, used);
             CHECK(borjavid_find_name(lent.rows, 64, used, name, 4) == used, "longer name %u", id);
@@ -212,6 +207,7 @@ static void rows_are_found(void) {
 }
 
 int main(void) {
+    CHECK(borjavid_fits(), "layout %u", (unsigned)borjavid_layout());
     rows_arrive();
     words_arrive();
     queues_arrive();

@@ -4,7 +4,8 @@ use Rattle.event_mailbox.proofs.creating.tell_new.Statement.{statement}
 use Rattle.event_mailbox.proofs.creating.tell_new.Tie as tie
 use mathlib.Core.Path.{sym, _∙_}
 use native.Mathlib.Omega.{arith}
-use Rattle.event_mailbox.specs.Free.{sizes, create-free}
+use Rattle.laws.specs.Room.{sizes}
+use Rattle.event_mailbox.specs.Free.{create-free}
 use Rattle.event_mailbox.specs.Creating.{create-leaves}
 
 tell-row-requires : tie.Need-tell-row-requires

@@ -4,7 +4,8 @@ use Rattle.event_mailbox.proofs.deleting.delete.Statement.{statement}
 use Rattle.event_mailbox.proofs.deleting.delete.Tie as tie
 use mathlib.Core.Path.{sym, _∙_}
 use native.Mathlib.Omega.{arith}
-use Rattle.event_mailbox.specs.Free.{sizes, create-free}
+use Rattle.laws.specs.Room.{sizes}
+use Rattle.event_mailbox.specs.Free.{create-free}
 
 tell-row-requires : tie.Need-tell-row-requires
 tell-row-requires c κs =

@@ -5,7 +5,8 @@ use Rattle.event_mailbox.proofs.renaming.rename.Tie as tie
 use mathlib.Core.Path.{sym, _∙_}
 use native.Mathlib.Omega.{arith}
 use Rattle.model.specs.Names.{argument}
-use Rattle.event_mailbox.specs.Free.{sizes, rename-free}
+use Rattle.laws.specs.Room.{sizes}
+use Rattle.event_mailbox.specs.Free.{rename-free}
 use Rattle.event_mailbox.specs.Renaming.{rename-leaves}
 
 tell-rows-requires : tie.Need-tell-rows-requires

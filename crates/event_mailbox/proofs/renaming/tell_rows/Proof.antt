@@ -7,7 +7,7 @@ use borrow.Author.Tests.{not-true, not-false}
 use Rattle.model.specs.Memory.{nameOf}
 use Rattle.model.specs.Lines.{renamed, render}
 use Rattle.line_mailbox.specs.Texts.{markOf}
-use Rattle.event_mailbox.specs.Heard.{hears-none, hears-fits, hears-over}
+use Rattle.line_put.specs.Heard.{hears-none, hears-fits, hears-over}
 
 returns : tie.Need-returns
 returns c = let a = c .before .before .args in

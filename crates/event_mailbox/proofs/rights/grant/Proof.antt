@@ -4,7 +4,8 @@ use Rattle.event_mailbox.proofs.rights.grant.Statement.{statement}
 use Rattle.event_mailbox.proofs.rights.grant.Tie as tie
 use mathlib.Core.Path.{sym, _∙_}
 use native.Mathlib.Omega.{arith}
-use Rattle.event_mailbox.specs.Free.{sizes, grant-free}
+use Rattle.laws.specs.Room.{sizes}
+use Rattle.event_mailbox.specs.Free.{grant-free}
 use Rattle.event_mailbox.specs.Rights.{grant-leaves}
 
 tell-row-requires : tie.Need-tell-row-requires

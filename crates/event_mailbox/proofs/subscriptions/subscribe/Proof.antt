@@ -4,7 +4,8 @@ use Rattle.event_mailbox.proofs.subscriptions.subscribe.Statement.{stat
 use Rattle.event_mailbox.proofs.subscriptions.subscribe.Tie as tie
 use mathlib.Core.Path.{sym, _∙_}
 use native.Mathlib.Omega.{arith}
-use Rattle.event_mailbox.specs.Free.{sizes, subscribe-free}
+use Rattle.laws.specs.Room.{sizes}
+use Rattle.event_mailbox.specs.Free.{subscribe-free}
 use Rattle.event_mailbox.specs.Subscriptions.{subscribe-leaves}
 
 tell-row-requires : tie.Need-tell-row-requires

@@ -28,12 +28,12 @@ returns-3 c = let a = c .before .before .before .before .before .args in
     rung-three (eqb (a .quiet) 0) (differs (a .x .attributes) (a .b)) (bothRights (a .x))
     (asked (a .s) (nameOf (a .x)) (withSubscribed (a .x .attributes) 1) asksSubscription) (eq-eqb _ 0 (c .before .before .before .before .if1 .left))
     (sym (c .before .before .before .does-differ .ensures) ∙ not-false _ (c .before .before .if2 .left))
-    (sym (c .before .both .ensures) ∙ not-true _ (c .if3 .taken))
+    (sym (c .before .has-rights .ensures) ∙ not-true _ (c .if3 .taken))
 
 returns-4 : tie.Need-returns-4
 returns-4 c =
     let b = c .before .before .before in let if3 = b .if3 in
-    let b = b .before in let both = b .both in
+    let b = b .before in let has-rights = b .has-rights in
     let b = b .before in let if2 = b .if2 in
     let b = b .before in let does-differ = b .does-differ in
     let b = b .before in let if1 = b .if1 in
@@ -42,7 +42,7 @@ returns-4 c =
     (asked (a .s) (nameOf (a .x)) (withSubscribed (a .x .attributes) 1) asksSubscription) _
     (eq-eqb _ 0 (if1 .left))
     (sym (does-differ .ensures) ∙ not-false _ (if2 .left))
-    (sym (both .ensures) ∙ not-false _ (if3 .left))
+    (sym (has-rights .ensures) ∙ not-false _ (if3 .left))
     (c .is-asked-of .ensures ∙ ap (λ (z : Mailbox). askedOf (a .s) z (asksBit 4))
     (c .before .with-attributes .ensures ∙ ap (withAttributes (a .x)) (c .before .before .with-subscribed .ensures)))
 

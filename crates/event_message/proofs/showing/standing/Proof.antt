@@ -1,9 +1,9 @@
 -- `standing`: how many groups stand. Assumes nothing.
 use borrow.Author.Needs.{needs}
 use native.Mathlib.Omega.{arith}
-use Rattle.match_groups.specs.Asking.{take-within}
 use Rattle.event_message.proofs.showing.standing.Statement.{statement}
 use Rattle.event_message.proofs.showing.standing.Tie as tie
+use Rattle.model.specs.Laws.{take-within}
 
 returns-2 : tie.Need-returns-2
 returns-2 c = (omega arith, λ l e. take-within (c .before .args .count) 8 l e (omega arith))

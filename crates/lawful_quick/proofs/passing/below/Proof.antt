@@ -1,3 +1,4 @@
+-- `below`: the loop keeps that the last UIDs before i are below; a no promises nothing. Assumes nothing.
 use mathlib.Core.Path.{refl}
 use mathlib.Core.Bool.{false}
 use Prim.Native.Nat.{ℕ, _≤_, _<_, _-_}

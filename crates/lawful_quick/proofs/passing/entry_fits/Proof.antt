@@ -1,3 +1,4 @@
+-- `entry_fits`: a yes comes behind four tests, one for each condition; a no promises nothing. Assumes nothing.
 use mathlib.Core.Path.{refl}
 use mathlib.Core.Bool.{false}
 use native.Mathlib.Omega.{arith}

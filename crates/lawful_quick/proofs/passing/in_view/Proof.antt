@@ -1,3 +1,4 @@
+-- `in_view`: an entry without a state may stand; one with a state was tested to be of the view. Assumes nothing.
 use mathlib.Core.Path.{refl}
 use mathlib.Core.Bool.{false}
 use native.Mathlib.Omega.{arith}

@@ -1,3 +1,4 @@
+-- `owner`: slots and chains name rows below n, and the row of the search is tested before it is taken. Assumes nothing.
 use native.Mathlib.Omega.{arith}
 use borrow.Author.Needs.{needs}
 use Rattle.lawful_quick.proofs.passing.owner.Statement.{statement}

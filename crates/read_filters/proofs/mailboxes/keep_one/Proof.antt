@@ -1,9 +1,10 @@
 -- The name is set at its place, or dropped where there is none; there are 16.
 use borrow.Author.Needs.{needs}
 use native.Mathlib.Omega.{arith}
-use Rattle.read_filters.proofs.Places.{mapped, one-dropped}
+use Rattle.read_filters.proofs.Places.{one-dropped}
 use Rattle.read_filters.proofs.mailboxes.keep_one.Statement.{statement}
 use Rattle.read_filters.proofs.mailboxes.keep_one.Tie as tie
+use Rattle.model.specs.Laws.{mapped}
 
 returns-2 : tie.Need-returns-2
 returns-2 c =

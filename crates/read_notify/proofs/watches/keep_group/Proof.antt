@@ -1,9 +1,10 @@
 -- `keep_group`: the group is set at its place, or dropped where there is none; there are 8.
 use native.Mathlib.Omega.{arith}
-use Rattle.read_notify.proofs.Filling.{mapped, group-dropped}
+use Rattle.read_notify.proofs.Filling.{group-dropped}
 use borrow.Author.Needs.{needs}
 use Rattle.read_notify.proofs.watches.keep_group.Statement.{statement}
 use Rattle.read_notify.proofs.watches.keep_group.Tie as tie
+use Rattle.model.specs.Laws.{mapped}
 
 returns-2 : tie.Need-returns-2
 returns-2 c =

@@ -6,7 +6,7 @@ use mathlib.Core.Path.{ap, _∙_}
 use native.Mathlib.Omega.{arith}
 use Rattle.model.specs.declared.Counts.{Counts}
 use Rattle.model.specs.declared.Answer.the-variants.{Done}
-use Rattle.event_mailbox.specs.Free.{sizes}
+use Rattle.laws.specs.Room.{sizes}
 use Rattle.record_outcome.specs.Coming.{quiet}
 use Rattle.record_command.specs.Sized.{none-fits, none-not}
 

@@ -11,7 +11,7 @@ use Rattle.model.specs.Commands.{commandOf}
 use Rattle.model.specs.Limits.{limits}
 use Rattle.model.specs.Answering.{isAccepted}
 use Rattle.model.specs.declared.Limits.{Limits}
-use Rattle.event_mailbox.specs.Free.{sizes}
+use Rattle.laws.specs.Room.{sizes}
 use Rattle.read_notify.specs.Readings.{readNotify}
 use Rattle.read_commands.specs.Judging.{judgedOf, wholeBy, notified}
 use Rattle.read_commands.specs.declared.Judged.{Judged}

@@ -4,7 +4,7 @@ use mathlib.Core.Path.{ap, _∙_}
 use native.Mathlib.Omega.{arith}
 use Rattle.model.specs.Memory.{bothRights}
 use Rattle.model.specs.declared.Mailbox.{Mailbox}
-use Rattle.event_mailbox.specs.Free.{sizes}
+use Rattle.laws.specs.Room.{sizes}
 use Rattle.record_command.specs.Listed.{noted-rows}
 use Rattle.record_command.specs.Setting.{noted-set}
 use Rattle.record_command.proofs.sets.set.Statement.{statement}
@@ -25,7 +25,7 @@ set-noted-requires c κs =
 returns : tie.Need-returns
 returns c =
     let b = c .before .before .before .before in let set-noted = b .set-noted in
-    let b = b .before .before .before .before .before .before in let both = b .both in
+    let b = b .before .before .before .before .before .before in let has-rights = b .has-rights in
     let b = b .before in let existing = b .existing in
     let b = b .before .before .before in let by-name = b .by-name in
     let b = b .before .before .before .before .before in let note-rows = b .note-rows in
@@ -36,7 +36,7 @@ returns c =
     (noted-set m (a .words .now) (a .counts) (a .s) (a .queue .now) lent (a .status) gs (a .asked) asks
     (λ same. noted-rows m (a .words .now) (a .counts) (a .s) (a .queue .now) lent law (a .ids .now) (a .attributes .now) (a .lens .now) (a .validities .now) (a .nexts .now) (a .counters .now) (a .names .now) laid (a .asked) same (a .status) _ _ _ _ (by-name .result) (pre .rows)
     (note-rows .ensures) (by-name .ensures .0) (existing .ensures)))
-    (both .ensures ∙ ap bothRights sel) (ap (λ (x : Mailbox). x .uidnext) sel)
+    (has-rights .ensures ∙ ap bothRights sel) (ap (λ (x : Mailbox). x .uidnext) sel)
 
 pub set-spec : {M : Type 1} → statement M
 set-spec =

@@ -1,0 +1,32 @@
+-- `put_two`: two pieces one behind the other; the second has a space before it if any name stands before. Assumes nothing.
+use borrow.Author.Needs.{needs}
+use Rattle.line_fetch.proofs.flags.put_two.Statement.{statement}
+use Rattle.line_fetch.proofs.flags.put_two.Tie as tie
+use mathlib.Core.Path.{ap}
+use mathlib.Core.Bool.{Bool}
+use native.Mathlib.Omega.{arith}
+use Rattle.line_put.specs.Put.{_then_, put-as}
+use Rattle.line_fetch.specs.Fetch.{piece}
+use Rattle.model.specs.Text.{octets}
+
+returns : tie.Need-returns
+returns c =
+    let between = c .before .before .before .before .before in
+    let b = between .before .before .before in let put-flag = b .put-flag in
+    let b = b .before .before .before .before in let args = b .args in
+    let last = c .before .before .put-flag2 .ensures in (
+      _then_ (put-flag .ensures .0) (put-as (last .0) (ap (λ (b : Bool). piece (args .e) b (octets "\\Draft")) (between .either .ensures))),
+      omega (arith, put-flag .ensures .1, last .1),
+    )
+
+pub put-two-spec : {M : Type 1} → statement M
+put-two-spec =
+    tie.close
+    (tie.spec
+    (λ c. search needs)  -- slice-aggregate-put-flag
+    (λ c κs. search needs)  -- put-flag-requires
+    (λ c κs. search needs)  -- either-requires
+    (λ c. search needs)  -- slice-aggregate-put-flag-2
+    (λ c κs. search needs)  -- put-flag-requires-2
+    (λ c. search needs)  -- same-length
+    returns)

@@ -1,0 +1,118 @@
+-- `later_flag_word`: the tests stand in the order of the definition: the first that holds decides, those before it failed. Assumes nothing.
+use borrow.Author.Needs.{needs}
+use mathlib.Core.Path.{_∙_, sym}
+use Rattle.read_words.proofs.Choice.{skip, hit}
+use Rattle.read_words.proofs.later_flag_word.Statement.{statement}
+use Rattle.read_words.proofs.later_flag_word.Tie as tie
+
+returns : tie.Need-returns
+returns c = hit _ _ (sym (c .before .is-word .ensures) ∙ c .if1 .taken)
+
+returns-2 : tie.Need-returns-2
+returns-2 c =
+    let b = c .before .before .before in let if1 = b .if1 in
+    let b = b .before in let is-word = b .is-word in
+    skip _ _ (sym (is-word .ensures) ∙ if1 .left)
+    (hit _ _ (sym (c .before .is-word2 .ensures) ∙ c .if2 .taken))
+
+returns-3 : tie.Need-returns-3
+returns-3 c =
+    let b = c .before .before .before in let if2 = b .if2 in
+    let b = b .before in let is-word2 = b .is-word2 in
+    let b = b .before .before in let if1 = b .if1 in
+    let b = b .before in let is-word = b .is-word in
+    skip _ _ (sym (is-word .ensures) ∙ if1 .left)
+    (skip _ _ (sym (is-word2 .ensures) ∙ if2 .left)
+    (hit _ _ (sym (c .before .is-word3 .ensures) ∙ c .if3 .taken)))
+
+returns-4 : tie.Need-returns-4
+returns-4 c =
+    let b = c .before .before .before in let if3 = b .if3 in
+    let b = b .before in let is-word3 = b .is-word3 in
+    let b = b .before .before in let if2 = b .if2 in
+    let b = b .before in let is-word2 = b .is-word2 in
+    let b = b .before .before in let if1 = b .if1 in
+    let b = b .before in let is-word = b .is-word in
+    skip _ _ (sym (is-word .ensures) ∙ if1 .left)
+    (skip _ _ (sym (is-word2 .ensures) ∙ if2 .left)
+    (skip _ _ (sym (is-word3 .ensures) ∙ if3 .left)
+    (hit _ _ (sym (c .before .is-word4 .ensures) ∙ c .if4 .taken))))
+
+returns-5 : tie.Need-returns-5
+returns-5 c =
+    let b = c .before .before .before in let if4 = b .if4 in
+    let b = b .before in let is-word4 = b .is-word4 in
+    let b = b .before .before in let if3 = b .if3 in
+    let b = b .before in let is-word3 = b .is-word3 in
+    let b = b .before .before in let if2 = b .if2 in
+    let b = b .before in let is-word2 = b .is-word2 in
+    let b = b .before .before in let if1 = b .if1 in
+    let b = b .before in let is-word = b .is-word in
+    skip _ _ (sym (is-word .ensures) ∙ if1 .left)
+    (skip _ _ (sym (is-word2 .ensures) ∙ if2 .left)
+    (skip _ _ (sym (is-word3 .ensures) ∙ if3 .left)
+    (skip _ _ (sym (is-word4 .ensures) ∙ if4 .left)
+    (hit _ _ (sym (c .before .is-word5 .ensures) ∙ c .if5 .taken)))))
+
+returns-6 : tie.Need-returns-6
+returns-6 c =
+    let b = c .before .before .before in let if5 = b .if5 in
+    let b = b .before in let is-word5 = b .is-word5 in
+    let b = b .before .before in let if4 = b .if4 in
+    let b = b .before in let is-word4 = b .is-word4 in
+    let b = b .before .before in let if3 = b .if3 in
+    let b = b .before in let is-word3 = b .is-word3 in
+    let b = b .before .before in let if2 = b .if2 in
+    let b = b .before in let is-word2 = b .is-word2 in
+    let b = b .before .before in let if1 = b .if1 in
+    let b = b .before in let is-word = b .is-word in
+    skip _ _ (sym (is-word .ensures) ∙ if1 .left)
+    (skip _ _ (sym (is-word2 .ensures) ∙ if2 .left)
+    (skip _ _ (sym (is-word3 .ensures) ∙ if3 .left)
+    (skip _ _ (sym (is-word4 .ensures) ∙ if4 .left)
+    (skip _ _ (sym (is-word5 .ensures) ∙ if5 .left)
+    (hit _ _ (sym (c .before .is-word6 .ensures) ∙ c .if6 .taken))))))
+
+returns-7 : tie.Need-returns-7
+returns-7 c =
+    let b = c .before .before .before .before in let if5 = b .if5 in
+    let b = b .before in let is-word5 = b .is-word5 in
+    let b = b .before .before in let if4 = b .if4 in
+    let b = b .before in let is-word4 = b .is-word4 in
+    let b = b .before .before in let if3 = b .if3 in
+    let b = b .before in let is-word3 = b .is-word3 in
+    let b = b .before .before in let if2 = b .if2 in
+    let b = b .before in let is-word2 = b .is-word2 in
+    let b = b .before .before in let if1 = b .if1 in
+    let b = b .before in let is-word = b .is-word in
+    skip _ _ (sym (is-word .ensures) ∙ if1 .left)
+    (skip _ _ (sym (is-word2 .ensures) ∙ if2 .left)
+    (skip _ _ (sym (is-word3 .ensures) ∙ if3 .left)
+    (skip _ _ (sym (is-word4 .ensures) ∙ if4 .left)
+    (skip _ _ (sym (is-word5 .ensures) ∙ if5 .left)
+    (skip _ _ (sym (c .before .before .is-word6 .ensures) ∙ c .before .if6 .left) (c .unsupported-word .ensures))))))
+
+pub later-flag-word-spec : {M : Type 1} → statement M
+later-flag-word-spec =
+    tie.close
+    (tie.spec
+    (λ c. search needs)  -- slice-aggregate-is-word
+    (λ c κs. search needs)  -- is-word-requires
+    returns
+    (λ c. search needs)  -- slice-aggregate-is-word-2
+    (λ c κs. search needs)  -- is-word-requires-2
+    returns-2
+    (λ c. search needs)  -- slice-aggregate-is-word-3
+    (λ c κs. search needs)  -- is-word-requires-3
+    returns-3
+    (λ c. search needs)  -- slice-aggregate-is-word-4
+    (λ c κs. search needs)  -- is-word-requires-4
+    returns-4
+    (λ c. search needs)  -- slice-aggregate-is-word-5
+    (λ c κs. search needs)  -- is-word-requires-5
+    returns-5
+    (λ c. search needs)  -- slice-aggregate-is-word-6
+    (λ c κs. search needs)  -- is-word-requires-6
+    returns-6
+    (λ c κs. search needs)  -- unsupported-word-requires
+    returns-7)

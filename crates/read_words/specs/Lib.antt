@@ -1,0 +1,2 @@
+-- Definitions that the contracts of `read_words` cite.
+pub mod Words

@@ -75,7 +75,7 @@ fn round(
 ) {
     let mut lent = library.clone();
     run(trace, &mut best[0], slice, |octets| {
-        black_box(lent.step(octets));
+        let _ = black_box(lent.step(octets));
     });
     let mut memory = independent.clone();
     run(trace, &mut best[1], slice, |octets| {

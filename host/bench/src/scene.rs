@@ -46,7 +46,7 @@ impl Scene {
             lent
         };
         best(runs, make, |lent| {
-            black_box(lent.step(black_box(&self.record)));
+            let _ = black_box(lent.step(black_box(&self.record)));
         })
     }
 

@@ -73,7 +73,7 @@ fn depths(scene: &Scene) -> [usize; 2] {
     let mut lent = scene.lent();
     let mut memory = scene.memory.clone();
     let library = depth(|| {
-        black_box(lent.step(&scene.record));
+        let _ = black_box(lent.step(&scene.record));
     });
     let independent = depth(|| {
         black_box(call(&mut memory, &scene.record));

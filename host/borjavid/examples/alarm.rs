@@ -1,8 +1,8 @@
 //! A client watches one folder, an alarm comes in there, and the notice goes out.
 use borjavid::records::{command, create, message, Notice, LOOKUP, READ, SELECTABLE};
-use borjavid::{Answer, Memory};
+use borjavid::Memory;
 
-fn main() -> std::io::Result<()> {
+fn main() -> Result<(), Box<dyn std::error::Error>> {
     let mut session = Memory::new(65536);
     let attributes = SELECTABLE | LOOKUP | READ;
     let records = [
@@ -11,7 +11,7 @@ fn main() -> std::io::Result<()> {
         message(1, 5, 0, 120, 2),
     ];
     for record in records {
-        assert_eq!(session.step(&record), Answer::Done, "{record:?}");
+        session.step(&record).ok()?;
         // written out first, and drained by DR then
         session.drain_to(&mut std::io::stdout())?;
     }

@@ -1,23 +1,52 @@
 //! The memory of one session, owned or borrowed.
 
 use crate::answer::Answer;
+use crate::layout::check_layout;
 use crate::raw::{self, Counts, Mailbox, Session, ENTRY};
 use crate::records;
 use std::io::{self, Write};
 
-/// The longest tables, and the bounds of the queue.
+/// Rows of the longest mailbox table.
 pub const MAILBOXES: usize = 64;
+/// Entries of the longest message table.
 pub const MESSAGES: usize = 1024;
+/// Octets of the shortest queue.
 pub const QUEUE_LEAST: usize = 1024;
+/// Octets of the longest queue.
 pub const QUEUE_MOST: usize = 65536;
 
-/// Memory of a host's own, lent for some calls. Five pieces, apart from each other by the borrow checker's word.
+/// Memory of a host's own, lent for some calls. Five pieces, apart from each other by the borrow checker's word. The empty start
+/// is all zeros. Ask [`check_layout`] once, before the first call.
+///
+/// ```
+/// use borjavid::records::{create, Notice, LOOKUP, READ, SELECTABLE};
+/// use borjavid::{check_layout, Counts, Lent, Mailbox, Session};
+///
+/// check_layout()?;
+/// let (mut rows, mut words) = ([Mailbox::EMPTY; 8], [0; 6 * 100]);
+/// let (mut counts, mut session, mut queue) = (Counts::default(), Session::EMPTY, [0; 4096]);
+/// let mut lent = Lent {
+///     rows: &mut rows,
+///     words: &mut words,
+///     counts: &mut counts,
+///     session: &mut session,
+///     queue: &mut queue,
+/// };
+/// lent.step(&create(1, SELECTABLE | LOOKUP | READ, Notice::Quiet, 7, 1, b"INBOX")).ok()?;
+/// assert_eq!(lent.find_name(b"INBOX"), Some(0));
+/// assert_eq!(counts.mailboxes, 1);
+/// # Ok::<(), Box<dyn std::error::Error>>(())
+/// ```
 pub struct Lent<'a> {
+    /// The mailbox table, 64 rows at most.
     pub rows: &'a mut [Mailbox],
     /// The message table, six words an entry. Words behind the last whole entry are never touched.
     pub words: &'a mut [u64],
+    /// How much of the other pieces is in use.
     pub counts: &'a mut Counts,
+    /// What the session knows of its client.
     pub session: &'a mut Session,
+    /// The output queue, 1,024 to 65,536 octets.
     pub queue: &'a mut [u8],
 }
 
@@ -45,10 +74,12 @@ impl Lent<'_> {
         self.step(&records::drained(count))
     }
 
-    /// Writes the queue out, and drains what was written. Where the writer fails in between, what it took is drained.
+    /// Writes the queue out, and drains what was written. Where the writer fails in between, what it took is drained. Where
+    /// the step refuses the drain, the memory is no longer lawful: that is an error which holds the [`Refusal`](crate::Refusal),
+    /// and the same octets would come again.
     pub fn drain_to(&mut self, out: &mut impl Write) -> io::Result<usize> {
         let (written, ended) = write_some(out, self.queue());
-        self.drain(written);
+        self.drain(written).ok().map_err(io::Error::other)?;
         ended.map(|()| written)
     }
 
@@ -90,12 +121,19 @@ pub struct Memory {
 
 impl Memory {
     /// The longest tables, and a queue of so many octets: 1,024 to 65,536, or every call is refused.
+    ///
+    /// # Panics
+    /// Where a library with another layout is linked: see [`check_layout`].
     pub fn new(queue: usize) -> Memory {
         Memory::with_tables(queue, MAILBOXES, MESSAGES)
     }
 
     /// Tables of so many rows and entries: at most 64 and 1,024, or every call is refused.
+    ///
+    /// # Panics
+    /// Where a library with another layout is linked: see [`check_layout`].
     pub fn with_tables(queue: usize, mailboxes: usize, messages: usize) -> Memory {
+        check_layout().unwrap_or_else(|wrong| panic!("{wrong}"));
         Memory {
             rows: vec![Mailbox::EMPTY; mailboxes].into(),
             words: vec![0; ENTRY * messages].into(),
@@ -105,6 +143,7 @@ impl Memory {
         }
     }
 
+    /// The memory, lent for some calls.
     pub fn lend(&mut self) -> Lent<'_> {
         Lent {
             rows: &mut self.rows,
@@ -130,7 +169,7 @@ impl Memory {
         self.lend().drain(count)
     }
 
-    /// Writes the queue out, and drains what was written. Where the writer fails in between, what it took is drained.
+    /// As [`Lent::drain_to`].
     pub fn drain_to(&mut self, out: &mut impl Write) -> io::Result<usize> {
         self.lend().drain_to(out)
     }
@@ -140,6 +179,7 @@ impl Memory {
         used_rows(&self.rows, &self.counts)
     }
 
+    /// What the session knows of its client.
     pub fn session(&self) -> &Session {
         &self.session
     }

@@ -7,14 +7,19 @@ use std::mem::{align_of, offset_of, size_of};
 #[repr(C)]
 #[derive(Clone, Copy, PartialEq, Eq, Debug)]
 pub struct Mailbox {
+    /// The number by which records name it; no mailbox has 0.
     pub id: u16,
     /// `records::SELECTABLE` and the others.
     pub attributes: u8,
+    /// How many octets the name has.
     pub namelen: u8,
+    /// UIDVALIDITY, as `MB` gave it.
     pub uidvalidity: u32,
+    /// One above all UIDs that were ever used there.
     pub uidnext: u32,
-    /// The change counter in two halves, as a whole would need padding: `counter` joins them.
+    /// The change counter's low half; in halves, as a whole would need padding: `counter` joins them.
     pub counterlow: u32,
+    /// The change counter's high half.
     pub counterhigh: u32,
     /// Zeros behind the first `namelen` octets.
     pub name: [u8; 64],
@@ -25,10 +30,15 @@ pub struct Mailbox {
 #[repr(C)]
 #[derive(Clone, Copy, PartialEq, Eq, Debug)]
 pub struct Group {
+    /// Which mailboxes it meets.
     pub selector: u8,
+    /// The place of its first name.
     pub first: u8,
+    /// How many names it has.
     pub count: u8,
+    /// The events that it asks for: 1 MessageNew, 2 MessageExpunge, 4 FlagChange, 8 MailboxName, 16 SubscriptionChange.
     pub events: u8,
+    /// What it asks of a new message: 1 UID, 2 FLAGS, 4 RFC822.SIZE.
     pub attributes: u8,
 }
 
@@ -36,7 +46,9 @@ pub struct Group {
 #[repr(C)]
 #[derive(Clone, Copy, PartialEq, Eq, Debug)]
 pub struct Name {
+    /// How many octets it has.
     pub len: u8,
+    /// Zeros behind the first `len` octets.
     pub octets: [u8; 64],
 }
 
@@ -48,10 +60,13 @@ pub struct Session {
     pub selected: u16,
     /// 1 once a NOTIFY was accepted.
     pub notified: u8,
+    /// How many groups stand, 0 after NOTIFY NONE or an overflow.
     pub groupcount: u8,
     /// The client knows the selected mailbox's messages with a lower UID than this.
     pub told: u32,
+    /// The groups of the last NOTIFY SET, in the command's order.
     pub groups: [Group; 8],
+    /// Their names.
     pub names: [Name; 16],
 }
 
@@ -59,8 +74,11 @@ pub struct Session {
 #[repr(C)]
 #[derive(Clone, Copy, PartialEq, Eq, Debug, Default)]
 pub struct Counts {
+    /// Rows of the mailbox table.
     pub mailboxes: u64,
+    /// Entries of the message table.
     pub messages: u64,
+    /// Octets at the queue's front that are to be written out.
     pub filled: u64,
 }
 
@@ -122,6 +140,7 @@ const _: () = {
 };
 
 impl Mailbox {
+    /// A row that is not in use.
     pub const EMPTY: Mailbox = Mailbox {
         id: 0,
         attributes: 0,
@@ -138,6 +157,7 @@ impl Mailbox {
         u64::from(self.counterhigh) << 32 | u64::from(self.counterlow)
     }
 
+    /// Puts a change counter into its two halves.
     pub fn set_counter(&mut self, counter: u64) {
         self.counterlow = counter as u32;
         self.counterhigh = (counter >> 32) as u32;
@@ -168,6 +188,7 @@ impl Session {
 // Every slice is a pointer and a count, which is how the library takes one. As `&mut [T]` it would be one argument to Rust,
 // which passes it otherwise where the six integer registers run out.
 extern "C" {
+    fn borjavid_layout() -> u32;
     fn borjavid_step(
         rows: *mut Mailbox,
         rows_len: usize,
@@ -189,6 +210,12 @@ extern "C" {
         name_len: usize,
     ) -> usize;
     fn borjavid_set_row(rows: *mut Mailbox, rows_len: usize, at: usize, row: Mailbox);
+}
+
+/// The number of the layout that the library was made for.
+pub(crate) fn layout() -> u32 {
+    // it takes nothing and reads nothing
+    unsafe { borjavid_layout() }
 }
 
 pub(crate) fn step(

@@ -1,21 +1,30 @@
 //! The twelve kinds of record, in octets. A builder takes any value of its types: what is out of range makes a record that
 //! the step refuses with 2.
 
-/// Attribute bits of `create`; the last two are the rights, and all that `rights` takes.
+// Attribute bits of `create`; the last two are the rights, and all that `rights` takes.
+
+/// The mailbox can be selected.
 pub const SELECTABLE: u8 = 1;
+/// It is one of the user's own (`personal`).
 pub const PERSONAL: u8 = 2;
+/// Mail is delivered there (`inboxes`, where it is personal too).
 pub const DELIVERY: u8 = 4;
+/// The user is subscribed to it.
 pub const SUBSCRIBED: u8 = 8;
 /// The right l: the user may list it.
 pub const LOOKUP: u8 = 16;
 /// The right r: the user may read it.
 pub const READ: u8 = 32;
 
-/// Flag bits.
+/// The flag `\Answered`.
 pub const ANSWERED: u8 = 1;
+/// The flag `\Flagged`.
 pub const FLAGGED: u8 = 2;
+/// The flag `\Deleted`.
 pub const DELETED: u8 = 4;
+/// The flag `\Seen`.
 pub const SEEN: u8 = 8;
+/// The flag `\Draft`.
 pub const DRAFT: u8 = 16;
 
 /// Change counters are 1 to this.
@@ -24,8 +33,9 @@ pub const COUNTER_MOST: u64 = (1 << 63) - 1;
 /// Whether a notice is owed for the change.
 #[derive(Clone, Copy, PartialEq, Eq, Debug)]
 pub enum Notice {
+    /// The rules decide who is told.
     Owed = 0,
-    /// Children that a rename carries along, the fresh INBOX, what the client did itself.
+    /// Nobody is told: children that a rename carries along, the fresh INBOX, what the client did itself.
     Quiet = 1,
 }
 

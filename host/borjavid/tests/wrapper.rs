@@ -124,17 +124,80 @@ fn what_is_written_out_is_drained() {
     assert_eq!(memory.drain(0), Answer::Done);
 }
 
+/// Memory that somebody else wrote to: the step refuses the drain, and the same octets would go out for ever.
+#[test]
+fn a_refused_drain_is_an_error() {
+    let mut memory = watching();
+    memory.lend().session.told = u32::MAX;
+    for _ in 0..3 {
+        let fault = memory.drain_to(&mut Vec::new()).expect_err("refused");
+        let inner = fault.get_ref().and_then(|inner| inner.downcast_ref());
+        assert_eq!(inner, Some(&Refusal::UnlawfulMemory), "{fault}");
+    }
+    // an empty queue doesn't hide it
+    memory.lend().counts.filled = 0;
+    assert!(memory.drain_to(&mut Vec::new()).is_err());
+}
+
+#[test]
+fn a_refusal_is_an_error_with_a_sentence() {
+    let mut memory = Memory::new(1024);
+    assert_eq!(memory.step(&records::select(0)).ok(), Ok(None));
+    let ended = records::command_ended(Class::Rest);
+    assert_eq!(memory.step(&ended).ok(), Ok(Some(0)));
+    assert_eq!(memory.step(b"??").ok(), Err(Refusal::BadRecord));
+    let handed_on = || -> Result<(), Box<dyn std::error::Error>> {
+        Memory::new(1023).step(&ended).ok()?;
+        Ok(())
+    };
+    let said = handed_on().expect_err("refused").to_string();
+    assert_eq!(said, "refused with 1: the lent memory can't be worked on");
+}
+
+/// Each has its number and a reason of its own.
+#[test]
+fn every_refusal_has_a_reason() {
+    let all = [
+        Refusal::UnlawfulMemory,
+        Refusal::BadRecord,
+        Refusal::WrongId,
+        Refusal::NameHeld,
+        Refusal::WrongUid,
+        Refusal::WrongState,
+        Refusal::TableFull,
+        Refusal::NoRoom,
+    ];
+    let mut reasons = std::collections::BTreeSet::new();
+    for (refusal, number) in all.into_iter().zip(1..) {
+        assert_eq!(Answer::Refused(refusal).number(), number);
+        let said = refusal.to_string();
+        let reason = said.strip_prefix(&format!("refused with {number}: "));
+        assert!(
+            reasons.insert(reason.expect("a reason").to_string()),
+            "{said}"
+        );
+    }
+}
+
 #[test]
 fn the_view_numbers_messages() {
     let mut memory = watching();
-    for (uid, counter) in [(8, 3), (5, 4), (9, 4)] {
-        memory.step(&records::message(1, uid, 0, 1, counter));
+    let wrong_uid = Answer::Refused(Refusal::WrongUid);
+    for (uid, counter, wanted) in [
+        (8, 3, Answer::Done),
+        (5, 4, wrong_uid),
+        (9, 4, Answer::Done),
+    ] {
+        assert_eq!(
+            memory.step(&records::message(1, uid, 0, 1, counter)),
+            wanted
+        );
     }
     assert_eq!(memory.view(), [3, 8, 9]);
     assert_eq!(memory.room(), (63, 1021));
-    memory.step(&records::expunge(1, 8, 5));
+    assert_eq!(memory.step(&records::expunge(1, 8, 5)), Answer::Done);
     assert_eq!(memory.view(), [3, 9]);
-    memory.step(&records::select(0));
+    assert_eq!(memory.step(&records::select(0)), Answer::Done);
     assert_eq!(memory.view(), []);
     let row = memory.mailboxes()[0];
     assert_eq!((row.uidnext, row.counter()), (10, 5));

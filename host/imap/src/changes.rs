@@ -120,7 +120,7 @@ impl Store {
         self.each(|session, state| {
             if state.handed.contains(&id) {
                 let record = records::rename(id, notice(session), new.as_bytes());
-                state.feed(self, &record);
+                let _ = state.feed(self, &record);
             }
         });
     }
@@ -135,7 +135,7 @@ impl Store {
         };
         self.each(|session, state| {
             if state.user == user && state.handed.contains(&id) {
-                state.feed(self, &records::subscribe(id, on, notice(session, by)));
+                let _ = state.feed(self, &records::subscribe(id, on, notice(session, by)));
             }
         });
     }

@@ -29,7 +29,7 @@ impl Store {
         }
         if mailbox.uid_next == 1 {
             let attributes = mailbox.attributes(&state.user);
-            self.hand_row(state, mailbox, attributes, notice, mailbox.counter);
+            let _ = self.hand_row(state, mailbox, attributes, notice, mailbox.counter);
             return;
         }
         match history::of(mailbox) {
@@ -65,15 +65,15 @@ impl Store {
             return;
         }
         for record in history {
-            state.feed(self, record);
+            let _ = state.feed(self, record);
         }
-        state.feed(self, &records::rights(mailbox.id, rights));
+        let _ = state.feed(self, &records::rights(mailbox.id, rights));
     }
 
     /// For a session whose account doesn't fit: the tables serve the mailbox that is to be selected, and no other.
     pub fn hand_only(&self, state: &mut State, mailbox: &Mailbox) {
         for id in std::mem::take(&mut state.handed) {
-            state.feed(self, &records::delete(id, Notice::Quiet));
+            let _ = state.feed(self, &records::delete(id, Notice::Quiet));
         }
         self.hand(state, mailbox, Notice::Quiet);
     }
@@ -89,14 +89,14 @@ impl Store {
     /// must take no room; a selected one goes when it is left.
     pub fn regrant(&self, state: &mut State, mailbox: &Mailbox) {
         let bits = mailbox.bits(&state.user);
-        state.feed(self, &records::rights(mailbox.id, bits));
+        let _ = state.feed(self, &records::rights(mailbox.id, bits));
         if bits == 0 && state.push.selected() != mailbox.id {
             self.withdraw(state, mailbox.id, Notice::Quiet);
         }
     }
 
     pub fn withdraw(&self, state: &mut State, id: u16, notice: Notice) {
-        state.feed(self, &records::delete(id, notice));
+        let _ = state.feed(self, &records::delete(id, notice));
         state.handed.remove(&id);
     }
 

@@ -153,7 +153,7 @@ impl State {
         }
     }
 
-    /// A change of the store. In IDLE what waits may go at once.
+    /// A change of the store. In IDLE what waits may go at once. A refusal is dealt with here, so its answer may be dropped.
     pub fn feed(&mut self, store: &Store, record: &[u8]) -> Answer {
         let answer = self.call(store, record);
         match answer {
@@ -179,7 +179,7 @@ impl State {
 
     pub fn deselect(&mut self, store: &Store) {
         if self.large.take().is_none() {
-            self.call(store, &records::select(0));
+            let _ = self.call(store, &records::select(0));
         }
     }
 

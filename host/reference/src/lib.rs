@@ -9,6 +9,7 @@ pub mod call;
 pub mod cases;
 pub mod command;
 pub mod generate;
+pub mod input;
 pub mod lawful;
 pub mod lines;
 pub mod mailboxes;

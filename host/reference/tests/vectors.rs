@@ -1,4 +1,4 @@
-//! Every stream of the vectors, at its own Q and table lengths: by the library and by `callrun`.
+//! Every stream of the vectors, at its own Q and table lengths: by the library and by `replay`.
 
 mod support;
 
@@ -27,15 +27,15 @@ fn library_answers_every_vector() {
 }
 
 #[test]
-fn callrun_answers_every_vector() {
+fn replay_answers_every_vector() {
     for listed in index() {
         let sizes = [listed.queue, listed.mailboxes, listed.messages];
-        let mut child = Command::new(env!("CARGO_BIN_EXE_callrun"))
+        let mut child = Command::new(env!("CARGO_BIN_EXE_replay"))
             .args(sizes.map(|size| size.to_string()))
             .stdin(Stdio::piped())
             .stdout(Stdio::piped())
             .spawn()
-            .expect("callrun starts");
+            .expect("replay starts");
         let input = calls(&records(&vector(&format!("{}.txt", listed.number))));
         // what it prints is small enough for the pipe, and the handle is closed here
         child
@@ -43,10 +43,10 @@ fn callrun_answers_every_vector() {
             .take()
             .expect("a pipe")
             .write_all(&input)
-            .expect("callrun reads");
-        let output = child.wait_with_output().expect("callrun ends");
+            .expect("replay reads");
+        let output = child.wait_with_output().expect("replay ends");
         let wanted = vector(&format!("{}.out", listed.number));
-        let got = String::from_utf8(output.stdout).expect("callrun prints ASCII");
+        let got = String::from_utf8(output.stdout).expect("replay prints ASCII");
         assert_eq!(got, wanted, "{} {}", listed.number, listed.title);
     }
 }

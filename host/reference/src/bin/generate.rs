@@ -1,6 +1,6 @@
 //! Seeded input for other programs, each piece after its length in four octets, little-endian.
 //!
-//! `generate SEED COUNT [Q [MAILBOXES [MESSAGES]]]`: calls, as `callrun` reads them.
+//! `generate SEED COUNT [Q [MAILBOXES [MESSAGES]]]`: calls, as `replay` reads them.
 //! `generate lines SEED COUNT`: command lines alone, one in twenty of 1,000 to 1,024 octets.
 //! `generate pair SEED COUNT 1|2`: one side of a pair; `generate pair SEED COUNT` prints its
 //! sizes, and for each side the places (from 0) of the records in common.

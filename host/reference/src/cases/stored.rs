@@ -20,7 +20,8 @@ fn vector(folder: &Path, line: &str) -> Result<Case, String> {
         word.parse()
             .map_err(|_| format!("INDEX: no size {word} in {line}"))
     };
-    let records = records(&read(folder, &format!("{number}.txt"))?)?;
+    let text = read(folder, &format!("{number}.txt"))?;
+    let records = records(text.as_bytes()).map_err(|fault| format!("{number}.txt:{fault}"))?;
     let answers = read(folder, &format!("{number}.out"))?;
     let answers: Vec<&str> = answers.lines().collect();
     if records.len() != answers.len() {

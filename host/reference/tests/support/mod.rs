@@ -15,7 +15,7 @@ pub fn assemble(line: &str) -> Vec<u8> {
 
 /// All records of a text; empty lines and lines that begin with `#` are passed over.
 pub fn records(text: &str) -> Vec<Vec<u8>> {
-    reference::notation::records(text).expect("records in text")
+    reference::notation::records(text.as_bytes()).expect("records in text")
 }
 
 /// One record from a line that leaves its counter out: `MB` gets 1, each other one more than its mailbox has.
@@ -49,7 +49,7 @@ pub fn hex(octets: &[u8]) -> String {
     octets.iter().map(|octet| format!("{octet:02x}")).collect()
 }
 
-/// Octets in `callrun`'s form of input.
+/// Octets in `replay`'s form of input.
 pub fn calls(records: &[Vec<u8>]) -> Vec<u8> {
     let length = |record: &Vec<u8>| (record.len() as u32).to_le_bytes();
     records

@@ -1,4 +1,4 @@
-//! `callrun [--check] Q [MAILBOXES [MESSAGES]]`: standard input is a sequence of calls, each a
+//! `replay [--check] Q [MAILBOXES [MESSAGES]]`: standard input is a sequence of calls, each a
 //! length in four octets, little-endian, and that many octets. For each call one line: refusal,
 //! count or `-`, what the queue holds in hexadecimal or `-`. With `--check` the memory is judged
 //! in full before each call.
@@ -63,6 +63,6 @@ fn shown(octets: &[u8]) -> Vec<u8> {
 }
 
 fn usage() -> io::Result<()> {
-    eprintln!("callrun [--check] Q [MAILBOXES [MESSAGES]] < CALLS");
+    eprintln!("replay [--check] Q [MAILBOXES [MESSAGES]] < CALLS");
     std::process::exit(2)
 }

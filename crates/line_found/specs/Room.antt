@@ -8,7 +8,7 @@ use borrow.Author.Tests.{eqb-true}
 use lib.Dec.{eqb}
 use lib.ListN.{length, getD}
 use Rattle.model.specs.Lists.{anyb, apart, filterb, sorted, same}
-use Rattle.model.specs.Memory.{inMailbox, messagesOf, nameOf}
+use Rattle.model.specs.Memory.{byUid, inMailbox, messagesOf, nameOf}
 use Rattle.model.specs.Lawful.{clash}
 use Rattle.model.specs.Listing.{byName}
 use Rattle.model.specs.declared.Mailbox.{Mailbox}

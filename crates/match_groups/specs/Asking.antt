@@ -59,8 +59,6 @@ module _ (a : ℕ) where
       go true false e = tf false e refl
       go false c e = tf false e refl
 
-module _ {A : Type 0} where
-
 pub any-map : {A B : Type 0} (p : B → Bool) (f : A → B) (l : List A) → anyb p (map f l) ≡ anyb (λ (x : A). p (f x)) l
 any-map p f [] = refl
 any-map p f (x ∷ l) = ap (λ (b : Bool). p (f x) || b) (any-map p f l)

@@ -16,6 +16,7 @@ use Rattle.model.specs.Searching.{Candidate, agrees, boundOf, inPart, inSet, pa
 use Rattle.read_keys.specs.Table.{boundNumber, partCells, flagNumber, testCode, code, codes}
 use Rattle.match_keys.specs.Tests.{candidate, factsOf, ProperBound, ProperParts, Proper, Propers, boundBy, partHolds, Counted, countedWidth, simpleOf, widthOf, holdsSome, folded, TestsSet, TestsTest, TestsKey, TestsKeysOn, TestsAll, Behind, LastNest, Answers}
 use Rattle.match_keys.specs.declared.Probe.{Probe}
+use Rattle.match_keys.specs.declared.Facts.{Facts}
 use Rattle.match_keys.specs.declared.Outcome.{Outcome}
 
 -- ---- cells
@@ -346,7 +347,7 @@ module _ (cells : List ℕ) (at kind : ℕ) (q : kind ≡ getD cells at 0) where
         same = λ c. sym (ap (λ (x : ℕ). agrees (not (eqb x 8)) (folded (eqb x 9) ks c)) z);
       }
 
-  module _ (stop : ℕ) (facts : List ℕ) (o : Outcome) where
+  module _ (stop : ℕ) (facts : Facts) (o : Outcome) where
     module _ (h : kind < 8) where
       pub key-test : (p : Probe) → TestsTest cells at (o .after) p (o .holds) → TestsKey cells at (o .after) p (o .holds)
       unfolding code holds Proper
@@ -355,36 +356,36 @@ module _ (cells : List ℕ) (at kind : ℕ) (q : kind ≡ getD cells at 0) where
       key-test p t (either a b) rest e f g = let z = is-kind 9 (length (code a ++ code b) ∷ ((code a ++ code b) ++ rest)) e in absurd (omega arith)
       key-test p t (group ks) rest e f g = let z = is-kind 10 (length (codes ks) ∷ (codes ks ++ rest)) e in absurd (omega arith)
 
-      pub answers-uids : kind ≡ 5 → Behind cells at stop (o .after) → TestsSet cells (at + 2) (o .after) (getD facts 3 0) (getD facts 2 0) (o .holds) → Answers cells at stop facts o
+      pub answers-uids : kind ≡ 5 → Behind cells at stop (o .after) → TestsSet cells (at + 2) (o .after) (facts .lastuid .0) (facts .uid .0) (o .holds) → Answers cells at stop facts o
       answers-uids d b s =
           record {
             after = b .after;
             exact = b .exact;
-            tests = λ p w. key-test p (test-uids cells at (o .after) p kind q (o .holds) d (subst (λ (l : List ℕ). TestsSet cells (at + 2) (o .after) (getD l 3 0) (getD l 2 0) (o .holds)) w s));
+            tests = λ p w. key-test p (test-uids cells at (o .after) p kind q (o .holds) d (subst (λ (f : Facts). TestsSet cells (at + 2) (o .after) (f .lastuid .0) (f .uid .0) (o .holds)) w s));
           }
 
-      pub answers-numbers : kind ≡ 6 → Behind cells at stop (o .after) → TestsSet cells (at + 2) (o .after) (getD facts 5 0) (getD facts 4 0) (o .holds) → Answers cells at stop facts o
+      pub answers-numbers : kind ≡ 6 → Behind cells at stop (o .after) → TestsSet cells (at + 2) (o .after) (facts .lastnumber .0) (facts .number .0) (o .holds) → Answers cells at stop facts o
       answers-numbers d b s =
           record {
             after = b .after;
             exact = b .exact;
-            tests = λ p w. key-test p (test-numbers cells at (o .after) p kind q (o .holds) d (subst (λ (l : List ℕ). TestsSet cells (at + 2) (o .after) (getD l 5 0) (getD l 4 0) (o .holds)) w s));
+            tests = λ p w. key-test p (test-numbers cells at (o .after) p kind q (o .holds) d (subst (λ (f : Facts). TestsSet cells (at + 2) (o .after) (f .lastnumber .0) (f .number .0) (o .holds)) w s));
           }
 
       module _ (m : at < stop) (x y : ℕ) (u : x ≡ getD cells (at + 1) 0) (v : y ≡ getD cells (at + 2) 0) where
-        simple : (kind ≡ 5 → ⊥) → (kind ≡ 6 → ⊥) → o .after ≡ at + widthOf kind x (stop - at) → at < o .after → o .holds ≡ simpleOf kind x y (getD facts 0 0) (getD facts 1 0) → Answers cells at stop facts o
+        simple : (kind ≡ 5 → ⊥) → (kind ≡ 6 → ⊥) → o .after ≡ at + widthOf kind x (stop - at) → at < o .after → o .holds ≡ simpleOf kind x y (facts .flags) (facts .size) → Answers cells at stop facts o
         simple i j n a s =
             record {
               after = a;
               exact = λ k rest e f. let z = width-is cells at stop kind x (stop - at) q u refl m k rest e f in omega arith;
-              tests = λ p w. key-test p (test-simple cells at (o .after) p kind q (o .holds) x y u v (s ∙ ap (λ (l : List ℕ). simpleOf kind x y (getD l 0 0) (getD l 1 0)) w) i j);
+              tests = λ p w. key-test p (test-simple cells at (o .after) p kind q (o .holds) x y u v (s ∙ ap (λ (f : Facts). simpleOf kind x y (f .flags) (f .size)) w) i j);
             }
 
-        pub answers-kind : (k : ℕ) → kind ≡ k → k < 5 → o .after ≡ at + widthOf k x (stop - at) → at < o .after → o .holds ≡ simpleOf k x y (getD facts 0 0) (getD facts 1 0) → Answers cells at stop facts o
+        pub answers-kind : (k : ℕ) → kind ≡ k → k < 5 → o .after ≡ at + widthOf k x (stop - at) → at < o .after → o .holds ≡ simpleOf k x y (facts .flags) (facts .size) → Answers cells at stop facts o
         answers-kind k d i n a s =
             simple (λ z. (let c : ⊥ = omega arith in c)) (λ z. (let c : ⊥ = omega arith in c))
             (n ∙ ap (λ (k : ℕ). at + widthOf k x (stop - at)) (sym d)) a
-            (s ∙ ap (λ (k : ℕ). simpleOf k x y (getD facts 0 0) (getD facts 1 0)) (sym d))
+            (s ∙ ap (λ (k : ℕ). simpleOf k x y (facts .flags) (facts .size)) (sym d))
 
         pub answers-bare : (kind ≡ 5 → ⊥) → (kind ≡ 6 → ⊥) → (kind ≡ 2 → ⊥) → (kind ≡ 3 → ⊥) → (kind ≡ 4 → ⊥) → o .after ≡ at + 1 → o .holds ≡ eqb kind 1 → Answers cells at stop facts o
         answers-bare i j a b d n s = simple i j (n ∙ ap (λ (w : ℕ). at + w) (simp (ne-eqb kind 2 a, ne-eqb kind 3 b, ne-eqb kind 4 d) (wide (ltb kind 5) refl))) (omega arith) (s ∙ simp (ne-eqb kind 2 a, ne-eqb kind 3 b, ne-eqb kind 4 d) (said (eqb kind 1)))
@@ -414,10 +415,10 @@ pub record Left (cells : List ℕ) (i stop : ℕ) (any on : Bool) (p : Probe) (w
   pub proper : Propers keys
   pub same : whole ≡ agrees on (folded any keys (candidate p))
 
-abbrev pub Going : List ℕ → ℕ → ℕ → Bool → List ℕ → ℕ → Bool → Bool → Type 0
+abbrev pub Going : List ℕ → ℕ → ℕ → Bool → Facts → ℕ → Bool → Bool → Type 0
 Going cells at stop first facts i any on = (p : Probe) → facts ≡ factsOf p → (ks : Keys) (rest : List ℕ) → drop at cells ≡ codes ks ++ rest → stop ≡ at + length (codes ks) → Propers ks → Left cells i stop any on p (folded first ks (candidate p))
 
-module _ (cells : List ℕ) (at stop : ℕ) (first : Bool) (facts : List ℕ) where
+module _ (cells : List ℕ) (at stop : ℕ) (first : Bool) (facts : Facts) where
   pub going-start : Going cells at stop first facts at first true
   going-start p w ks rest e f g = record { keys = ks; rest = rest; is = e; stops = f; proper = g; same = refl }
 

@@ -11,14 +11,22 @@ use Rattle.model.specs.Limits.{partsOf}
 use Rattle.model.specs.Searching.{Candidate, agrees, inSet, passes, holds, holdsAll}
 use Rattle.read_keys.specs.Table.{partCells, testCode, code, codes}
 use Rattle.match_keys.specs.declared.Probe.{Probe}
+use Rattle.match_keys.specs.declared.Facts.{Facts}
 use Rattle.match_keys.specs.declared.Outcome.{Outcome}
 
 abbrev pub candidate : Probe → Candidate
 candidate p = record { message = p .message; number = p .number; lastNumber = p .lastnumber; lastUid = p .lastuid }
 
--- the numbers of a probe that tests are made on, as the code lends them
-abbrev pub factsOf : Probe → List ℕ
-factsOf p = p .message .flags ∷ p .message .size ∷ p .message .uid .0 ∷ p .lastuid .0 ∷ p .number .0 ∷ p .lastnumber .0 ∷ []
+-- what keys ask of a probe
+abbrev pub factsOf : Probe → Facts
+factsOf p = record {
+  flags = p .message .flags;
+  size = p .message .size;
+  uid = p .message .uid;
+  lastuid = p .lastuid;
+  number = p .number;
+  lastnumber = p .lastnumber;
+}
 
 -- ---- no number of a set is 0, which stands for a star in the cells
 abbrev pub ProperBound : Bound → Type 0
@@ -82,8 +90,8 @@ TestsKey cells at stop p r = (k : Key) (rest : List ℕ) → drop at cells ≡ c
 abbrev pub TestsKeys : List ℕ → ℕ → ℕ → Bool → Probe → Bool → Type 0
 TestsKeys cells at stop any p r = (ks : Keys) (rest : List ℕ) → drop at cells ≡ codes ks ++ rest → stop ≡ at + length (codes ks) → Propers ks → r ≡ folded any ks (candidate p)
 
--- the same of every probe with these numbers
-abbrev pub TestsKeysOn : List ℕ → ℕ → ℕ → Bool → List ℕ → Bool → Type 0
+-- the same of every probe with these facts
+abbrev pub TestsKeysOn : List ℕ → ℕ → ℕ → Bool → Facts → Bool → Type 0
 TestsKeysOn cells at stop any facts r = (p : Probe) → facts ≡ factsOf p → TestsKeys cells at stop any p r
 
 abbrev pub TestsAll : List ℕ → ℕ → Probe → Bool → Type 0
@@ -98,7 +106,7 @@ pub record Behind (cells : List ℕ) (at stop r : ℕ) : Type 0 where
 abbrev pub LastNest : List ℕ → ℕ → ℕ → Bool → Type 0
 LastNest cells at stop r = r ≡ true → (8 ≤ getD cells at 0) × Behind cells at stop stop
 
-pub record Answers (cells : List ℕ) (at stop : ℕ) (facts : List ℕ) (o : Outcome) : Type 0 where
+pub record Answers (cells : List ℕ) (at stop : ℕ) (facts : Facts) (o : Outcome) : Type 0 where
   pub after : at < o .after
   pub exact : (k : Key) (rest : List ℕ) → drop at cells ≡ code k ++ rest → at + length (code k) ≤ stop → o .after ≡ at + length (code k)
   pub tests : (p : Probe) → facts ≡ factsOf p → TestsKey cells at (o .after) p (o .holds)

@@ -8,7 +8,7 @@ ghost use Prim.Native.Nat.{_+_, _≤_, _<_};
 ghost use lib.ListN.{length, getD};
 ghost use Rattle.model.specs.Text.{bit};
 ghost use Rattle.model.specs.Searching.{agrees};
-ghost use Rattle.match_keys.specs.Tests.{boundBy, partHolds, Counted, countedWidth, LastNest, Behind, Answers, TestsSet, TestsKeysOn, TestsAll};
+ghost use Rattle.match_keys.specs.Tests.{factsOf, boundBy, partHolds, Counted, countedWidth, LastNest, Behind, Answers, TestsSet, TestsKeysOn, TestsAll};
 
 // A message, its number, and the last number and UID, which `*` stands for.
 pub struct Probe {
@@ -16,6 +16,16 @@ pub struct Probe {
     pub number: MessageNumber,
     pub lastnumber: MessageNumber,
     pub lastuid: Uid,
+}
+
+// What keys ask of it: a probe without what no key asks, so that little is handed on from key to key.
+pub struct Facts {
+    pub flags: u64,
+    pub size: u64,
+    pub uid: Uid,
+    pub lastuid: Uid,
+    pub number: MessageNumber,
+    pub lastnumber: MessageNumber,
 }
 
 // What the key at a cell comes to: whether it holds, and the cell behind it.
@@ -32,6 +42,24 @@ fn cell(cells: &[u64], i: usize) -> u64
         return cells[i];
     }
     0
+}
+
+// What keys ask of a probe.
+fn facts_of(p: Probe) -> Facts
+    ensures { λ r. ⌜ r ≡ factsOf p ⌝ }
+{
+    let uid = p.message.uid;
+    let lastuid = p.lastuid;
+    let number = p.number;
+    let lastnumber = p.lastnumber;
+    Facts {
+        flags: p.message.flags,
+        size: p.message.size,
+        uid,
+        lastuid,
+        number,
+        lastnumber,
+    }
 }
 
 // ---- sets
@@ -147,22 +175,22 @@ fn set_at(cells: &[u64], at: usize, stop: usize, last: u64, n: u64) -> Outcome
     Outcome { holds, after }
 }
 
-// The key at `at`, if it holds no keys. The facts are flags, size, UID, last UID, number and last number.
-fn test_at(cells: &[u64], at: usize, stop: usize, facts: &[u64; 6]) -> Outcome
+// The key at `at`, if it holds no keys.
+fn test_at(cells: &[u64], at: usize, stop: usize, facts: Facts) -> Outcome
     requires { ⌜ ((at < stop) × (stop ≤ length (now cells))) × (getD (now cells) at 0 < 8) ⌝ }
-    ensures { λ r. ⌜ Answers (now (cells .entry)) at stop (now (facts .entry)) r ⌝ }
+    ensures { λ r. ⌜ Answers (now (cells .entry)) at stop facts r ⌝ }
 {
     let kind = cell(cells, at);
     if kind == 5 {
-        return set_at(cells, at, stop, facts[3], facts[2]);
+        return set_at(cells, at, stop, facts.lastuid.0, facts.uid.0);
     }
     if kind == 6 {
-        return set_at(cells, at, stop, facts[5], facts[4]);
+        return set_at(cells, at, stop, facts.lastnumber.0, facts.number.0);
     }
     let x = cell(cells, at + 1);
     if kind == 2 {
         let on = cell(cells, at + 2) == 1;
-        let holds = agree(on, bit_of(x, facts[0]));
+        let holds = agree(on, bit_of(x, facts.flags));
         return Outcome {
             holds,
             after: at + 3,
@@ -170,13 +198,13 @@ fn test_at(cells: &[u64], at: usize, stop: usize, facts: &[u64; 6]) -> Outcome
     }
     if kind == 3 {
         return Outcome {
-            holds: x < facts[1],
+            holds: x < facts.size,
             after: at + 2,
         };
     }
     if kind == 4 {
         return Outcome {
-            holds: facts[1] < x,
+            holds: facts.size < x,
             after: at + 2,
         };
     }
@@ -200,9 +228,9 @@ fn last_nest(cells: &[u64], at: usize, stop: usize) -> bool
 }
 
 // The key at `at`; `not`, `or` and lists hold keys.
-fn key_at(cells: &[u64], at: usize, stop: usize, facts: &[u64; 6]) -> Outcome
+fn key_at(cells: &[u64], at: usize, stop: usize, facts: Facts) -> Outcome
     requires { ⌜ (at < stop) × (stop ≤ length (now cells)) ⌝ }
-    ensures { λ r. ⌜ Answers (now (cells .entry)) at stop (now (facts .entry)) r ⌝ }
+    ensures { λ r. ⌜ Answers (now (cells .entry)) at stop facts r ⌝ }
 {
     let kind = cell(cells, at);
     if kind < 8 {
@@ -216,9 +244,9 @@ fn key_at(cells: &[u64], at: usize, stop: usize, facts: &[u64; 6]) -> Outcome
 
 // Any, or all, of the keys from `at` up to `stop` hold: the first key that decides ends it. A last key that holds keys decides alone, so it
 // takes no call: its keys are gone on with. Under a NOT the answer is the other one, and `on` is false.
-fn keys_hold(cells: &[u64], at: usize, stop: usize, any: bool, facts: &[u64; 6]) -> bool
+fn keys_hold(cells: &[u64], at: usize, stop: usize, any: bool, facts: Facts) -> bool
     requires { ⌜ stop ≤ length (now cells) ⌝ }
-    ensures { λ r. ⌜ TestsKeysOn (now (cells .entry)) at stop any (now (facts .entry)) r ⌝ }
+    ensures { λ r. ⌜ TestsKeysOn (now (cells .entry)) at stop any facts r ⌝ }
 {
     let mut i = at;
     let mut some = any;
@@ -240,18 +268,11 @@ fn keys_hold(cells: &[u64], at: usize, stop: usize, any: bool, facts: &[u64; 6])
     agree(on, negated(some))
 }
 
-// All the keys in the first `used` cells hold. The facts are lent, since a probe would be copied at each call.
+// All the keys in the first `used` cells hold.
 pub fn all_hold(cells: &[u64], used: usize, p: Probe) -> bool
     requires { ⌜ used ≤ length (now cells) ⌝ }
     ensures { λ r. ⌜ TestsAll (now (cells .entry)) used p r ⌝ }
 {
-    let facts = [
-        p.message.flags,
-        p.message.size,
-        p.message.uid.0,
-        p.lastuid.0,
-        p.number.0,
-        p.lastnumber.0,
-    ];
-    keys_hold(cells, 0, used, false, &facts)
+    let facts = facts_of(p);
+    keys_hold(cells, 0, used, false, facts)
 }

@@ -71,8 +71,6 @@ module _ (t : Listed) (a : ℕ) (n : Name) (here : Bool) where
   searched-by e = sym (ap (λ (b : Bool). b && anyb (admitsIn (t .kept .names) a n here) (take (t .count) (t .sources))) e)
 
 -- ---- a run of names, as a loop meets it
-module _ {A : Type 0} where
-
 pub named-run : (names : List LentName) (n : Name) (s : Source) (end : ℕ) → take end names ≡ take (s .first + s .count) names → anyb (λ (x : LentName). meant (s .scope) (lentName x) n) (drop (s .first) (take end names)) ≡ namedIn names n s
 named-run names n s end e = ap (λ (l : List LentName). anyb (λ (x : LentName). meant (s .scope) (lentName x) n) l) (ap (drop (s .first)) e ∙ sym (take-drop (s .first) (s .count) names))
 

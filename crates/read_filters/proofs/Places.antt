@@ -12,8 +12,6 @@ use Rattle.model.specs.declared.LentName.{LentName}
 use Rattle.read_filters.specs.Keeping.{withOne}
 use Rattle.read_filters.specs.declared.Kept.{Kept}
 
-module _ {A B : Type 0} where
-
 -- a name that finds no place is counted
 pub one-dropped : (k : Kept) (n : LentName) → length (k .names) ≤ k .count → record { count = k .count + 1; names = k .names } ≡ withOne k n
 one-dropped k n h = rw (set-out (k .names) (k .count) n)

@@ -23,8 +23,6 @@ use Rattle.read_notify.specs.Watched.{lowOf, lentOf, nothingWatched, wit
 use Rattle.read_notify.specs.declared.Watch.{Watch}
 
 -- ---- places
-module _ {A B : Type 0} where
-
 -- ---- one group more
 pub group-dropped : (w : Watch) (g : LentGroup) → length (w .groups) ≤ w .count → record { count = w .count + 1; groups = w .groups } ≡ withGroup w g
 group-dropped w g h = rw (set-out (w .groups) (w .count) g)

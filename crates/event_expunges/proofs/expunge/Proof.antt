@@ -24,22 +24,22 @@ returns c =
     let b = c .before .before .before .before in let drop-one = b .drop-one in
     let b = b .before .before .before in let is-told = b .is-told in
     let b = b .before in let if1 = b .if1 in
-    let b = b .before in let has-rights = b .has-rights in
+    let b = b .before in let both = b .both in
     let b = b .before .before .before in let is-chosen = b .is-chosen in
     let b = b .before .before .before in let get = b .get in
     let b = b .before .before .before .before in let a = b .args in
-    expunge-drops (messages (a .words .now)) (a .used) (a .queue .now) (a .s) (a .filled) (a .k) (a .x) (get .result) (get .ensures) (is-chosen .result) (has-rights .result) (is-chosen .ensures) (has-rights .ensures) (a .words .now) _ _ _ _ _
-    (is-told .result) (is-told .ensures) (not-true (has-rights .result) (if1 .taken)) (drop-one .ensures)
+    expunge-drops (messages (a .words .now)) (a .used) (a .queue .now) (a .s) (a .filled) (a .k) (a .x) (get .result) (get .ensures) (is-chosen .result) (both .result) (is-chosen .ensures) (both .ensures) (a .words .now) _ _ _ _ _
+    (is-told .result) (is-told .ensures) (not-true (both .result) (if1 .taken)) (drop-one .ensures)
 
 drop-now-requires : tie.Need-drop-now-requires
 drop-now-requires c κs =
     let b = c .before .before .before .before .before in let if2 = b .if2 in
     let b = b .before in let both2 = b .both2 in
     let b = b .before in let immediate-asks = b .immediate-asks in
-    let b = b .before in let both = b .both in
+    let b = b .before in let has-rights = b .has-rights in
     let b = b .before .before .before .before .before .before .before .before .before .before .before .before in let args = b .args in
     let pre = b .pre in
-    (pre .0, pre .1, pre .2, pre .3, pre .5 (asks-some (args .s) _ (sym (immediate-asks .ensures) ∙ and-r (both .result) (immediate-asks .result) (sym (both2 .ensures) ∙ if2 .taken))))
+    (pre .0, pre .1, pre .2, pre .3, pre .5 (asks-some (args .s) _ (sym (immediate-asks .ensures) ∙ and-r (has-rights .result) (immediate-asks .result) (sym (both2 .ensures) ∙ if2 .taken))))
 
 returns-2 : tie.Need-returns-2
 returns-2 c =
@@ -48,14 +48,14 @@ returns-2 c =
     let b = b .before .before .before in let if2 = b .if2 in
     let b = b .before in let both2 = b .both2 in
     let b = b .before in let immediate-asks = b .immediate-asks in
-    let b = b .before in let both = b .both in
-    let b = b .before in let if1 = b .if1 in
     let b = b .before in let has-rights = b .has-rights in
+    let b = b .before in let if1 = b .if1 in
+    let b = b .before in let both = b .both in
     let b = b .before .before .before in let is-chosen = b .is-chosen in
     let b = b .before .before .before in let get = b .get in
     let b = b .before .before .before .before in let a = b .args in
-    expunge-tells (messages (a .words .now)) (a .used) (a .queue .now) (a .s) (a .filled) (a .k) (a .x) (get .result) (get .ensures) (is-chosen .result) (has-rights .result) (is-chosen .ensures) (has-rights .ensures) (a .words .now) _ _ _ _ _
-    (both2 .result) (both2 .ensures ∙ ap₂ _&&_ (both .ensures) (immediate-asks .ensures)) (not-false (has-rights .result) (if1 .left)) (place-of .result .0) (place-of .ensures) (if2 .taken) (drop-now .ensures)
+    expunge-tells (messages (a .words .now)) (a .used) (a .queue .now) (a .s) (a .filled) (a .k) (a .x) (get .result) (get .ensures) (is-chosen .result) (both .result) (is-chosen .ensures) (both .ensures) (a .words .now) _ _ _ _ _
+    (both2 .result) (both2 .ensures ∙ ap₂ _&&_ (has-rights .ensures) (immediate-asks .ensures)) (not-false (both .result) (if1 .left)) (place-of .result .0) (place-of .ensures) (if2 .taken) (drop-now .ensures)
 
 returns-3 : tie.Need-returns-3
 returns-3 c =
@@ -63,14 +63,14 @@ returns-3 c =
     let b = b .before .before in let if2 = b .if2 in
     let b = b .before in let both2 = b .both2 in
     let b = b .before in let immediate-asks = b .immediate-asks in
-    let b = b .before in let both = b .both in
-    let b = b .before in let if1 = b .if1 in
     let b = b .before in let has-rights = b .has-rights in
+    let b = b .before in let if1 = b .if1 in
+    let b = b .before in let both = b .both in
     let b = b .before .before .before in let is-chosen = b .is-chosen in
     let b = b .before .before .before in let get = b .get in
     let b = b .before .before .before .before in let a = b .args in
-    expunge-waits (messages (a .words .now)) (a .used) (a .queue .now) (a .s) (a .filled) (a .k) (a .x) (get .result) (get .ensures) (is-chosen .result) (has-rights .result) (is-chosen .ensures) (has-rights .ensures) (a .words .now) _ _ _ _ _
-    (both2 .result) (both2 .ensures ∙ ap₂ _&&_ (both .ensures) (immediate-asks .ensures)) (not-false (has-rights .result) (if1 .left)) (if2 .left)
+    expunge-waits (messages (a .words .now)) (a .used) (a .queue .now) (a .s) (a .filled) (a .k) (a .x) (get .result) (get .ensures) (is-chosen .result) (both .result) (is-chosen .ensures) (both .ensures) (a .words .now) _ _ _ _ _
+    (both2 .result) (both2 .ensures ∙ ap₂ _&&_ (has-rights .ensures) (immediate-asks .ensures)) (not-false (both .result) (if1 .left)) (if2 .left)
     (wait-leaves (messages (a .words .now)) (a .used) (a .queue .now) (a .s) (a .filled) (a .k) (a .words .now) _ _ (take-out .ensures .0) (take-out .ensures .1))
 
 pub expunge-spec : {M : Type 1} → statement M

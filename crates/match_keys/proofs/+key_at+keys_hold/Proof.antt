@@ -21,24 +21,24 @@ use mathlib.Core.Path.{ap, sym, _∙_}
 use native.Mathlib.Omega.{arith}
 use borrow.Author.Needs.{needs}
 
-abbrev μ-key-at : Measures 2 key-at-kinds.ps ℕ
+abbrev μ-key-at : Measures 1 key-at-kinds.ps ℕ
 μ-key-at κs a = 2 * (a .1 .1 .0 - a .1 .0)
 
-abbrev μ-keys-hold : Measures 2 keys-hold-kinds.ps ℕ
+abbrev μ-keys-hold : Measures 1 keys-hold-kinds.ps ℕ
 μ-keys-hold κs a = 2 * (a .1 .1 .0 - a .1 .0) + 1
 
-abbrev key-at-at : ℕ → In 2 key-at-kinds.ps
-key-at-at t = and 2 key-at-kinds.ps (is 2 key-at-kinds.ps μ-key-at t) key-at.Pre
+abbrev key-at-at : ℕ → In 1 key-at-kinds.ps
+key-at-at t = and 1 key-at-kinds.ps (is 1 key-at-kinds.ps μ-key-at t) key-at.Pre
 
-abbrev key-at-below : ℕ → In 2 key-at-kinds.ps
-key-at-below t = and 2 key-at-kinds.ps (falls 2 key-at-kinds.ps _<_ μ-key-at t) key-at.Pre
+abbrev key-at-below : ℕ → In 1 key-at-kinds.ps
+key-at-below t = and 1 key-at-kinds.ps (falls 1 key-at-kinds.ps _<_ μ-key-at t) key-at.Pre
 
-abbrev keys-hold-at : ℕ → In 2 keys-hold-kinds.ps
-keys-hold-at t = and 2 keys-hold-kinds.ps (is 2 keys-hold-kinds.ps μ-keys-hold t) keys-hold.Pre
+abbrev keys-hold-at : ℕ → In 1 keys-hold-kinds.ps
+keys-hold-at t = and 1 keys-hold-kinds.ps (is 1 keys-hold-kinds.ps μ-keys-hold t) keys-hold.Pre
 
-abbrev keys-hold-below : ℕ → In 2 keys-hold-kinds.ps
+abbrev keys-hold-below : ℕ → In 1 keys-hold-kinds.ps
 keys-hold-below t =
-    and 2 keys-hold-kinds.ps (falls 2 keys-hold-kinds.ps _<_ μ-keys-hold t) keys-hold.Pre
+    and 1 keys-hold-kinds.ps (falls 1 keys-hold-kinds.ps _<_ μ-keys-hold t) keys-hold.Pre
 
 key-at-keys-hold-requires : (t : ℕ) → key-at-lts.Need-keys-hold-requires (
   cell-reads.Asked,
@@ -72,7 +72,7 @@ key-at-returns-2 t c =
     let b = b .before in let if1 = b .if1 in
     let b = b .before in let cell = b .cell in
     let b = b .before .before in let args = b .args in
-    answers-nest (args .cells .now) (args .at) (cell .result) (cell .ensures) (args .stop) (args .facts .now) (record { holds = c .agree .result; after = behind .result }) (if1 .left) (behind .ensures) (at-keys-hold .result) (at-keys-hold .ensures) (c .agree .ensures)
+    answers-nest (args .cells .now) (args .at) (cell .result) (cell .ensures) (args .stop) (args .facts) (record { holds = c .agree .result; after = behind .result }) (if1 .left) (behind .ensures) (at-keys-hold .result) (at-keys-hold .ensures) (c .agree .ensures)
 
 abbrev keys-hold-Inv-loop : keys-hold-lts.InvT-loop
 keys-hold-Inv-loop cells at stop any facts i₀ some₀ on₀ i some on = (at ≤ i) × Going cells at stop any facts i some on
@@ -94,7 +94,7 @@ keys-hold-loop-holds : (t : ℕ) → keys-hold-lts.Need-loop-holds (
 ) (keys-hold-at t) keys-hold.Post keys-hold-Inv-loop keys-hold-μ-loop
 keys-hold-loop-holds t c =
     let b = c .before in let args = b .args in
-    (omega arith, going-start (args .cells .now) (args .at) (args .stop) (args .any) (args .facts .now))
+    (omega arith, going-start (args .cells .now) (args .at) (args .stop) (args .any) (args .facts))
 
 keys-hold-loop-again : (t : ℕ) → keys-hold-lts.Need-loop-again (
   last-nest-reads.Asked,
@@ -114,7 +114,7 @@ keys-hold-loop-again t c =
     let b = b .before in let loop-test = b .loop-test in
     let b = b .before in let loop = b .loop in
     let b = b .before .before in let args = b .args in
-    let n = last-nest .ensures (c .before .before .if1 .taken) in (omega arith, going-in (args .cells .now) (args .at) (args .stop) (args .any) (args .facts .now) (loop .i) (loop .some) (loop .on) (loop .inv .1) (loop-test .taken) (cell .result) (cell .ensures) (let q = cell .ensures in omega (arith, n .0)) (n .1) (c .agree .result) (c .agree .ensures))
+    let n = last-nest .ensures (c .before .before .if1 .taken) in (omega arith, going-in (args .cells .now) (args .at) (args .stop) (args .any) (args .facts) (loop .i) (loop .some) (loop .on) (loop .inv .1) (loop-test .taken) (cell .result) (cell .ensures) (let q = cell .ensures in omega (arith, n .0)) (n .1) (c .agree .result) (c .agree .ensures))
 
 keys-hold-key-at-requires : (t : ℕ) → keys-hold-lts.Need-key-at-requires (
   last-nest-reads.Asked,
@@ -147,7 +147,7 @@ keys-hold-returns t c =
     let b = b .before .before .before in let loop-test = b .loop-test in
     let b = b .before in let loop = b .loop in
     let b = b .before .before in let args = b .args in
-    going-decided (args .cells .now) (args .at) (args .stop) (args .any) (args .facts .now) (loop .i) (loop .some) (loop .on) (loop .inv .1) (loop-test .taken) (at-key-at .result) (at-key-at .ensures) (sym (c .before .before .agree2 .ensures) ∙ c .before .if2 .taken) (c .agree3 .result) (c .agree3 .ensures)
+    going-decided (args .cells .now) (args .at) (args .stop) (args .any) (args .facts) (loop .i) (loop .some) (loop .on) (loop .inv .1) (loop-test .taken) (at-key-at .result) (at-key-at .ensures) (sym (c .before .before .agree2 .ensures) ∙ c .before .if2 .taken) (c .agree3 .result) (c .agree3 .ensures)
 
 keys-hold-loop-less-2 : (t : ℕ) → keys-hold-lts.Need-loop-less-2 (
   last-nest-reads.Asked,
@@ -180,7 +180,7 @@ keys-hold-loop-again-2 t c =
     let b = b .before .before .before in let loop-test = b .loop-test in
     let b = b .before in let loop = b .loop in
     let b = b .before .before in let args = b .args in
-    let a = at-key-at .ensures .after in (omega arith, going-next (args .cells .now) (args .at) (args .stop) (args .any) (args .facts .now) (loop .i) (loop .some) (loop .on) (loop .inv .1) (loop-test .taken) (at-key-at .result) (at-key-at .ensures) (sym (c .before .agree2 .ensures) ∙ c .if2 .left))
+    let a = at-key-at .ensures .after in (omega arith, going-next (args .cells .now) (args .at) (args .stop) (args .any) (args .facts) (loop .i) (loop .some) (loop .on) (loop .inv .1) (loop-test .taken) (at-key-at .result) (at-key-at .ensures) (sym (c .before .agree2 .ensures) ∙ c .if2 .left))
 
 keys-hold-returns-2 : (t : ℕ) → keys-hold-lts.Need-returns-2 (
   last-nest-reads.Asked,
@@ -197,7 +197,7 @@ keys-hold-returns-2 : (t : ℕ) → keys-hold-lts.Need-returns-2 (
 keys-hold-returns-2 t c =
     let b = c .before .before .before in let loop = b .loop in
     let b = b .before .before in let args = b .args in
-    going-end (args .cells .now) (args .at) (args .stop) (args .any) (args .facts .now) (loop .i) (loop .some) (loop .on) (loop .inv .1) (c .before .before .loop-test .left) (c .agree4 .result) (c .agree4 .ensures ∙ ap (agrees (loop .on)) (c .before .negated .ensures))
+    going-end (args .cells .now) (args .at) (args .stop) (args .any) (args .facts) (loop .i) (loop .some) (loop .on) (loop .inv .1) (c .before .before .loop-test .left) (c .agree4 .result) (c .agree4 .ensures ∙ ap (agrees (loop .on)) (c .before .negated .ensures))
 
 pub +key-at+keys-hold-spec : {M : Type 1} → statement M
 +key-at+keys-hold-spec = close μ-key-at μ-keys-hold (λ t. key-at-lts.spec (

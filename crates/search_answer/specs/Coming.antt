@@ -1,13 +1,13 @@
--- The answer to a search by its size, and what it comes to. Assumes nothing.
+-- What an accepted search comes to, from the memory that is lent and what was said of it. Assumes nothing.
 use mathlib.Core.Path.{_≡_, refl, ap, ap₂, sym, _∙_, subst}
 use mathlib.Core.Bool.{Bool, true, false, not, cond}
 use mathlib.Core.List.{List}
-use Prim.Native.Nat.{ℕ, _-_, _<_, _≤_}
+use Prim.Native.Nat.{ℕ, _-_, _≤_}
 use native.Mathlib.Omega.{arith}
 use borrow.Author.Tests.{leb-true}
 use lib.ListN.{length, take}
 use lib.Seq.{length-take-le}
-use Rattle.model.specs.Requests.{esearch, Command, Search, search}
+use Rattle.model.specs.Requests.{Command, Search, search}
 use Rattle.model.specs.Reading.{Parsed, ok}
 use Rattle.model.specs.Commands.{tagOf, commandOf}
 use Rattle.model.specs.Limits.{limits, tooLarge}
@@ -31,19 +31,15 @@ use Rattle.table_messages.specs.Words.{messages}
 use Rattle.table_messages.specs.Laid.{laid, laid-own}
 use Rattle.table_mailboxes.specs.Columns.{Laid}
 use Rattle.table_mailboxes.specs.Rows.{boxes-long}
-use Rattle.line_put.specs.Put.{Put}
-use Rattle.line_answer.specs.Sizes.{replyBy, Whole, measured, measured-length, whole-fits, whole-not}
+use Rattle.line_answer.specs.Sizes.{replyBy, Whole}
 use Rattle.line_answer.specs.Answered.{wholeText, text-accepted, text-refused, no-room-is, refused-left, search-left, leftAs}
 use Rattle.record_outcome.specs.Coming.{refusal, quiet, Lends, Comes, ladder}
 use Rattle.record_outcome.specs.Laws.{comes-refused}
 use Rattle.record_outcome.specs.declared.Outcome.{Outcome as Came}
-use Rattle.search_answer.specs.Finding.{Searches, Gathers}
-use Rattle.search_answer.specs.Lines.{wholeBy, whole-is}
-use Rattle.search_answer.specs.declared.Hits.{Hits}
-
--- what is written of an answer w: all of it, or else the line that it is too large
-abbrev pub answerBy : List ℕ → List ℕ → ℕ → List ℕ
-answerBy text w most = cond (isAccepted (replyBy Accepted (length w) most)) w (render (answer (tagOf text) esearch (replyBy Accepted (length w) most)))
+use Rattle.search_hits.specs.Finding.{Searches, Gathers}
+use Rattle.search_hits.specs.declared.Hits.{Hits}
+use Rattle.search_lines.specs.Lines.{wholeBy, whole-is}
+use Rattle.search_lines.specs.Said.{answerBy, answer-whole, answer-large}
 
 -- counts with another F
 abbrev pub filledTo : Counts → ℕ → Counts
@@ -52,31 +48,6 @@ filledTo k f = record { mailboxes = k .mailboxes; messages = k .messages; filled
 -- what it comes to: done, or refused for want of room
 abbrev pub cameBy : Bool → ℕ → Counts → Session → Came
 cameBy fits end k s = cond fits (quiet Done (filledTo k end) s) (refusal NoRoom k s)
-
--- rung by rung
-module _ (text w : List ℕ) (most : ℕ) (r : Reply) (e : r ≡ replyBy Accepted (length w) most) where
-  pub answer-whole : isAccepted r ≡ true → w ≡ answerBy text w most
-  answer-whole h = sym (ap (λ (b : Bool). cond b w (render (answer (tagOf text) esearch (replyBy Accepted (length w) most)))) (sym (ap isAccepted e) ∙ h))
-
-  pub answer-large : isAccepted r ≡ false → render (answer (tagOf text) esearch r) ≡ answerBy text w most
-  answer-large h =
-      ap (λ (x : Reply). render (answer (tagOf text) esearch x)) e
-      ∙ sym (ap (λ (b : Bool). cond b w (render (answer (tagOf text) esearch (replyBy Accepted (length w) most)))) (sym (ap isAccepted e) ∙ h))
-
--- ---- by what was measured with the limit 0
-module _ {q q₁ w : List ℕ} {at e : ℕ} (text : List ℕ) (a : Put q at 0 w q₁ e) (r : Reply) (is : r ≡ replyBy Accepted (e - at) (length q - 64)) where
-  reply-same : r ≡ replyBy Accepted (length w) (length q - 64)
-  reply-same = is ∙ ap (λ (n : ℕ). replyBy Accepted n (length q - 64)) (measured-length a)
-
-  pub said-large : isAccepted r ≡ false → {q₂ : List ℕ} {fits : Bool} {end : ℕ} → Whole q₁ at (render (answer (tagOf text) esearch r)) q₂ fits end
-      → Whole q at (answerBy text w (length q - 64)) q₂ fits end
-  said-large h x = rw (measured a, answer-large text w (length q - 64) r reply-same h) at x
-
-  pub said-whole : isAccepted r ≡ true → {q₂ : List ℕ} {lim z : ℕ} → Put q₁ at lim w q₂ z → lim ≡ length q - 64 → e ≤ lim → Whole q at (answerBy text w (length q - 64)) q₂ true z
-  said-whole h x l k = rw (← answer-whole text w (length q - 64) r reply-same h) (whole-fits a x l k)
-
-  pub said-not : isAccepted r ≡ true → {lim : ℕ} → 0 < length w → lim ≡ length q - 64 → lim < e → Whole q at (answerBy text w (length q - 64)) q₁ false at
-  said-not h z l k = rw (← answer-whole text w (length q - 64) r reply-same h) (whole-not a z l k)
 
 -- ---- an accepted search is within the limits
 small-of : (a b c d e : Bool) → cond a Bad (cond b BadEvent (cond c Unsupported (cond d BadCharset (cond e TooLarge Accepted)))) ≡ Accepted → e ≡ false

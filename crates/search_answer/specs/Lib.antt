@@ -1,4 +1,1 @@
-pub mod Headed
-pub mod Finding
-pub mod Lines
 pub mod Coming

@@ -1,21 +1,14 @@
 // An ESEARCH from its command line to its outcome: what it asks, which mailboxes it searches, what it finds there, its lines and its
 // tagged line.
-pub mod gathering;
-pub mod reading;
-pub mod saying;
-
-pub use gathering::find;
-use line_found::Wanted;
 use line_put::Said;
 use model::Answer;
 use model::Counts;
 use model::Refusal;
 use model::Session;
 use model::Uid;
-use read_sources::Listed;
 use record_outcome::Outcome;
-pub use saying::put_lines;
-use saying::say;
+use search_hits::find;
+use search_lines::say;
 ghost use mathlib.Core.Path.{_≡_};
 ghost use mathlib.Core.List.{List};
 ghost use Prim.Native.Nat.{ℕ, _*_, _≤_};
@@ -31,19 +24,6 @@ ghost use Rattle.demands.specs.Lasting.Law.{Law};
 ghost use Rattle.table_mailboxes.specs.Columns.{Laid};
 ghost use Rattle.record_outcome.specs.Coming.{Lends, Ready, Comes, ladder};
 ghost use Rattle.search_answer.specs.Coming.{cameBy, Tells};
-
-// What a search asks: its sources, what it is to return, and how many cells its keys fill.
-pub struct Question {
-    pub listed: Listed,
-    pub wanted: Wanted,
-    pub filled: usize,
-}
-
-// What was found: what is to be said of it, and in how many rows it was looked for.
-pub struct Hits {
-    pub wanted: Wanted,
-    pub rows: usize,
-}
 
 // What an answer that was said, or found no room, comes to.
 fn outcome(said: Said, counts: Counts, s: Session) -> Outcome

@@ -1,4 +1,4 @@
--- `answer`: the lent memory is the one that is searched. Assumes nothing.
+-- `answer`: the memory that is lent is the one that is searched, so what was said of it is the rules' answer. Assumes nothing.
 use borrow.Author.Needs.{needs}
 use Rattle.search_answer.proofs.answer.Statement.{statement}
 use Rattle.search_answer.proofs.answer.Tie as tie
@@ -21,8 +21,10 @@ tell-requires c κs =
 returns : tie.Need-returns
 returns c =
     let a = c .before .before .before .before .before .before .before .before .before .before .args in
-    answer-comes (a .text .now) (a .ids .now) (a .attributes .now) (a .lens .now) (a .validities .now) (a .names .now) (a .words .now) (a .counts) (a .s) (a .queue .now) _ _ _ _
-    (rw (c .before .before .before .before .before .wide-id .ensures, c .before .before .before .before .wide-number .ensures) at (c .before .before .before .tell .ensures)) (c .outcome .ensures)
+    let told = c .before .before .before .tell .ensures in
+    answer-comes (a .text .now) (a .ids .now) (a .attributes .now) (a .lens .now) (a .validities .now) (a .names .now)
+    (a .words .now) (a .counts) (a .s) (a .queue .now) _ _ _ _
+    (rw (c .before .before .before .before .before .wide-id .ensures, c .before .before .before .before .wide-number .ensures) at told) (c .outcome .ensures)
 
 pub answer-spec : {M : Type 1} → statement M
 answer-spec =

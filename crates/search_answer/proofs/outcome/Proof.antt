@@ -1,4 +1,4 @@
--- `outcome`: by whether it found room. Assumes nothing.
+-- `outcome`: what was said fits or it does not, and each arm is that case of `cameBy`. Assumes nothing.
 use borrow.Author.Needs.{needs}
 use Rattle.search_answer.proofs.outcome.Statement.{statement}
 use Rattle.search_answer.proofs.outcome.Tie as tie
@@ -7,10 +7,14 @@ use mathlib.Core.Bool.{Bool}
 use Rattle.search_answer.specs.Coming.{cameBy}
 
 returns : tie.Need-returns
-returns c = c .unmoved .ensures ∙ sym (ap (λ (b : Bool). cameBy b (c .before .before .args .said .end) (c .before .before .args .counts) (c .before .before .args .s)) (c .before .if1 .taken))
+returns c =
+    let a = c .before .before .args in
+    c .unmoved .ensures ∙ sym (ap (λ (b : Bool). cameBy b (a .said .end) (a .counts) (a .s)) (c .before .if1 .taken))
 
 returns-2 : tie.Need-returns-2
-returns-2 c = c .refused .ensures ∙ sym (ap (λ (b : Bool). cameBy b (c .before .before .args .said .end) (c .before .before .args .counts) (c .before .before .args .s)) (c .before .if1 .left))
+returns-2 c =
+    let a = c .before .before .args in
+    c .refused .ensures ∙ sym (ap (λ (b : Bool). cameBy b (a .said .end) (a .counts) (a .s)) (c .before .if1 .left))
 
 pub outcome-spec : {M : Type 1} → statement M
 outcome-spec =

@@ -1,4 +1,4 @@
--- `mail_apart`: the loop keeps that the rest from i on is apart where the whole is; a twin behind i ends it. Assumes nothing.
+-- `mail_apart`: the loop keeps that no two of all entries are twins exactly if none is from i on. Assumes nothing.
 use Rattle.lawful_messages.proofs.mail_apart.Statement.{statement}
 use Rattle.lawful_messages.proofs.mail_apart.Tie as tie
 use mathlib.Core.Path.{_≡_, refl, sym, _∙_, ap}

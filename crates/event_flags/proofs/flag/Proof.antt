@@ -16,8 +16,12 @@ flag-now-requires c κs =
     let b = b .before in let is-soon = b .is-soon in
     let b = b .before in let both = b .both in
     let b = b .before .before .before .before .before .before .before .before .before .before in let args = b .args in
-    let pre = b .pre in
-    (omega (arith, pre .0, pre .1), pre .2, pre .3, pre .5 (told-some (args .s) (is-soon .result) (both .result) (bothRights (args .x)) _ (is-soon .ensures) (if1 .taken)))
+    let pre = b .pre in (
+      omega (arith, pre .0, pre .1),
+      pre .2,
+      pre .3,
+      pre .5 (told-some (args .s) (is-soon .result) (both .result) (bothRights (args .x)) _ (is-soon .ensures) (if1 .taken)),
+    )
 
 returns : tie.Need-returns
 returns c =
@@ -29,7 +33,8 @@ returns c =
     let b = b .before .before .before in let is-chosen = b .is-chosen in
     let b = b .before .before .before in let get = b .get in
     let b = b .before .before .before .before in let a = b .args in
-    reflag-tells (messages (a .words .now)) (a .used) (a .queue .now) (a .s) (a .filled) (a .k) (a .x) (get .result) (get .ensures) (is-chosen .result) (both .result) (is-chosen .ensures) (both .ensures) (a .words .now) _ _ _ _ _
+    reflag-tells (messages (a .words .now)) (a .used) (a .queue .now) (a .s) (a .filled) (a .k) (a .x) (get .result)
+    (get .ensures) (is-chosen .result) (both .result) (is-chosen .ensures) (both .ensures) (a .words .now) _ _ _ _ _
     (a .flags) (a .counter) (is-soon .result) (is-soon .ensures) (place-of .result .0) (place-of .ensures) (if1 .taken) (flag-now .ensures)
 
 flag-kept-requires : tie.Need-flag-kept-requires
@@ -37,15 +42,34 @@ flag-kept-requires c κs =
     let b = c .before .before in let is-told = b .is-told in
     let b = b .before .before .before .before .before .before .before .before .before .before .before in let is-chosen = b .is-chosen in
     let b = b .before .before .before .before .before .before .before in let a = b .args in
-    let pre = b .pre in
-    (omega (arith, pre .0, pre .1), pre .2, pre .3, pre .4, λ z. pre .5 (told-some (a .s) (is-told .result) (not (is-chosen .result)) (bothRights (a .x)) _ (is-told .ensures) z))
+    let pre = b .pre in (
+      omega (arith, pre .0, pre .1),
+      pre .2,
+      pre .3,
+      pre .4,
+      λ z. pre .5 (told-some (a .s) (is-told .result) (not (is-chosen .result)) (bothRights (a .x)) _ (is-told .ensures) z),
+    )
 
 returns-2 : tie.Need-returns-2
-returns-2 c = let a = c .before .before .before .before .before .before .before .before .before .before .before .before .before .before .before .before .before .before .before .before .before .before .before .before .before .args in
-    reflag-keeps (messages (a .words .now)) (a .used) (a .queue .now) (a .s) (a .filled) (a .k) (a .x) (c .before .before .before .before .before .before .before .before .before .before .before .before .before .before .before .before .before .before .before .before .before .get .result) (c .before .before .before .before .before .before .before .before .before .before .before .before .before .before .before .before .before .before .before .before .before .get .ensures) (c .before .before .before .before .before .before .before .before .before .before .before .before .before .before .before .before .before .before .is-chosen .result) (c .before .before .before .before .before .before .before .before .before .before .before .before .before .before .before .both .result) (c .before .before .before .before .before .before .before .before .before .before .before .before .before .before .before .before .before .before .is-chosen .ensures) (c .before .before .before .before .before .before .before .before .before .before .before .before .before .before .before .both .ensures) (a .words .now) _ _ _ _ _
-    (a .flags) (a .counter) (c .before .before .before .before .before .before .before .before .before .before .before .before .before .before .is-soon .result) (c .before .before .before .before .before .before .before .before .before .before .before .before .before .before .is-soon .ensures) (c .before .before .before .before .before .before .before .before .before .both3 .result) (c .before .before .before .before .before .before .before .is-told .result) (c .before .before .before .before .before .before .before .before .pick .result)
-    (c .before .before .before .before .before .before .before .before .before .both3 .ensures ∙ ap (λ (b : Bool). c .before .before .before .before .before .before .before .before .before .before .before .before .before .before .before .both .result && b) (c .before .before .before .before .before .before .before .before .before .before .both2 .ensures ∙ ap (λ (b : Bool). b && eqb (a .s .notified) 0) (c .before .before .before .before .before .before .before .before .before .before .before .before .has-rights .ensures)))
-    (c .before .before .before .before .before .before .before .is-told .ensures) (c .before .before .before .before .before .before .before .before .before .before .before .before .before .if1 .left) (c .before .before .before .before .before .before .before .before .pick .ensures) (c .before .before .before .before .flag-kept .ensures)
+returns-2 c =
+    let b = c .before .before .before .before in let flag-kept = b .flag-kept in
+    let b = b .before .before .before in let is-told = b .is-told in
+    let b = b .before in let pick = b .pick in
+    let b = b .before in let both3 = b .both3 in
+    let b = b .before in let both2 = b .both2 in
+    let b = b .before .before in let has-rights = b .has-rights in
+    let b = b .before in let if1 = b .if1 in
+    let b = b .before in let is-soon = b .is-soon in
+    let b = b .before in let both = b .both in
+    let b = b .before .before .before in let is-chosen = b .is-chosen in
+    let b = b .before .before .before in let get = b .get in
+    let b = b .before .before .before .before in let a = b .args in
+    let rights = both2 .ensures ∙ ap (λ (b : Bool). b && eqb (a .s .notified) 0) (has-rights .ensures) in
+    let kept = both3 .ensures ∙ ap (λ (b : Bool). both .result && b) rights in
+    reflag-keeps (messages (a .words .now)) (a .used) (a .queue .now) (a .s) (a .filled) (a .k) (a .x) (get .result) (get .ensures)
+    (is-chosen .result) (both .result) (is-chosen .ensures) (both .ensures) (a .words .now) _ _ _ _ _
+    (a .flags) (a .counter) (is-soon .result) (is-soon .ensures) (both3 .result) (is-told .result) (pick .result)
+    kept (is-told .ensures) (if1 .left) (pick .ensures) (flag-kept .ensures)
 
 pub flag-spec : {M : Type 1} → statement M
 flag-spec =

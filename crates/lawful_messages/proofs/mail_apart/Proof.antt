@@ -27,21 +27,30 @@ returns c =
     let b = c .before .before .before .before in let turn = b .loop in
     let b = b .before .before in let args = b .args in
     let pre = b .pre in
-    let k = messages-length (args .n) (args .words .now) pre in sym (turn .inv .1 ∙ apart-here twin (messages (args .words .now)) (args .n) (turn .i) (omega arith) noMessage (omega arith) (ap (λ (d : Message). anyb (twin d) (drop (turn .i + 1) (take (args .n) (messages (args .words .now))))) (sym (c .before .before .get .ensures)) ∙ sym (c .before .any-twin .ensures) ∙ c .if1 .taken))
+    let all = messages (args .words .now) in
+    let k = messages-length (args .n) (args .words .now) pre in
+    let same = ap (λ (d : Message). anyb (twin d) (drop (turn .i + 1) (take (args .n) all))) (sym (c .before .before .get .ensures)) in
+    let twins = same ∙ sym (c .before .any-twin .ensures) ∙ c .if1 .taken in
+    sym (turn .inv .1 ∙ apart-here twin all (args .n) (turn .i) (omega arith) noMessage (omega arith) twins)
 
 loop-again : tie.Need-loop-again Inv-loop μ-loop
 loop-again c =
     let b = c .before .before .before .before in let turn = b .loop in
     let b = b .before .before in let args = b .args in
     let pre = b .pre in
-    let k = messages-length (args .n) (args .words .now) pre in (search needs, turn .inv .1 ∙ apart-next twin (messages (args .words .now)) (args .n) (turn .i) (omega arith) noMessage (omega arith) (ap (λ (d : Message). anyb (twin d) (drop (turn .i + 1) (take (args .n) (messages (args .words .now))))) (sym (c .before .before .get .ensures)) ∙ sym (c .before .any-twin .ensures) ∙ c .if1 .left))
+    let all = messages (args .words .now) in
+    let k = messages-length (args .n) (args .words .now) pre in
+    let same = ap (λ (d : Message). anyb (twin d) (drop (turn .i + 1) (take (args .n) all))) (sym (c .before .before .get .ensures)) in
+    let twins = same ∙ sym (c .before .any-twin .ensures) ∙ c .if1 .left in
+    (search needs, turn .inv .1 ∙ apart-next twin all (args .n) (turn .i) (omega arith) noMessage (omega arith) twins)
 
 returns-2 : tie.Need-returns-2 Inv-loop μ-loop
 returns-2 c =
     let b = c .before in let turn = b .loop in
     let b = b .before .before in let args = b .args in
     let pre = b .pre in
-    let k = messages-length (args .n) (args .words .now) pre in sym (turn .inv .1 ∙ apart-past twin (messages (args .words .now)) (args .n) (turn .i) (omega arith) (omega arith))
+    let k = messages-length (args .n) (args .words .now) pre in
+    sym (turn .inv .1 ∙ apart-past twin (messages (args .words .now)) (args .n) (turn .i) (omega arith) (omega arith))
 
 pub mail-apart-spec : {M : Type 1} → statement M
 mail-apart-spec =

@@ -1,4 +1,4 @@
--- `lent_at`: case by case.
+-- `lent_at`: a group opens with a parenthesis and a filter that may group, and `lent_behind` has the rest; else both are bad. Assumes nothing.
 use native.Mathlib.Omega.{arith}
 use mathlib.Core.Path.{sym, _∙_}
 use Prim.Native.Nat.{_-_}
@@ -25,7 +25,14 @@ returns-2 c =
     let b = b .before in let if1 = b .if1 in
     let b = b .before in let octet-at = b .octet-at in
     let b = b .before .before in let args = b .args in
-    let w = rw (scope .given .1) at (filter-at .ensures .within) in record { exact = lent-by (args .text .now) (args .at) (args .first) (sym (octet-at .ensures) ∙ if1 .left) (sym (scope .given .1) ∙ filter-at .ensures .exact) (c .before .before .is-groupable .ensures) (c .before .if2 .taken) (c .lent-behind .ensures .exact); within = within-lent (args .text .now) (args .at) (scope .given .0 .1 .0) (scope .given .0 .1 .1 .0) (c .lent-behind .result) (omega arith) (c .lent-behind .ensures .within) }
+    let w = rw (scope .given .1) at (filter-at .ensures .within) in
+    record {
+      exact = lent-by (args .text .now) (args .at) (args .first) (sym (octet-at .ensures) ∙ if1 .left)
+          (sym (scope .given .1) ∙ filter-at .ensures .exact) (c .before .before .is-groupable .ensures) (c .before .if2 .taken)
+          (c .lent-behind .ensures .exact);
+      within = within-lent (args .text .now) (args .at) (scope .given .0 .1 .0) (scope .given .0 .1 .1 .0)
+          (c .lent-behind .result) (omega arith) (c .lent-behind .ensures .within);
+    }
 
 returns-3 : tie.Need-returns-3
 returns-3 c =
@@ -34,14 +41,22 @@ returns-3 c =
     let b = b .before in let if1 = b .if1 in
     let b = b .before in let octet-at = b .octet-at in
     let b = b .before .before in let args = b .args in
-    record { exact = lent-odd (args .text .now) (args .at) (args .first) (sym (octet-at .ensures) ∙ if1 .left) (sym (scope .given .1) ∙ filter-at .ensures .exact) (c .before .is-groupable .ensures) (c .if2 .left); within = tt }
+    record {
+      exact = lent-odd (args .text .now) (args .at) (args .first) (sym (octet-at .ensures) ∙ if1 .left)
+          (sym (scope .given .1) ∙ filter-at .ensures .exact) (c .before .is-groupable .ensures) (c .if2 .left);
+      within = tt;
+    }
 
 returns-4 : tie.Need-returns-4
 returns-4 c =
     let b = c .before .before .before in let if1 = b .if1 in
     let b = b .before in let octet-at = b .octet-at in
     let b = b .before .before in let args = b .args in
-    record { exact = lent-none (args .text .now) (args .at) (args .first) (sym (octet-at .ensures) ∙ if1 .left) (sym (c .enum-told .given .1) ∙ c .before .before .filter-at .ensures .exact); within = tt }
+    record {
+      exact = lent-none (args .text .now) (args .at) (args .first) (sym (octet-at .ensures) ∙ if1 .left)
+          (sym (c .enum-told .given .1) ∙ c .before .before .filter-at .ensures .exact);
+      within = tt;
+    }
 
 pub lent-at-spec : {M : Type 1} → statement M
 lent-at-spec =

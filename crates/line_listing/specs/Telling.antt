@@ -37,7 +37,9 @@ tellsStatus m s wanted x = wanted && (not (isSelected m (x .id)) && askedOf s x 
 
 pub line-is : (m : Memory) (s : Session) (wanted : Bool) (x : Mailbox) → lineText x (length (existing (x .id) (mails m))) (tellsStatus m s wanted x) ≡ renderAll (listingLine m s wanted x)
 unfolding renderAll
-line-is m s wanted x = go (mayRead x) (tellsStatus m s wanted x) (status (nameOf x) (setItems (length (existing (x .id) (mails m))) (x .uidnext) (x .uidvalidity) (counterOf x))) (list noAccess (nameOf x))
+line-is m s wanted x =
+    go (mayRead x) (tellsStatus m s wanted x)
+    (status (nameOf x) (setItems (length (existing (x .id) (mails m))) (x .uidnext) (x .uidvalidity) (counterOf x))) (list noAccess (nameOf x))
   where
     go : (r b : Bool) (u v : Line) → cond r (cond b (render u) []) (render v) ≡ renderAll (cond r (when b u) (v ∷ []))
     go true true u v = sym (append-none (render u))
@@ -68,7 +70,10 @@ pub record Shown (l : List Mailbox) (attributes lens validities nexts counters n
 abbrev pub lineAt : List ℕ → List ℕ → List ℕ → List ℕ → List ℕ → List ℕ → ℕ → ℕ → Bool → List ℕ
 lineAt attributes lens validities nexts counters names k messages on = lineBy (getD attributes k 0) (nameAt lens names k) (getD nexts k 0) (getD validities k 0) (getD counters k 0) messages on
 
-pub line-at : (l : List Mailbox) (attributes lens validities nexts counters names : List ℕ) → Shown l attributes lens validities nexts counters names → (k messages : ℕ) (on : Bool) → k < length l → lineAt attributes lens validities nexts counters names k messages on ≡ lineText (getD l k noMailbox) messages on
+pub line-at :
+    (l : List Mailbox) (attributes lens validities nexts counters names : List ℕ) → Shown l attributes lens validities nexts counters names
+    → (k messages : ℕ) (on : Bool) → k < length l
+    → lineAt attributes lens validities nexts counters names k messages on ≡ lineText (getD l k noMailbox) messages on
 line-at l attributes lens validities nexts counters names w k messages on h = rw (w .attribute k h, name-at l lens names k (w .len) (w .name) h, w .next k h, w .validity k h, w .counter k h)
 
 module _ (attributes lens validities nexts counters names at counts asks : List ℕ) where
@@ -102,23 +107,33 @@ module _ (f : Mailbox → List Line) (l : List Mailbox) (attributes lens validit
   pub texts-are : (n : ℕ) → Below at n (length l) → texts attributes lens validities nexts counters names at counts asks n ≡ renderAll (concatMap f (chosen l at n))
   unfolding texts chosen renderAll
   texts-are zero b = refl
-  texts-are (suc n) b = ap₂ (λ (a c : List ℕ). a ++ c) (place-is (getD at n 0) (b n (omega arith))) (texts-are n (λ j h. b j (omega arith))) ∙ sym (render-append (f (rowAt l (getD at n 0))) (concatMap f (chosen l at n)))
+  texts-are (suc n) b =
+      ap₂ (λ (a c : List ℕ). a ++ c) (place-is (getD at n 0) (b n (omega arith))) (texts-are n (λ j h. b j (omega arith)))
+      ∙ sym (render-append (f (rowAt l (getD at n 0))) (concatMap f (chosen l at n)))
 
 -- what is still to be written, when i places are left
 abbrev pub Goes : List ℕ → ℕ → ℕ → List ℕ → List ℕ → ℕ → List ℕ → Type 0
 Goes q at lim all q′ o rest = (q″ : List ℕ) (r : ℕ) → Put q′ o lim rest q″ r → Put q at lim all q″ r
 
 module _ (attributes lens validities nexts counters names order counts asks q : List ℕ) (at lim : ℕ) (all q′ : List ℕ) (o : ℕ) where
-  pub goes-next : (i : ℕ) (q₁ : List ℕ) (o₁ : ℕ) → 0 < i → Goes q at lim all q′ o (texts attributes lens validities nexts counters names order counts asks i) → Put q′ o lim (placeText attributes lens validities nexts counters names order counts asks (getD order (i - 1) 0)) q₁ o₁ → Goes q at lim all q₁ o₁ (texts attributes lens validities nexts counters names order counts asks (i - 1))
+  pub goes-next :
+      (i : ℕ) (q₁ : List ℕ) (o₁ : ℕ) → 0 < i
+      → Goes q at lim all q′ o (texts attributes lens validities nexts counters names order counts asks i)
+      → Put q′ o lim (placeText attributes lens validities nexts counters names order counts asks (getD order (i - 1) 0)) q₁ o₁
+      → Goes q at lim all q₁ o₁ (texts attributes lens validities nexts counters names order counts asks (i - 1))
   goes-next i q₁ o₁ h g p q″ r z =
       let e : i - 1 + 1 ≡ i = omega arith in
-      g q″ r (put-as (_then_ p z) (sym (texts-more attributes lens validities nexts counters names order counts asks (i - 1)) ∙ ap (texts attributes lens validities nexts counters names order counts asks) e))
+      g q″ r (put-as (_then_ p z) (sym (texts-more attributes lens validities nexts counters names order counts asks (i - 1))
+      ∙ ap (texts attributes lens validities nexts counters names order counts asks) e))
 
   pub goes-end : lim ≤ length q′ → Goes q at lim all q′ o (texts attributes lens validities nexts counters names order counts asks 0) → Put q at lim all q′ o
   goes-end w g = g q′ o (put-as (put-none q′ o lim w) (sym (texts-none attributes lens validities nexts counters names order counts asks)))
 
 -- the listing of the rules
-pub listing-is : (m : Memory) (s : Session) (wanted : Bool) (order : List ℕ) (r : ℕ) → chosen (boxes m) order r ≡ sorted byName (filterb (λ (x : Mailbox). mayList x && concerns m s x) (boxes m)) → renderAll (concatMap (listingLine m s wanted) (chosen (boxes m) order r)) ≡ renderAll (listing m s wanted)
+pub listing-is :
+    (m : Memory) (s : Session) (wanted : Bool) (order : List ℕ) (r : ℕ)
+    → chosen (boxes m) order r ≡ sorted byName (filterb (λ (x : Mailbox). mayList x && concerns m s x) (boxes m))
+    → renderAll (concatMap (listingLine m s wanted) (chosen (boxes m) order r)) ≡ renderAll (listing m s wanted)
 listing-is m s wanted order r c = ap (λ (l : List Mailbox). renderAll (concatMap (listingLine m s wanted) l)) c
 
 -- the three ways of a row's line, as code takes them

@@ -84,7 +84,9 @@ positive-gives : (s : List ℕ) (p : ℕ) → Gives (λ (n : ℕ). 0 < n) (posit
 unfolding numberAt
 positive-gives s p = zeros (stands s p "0") refl
   where
-    long : (t : Bool) → ltb p (endOf digit s p) ≡ t → stands s p "0" ≡ false → Gives (λ (n : ℕ). 0 < n) (andThen (cond t (ok (endOf digit s p) (piece s p (endOf digit s p))) bad) (λ q ds. small q (valueFrom 0 ds)))
+    long :
+        (t : Bool) → ltb p (endOf digit s p) ≡ t → stands s p "0" ≡ false
+        → Gives (λ (n : ℕ). 0 < n) (andThen (cond t (ok (endOf digit s p) (piece s p (endOf digit s p))) bad) (λ q ds. small q (valueFrom 0 ds)))
     long true f e = pick (leb (valueFrom 0 (piece s p (endOf digit s p))) 4294967295) (one (positive-is s p e f)) none
     long false f e = none
 
@@ -151,14 +153,31 @@ flag : (b : Bool) (n : ℕ) (on : Bool) {y : Keyword} → Word y → Word (cond 
 flag b n on h = choose b {x = bare (flagged n on)} (word tt) h
 
 unsupported-word : (w : List ℕ) → Word (unsupportedWord w)
-unsupported-word w = choose (isOf w ("NEW" ∷ "OLD" ∷ "RECENT" ∷ [])) {x = bare unsupported} (word tt) (choose (isOf w ("BCC" ∷ "BODY" ∷ "CC" ∷ "FROM" ∷ "SUBJECT" ∷ "TEXT" ∷ "TO" ∷ [])) {x = string} (word tt) (choose (isOf w ("KEYWORD" ∷ "UNKEYWORD" ∷ [])) {x = keyword} (word tt) (choose (isOf w ("BEFORE" ∷ "ON" ∷ "SINCE" ∷ "SENTBEFORE" ∷ "SENTON" ∷ "SENTSINCE" ∷ [])) {x = date} (word tt) (choose (is w "HEADER") {x = header} {y = strange} (word tt) (word tt)))))
+unsupported-word w =
+    choose (isOf w ("NEW" ∷ "OLD" ∷ "RECENT" ∷ [])) {x = bare unsupported} (word tt)
+    (choose (isOf w ("BCC" ∷ "BODY" ∷ "CC" ∷ "FROM" ∷ "SUBJECT" ∷ "TEXT" ∷ "TO" ∷ [])) {x = string} (word tt)
+    (choose (isOf w ("KEYWORD" ∷ "UNKEYWORD" ∷ [])) {x = keyword} (word tt)
+    (choose (isOf w ("BEFORE" ∷ "ON" ∷ "SINCE" ∷ "SENTBEFORE" ∷ "SENTON" ∷ "SENTSINCE" ∷ [])) {x = date} (word tt)
+    (choose (is w "HEADER") {x = header} {y = strange} (word tt) (word tt)))))
 
 flag-word : (w : List ℕ) (k : Keyword) → Word k → Word (flagWord w k)
-flag-word w k h = flag (is w "ANSWERED") 0 true (flag (is w "UNANSWERED") 0 false (flag (is w "FLAGGED") 1 true (flag (is w "UNFLAGGED") 1 false (flag (is w "DELETED") 2 true (flag (is w "UNDELETED") 2 false (flag (is w "SEEN") 3 true (flag (is w "UNSEEN") 3 false (flag (is w "DRAFT") 4 true (flag (is w "UNDRAFT") 4 false h)))))))))
+flag-word w k h =
+    flag (is w "ANSWERED") 0 true (flag (is w "UNANSWERED") 0 false
+    (flag (is w "FLAGGED") 1 true (flag (is w "UNFLAGGED") 1 false
+    (flag (is w "DELETED") 2 true (flag (is w "UNDELETED") 2 false
+    (flag (is w "SEEN") 3 true (flag (is w "UNSEEN") 3 false
+    (flag (is w "DRAFT") 4 true (flag (is w "UNDRAFT") 4 false h)))))))))
 
 word-proper : (w : List ℕ) → Word (keywordOf w)
 unfolding keywordOf
-word-proper w = choose (is w "ALL") {x = bare all} (word tt) (choose (is w "LARGER") {x = above} (word tt) (choose (is w "SMALLER") {x = below} (word tt) (choose (is w "UID") {x = uidSet} (word tt) (choose (is w "NOT") {x = negated} (word tt) (choose (is w "OR") {x = alternatives} (word tt) (flag-word w (unsupportedWord w) (unsupported-word w)))))))
+word-proper w =
+    choose (is w "ALL") {x = bare all} (word tt)
+    (choose (is w "LARGER") {x = above} (word tt)
+    (choose (is w "SMALLER") {x = below} (word tt)
+    (choose (is w "UID") {x = uidSet} (word tt)
+    (choose (is w "NOT") {x = negated} (word tt)
+    (choose (is w "OR") {x = alternatives} (word tt)
+    (flag-word w (unsupportedWord w) (unsupported-word w)))))))
 
 abbrev Begun : Start → Type 0
 Begun (single p t) = ProperTest t
@@ -191,7 +210,10 @@ module _ (s : List ℕ) (p : ℕ) where
   start-by string h = spaced (λ q. argued (astringAt s q)) (λ q. argued-gives (astringAt s q))
   start-by keyword h = spaced (λ q. argued (atomAt s q)) (λ q. argued-gives (atomAt s q))
   start-by date h = spaced (λ q. argued (dateAt s q)) (λ q. argued-gives (dateAt s q))
-  start-by header h = spaced (λ q. andThen (astringAt s q) λ r field. after s r " " λ t. argued (astringAt s t)) (λ q. follow (λ _. Unit {0}) (astringAt s q) (λ r field. after s r " " λ t. argued (astringAt s t)) (any (astringAt s q)) (λ r field g. behind (stands s r " ") (r + 1) (λ t. argued (astringAt s t)) (λ t. argued-gives (astringAt s t))))
+  start-by header h =
+      spaced (λ q. andThen (astringAt s q) λ r field. after s r " " λ t. argued (astringAt s t))
+      (λ q. follow (λ _. Unit {0}) (astringAt s q) (λ r field. after s r " " λ t. argued (astringAt s t)) (any (astringAt s q))
+      (λ r field g. behind (stands s r " ") (r + 1) (λ t. argued (astringAt s t)) (λ t. argued-gives (astringAt s t))))
   start-by negated h = begun-pick (stands s p " ") (negation (p + 1)) wrong tt tt
   start-by alternatives h = begun-pick (stands s p " ") (alternation (p + 1)) wrong tt tt
   start-by strange h = tt
@@ -214,7 +236,10 @@ module _ (s : List ℕ) (key : ℕ → Parsed Key) (list : ℕ → Parsed Keys) 
   unfolding Proper
   key-by (single p t) h = one h
   key-by (negation p) h = follow Proper (key p) (λ q k. ok q (non k)) (hk p) (λ q k g. one g)
-  key-by (alternation p) h = follow Proper (key p) (λ q a. after s q " " λ r. andThen (key r) λ e b. ok e (either a b)) (hk p) (λ q a g. behind (stands s q " ") (q + 1) (λ r. andThen (key r) λ e b. ok e (either a b)) (λ r. follow Proper (key r) (λ e b. ok e (either a b)) (hk r) (λ e b f. one (g, f))))
+  key-by (alternation p) h =
+      follow Proper (key p) (λ q a. after s q " " λ r. andThen (key r) λ e b. ok e (either a b)) (hk p)
+      (λ q a g. behind (stands s q " ") (q + 1) (λ r. andThen (key r) λ e b. ok e (either a b))
+      (λ r. follow Proper (key r) (λ e b. ok e (either a b)) (hk r) (λ e b f. one (g, f))))
   key-by (opening p) h = follow Propers (list p) (λ q ks. ok q (group ks)) (hl p) (λ q ks g. one g)
   key-by wrong h = none
 

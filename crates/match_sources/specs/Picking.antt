@@ -35,7 +35,9 @@ abbrev pub nameAt : List ℕ → ℕ → ℕ → Name
 nameAt names k len = take len (take 64 (drop (64 * k) names))
 
 -- as code cuts it out: c is the length, within the 64 octets
-pub name-part : (names : List ℕ) (k len c : ℕ) → c ≤ 64 → take c (take 64 (drop (64 * k) names)) ≡ take len (take 64 (drop (64 * k) names)) → take (k * 64 + c - k * 64) (drop (k * 64) names) ≡ nameAt names k len
+pub name-part :
+    (names : List ℕ) (k len c : ℕ) → c ≤ 64 → take c (take 64 (drop (64 * k) names)) ≡ take len (take 64 (drop (64 * k) names))
+    → take (k * 64 + c - k * 64) (drop (k * 64) names) ≡ nameAt names k len
 name-part names k len c h e =
     let z : k * 64 + c - k * 64 ≡ c = omega arith in
     let y : k * 64 ≡ 64 * k = omega arith in
@@ -51,7 +53,10 @@ Noted t s ids attributes lens names n picked = (k : ℕ) → k < n → noted (ge
 
 module _ (t : Listed) (s : ℕ) (ids attributes lens names : List ℕ) where
   -- one note more
-  pub noted-next : (k : ℕ) (picked : List ℕ) (v : ℕ) (here : Bool) → Noted t s ids attributes lens names k picked → k < length picked → here ≡ selectedBy s (getD ids k 0) → noted v ≡ searchedBy t (getD attributes k 0) (nameAt names k (getD lens k 0)) here → Noted t s ids attributes lens names (k + 1) (set picked k v)
+  pub noted-next :
+      (k : ℕ) (picked : List ℕ) (v : ℕ) (here : Bool) → Noted t s ids attributes lens names k picked → k < length picked
+      → here ≡ selectedBy s (getD ids k 0) → noted v ≡ searchedBy t (getD attributes k 0) (nameAt names k (getD lens k 0)) here
+      → Noted t s ids attributes lens names (k + 1) (set picked k v)
   noted-next k picked v here p w e f j h = go (leb k j) refl
     where
       go : (b : Bool) → leb k j ≡ b → noted (getD (set picked k v) j 0) ≡ searchedBy t (getD attributes j 0) (nameAt names j (getD lens j 0)) (selectedBy s (getD ids j 0))
@@ -68,7 +73,12 @@ abbrev pub Picks : (Mailbox → Bool) → List Mailbox → List ℕ → Type 0
 Picks p l picked = (k : ℕ) → k < length l → noted (getD picked k 0) ≡ p (getD l k noMailbox)
 
 -- they are those of the definition
-pub picks-searched : (fs : List Filter) (few : Few fs) (t : Listed) → t ≡ addAll nothingListed fs → (m : Memory) (l : List Mailbox) (ids attributes lens names picked : List ℕ) → Column (λ x. x .id) l ids → Column (λ x. x .attributes) l attributes → Column (λ x. x .namelen) l lens → Names l names → Noted t (m .session .selected) ids attributes lens names (length l) picked → Picks (λ (x : Mailbox). mayRead x && anyb (admits m x) fs) l picked
+pub picks-searched :
+    (fs : List Filter) (few : Few fs) (t : Listed) → t ≡ addAll nothingListed fs
+    → (m : Memory) (l : List Mailbox) (ids attributes lens names picked : List ℕ)
+    → Column (λ x. x .id) l ids → Column (λ x. x .attributes) l attributes → Column (λ x. x .namelen) l lens → Names l names
+    → Noted t (m .session .selected) ids attributes lens names (length l) picked
+    → Picks (λ (x : Mailbox). mayRead x && anyb (admits m x) fs) l picked
 picks-searched fs few t e m l ids attributes lens names picked ci ca cl cn p k h =
     let x = getD l k noMailbox in
     let s = m .session .selected in

@@ -9,7 +9,9 @@ use Rattle.model.specs.Lists.{same}
 use Rattle.model.specs.Laws.{and-l, and-r}
 use Rattle.model.specs.Text.{little}
 use Rattle.model.specs.Names.{Name, valid, fold}
-use Rattle.model.specs.Records.{Kind, MB, DL, RN, SB, RT, ME, XP, FL, SE, CE, CM, DR, unknown, Field, id, attributes, quiet, uidvalidity, subscribed, rights, uid, flags, size, counter, width, inRange, layout, values, widths, allInRange, tailOk, bodyOk, isKnown, kindOf, bodyOf, framed, isRecord, recordBy, recordOf, Record, create, delete, rename, subscribe, grant, arrive, expunge, reflag, select, ended, command, drained, noRecord}
+use Rattle.model.specs.Records.{Kind, MB, DL, RN, SB, RT, ME, XP, FL, SE, CE, CM, DR, unknown}
+use Rattle.model.specs.Records.{Field, id, attributes, quiet, uidvalidity, subscribed, rights, uid, flags, size, counter, width, inRange, layout, values, widths, allInRange, tailOk, bodyOk}
+use Rattle.model.specs.Records.{isKnown, kindOf, bodyOf, framed, isRecord, recordBy, recordOf, Record, create, delete, rename, subscribe, grant, arrive, expunge, reflag, select, ended, command, drained, noRecord}
 use Rattle.model.specs.Lawful.{counterOk}
 use Rattle.demands.specs.Lasting.NameLaws.{fold-valid, fold-fold}
 

@@ -1,4 +1,4 @@
--- `events_to_close` by its own calls: the measure is the octets that are left; each case is one of a row of events.
+-- `events_to_close`: what it reads of a row is right for every fuel above the octets left, which fall at each call. Assumes nothing.
 use Prim.Native.Nat.{ℕ, _<_}
 use borrow.Fn.Kinds.{In}
 use borrow.Fn.PlainCycle.{Measures, is, falls, and}
@@ -43,17 +43,48 @@ events-to-close-below t =
     events-to-close.Pre
 
 abbrev events-to-close-calls : ℕ → events-to-close-lts.Claims
-events-to-close-calls t = (event-at-reads.Asked, event-at-reads.Learnt, octet-at-reads.Asked, octet-at-reads.Learnt, events-to-close-below t, events-to-close.Post, joined-reads.Asked, joined-reads.Learnt, no-events-reads.Asked, no-events-reads.Learnt, merged-reads.Asked, merged-reads.Learnt)
+events-to-close-calls t = (
+  event-at-reads.Asked,
+  event-at-reads.Learnt,
+  octet-at-reads.Asked,
+  octet-at-reads.Learnt,
+  events-to-close-below t,
+  events-to-close.Post,
+  joined-reads.Asked,
+  joined-reads.Learnt,
+  no-events-reads.Asked,
+  no-events-reads.Learnt,
+  merged-reads.Asked,
+  merged-reads.Learnt,
+)
 
-events-to-close-add-events-to-close : (t : ℕ) → events-to-close-lts.Need-add-events-to-close (events-to-close-calls t) (events-to-close-at t) events-to-close.Post
-events-to-close-add-events-to-close t c = let i = in-text (c .before .before .before .before .before .before .before .args .text .now) (c .before .before .before .e .given .0 .1 .0) (sym (c .before .octet-at .ensures) ∙ c .if1 .taken) (omega arith) in omega arith
+events-to-close-add-events-to-close :
+    (t : ℕ)
+    → events-to-close-lts.Need-add-events-to-close (events-to-close-calls t) (events-to-close-at t) events-to-close.Post
+events-to-close-add-events-to-close t c =
+    let b = c .before .before .before in let at-e = b .e in
+    let b = b .before .before .before .before in let args = b .args in
+    let i = in-text (args .text .now) (at-e .given .0 .1 .0) (sym (c .before .octet-at .ensures) ∙ c .if1 .taken) (omega arith) in
+    omega arith
 
 events-to-close-events-to-close-requires :
     (t : ℕ) → events-to-close-lts.Need-events-to-close-requires (events-to-close-calls t) (events-to-close-at t) events-to-close.Post
-events-to-close-events-to-close-requires t c κs = let w = rw (c .before .before .before .e .given .1) at (c .before .before .before .before .before .event-at .ensures .within) in let i = in-text (c .before .before .before .before .before .before .before .args .text .now) (c .before .before .before .e .given .0 .1 .0) (sym (c .before .octet-at .ensures) ∙ c .if1 .taken) (omega arith) in omega arith
+events-to-close-events-to-close-requires t c κs =
+    let b = c .before .before .before in let at-e = b .e in
+    let b = b .before .before in let event-at = b .event-at in
+    let b = b .before .before in let args = b .args in
+    let w = rw (at-e .given .1) at (event-at .ensures .within) in
+    let i = in-text (args .text .now) (at-e .given .0 .1 .0) (sym (c .before .octet-at .ensures) ∙ c .if1 .taken) (omega arith) in
+    omega arith
 
 events-to-close-add-t16 : (t : ℕ) → events-to-close-lts.Need-add-t16 (events-to-close-calls t) (events-to-close-at t) events-to-close.Post
-events-to-close-add-t16 t c = let i = in-text (c .before .before .before .before .before .before .before .before .before .before .args .text .now) (c .before .before .before .before .before .before .e .given .0 .1 .0) (sym (c .before .before .before .before .octet-at .ensures) ∙ c .before .before .if2 .taken) (omega arith) in omega arith
+events-to-close-add-t16 t c =
+    let b = c .before .before in let if2 = b .if2 in
+    let b = b .before .before in let octet-at = b .octet-at in
+    let b = b .before .before in let at-e = b .e in
+    let b = b .before .before .before .before in let args = b .args in
+    let i = in-text (args .text .now) (at-e .given .0 .1 .0) (sym (octet-at .ensures) ∙ if2 .taken) (omega arith) in
+    omega arith
 
 events-to-close-returns : (t : ℕ) → events-to-close-lts.Need-returns (events-to-close-calls t) (events-to-close-at t) events-to-close.Post
 events-to-close-returns t c =
@@ -62,7 +93,16 @@ events-to-close-returns t c =
     let b = b .before .before in let at-e = b .e in
     let b = b .before .before in let event-at = b .event-at in
     let b = b .before .before in let args = b .args in
-    let w = rw (at-e .given .1) at (event-at .ensures .within) in record { within = rw (c .joined .ensures) (within-joined (args .text .now) (args .at) (at-e .given .0 .1 .0 + 1) (at-e .given .0 .0) (at-events-to-close .result) (omega arith) (at-events-to-close .ensures .within)); exact = λ n h. c .joined .ensures ∙ ap (join (at-e .given .0 .0)) (at-events-to-close .ensures .exact (n - 1) (omega arith)) ∙ list-more (args .text .now) (args .at) n (omega arith) (sym (at-e .given .1) ∙ event-at .ensures .exact) (sym (octet-at .ensures) ∙ c .before .before .if1 .taken) }
+    let w = rw (at-e .given .1) at (event-at .ensures .within) in
+    record {
+      within = rw (c .joined .ensures)
+          (within-joined (args .text .now) (args .at) (at-e .given .0 .1 .0 + 1) (at-e .given .0 .0) (at-events-to-close .result)
+          (omega arith) (at-events-to-close .ensures .within));
+      exact = λ n h. c .joined .ensures
+          ∙ ap (join (at-e .given .0 .0)) (at-events-to-close .ensures .exact (n - 1) (omega arith))
+          ∙ list-more (args .text .now) (args .at) n (omega arith) (sym (at-e .given .1) ∙ event-at .ensures .exact)
+          (sym (octet-at .ensures) ∙ c .before .before .if1 .taken);
+    }
 
 events-to-close-returns-2 : (t : ℕ) → events-to-close-lts.Need-returns-2 (events-to-close-calls t) (events-to-close-at t) events-to-close.Post
 events-to-close-returns-2 t c =
@@ -71,7 +111,15 @@ events-to-close-returns-2 t c =
     let b = b .before .before in let at-e = b .e in
     let b = b .before .before in let event-at = b .event-at in
     let b = b .before .before in let args = b .args in
-    let w = rw (at-e .given .1) at (event-at .ensures .within) in let i = in-text (args .text .now) (at-e .given .0 .1 .0) (sym (octet-at .ensures) ∙ if2 .taken) (omega arith) in record { within = (omega arith, omega arith); exact = λ n h. ap (λ (g : Events). Is g (at-e .given .0 .1 .0 + 1)) (c .merged .ensures ∙ ap (merge (at-e .given .0 .0)) (c .before .no-events .ensures)) ∙ list-last (args .text .now) (args .at) n (omega arith) (sym (at-e .given .1) ∙ event-at .ensures .exact) (sym (octet-at .ensures) ∙ if2 .taken) }
+    let w = rw (at-e .given .1) at (event-at .ensures .within) in
+    let i = in-text (args .text .now) (at-e .given .0 .1 .0) (sym (octet-at .ensures) ∙ if2 .taken) (omega arith) in
+    record {
+      within = (omega arith, omega arith);
+      exact = λ n h. ap (λ (g : Events). Is g (at-e .given .0 .1 .0 + 1))
+          (c .merged .ensures ∙ ap (merge (at-e .given .0 .0)) (c .before .no-events .ensures))
+          ∙ list-last (args .text .now) (args .at) n (omega arith) (sym (at-e .given .1) ∙ event-at .ensures .exact)
+          (sym (octet-at .ensures) ∙ if2 .taken);
+    }
 
 events-to-close-returns-3 : (t : ℕ) → events-to-close-lts.Need-returns-3 (events-to-close-calls t) (events-to-close-at t) events-to-close.Post
 events-to-close-returns-3 t c =
@@ -79,12 +127,21 @@ events-to-close-returns-3 t c =
     let b = b .before .before in let at-e = b .e in
     let b = b .before .before in let event-at = b .event-at in
     let b = b .before .before in let args = b .args in
-    let w = rw (at-e .given .1) at (event-at .ensures .within) in record { within = tt; exact = λ n h. list-wrong (args .text .now) (args .at) n (omega arith) (sym (at-e .given .1) ∙ event-at .ensures .exact) (λ e. c .before .if1 .left (octet-at .ensures ∙ e)) (λ e. c .if2 .left (octet-at .ensures ∙ e)) }
+    let w = rw (at-e .given .1) at (event-at .ensures .within) in
+    record {
+      within = tt;
+      exact = λ n h. list-wrong (args .text .now) (args .at) n (omega arith) (sym (at-e .given .1) ∙ event-at .ensures .exact)
+          (λ e. c .before .if1 .left (octet-at .ensures ∙ e)) (λ e. c .if2 .left (octet-at .ensures ∙ e));
+    }
 
 events-to-close-returns-4 : (t : ℕ) → events-to-close-lts.Need-returns-4 (events-to-close-calls t) (events-to-close-at t) events-to-close.Post
 events-to-close-returns-4 t c =
     let b = c .before .before .before .before in let args = b .args in
-    record { within = tt; exact = λ n h. list-none (args .text .now) (args .at) n (sym (c .enum-told .given .1) ∙ c .before .before .event-at .ensures .exact) }
+    record {
+      within = tt;
+      exact = λ n h. list-none (args .text .now) (args .at) n
+          (sym (c .enum-told .given .1) ∙ c .before .before .event-at .ensures .exact);
+    }
 
 pub +events-to-close-spec : {M : Type 1} → statement M
 +events-to-close-spec = close μ-events-to-close λ t. events-to-close-lts.spec (events-to-close-calls t)

@@ -1,10 +1,19 @@
--- `merged`: field by field.
+-- `merged`: each field is made from the two fields as in the definition. Assumes nothing.
 use borrow.Author.Needs.{needs}
 use Rattle.read_events.proofs.merged.Statement.{statement}
 use Rattle.read_events.proofs.merged.Tie as tie
 
 returns : tie.Need-returns
-returns c = rw (c .before .before .before .before .before .before .before .either .ensures, c .before .before .before .before .before .before .either2 .ensures, c .before .before .before .before .before .either3 .ensures, c .before .before .before .before .either4 .ensures, c .before .before .before .either5 .ensures, c .before .before .either6 .ensures, c .before .either7 .ensures, c .either8 .ensures, c .before .before .before .before .before .before .before .before .all-attributes .ensures)
+returns c =
+    let listed = c .either8 .ensures in
+    let b = c .before in let other = b .either7 .ensures in
+    let b = b .before in let subscription = b .either6 .ensures in
+    let b = b .before in let name = b .either5 .ensures in
+    let b = b .before in let annotation = b .either4 .ensures in
+    let b = b .before in let flag = b .either3 .ensures in
+    let b = b .before in let expunge = b .either2 .ensures in
+    let b = b .before in let new = b .either .ensures in
+    rw (new, expunge, flag, annotation, name, subscription, other, listed, b .before .all-attributes .ensures)
 
 pub merged-spec : {M : Type 1} → statement M
 merged-spec =

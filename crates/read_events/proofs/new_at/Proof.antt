@@ -1,4 +1,4 @@
--- `new_at`: a space and a parenthesis have attributes behind them; anything else is not looked at.
+-- `new_at`: a space and a parenthesis have attributes behind them; anything else is not looked at. Assumes nothing.
 use borrow.Author.Needs.{needs}
 use Rattle.read_events.proofs.new_at.Statement.{statement}
 use Rattle.read_events.proofs.new_at.Tie as tie
@@ -14,7 +14,11 @@ use Rattle.read_events.proofs.Gathering.{new-blank, new-shut, new-list,
 returns : tie.Need-returns
 returns c =
     let b = c .before .before .before .before in let args = b .args in
-    record { exact = ap (λ (e : Events). Is e (args .at)) (c .bare-new .ensures) ∙ new-blank (args .text .now) (args .at) (λ e. c .before .if1 .taken (c .before .before .octet-at .ensures ∙ e)); within = (omega arith, omega arith) }
+    record {
+      exact = ap (λ (e : Events). Is e (args .at)) (c .bare-new .ensures)
+          ∙ new-blank (args .text .now) (args .at) (λ e. c .before .if1 .taken (c .before .before .octet-at .ensures ∙ e));
+      within = (omega arith, omega arith);
+    }
 
 add-next : tie.Need-add-next
 add-next c =
@@ -26,7 +30,12 @@ returns-2 c =
     let b = c .before .before .before in let if1 = b .if1 in
     let b = b .before in let octet-at = b .octet-at in
     let b = b .before .before in let args = b .args in
-    record { exact = ap (λ (e : Events). Is e (args .at)) (c .bare-new2 .ensures) ∙ new-shut (args .text .now) (args .at) (sym (octet-at .ensures) ∙ if1 .left) (λ e. c .before .if2 .taken (c .before .before .octet-at2 .ensures ∙ e)); within = (omega arith, omega arith) }
+    record {
+      exact = ap (λ (e : Events). Is e (args .at)) (c .bare-new2 .ensures)
+          ∙ new-shut (args .text .now) (args .at) (sym (octet-at .ensures) ∙ if1 .left)
+          (λ e. c .before .if2 .taken (c .before .before .octet-at2 .ensures ∙ e));
+      within = (omega arith, omega arith);
+    }
 
 returns-3 : tie.Need-returns-3
 returns-3 c =
@@ -35,7 +44,15 @@ returns-3 c =
     let b = b .before in let if1 = b .if1 in
     let b = b .before in let octet-at = b .octet-at in
     let b = b .before .before in let args = b .args in
-    record { exact = c .new-with .ensures ∙ ap withAttributes (attributes-at .ensures .exact) ∙ new-list (args .text .now) (args .at) (sym (octet-at .ensures) ∙ if1 .left) (sym (octet-at2 .ensures) ∙ c .before .before .if2 .left); within = rw (c .new-with .ensures) (onward-list (args .text .now) (args .at) ((args .at) + 1) (attributes-at .result) (omega arith) (attributes-at .ensures .within)) }
+    record {
+      exact = c .new-with .ensures
+          ∙ ap withAttributes (attributes-at .ensures .exact)
+          ∙ new-list (args .text .now) (args .at) (sym (octet-at .ensures) ∙ if1 .left)
+          (sym (octet-at2 .ensures) ∙ c .before .before .if2 .left);
+      within = rw (c .new-with .ensures)
+          (onward-list (args .text .now) (args .at) ((args .at) + 1) (attributes-at .result) (omega arith)
+          (attributes-at .ensures .within));
+    }
 
 pub new-at-spec : {M : Type 1} → statement M
 new-at-spec =

@@ -1,4 +1,4 @@
--- `returns_at`: no parenthesis, an empty pair, or a row. Assumes nothing.
+-- `returns_at`: what has no parenthesis is bad, an empty pair returns ALL, and a row is judged once it is read. Assumes nothing.
 use mathlib.Core.Path.{sym, ap, _∙_}
 use native.Mathlib.Omega.{arith}
 use Prim.Native.Nat.{_+_}
@@ -30,7 +30,12 @@ returns-2 c =
     let b = c .before in let octet-at2 = b .octet-at2 in
     let b = b .before .before in let octet-at = b .octet-at in
     let b = b .before .before in let args = b .args in
-    let i = in-text (args .text .now) (args .at + 1) (sym (octet-at2 .ensures) ∙ c .if2 .taken) (omega arith) in record { exact = returns-empty (args .text .now) (args .at) (sym (octet-at .ensures) ∙ c .before .before .if1 .left) (sym (octet-at2 .ensures) ∙ c .if2 .taken); within = (omega arith, omega arith) }
+    let i = in-text (args .text .now) (args .at + 1) (sym (octet-at2 .ensures) ∙ c .if2 .taken) (omega arith) in
+    record {
+      exact = returns-empty (args .text .now) (args .at) (sym (octet-at .ensures) ∙ c .before .before .if1 .left)
+          (sym (octet-at2 .ensures) ∙ c .if2 .taken);
+      within = (omega arith, omega arith);
+    }
 
 add-row-at : tie.Need-add-row-at
 add-row-at c =
@@ -45,7 +50,15 @@ returns-3 c =
     let b = b .before in let if1 = b .if1 in
     let b = b .before in let octet-at = b .octet-at in
     let b = b .before .before in let args = b .args in
-    let i = in-text (args .text .now) (args .at) (sym (octet-at .ensures) ∙ if1 .left) (omega arith) in record { exact = c .judged .ensures ∙ ap judge (row-at .ensures .exact (length (args .text .now)) (omega arith)) ∙ returns-row (args .text .now) (args .at) (sym (octet-at .ensures) ∙ if1 .left) (λ e. c .before .before .if2 .left (octet-at2 .ensures ∙ e)); within = rw (c .judged .ensures) (judge-within (args .text .now) (args .at) (args .at + 1) (row-at .result) (omega arith) (row-at .ensures .within)) }
+    let i = in-text (args .text .now) (args .at) (sym (octet-at .ensures) ∙ if1 .left) (omega arith) in
+    record {
+      exact = c .judged .ensures
+          ∙ ap judge (row-at .ensures .exact (length (args .text .now)) (omega arith))
+          ∙ returns-row (args .text .now) (args .at) (sym (octet-at .ensures) ∙ if1 .left)
+          (λ e. c .before .before .if2 .left (octet-at2 .ensures ∙ e));
+      within = rw (c .judged .ensures)
+          (judge-within (args .text .now) (args .at) (args .at + 1) (row-at .result) (omega arith) (row-at .ensures .within));
+    }
 
 pub returns-at-spec : {M : Type 1} → statement M
 returns-at-spec =

@@ -1,4 +1,4 @@
--- `octets::dates::bare_date_at` meets its contract: one part after another. Assumes nothing.
+-- `bare_date_at`: day, dash, month, dash and year are read in the order of the definition, which is bad where one lacks. Assumes nothing.
 use borrow.Author.Needs.{needs}
 use Rattle.octets.proofs.dates.bare_date_at.Statement.{statement}
 use Rattle.octets.proofs.dates.bare_date_at.Tie as tie
@@ -13,20 +13,29 @@ use Prim.Native.Nat.{_+_}
 returns : tie.Need-returns
 returns c =
     let b = c .before .before .before .before in let args = b .args in
-    record { exact = date-no-day (args .text .now) (args .at) (sym (c .enum-told .given .1) ∙ c .before .before .digits-at .ensures .exact); within = tt }
+    record {
+      exact = date-no-day (args .text .now) (args .at)
+          (sym (c .enum-told .given .1) ∙ c .before .before .digits-at .ensures .exact);
+      within = tt;
+    }
 
 returns-2 : tie.Need-returns-2
 returns-2 c =
     let b = c .before .before .before in let q = b .q in
     let b = b .before .before in let digits-at = b .digits-at in
     let b = b .before .before in let args = b .args in
-    record { exact = date-no-dash (args .text .now) (args .at) _ (sym (q .given .1) ∙ digits-at .ensures .exact) (λ e. c .if1 .taken (c .before .octet-at .ensures ∙ e)); within = tt }
+    record {
+      exact = date-no-dash (args .text .now) (args .at) _ (sym (q .given .1) ∙ digits-at .ensures .exact)
+          (λ e. c .if1 .taken (c .before .octet-at .ensures ∙ e));
+      within = tt;
+    }
 
 add-month-at : tie.Need-add-month-at
 add-month-at c =
     let b = c .before .before .before in let q = b .q in
     let b = b .before .before .before .before in let args = b .args in
-    let e : getD (args .text .now) (q .given .0 .0) 0 ≡ 45 = sym (c .before .octet-at .ensures) ∙ c .if1 .left in omega (arith, octet-in (args .text .now) (q .given .0 .0) (omega arith))
+    let e : getD (args .text .now) (q .given .0 .0) 0 ≡ 45 = sym (c .before .octet-at .ensures) ∙ c .if1 .left in
+    omega (arith, octet-in (args .text .now) (q .given .0 .0) (omega arith))
 
 returns-3 : tie.Need-returns-3
 returns-3 c =
@@ -35,7 +44,11 @@ returns-3 c =
     let b = b .before .before in let q = b .q in
     let b = b .before .before in let digits-at = b .digits-at in
     let b = b .before .before in let args = b .args in
-    record { exact = date-no-month (args .text .now) (args .at) _ (sym (q .given .1) ∙ digits-at .ensures .exact) (sym (octet-at .ensures) ∙ if1 .left) (sym (c .enum-told2 .given .1) ∙ c .before .before .month-at .ensures .exact); within = tt }
+    record {
+      exact = date-no-month (args .text .now) (args .at) _ (sym (q .given .1) ∙ digits-at .ensures .exact)
+          (sym (octet-at .ensures) ∙ if1 .left) (sym (c .enum-told2 .given .1) ∙ c .before .before .month-at .ensures .exact);
+      within = tt;
+    }
 
 returns-4 : tie.Need-returns-4
 returns-4 c =
@@ -46,13 +59,19 @@ returns-4 c =
     let b = b .before .before in let q = b .q in
     let b = b .before .before in let digits-at = b .digits-at in
     let b = b .before .before in let args = b .args in
-    record { exact = date-no-second (args .text .now) (args .at) _ (sym (q .given .1) ∙ digits-at .ensures .exact) (sym (octet-at .ensures) ∙ if1 .left) _ (sym (r .given .1) ∙ month-at .ensures .exact) (λ e. c .if2 .taken (c .before .octet-at2 .ensures ∙ e)); within = tt }
+    record {
+      exact = date-no-second (args .text .now) (args .at) _ (sym (q .given .1) ∙ digits-at .ensures .exact)
+          (sym (octet-at .ensures) ∙ if1 .left) _ (sym (r .given .1) ∙ month-at .ensures .exact)
+          (λ e. c .if2 .taken (c .before .octet-at2 .ensures ∙ e));
+      within = tt;
+    }
 
 add-digits-at : tie.Need-add-digits-at
 add-digits-at c =
     let b = c .before .before .before in let r = b .r in
     let b = b .before .before .before .before .before .before .before .before .before .before in let args = b .args in
-    let e : getD (args .text .now) (r .given .0 .0) 0 ≡ 45 = sym (c .before .octet-at2 .ensures) ∙ c .if2 .left in omega (arith, octet-in (args .text .now) (r .given .0 .0) (omega arith))
+    let e : getD (args .text .now) (r .given .0 .0) 0 ≡ 45 = sym (c .before .octet-at2 .ensures) ∙ c .if2 .left in
+    omega (arith, octet-in (args .text .now) (r .given .0 .0) (omega arith))
 
 returns-5 : tie.Need-returns-5
 returns-5 c =
@@ -63,7 +82,17 @@ returns-5 c =
     let b = b .before .before in let q = b .q in
     let b = b .before .before in let digits-at = b .digits-at in
     let b = b .before .before in let args = b .args in
-    let f = rw (q .given .1) at (digits-at .ensures .within) in let g = rw (r .given .1) at (month-at .ensures .within) in record { exact = date-year (args .text .now) (args .at) _ (sym (q .given .1) ∙ digits-at .ensures .exact) (sym (octet-at .ensures) ∙ if1 .left) _ (sym (r .given .1) ∙ month-at .ensures .exact) _ (sym (c .before .before .octet-at2 .ensures) ∙ c .before .if2 .left) (c .digits-at2 .ensures .exact); within = within-from (args .text .now) (args .at) (r .given .0 .0 + 1) (c .digits-at2 .result) (omega arith) (c .digits-at2 .ensures .within) }
+    let f = rw (q .given .1) at (digits-at .ensures .within) in
+    let g = rw (r .given .1) at (month-at .ensures .within) in
+    let day = sym (q .given .1) ∙ digits-at .ensures .exact in
+    let dash = sym (octet-at .ensures) ∙ if1 .left in
+    let month = sym (r .given .1) ∙ month-at .ensures .exact in
+    let second = sym (c .before .before .octet-at2 .ensures) ∙ c .before .if2 .left in
+    let year = c .digits-at2 in
+    record {
+      exact = date-year (args .text .now) (args .at) _ day dash _ month _ second (year .ensures .exact);
+      within = within-from (args .text .now) (args .at) (r .given .0 .0 + 1) (year .result) (omega arith) (year .ensures .within);
+    }
 
 pub bare-date-at-spec : {M : Type 1} → statement M
 bare-date-at-spec =

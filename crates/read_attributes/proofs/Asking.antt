@@ -22,7 +22,7 @@ use Rattle.read_attributes.specs.declared.AttributeRead.the-variants.{Is
 use Rattle.read_attributes.specs.declared.Attributes.{Attributes}
 use Rattle.read_attributes.specs.declared.AttributesRead.{AttributesRead}
 use Rattle.read_attributes.specs.declared.AttributesRead.the-variants.{Is as Are, Bad as None}
-use Rattle.read_attributes.proofs.Rows.{run-found}
+use Rattle.read_sections.proofs.Rows.{run-found}
 use Rattle.octets.specs.Rows.{next-close, next-lost, next-neither, next-space, row-another, row-neither, row-none, row-over}
 
 -- the last of several tests

@@ -1,4 +1,2 @@
 -- Lemmas on plain values, for the proofs of this crate.
-pub mod Rows
-mod Sectioning
 mod Asking

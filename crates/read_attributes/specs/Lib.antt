@@ -1,3 +1,2 @@
 -- What the readers of fetch attributes answer, over the definitions of crate `model`.
-pub mod Sections
 pub mod Asked

@@ -1,9 +1,7 @@
 // Fetch attributes behind MessageNew: the readers of one attribute and of a list of them, each by the definition of crate `model` that it meets.
-mod sections;
-
 use octets::Class;
 use octets::Next;
-use sections::section_at;
+use read_sections::section_at;
 ghost use mathlib.Core.Path.{_≡_};
 ghost use mathlib.Core.List.{[]};
 ghost use Rattle.model.specs.Reading.{piece, isOf, listAt};

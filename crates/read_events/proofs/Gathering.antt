@@ -21,7 +21,7 @@ use Rattle.octets.specs.declared.Next.the-variants.{At, Bad as NoNext}
 use Rattle.read_attributes.specs.Asked.{gather, readAttributes, AllWithin}
 use Rattle.read_attributes.specs.declared.AttributesRead.{AttributesRead}
 use Rattle.read_attributes.specs.declared.AttributesRead.the-variants.{Is as Are, Bad as None}
-use Rattle.read_attributes.proofs.Rows.{run-found}
+use Rattle.read_sections.proofs.Rows.{run-found}
 use Rattle.octets.specs.Rows.{next-close, next-lost, next-neither, next-space, row-another, row-neither, row-none, row-over}
 use Rattle.read_events.specs.Gathered.{eventOfKind, eventFor, gatherEvents, single, readEvent, readEvents, withAttributes, both, merge, join, Within, Onward}
 use Rattle.read_events.specs.declared.Kind.{Kind}
@@ -110,7 +110,8 @@ module _ (s : List ℕ) (p : ℕ) where
   pub event-none : NoNext ≡ nextOf (runAt atomOctet s p) → Bad ≡ readEvent (eventAt s p)
   event-none h = rw (next-lost (runAt atomOctet s p) h)
 
-  pub event-by : {q : ℕ} {r w : Named} → At q ≡ nextOf (runAt atomOctet s p) → r ≡ w → eventFor r ≡ eventOf (piece s p q) → readEvent (eventBy (eventFor w) s q) ≡ readEvent (eventAt s p)
+  pub event-by : {q : ℕ} {r w : Named} → At q ≡ nextOf (runAt atomOctet s p) → r ≡ w → eventFor r ≡ eventOf (piece s p q)
+      → readEvent (eventBy (eventFor w) s q) ≡ readEvent (eventAt s p)
   event-by {q} {r} {w} h e f =
       ap (λ (x : Event). readEvent (eventBy x s q)) (ap eventFor (sym e) ∙ f)
       ∙ ap (λ (x : Parsed (List ℕ)). readEvent (andThen x (λ o w. eventBy (eventOf w) s o))) (sym (run-found atomOctet s p h))

@@ -1,4 +1,4 @@
--- `attributes_to_close` by its own calls: the measure is the octets that are left; each case is one of a row of attributes.
+-- `attributes_to_close`: each case is one of a row of attributes. It ends: the measure is the octets that are left. Assumes nothing.
 use Prim.Native.Nat.{ℕ, _<_}
 use borrow.Fn.Kinds.{In}
 use borrow.Fn.PlainCycle.{Measures, is, falls, and}
@@ -43,7 +43,20 @@ attributes-to-close-below t =
     attributes-to-close.Pre
 
 abbrev attributes-to-close-calls : ℕ → attributes-to-close-lts.Claims
-attributes-to-close-calls t = (attribute-at-reads.Asked, attribute-at-reads.Learnt, octet-at-reads.Asked, octet-at-reads.Learnt, attributes-to-close-below t, attributes-to-close.Post, joined-reads.Asked, joined-reads.Learnt, no-attributes-reads.Asked, no-attributes-reads.Learnt, added-reads.Asked, added-reads.Learnt)
+attributes-to-close-calls t = (
+  attribute-at-reads.Asked,
+  attribute-at-reads.Learnt,
+  octet-at-reads.Asked,
+  octet-at-reads.Learnt,
+  attributes-to-close-below t,
+  attributes-to-close.Post,
+  joined-reads.Asked,
+  joined-reads.Learnt,
+  no-attributes-reads.Asked,
+  no-attributes-reads.Learnt,
+  added-reads.Asked,
+  added-reads.Learnt,
+)
 
 attributes-to-close-attribute-at-requires :
     (t : ℕ) → attributes-to-close-lts.Need-attribute-at-requires (attributes-to-close-calls t) (attributes-to-close-at t) attributes-to-close.Post
@@ -51,11 +64,18 @@ attributes-to-close-attribute-at-requires t c κs = search needs
 
 attributes-to-close-add-attributes-to-close :
     (t : ℕ) → attributes-to-close-lts.Need-add-attributes-to-close (attributes-to-close-calls t) (attributes-to-close-at t) attributes-to-close.Post
-attributes-to-close-add-attributes-to-close t c = let i = in-text (c .before .before .before .before .before .before .before .args .text .now) (c .before .before .before .k .given .0 .1 .0) (sym (c .before .octet-at .ensures) ∙ c .if1 .taken) (omega arith) in omega arith
+attributes-to-close-add-attributes-to-close t c =
+    let i = in-text (c .before .before .before .before .before .before .before .args .text .now) (c .before .before .before .k .given .0 .1 .0)
+    (sym (c .before .octet-at .ensures) ∙ c .if1 .taken) (omega arith) in
+    omega arith
 
 attributes-to-close-attributes-to-close-requires :
     (t : ℕ) → attributes-to-close-lts.Need-attributes-to-close-requires (attributes-to-close-calls t) (attributes-to-close-at t) attributes-to-close.Post
-attributes-to-close-attributes-to-close-requires t c κs = let w = rw (c .before .before .before .k .given .1) at (c .before .before .before .before .before .attribute-at .ensures .within) in let i = in-text (c .before .before .before .before .before .before .before .args .text .now) (c .before .before .before .k .given .0 .1 .0) (sym (c .before .octet-at .ensures) ∙ c .if1 .taken) (omega arith) in omega arith
+attributes-to-close-attributes-to-close-requires t c κs =
+    let w = rw (c .before .before .before .k .given .1) at (c .before .before .before .before .before .attribute-at .ensures .within) in
+    let i = in-text (c .before .before .before .before .before .before .before .args .text .now) (c .before .before .before .k .given .0 .1 .0)
+    (sym (c .before .octet-at .ensures) ∙ c .if1 .taken) (omega arith) in
+    omega arith
 
 attributes-to-close-no-attributes-requires :
     (t : ℕ) → attributes-to-close-lts.Need-no-attributes-requires (attributes-to-close-calls t) (attributes-to-close-at t) attributes-to-close.Post
@@ -75,7 +95,17 @@ attributes-to-close-returns t c =
     let b = b .before .before in let k = b .k in
     let b = b .before .before in let attribute-at = b .attribute-at in
     let b = b .before .before in let args = b .args in
-    let w = rw (k .given .1) at (attribute-at .ensures .within) in record { within = rw (c .joined .ensures) (within-joined (args .text .now) (args .at) (k .given .0 .1 .0 + 1) (k .given .0 .0) (at-attributes-to-close .result) (omega arith) (at-attributes-to-close .ensures .within)); exact = λ n h. c .joined .ensures ∙ ap (join (k .given .0 .0)) (at-attributes-to-close .ensures .exact (n - 1) (omega arith)) ∙ list-more (args .text .now) (args .at) n (omega arith) (sym (k .given .1) ∙ attribute-at .ensures .exact) (sym (octet-at .ensures) ∙ c .before .before .if1 .taken) }
+    let s = args .text .now in
+    let w = rw (k .given .1) at (attribute-at .ensures .within) in
+    record {
+      within =
+          rw (c .joined .ensures)
+          (within-joined s (args .at) (k .given .0 .1 .0 + 1) (k .given .0 .0) (at-attributes-to-close .result) (omega arith) (at-attributes-to-close .ensures .within));
+      exact =
+          λ n h.
+          c .joined .ensures ∙ ap (join (k .given .0 .0)) (at-attributes-to-close .ensures .exact (n - 1) (omega arith))
+          ∙ list-more s (args .at) n (omega arith) (sym (k .given .1) ∙ attribute-at .ensures .exact) (sym (octet-at .ensures) ∙ c .before .before .if1 .taken);
+    }
 
 attributes-to-close-returns-2 : (t : ℕ) → attributes-to-close-lts.Need-returns-2 (attributes-to-close-calls t) (attributes-to-close-at t) attributes-to-close.Post
 attributes-to-close-returns-2 t c =
@@ -84,7 +114,16 @@ attributes-to-close-returns-2 t c =
     let b = b .before .before in let k = b .k in
     let b = b .before .before in let attribute-at = b .attribute-at in
     let b = b .before .before in let args = b .args in
-    let w = rw (k .given .1) at (attribute-at .ensures .within) in let i = in-text (args .text .now) (k .given .0 .1 .0) (sym (octet-at .ensures) ∙ if2 .taken) (omega arith) in record { within = (omega arith, omega arith); exact = λ n h. ap (λ (g : Attributes). Is g (k .given .0 .1 .0 + 1)) (c .added .ensures ∙ ap (add (k .given .0 .0)) (c .before .no-attributes .ensures)) ∙ list-last (args .text .now) (args .at) n (omega arith) (sym (k .given .1) ∙ attribute-at .ensures .exact) (sym (octet-at .ensures) ∙ if2 .taken) }
+    let s = args .text .now in
+    let w = rw (k .given .1) at (attribute-at .ensures .within) in
+    let i = in-text s (k .given .0 .1 .0) (sym (octet-at .ensures) ∙ if2 .taken) (omega arith) in
+    record {
+      within = (omega arith, omega arith);
+      exact =
+          λ n h.
+          ap (λ (g : Attributes). Is g (k .given .0 .1 .0 + 1)) (c .added .ensures ∙ ap (add (k .given .0 .0)) (c .before .no-attributes .ensures))
+          ∙ list-last s (args .at) n (omega arith) (sym (k .given .1) ∙ attribute-at .ensures .exact) (sym (octet-at .ensures) ∙ if2 .taken);
+    }
 
 attributes-to-close-returns-3 : (t : ℕ) → attributes-to-close-lts.Need-returns-3 (attributes-to-close-calls t) (attributes-to-close-at t) attributes-to-close.Post
 attributes-to-close-returns-3 t c =
@@ -92,7 +131,14 @@ attributes-to-close-returns-3 t c =
     let b = b .before .before in let k = b .k in
     let b = b .before .before in let attribute-at = b .attribute-at in
     let b = b .before .before in let args = b .args in
-    let w = rw (k .given .1) at (attribute-at .ensures .within) in record { within = tt; exact = λ n h. list-wrong (args .text .now) (args .at) n (omega arith) (sym (k .given .1) ∙ attribute-at .ensures .exact) (λ e. c .before .if1 .left (octet-at .ensures ∙ e)) (λ e. c .if2 .left (octet-at .ensures ∙ e)) }
+    let w = rw (k .given .1) at (attribute-at .ensures .within) in
+    record {
+      within = tt;
+      exact =
+          λ n h.
+          list-wrong (args .text .now) (args .at) n (omega arith) (sym (k .given .1) ∙ attribute-at .ensures .exact)
+          (λ e. c .before .if1 .left (octet-at .ensures ∙ e)) (λ e. c .if2 .left (octet-at .ensures ∙ e));
+    }
 
 attributes-to-close-returns-4 : (t : ℕ) → attributes-to-close-lts.Need-returns-4 (attributes-to-close-calls t) (attributes-to-close-at t) attributes-to-close.Post
 attributes-to-close-returns-4 t c =

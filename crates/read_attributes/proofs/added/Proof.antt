@@ -1,4 +1,4 @@
--- `added`: by the attribute.
+-- `added`: each kind of attribute sets its own mark, as in the definition. Assumes nothing.
 use borrow.Author.Needs.{needs}
 use Rattle.read_attributes.proofs.added.Statement.{statement}
 use Rattle.read_attributes.proofs.added.Tie as tie

@@ -1,4 +1,4 @@
--- `attribute_at`: the run is what stands up to its end, and its word decides.
+-- `attribute_at`: the run is what stands up to its end, and its word decides. Assumes nothing.
 use borrow.Author.Needs.{needs}
 use Rattle.read_attributes.proofs.attribute_at.Statement.{statement}
 use Rattle.read_attributes.proofs.attribute_at.Tie as tie
@@ -13,7 +13,10 @@ returns c =
     let b = b .before .before in let end = b .end in
     let b = b .before .before in let run-at = b .run-at in
     let b = b .before .before in let args = b .args in
-    record { exact = attribute-by (args .text .now) (args .at) (sym (end .given .1) ∙ run-at .ensures .exact) (c .before .k .given .1) (label-of .ensures); within = rw (end .given .1) at (run-at .ensures .within) }
+    record {
+      exact = attribute-by (args .text .now) (args .at) (sym (end .given .1) ∙ run-at .ensures .exact) (c .before .k .given .1) (label-of .ensures);
+      within = rw (end .given .1) at (run-at .ensures .within);
+    }
 
 returns-2 : tie.Need-returns-2
 returns-2 c =
@@ -24,7 +27,15 @@ returns-2 c =
     let b = b .before .before in let end = b .end in
     let b = b .before .before in let run-at = b .run-at in
     let b = b .before .before in let args = b .args in
-    let w = rw (end .given .1) at (run-at .ensures .within) in record { exact = c .with-section .ensures ∙ ap sectioned (section-at .ensures .exact) ∙ body-section (args .text .now) (end .given .0 .0) (sym (octet-at .ensures) ∙ c .before .before .if1 .taken) ∙ attribute-by (args .text .now) (args .at) (sym (end .given .1) ∙ run-at .ensures .exact) (enum-told .given .1) (label-of .ensures); within = rw (c .with-section .ensures) (within-section (args .text .now) (args .at) (end .given .0 .0) (section-at .result) (omega arith) (section-at .ensures .within)) }
+    let s = args .text .now in
+    let w = rw (end .given .1) at (run-at .ensures .within) in
+    record {
+      exact =
+          c .with-section .ensures ∙ ap sectioned (section-at .ensures .exact)
+          ∙ body-section s (end .given .0 .0) (sym (octet-at .ensures) ∙ c .before .before .if1 .taken)
+          ∙ attribute-by s (args .at) (sym (end .given .1) ∙ run-at .ensures .exact) (enum-told .given .1) (label-of .ensures);
+      within = rw (c .with-section .ensures) (within-section s (args .at) (end .given .0 .0) (section-at .result) (omega arith) (section-at .ensures .within));
+    }
 
 returns-3 : tie.Need-returns-3
 returns-3 c =
@@ -32,7 +43,13 @@ returns-3 c =
     let b = b .before .before in let end = b .end in
     let b = b .before .before in let run-at = b .run-at in
     let b = b .before .before in let args = b .args in
-    record { exact = body-alone (args .text .now) (end .given .0 .0) (λ e. c .if1 .left (c .before .octet-at .ensures ∙ e)) ∙ attribute-by (args .text .now) (args .at) (sym (end .given .1) ∙ run-at .ensures .exact) (c .before .before .enum-told .given .1) (label-of .ensures); within = rw (end .given .1) at (run-at .ensures .within) }
+    let s = args .text .now in
+    record {
+      exact =
+          body-alone s (end .given .0 .0) (λ e. c .if1 .left (c .before .octet-at .ensures ∙ e))
+          ∙ attribute-by s (args .at) (sym (end .given .1) ∙ run-at .ensures .exact) (c .before .before .enum-told .given .1) (label-of .ensures);
+      within = rw (end .given .1) at (run-at .ensures .within);
+    }
 
 returns-4 : tie.Need-returns-4
 returns-4 c =
@@ -41,7 +58,14 @@ returns-4 c =
     let b = b .before .before in let end = b .end in
     let b = b .before .before in let run-at = b .run-at in
     let b = b .before .before in let args = b .args in
-    let w = rw (end .given .1) at (run-at .ensures .within) in record { exact = c .with-section2 .ensures ∙ ap sectioned (section-at2 .ensures .exact) ∙ peek-section (args .text .now) (end .given .0 .0) ∙ attribute-by (args .text .now) (args .at) (sym (end .given .1) ∙ run-at .ensures .exact) (c .before .before .enum-told2 .given .1) (label-of .ensures); within = rw (c .with-section2 .ensures) (within-section (args .text .now) (args .at) (end .given .0 .0) (section-at2 .result) (omega arith) (section-at2 .ensures .within)) }
+    let s = args .text .now in
+    let w = rw (end .given .1) at (run-at .ensures .within) in
+    record {
+      exact =
+          c .with-section2 .ensures ∙ ap sectioned (section-at2 .ensures .exact) ∙ peek-section s (end .given .0 .0)
+          ∙ attribute-by s (args .at) (sym (end .given .1) ∙ run-at .ensures .exact) (c .before .before .enum-told2 .given .1) (label-of .ensures);
+      within = rw (c .with-section2 .ensures) (within-section s (args .at) (end .given .0 .0) (section-at2 .result) (omega arith) (section-at2 .ensures .within));
+    }
 
 returns-5 : tie.Need-returns-5
 returns-5 c =

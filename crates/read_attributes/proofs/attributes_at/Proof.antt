@@ -1,4 +1,4 @@
--- `attributes_at`: the row behind the parenthesis is read with the fuel of `listAt`.
+-- `attributes_at`: the row behind the parenthesis is read with as many steps as `listAt` gives. Assumes nothing.
 use borrow.Author.Needs.{needs}
 use Rattle.read_attributes.proofs.attributes_at.Statement.{statement}
 use Rattle.read_attributes.proofs.attributes_at.Tie as tie
@@ -22,7 +22,12 @@ add-attributes-to-close c =
 returns-2 : tie.Need-returns-2
 returns-2 c =
     let b = c .before .before .before .before in let args = b .args in
-    record { exact = c .attributes-to-close .ensures .exact (length (args .text .now)) (omega arith) ∙ list-open (args .text .now) (args .at) (sym (c .before .before .octet-at .ensures) ∙ c .before .if1 .left); within = all-within-from (args .text .now) (args .at) ((args .at) + 1) (c .attributes-to-close .result) (omega arith) (c .attributes-to-close .ensures .within) }
+    let s = args .text .now in
+    record {
+      exact =
+          c .attributes-to-close .ensures .exact (length s) (omega arith) ∙ list-open s (args .at) (sym (c .before .before .octet-at .ensures) ∙ c .before .if1 .left);
+      within = all-within-from s (args .at) ((args .at) + 1) (c .attributes-to-close .result) (omega arith) (c .attributes-to-close .ensures .within);
+    }
 
 pub attributes-at-spec : {M : Type 1} → statement M
 attributes-at-spec =

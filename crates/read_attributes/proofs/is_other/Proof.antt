@@ -1,4 +1,4 @@
--- `is_other`: each word is tested in the order of the definition.
+-- `is_other`: the tests stand in the order of the definition: the first that holds decides, those before it failed. Assumes nothing.
 use borrow.Author.Needs.{needs}
 use Rattle.read_attributes.proofs.is_other.Statement.{statement}
 use Rattle.read_attributes.proofs.is_other.Tie as tie
@@ -12,7 +12,12 @@ returns-2 : tie.Need-returns-2
 returns-2 c = simp (sym (c .before .before .before .before .is-word .ensures) ∙ c .before .before .before .if1 .left, sym (c .before .is-word2 .ensures) ∙ c .if2 .taken)
 
 returns-3 : tie.Need-returns-3
-returns-3 c = simp (sym (c .before .before .before .before .before .before .before .is-word .ensures) ∙ c .before .before .before .before .before .before .if1 .left, sym (c .before .before .before .before .is-word2 .ensures) ∙ c .before .before .before .if2 .left, sym (c .before .is-word3 .ensures) ∙ c .if3 .taken)
+returns-3 c =
+    simp (
+      sym (c .before .before .before .before .before .before .before .is-word .ensures) ∙ c .before .before .before .before .before .before .if1 .left,
+      sym (c .before .before .before .before .is-word2 .ensures) ∙ c .before .before .before .if2 .left,
+      sym (c .before .is-word3 .ensures) ∙ c .if3 .taken,
+    )
 
 returns-4 : tie.Need-returns-4
 returns-4 c =
@@ -34,7 +39,13 @@ returns-5 c =
     let b = b .before in let is-word2 = b .is-word2 in
     let b = b .before .before in let if1 = b .if1 in
     let b = b .before in let is-word = b .is-word in
-    simp (sym (is-word .ensures) ∙ if1 .left, sym (is-word2 .ensures) ∙ if2 .left, sym (is-word3 .ensures) ∙ if3 .left, sym (is-word4 .ensures) ∙ if4 .left, sym (c .before .is-word5 .ensures) ∙ c .if5 .taken)
+    simp (
+      sym (is-word .ensures) ∙ if1 .left,
+      sym (is-word2 .ensures) ∙ if2 .left,
+      sym (is-word3 .ensures) ∙ if3 .left,
+      sym (is-word4 .ensures) ∙ if4 .left,
+      sym (c .before .is-word5 .ensures) ∙ c .if5 .taken,
+    )
 
 returns-6 : tie.Need-returns-6
 returns-6 c =
@@ -47,7 +58,14 @@ returns-6 c =
     let b = b .before in let is-word2 = b .is-word2 in
     let b = b .before .before in let if1 = b .if1 in
     let b = b .before in let is-word = b .is-word in
-    simp (sym (is-word .ensures) ∙ if1 .left, sym (is-word2 .ensures) ∙ if2 .left, sym (is-word3 .ensures) ∙ if3 .left, sym (is-word4 .ensures) ∙ if4 .left, sym (is-word5 .ensures) ∙ c .before .before .if5 .left) (c .is-word6 .ensures ∙ sym (or-last _))
+    simp (
+      sym (is-word .ensures) ∙ if1 .left,
+      sym (is-word2 .ensures) ∙ if2 .left,
+      sym (is-word3 .ensures) ∙ if3 .left,
+      sym (is-word4 .ensures) ∙ if4 .left,
+      sym (is-word5 .ensures) ∙ c .before .before .if5 .left,
+    )
+    (c .is-word6 .ensures ∙ sym (or-last _))
 
 pub is-other-spec : {M : Type 1} → statement M
 is-other-spec =

@@ -1,4 +1,4 @@
--- `joined`: by the two answers for what follows.
+-- `joined`: an answer that is Bad makes both Bad; two that are not are joined mark by mark. Assumes nothing.
 use borrow.Author.Needs.{needs}
 use Rattle.read_attributes.proofs.joined.Statement.{statement}
 use Rattle.read_attributes.proofs.joined.Tie as tie

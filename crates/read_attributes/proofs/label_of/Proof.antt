@@ -1,4 +1,4 @@
--- `label_of`: each word is tested in the order of the definition.
+-- `label_of`: the tests stand in the order of the definition: the first that holds decides, those before it failed. Assumes nothing.
 use borrow.Author.Needs.{needs}
 use Rattle.read_attributes.proofs.label_of.Statement.{statement}
 use Rattle.read_attributes.proofs.label_of.Tie as tie
@@ -15,7 +15,12 @@ returns-2 c = simp (sym (c .before .before .before .before .is-word .ensures) �
 
 returns-3 : tie.Need-returns-3
 unfolding labelOf
-returns-3 c = simp (sym (c .before .before .before .before .before .before .before .is-word .ensures) ∙ c .before .before .before .before .before .before .if1 .left, sym (c .before .before .before .before .is-word2 .ensures) ∙ c .before .before .before .if2 .left, sym (c .before .is-word3 .ensures) ∙ c .if3 .taken)
+returns-3 c =
+    simp (
+      sym (c .before .before .before .before .before .before .before .is-word .ensures) ∙ c .before .before .before .before .before .before .if1 .left,
+      sym (c .before .before .before .before .is-word2 .ensures) ∙ c .before .before .before .if2 .left,
+      sym (c .before .is-word3 .ensures) ∙ c .if3 .taken,
+    )
 
 returns-4 : tie.Need-returns-4
 unfolding labelOf
@@ -38,7 +43,13 @@ returns-5 c =
     let b = b .before in let is-word2 = b .is-word2 in
     let b = b .before .before in let if1 = b .if1 in
     let b = b .before in let is-word = b .is-word in
-    simp (sym (is-word .ensures) ∙ if1 .left, sym (is-word2 .ensures) ∙ if2 .left, sym (is-word3 .ensures) ∙ if3 .left, sym (is-other .ensures) ∙ if4 .left, sym (c .before .is-word4 .ensures) ∙ c .if5 .taken)
+    simp (
+      sym (is-word .ensures) ∙ if1 .left,
+      sym (is-word2 .ensures) ∙ if2 .left,
+      sym (is-word3 .ensures) ∙ if3 .left,
+      sym (is-other .ensures) ∙ if4 .left,
+      sym (c .before .is-word4 .ensures) ∙ c .if5 .taken,
+    )
 
 returns-6 : tie.Need-returns-6
 unfolding labelOf
@@ -53,7 +64,14 @@ returns-6 c =
     let b = b .before in let is-word2 = b .is-word2 in
     let b = b .before .before in let if1 = b .if1 in
     let b = b .before in let is-word = b .is-word in
-    simp (sym (is-word .ensures) ∙ if1 .left, sym (is-word2 .ensures) ∙ if2 .left, sym (is-word3 .ensures) ∙ if3 .left, sym (is-other .ensures) ∙ if4 .left, sym (is-word4 .ensures) ∙ if5 .left, sym (c .before .is-word5 .ensures) ∙ c .if6 .taken)
+    simp (
+      sym (is-word .ensures) ∙ if1 .left,
+      sym (is-word2 .ensures) ∙ if2 .left,
+      sym (is-word3 .ensures) ∙ if3 .left,
+      sym (is-other .ensures) ∙ if4 .left,
+      sym (is-word4 .ensures) ∙ if5 .left,
+      sym (c .before .is-word5 .ensures) ∙ c .if6 .taken,
+    )
 
 returns-7 : tie.Need-returns-7
 unfolding labelOf
@@ -68,7 +86,14 @@ returns-7 c =
     let b = b .before in let is-word2 = b .is-word2 in
     let b = b .before .before in let if1 = b .if1 in
     let b = b .before in let is-word = b .is-word in
-    simp (sym (is-word .ensures) ∙ if1 .left, sym (is-word2 .ensures) ∙ if2 .left, sym (is-word3 .ensures) ∙ if3 .left, sym (is-other .ensures) ∙ if4 .left, sym (is-word4 .ensures) ∙ if5 .left, sym (c .before .is-word5 .ensures) ∙ c .if6 .left)
+    simp (
+      sym (is-word .ensures) ∙ if1 .left,
+      sym (is-word2 .ensures) ∙ if2 .left,
+      sym (is-word3 .ensures) ∙ if3 .left,
+      sym (is-other .ensures) ∙ if4 .left,
+      sym (is-word4 .ensures) ∙ if5 .left,
+      sym (c .before .is-word5 .ensures) ∙ c .if6 .left,
+    )
 
 pub label-of-spec : {M : Type 1} → statement M
 label-of-spec =

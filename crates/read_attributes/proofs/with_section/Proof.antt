@@ -1,4 +1,4 @@
--- `with_section`: by the section's two answers.
+-- `with_section`: a section that was read ends the attribute, and one that was not leaves none. Assumes nothing.
 use borrow.Author.Needs.{needs}
 use Rattle.read_attributes.proofs.with_section.Statement.{statement}
 use Rattle.read_attributes.proofs.with_section.Tie as tie

@@ -1,11 +1,11 @@
--- `partial_at`: an octet and a number, and `count_at` behind them.
+-- `partial_at`: an octet and a number are read in the order of the definition, and `count_at` reads what is behind them. Assumes nothing.
 use borrow.Author.Needs.{needs}
-use Rattle.read_attributes.proofs.sections.partial_at.Statement.{statement}
-use Rattle.read_attributes.proofs.sections.partial_at.Tie as tie
+use Rattle.read_sections.proofs.partial_at.Statement.{statement}
+use Rattle.read_sections.proofs.partial_at.Tie as tie
 use mathlib.Core.Path.{sym, _∙_}
 use native.Mathlib.Omega.{arith}
-use Rattle.read_attributes.proofs.Rows.{within-from}
-use Rattle.read_attributes.proofs.Sectioning.{partial-blank, partial-none, partial-count}
+use Rattle.read_sections.proofs.Rows.{within-from}
+use Rattle.read_sections.proofs.Sectioning.{partial-blank, partial-none, partial-count}
 use Rattle.octets.specs.Rows.{in-text}
 
 returns : tie.Need-returns
@@ -25,7 +25,12 @@ returns-2 c =
     let b = b .before in let if1 = b .if1 in
     let b = b .before in let octet-at = b .octet-at in
     let b = b .before .before in let args = b .args in
-    let w = rw (next .given .1) at (number-at .ensures .within) in record { exact = c .count-at .ensures .exact ∙ partial-count (args .text .now) (args .at) (sym (octet-at .ensures) ∙ if1 .left) (sym (next .given .1) ∙ number-at .ensures .exact); within = within-from (args .text .now) (args .at) (next .given .0 .1 .0) (c .count-at .result) (omega arith) (c .count-at .ensures .within) }
+    let s = args .text .now in
+    let w = rw (next .given .1) at (number-at .ensures .within) in
+    record {
+      exact = c .count-at .ensures .exact ∙ partial-count s (args .at) (sym (octet-at .ensures) ∙ if1 .left) (sym (next .given .1) ∙ number-at .ensures .exact);
+      within = within-from s (args .at) (next .given .0 .1 .0) (c .count-at .result) (omega arith) (c .count-at .ensures .within);
+    }
 
 returns-3 : tie.Need-returns-3
 returns-3 c =

@@ -10,8 +10,8 @@ use Rattle.model.specs.Attributes.{SectionWord, whole, fields, mime, sectionles
 use Rattle.octets.specs.Found.{nextOf, Within}
 use Rattle.octets.specs.declared.Next.{Next}
 use Rattle.octets.specs.declared.Next.the-variants.{At, Bad}
-use Rattle.read_attributes.specs.declared.sections.Wanted.{Wanted}
-use Rattle.read_attributes.specs.declared.sections.Wanted.the-variants.{Whole, Fields, Mime, Nothing}
+use Rattle.read_sections.specs.declared.Wanted.{Wanted}
+use Rattle.read_sections.specs.declared.Wanted.the-variants.{Whole, Fields, Mime, Nothing}
 
 -- what follows the number of a part
 abbrev pub partNext : List ℕ → ℕ → RowNext

@@ -1,23 +1,23 @@
--- `parts_at` by its own calls: the measure is the octets that are left; each case is one of a row of numbers.
+-- `parts_at`: each case is one of a row of numbers. It ends: the measure is the octets that are left. Assumes nothing.
 use Prim.Native.Nat.{ℕ, _<_}
 use borrow.Fn.Kinds.{In}
 use borrow.Fn.PlainCycle.{Measures, is, falls, and}
-use Rattle.read_attributes.proofs.sections.parts_at.Reads as parts-at
-use Rattle.read_attributes.proofs.sections.parts_at.Kinds as parts-at-kinds
-use Rattle.read_attributes.proofs.sections.+parts_at.Lts-parts_at as parts-at-lts
+use Rattle.read_sections.proofs.parts_at.Reads as parts-at
+use Rattle.read_sections.proofs.parts_at.Kinds as parts-at-kinds
+use Rattle.read_sections.proofs.+parts_at.Lts-parts_at as parts-at-lts
 use Rattle.octets.proofs.classes.in_class.Reads as in-class-reads
 use Rattle.octets.proofs.classes.octet_at.Reads as octet-at-reads
 use Rattle.octets.proofs.numbers.positive_at.Reads as positive-at-reads
-use Rattle.read_attributes.proofs.sections.+parts_at.{statement}
-use Rattle.read_attributes.proofs.sections.+parts_at.Tie.{close}
+use Rattle.read_sections.proofs.+parts_at.{statement}
+use Rattle.read_sections.proofs.+parts_at.Tie.{close}
 use mathlib.Core.Path.{sym, _∙_}
 use native.Mathlib.Omega.{arith}
 use Prim.Native.Nat.{_+_, _-_}
 use lib.ListN.{length}
 use Rattle.model.specs.Reading.{positiveAt}
-use Rattle.read_attributes.specs.Sections.{partNext}
-use Rattle.read_attributes.proofs.Rows.{number-found, number-lost, within-from, end-none, end-another, end-over}
-use Rattle.read_attributes.proofs.Sectioning.{part-another, part-letter, part-over}
+use Rattle.read_sections.specs.Sections.{partNext}
+use Rattle.read_sections.proofs.Rows.{number-found, number-lost, within-from, end-none, end-another, end-over}
+use Rattle.read_sections.proofs.Sectioning.{part-another, part-letter, part-over}
 use borrow.Author.Needs.{needs}
 use Rattle.octets.specs.Rows.{in-text}
 
@@ -39,10 +39,22 @@ parts-at-returns t c =
     let b = c .before .before .before in let next = b .next in
     let b = b .before .before in let positive-at = b .positive-at in
     let b = b .before .before in let args = b .args in
-    let w = rw (next .given .1) at (positive-at .ensures .within) in record { within = (omega arith, omega arith); exact = λ n h. end-over (positiveAt (args .text .now)) (partNext (args .text .now)) (args .at) n (omega arith) (number-found (positiveAt (args .text .now) (args .at)) (sym (next .given .1) ∙ positive-at .ensures .exact)) (part-over (args .text .now) (next .given .0 .1 .0) (λ e. c .if1 .taken (c .before .octet-at .ensures ∙ e))) }
+    let s = args .text .now in
+    let w = rw (next .given .1) at (positive-at .ensures .within) in
+    record {
+      within = (omega arith, omega arith);
+      exact =
+          λ n h.
+          end-over (positiveAt s) (partNext s) (args .at) n (omega arith)
+          (number-found (positiveAt s (args .at)) (sym (next .given .1) ∙ positive-at .ensures .exact))
+          (part-over s (next .given .0 .1 .0) (λ e. c .if1 .taken (c .before .octet-at .ensures ∙ e)));
+    }
 
 parts-at-add-part : (t : ℕ) → parts-at-lts.Need-add-part (parts-at-calls t) (parts-at-at t) parts-at.Post
-parts-at-add-part t c = let i = in-text (c .before .before .before .before .before .before .before .args .text .now) (c .before .before .before .next .given .0 .1 .0) (sym (c .before .octet-at .ensures) ∙ c .if1 .left) (omega arith) in omega arith
+parts-at-add-part t c =
+    let i = in-text (c .before .before .before .before .before .before .before .args .text .now) (c .before .before .before .next .given .0 .1 .0)
+    (sym (c .before .octet-at .ensures) ∙ c .if1 .left) (omega arith) in
+    omega arith
 
 parts-at-parts-at-requires : (t : ℕ) → parts-at-lts.Need-parts-at-requires (parts-at-calls t) (parts-at-at t) parts-at.Post
 parts-at-parts-at-requires t c κs =
@@ -61,7 +73,18 @@ parts-at-returns-2 t c =
     let b = b .before .before in let next = b .next in
     let b = b .before .before in let positive-at = b .positive-at in
     let b = b .before .before in let args = b .args in
-    let w = rw (next .given .1) at (positive-at .ensures .within) in record { within = within-from (args .text .now) (args .at) (next .given .0 .1 .0 + 1) (c .parts-at .result) (omega arith) (c .parts-at .ensures .within); exact = λ n h. c .parts-at .ensures .exact (n - 1) (omega arith) ∙ end-another (positiveAt (args .text .now)) (partNext (args .text .now)) (args .at) n (omega arith) (number-found (positiveAt (args .text .now) (args .at)) (sym (next .given .1) ∙ positive-at .ensures .exact)) (part-another (args .text .now) (next .given .0 .1 .0) (sym (octet-at .ensures) ∙ if1 .left) (rw (octet-at2 .ensures) at (sym (c .before .before .in-class .ensures) ∙ c .before .if2 .taken))) }
+    let s = args .text .now in
+    let w = rw (next .given .1) at (positive-at .ensures .within) in
+    record {
+      within = within-from s (args .at) (next .given .0 .1 .0 + 1) (c .parts-at .result) (omega arith) (c .parts-at .ensures .within);
+      exact =
+          λ n h.
+          c .parts-at .ensures .exact (n - 1) (omega arith)
+          ∙ end-another (positiveAt s) (partNext s) (args .at) n (omega arith)
+          (number-found (positiveAt s (args .at)) (sym (next .given .1) ∙ positive-at .ensures .exact))
+          (part-another s (next .given .0 .1 .0) (sym (octet-at .ensures) ∙ if1 .left)
+          (rw (octet-at2 .ensures) at (sym (c .before .before .in-class .ensures) ∙ c .before .if2 .taken)));
+    }
 
 parts-at-returns-3 : (t : ℕ) → parts-at-lts.Need-returns-3 (parts-at-calls t) (parts-at-at t) parts-at.Post
 parts-at-returns-3 t c =
@@ -70,12 +93,29 @@ parts-at-returns-3 t c =
     let b = b .before .before in let next = b .next in
     let b = b .before .before in let positive-at = b .positive-at in
     let b = b .before .before in let args = b .args in
-    let w = rw (next .given .1) at (positive-at .ensures .within) in record { within = (omega arith, omega arith); exact = λ n h. end-over (positiveAt (args .text .now)) (partNext (args .text .now)) (args .at) n (omega arith) (number-found (positiveAt (args .text .now) (args .at)) (sym (next .given .1) ∙ positive-at .ensures .exact)) (part-letter (args .text .now) (next .given .0 .1 .0) (sym (octet-at .ensures) ∙ if1 .left) (rw (c .before .before .octet-at2 .ensures) at (sym (c .before .in-class .ensures) ∙ c .if2 .left))) }
+    let s = args .text .now in
+    let w = rw (next .given .1) at (positive-at .ensures .within) in
+    record {
+      within = (omega arith, omega arith);
+      exact =
+          λ n h.
+          end-over (positiveAt s) (partNext s) (args .at) n (omega arith)
+          (number-found (positiveAt s (args .at)) (sym (next .given .1) ∙ positive-at .ensures .exact))
+          (part-letter s (next .given .0 .1 .0) (sym (octet-at .ensures) ∙ if1 .left)
+          (rw (c .before .before .octet-at2 .ensures) at (sym (c .before .in-class .ensures) ∙ c .if2 .left)));
+    }
 
 parts-at-returns-4 : (t : ℕ) → parts-at-lts.Need-returns-4 (parts-at-calls t) (parts-at-at t) parts-at.Post
 parts-at-returns-4 t c =
     let b = c .before .before .before .before in let args = b .args in
-    record { within = tt; exact = λ n h. end-none (positiveAt (args .text .now)) (partNext (args .text .now)) (args .at) n (number-lost (positiveAt (args .text .now) (args .at)) (sym (c .enum-told .given .1) ∙ c .before .before .positive-at .ensures .exact)) }
+    let s = args .text .now in
+    record {
+      within = tt;
+      exact =
+          λ n h.
+          end-none (positiveAt s) (partNext s) (args .at) n
+          (number-lost (positiveAt s (args .at)) (sym (c .enum-told .given .1) ∙ c .before .before .positive-at .ensures .exact));
+    }
 
 pub +parts-at-spec : {M : Type 1} → statement M
 +parts-at-spec = close μ-parts-at λ t. parts-at-lts.spec (parts-at-calls t)

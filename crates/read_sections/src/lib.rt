@@ -6,7 +6,7 @@ ghost use mathlib.Core.Path.{_≡_};
 ghost use Rattle.model.specs.Reading.{piece};
 ghost use Rattle.model.specs.Attributes.{sectionWord, sectionTextAt, sectionPartAt, sectionSpecAt, partialAt, sectionAt};
 ghost use Rattle.octets.specs.Found.{Reads, nextOf};
-ghost use Rattle.read_attributes.specs.Sections.{wordOf, ReadsParts, ReadsFields, ReadsOn, fieldsAt, countAt, closeAt};
+ghost use Rattle.read_sections.specs.Sections.{wordOf, ReadsParts, ReadsFields, ReadsOn, fieldsAt, countAt, closeAt};
 
 // Numbers of parts with dots between them; a dot before a letter ends them.
 fn parts_at(text: &[u8], at: usize) -> Next

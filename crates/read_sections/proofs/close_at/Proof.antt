@@ -1,12 +1,12 @@
--- `close_at`: the bracket, and a partial where one begins.
+-- `close_at`: a bracket stands there, and a partial is read where one begins behind it. Assumes nothing.
 use borrow.Author.Needs.{needs}
-use Rattle.read_attributes.proofs.sections.close_at.Statement.{statement}
-use Rattle.read_attributes.proofs.sections.close_at.Tie as tie
+use Rattle.read_sections.proofs.close_at.Statement.{statement}
+use Rattle.read_sections.proofs.close_at.Tie as tie
 use mathlib.Core.Path.{sym, _∙_}
 use native.Mathlib.Omega.{arith}
 use Prim.Native.Nat.{_+_}
-use Rattle.read_attributes.proofs.Rows.{within-from}
-use Rattle.read_attributes.proofs.Sectioning.{close-blank, close-partial, close-alone}
+use Rattle.read_sections.proofs.Rows.{within-from}
+use Rattle.read_sections.proofs.Sectioning.{close-blank, close-partial, close-alone}
 use Rattle.octets.specs.Rows.{in-text}
 
 returns : tie.Need-returns
@@ -24,14 +24,25 @@ returns-2 c =
     let b = c .before .before .before in let if1 = b .if1 in
     let b = b .before in let octet-at = b .octet-at in
     let b = b .before .before in let args = b .args in
-    record { exact = c .partial-at .ensures .exact ∙ close-partial (args .text .now) (args .at) (sym (octet-at .ensures) ∙ if1 .left) (sym (c .before .before .octet-at2 .ensures) ∙ c .before .if2 .taken); within = within-from (args .text .now) (args .at) ((args .at) + 1) (c .partial-at .result) (omega arith) (c .partial-at .ensures .within) }
+    let s = args .text .now in
+    record {
+      exact =
+          c .partial-at .ensures .exact
+          ∙ close-partial s (args .at) (sym (octet-at .ensures) ∙ if1 .left) (sym (c .before .before .octet-at2 .ensures) ∙ c .before .if2 .taken);
+      within = within-from s (args .at) ((args .at) + 1) (c .partial-at .result) (omega arith) (c .partial-at .ensures .within);
+    }
 
 returns-3 : tie.Need-returns-3
 returns-3 c =
     let b = c .before .before in let if1 = b .if1 in
     let b = b .before in let octet-at = b .octet-at in
     let b = b .before .before in let args = b .args in
-    let i = in-text (args .text .now) (args .at) (sym (octet-at .ensures) ∙ if1 .left) (omega arith) in record { exact = close-alone (args .text .now) (args .at) (sym (octet-at .ensures) ∙ if1 .left) (λ e. c .if2 .left (c .before .octet-at2 .ensures ∙ e)); within = (omega arith, omega arith) }
+    let s = args .text .now in
+    let i = in-text s (args .at) (sym (octet-at .ensures) ∙ if1 .left) (omega arith) in
+    record {
+      exact = close-alone s (args .at) (sym (octet-at .ensures) ∙ if1 .left) (λ e. c .if2 .left (c .before .octet-at2 .ensures ∙ e));
+      within = (omega arith, omega arith);
+    }
 
 pub close-at-spec : {M : Type 1} → statement M
 close-at-spec =

@@ -1,13 +1,13 @@
--- `fields_at`: the row behind the parenthesis is read with the fuel of `listAt`.
+-- `fields_at`: the row behind the parenthesis is read with as many steps as `listAt` gives. Assumes nothing.
 use borrow.Author.Needs.{needs}
-use Rattle.read_attributes.proofs.sections.fields_at.Statement.{statement}
-use Rattle.read_attributes.proofs.sections.fields_at.Tie as tie
+use Rattle.read_sections.proofs.fields_at.Statement.{statement}
+use Rattle.read_sections.proofs.fields_at.Tie as tie
 use mathlib.Core.Path.{sym, _∙_}
 use native.Mathlib.Omega.{arith}
 use Prim.Native.Nat.{_+_}
 use lib.ListN.{length}
-use Rattle.read_attributes.proofs.Rows.{within-from}
-use Rattle.read_attributes.proofs.Sectioning.{fields-blank, fields-shut, fields-list}
+use Rattle.read_sections.proofs.Rows.{within-from}
+use Rattle.read_sections.proofs.Sectioning.{fields-blank, fields-shut, fields-list}
 use Rattle.octets.specs.Rows.{in-text}
 
 returns : tie.Need-returns
@@ -36,7 +36,13 @@ returns-3 c =
     let b = c .before .before .before in let if1 = b .if1 in
     let b = b .before in let octet-at = b .octet-at in
     let b = b .before .before in let args = b .args in
-    record { exact = c .fields-to-close .ensures .exact (length (args .text .now)) (omega arith) ∙ fields-list (args .text .now) (args .at) (sym (octet-at .ensures) ∙ if1 .left) (sym (c .before .before .octet-at2 .ensures) ∙ c .before .if2 .left); within = within-from (args .text .now) (args .at) ((args .at) + 1 + 1) (c .fields-to-close .result) (omega arith) (c .fields-to-close .ensures .within) }
+    let s = args .text .now in
+    record {
+      exact =
+          c .fields-to-close .ensures .exact (length s) (omega arith)
+          ∙ fields-list s (args .at) (sym (octet-at .ensures) ∙ if1 .left) (sym (c .before .before .octet-at2 .ensures) ∙ c .before .if2 .left);
+      within = within-from s (args .at) ((args .at) + 1 + 1) (c .fields-to-close .result) (omega arith) (c .fields-to-close .ensures .within);
+    }
 
 pub fields-at-spec : {M : Type 1} → statement M
 fields-at-spec =

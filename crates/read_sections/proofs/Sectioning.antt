@@ -14,10 +14,10 @@ use Rattle.octets.specs.Numerals.{readNumber}
 use Rattle.octets.specs.declared.Next.{Next}
 use Rattle.octets.specs.declared.Next.the-variants.{At, Bad}
 use Rattle.octets.specs.declared.Number.the-variants.{Is, Bad as NoNumber}
-use Rattle.read_attributes.specs.Sections.{partNext, fieldsAt, countAt, closeAt, wordOf, Onward}
-use Rattle.read_attributes.specs.declared.sections.Wanted.{Wanted}
-use Rattle.read_attributes.specs.declared.sections.Wanted.the-variants.{Whole, Fields, Mime, Nothing}
-use Rattle.read_attributes.proofs.Rows.{number-found, number-lost, run-found, next-then}
+use Rattle.read_sections.specs.Sections.{partNext, fieldsAt, countAt, closeAt, wordOf, Onward}
+use Rattle.read_sections.specs.declared.Wanted.{Wanted}
+use Rattle.read_sections.specs.declared.Wanted.the-variants.{Whole, Fields, Mime, Nothing}
+use Rattle.read_sections.proofs.Rows.{number-found, number-lost, run-found, next-then}
 use Rattle.octets.specs.Rows.{next-found, next-lost}
 
 -- ---- behind the number of a part

@@ -1,7 +1,7 @@
--- `section_word`: each word is tested in the order of the definition.
+-- `section_word`: the tests stand in the order of the definition: the first that holds decides, those before it failed. Assumes nothing.
 use borrow.Author.Needs.{needs}
-use Rattle.read_attributes.proofs.sections.section_word.Statement.{statement}
-use Rattle.read_attributes.proofs.sections.section_word.Tie as tie
+use Rattle.read_sections.proofs.section_word.Statement.{statement}
+use Rattle.read_sections.proofs.section_word.Tie as tie
 use mathlib.Core.Path.{sym, _∙_}
 use Rattle.model.specs.Attributes.{sectionWord}
 
@@ -15,7 +15,12 @@ returns-2 c = simp (sym (c .before .before .before .before .is-word .ensures) �
 
 returns-3 : tie.Need-returns-3
 unfolding sectionWord
-returns-3 c = simp (sym (c .before .before .before .before .before .before .before .is-word .ensures) ∙ c .before .before .before .before .before .before .if1 .left, sym (c .before .before .before .before .is-word2 .ensures) ∙ c .before .before .before .if2 .left, sym (c .before .is-word3 .ensures) ∙ c .if3 .taken)
+returns-3 c =
+    simp (
+      sym (c .before .before .before .before .before .before .before .is-word .ensures) ∙ c .before .before .before .before .before .before .if1 .left,
+      sym (c .before .before .before .before .is-word2 .ensures) ∙ c .before .before .before .if2 .left,
+      sym (c .before .is-word3 .ensures) ∙ c .if3 .taken,
+    )
 
 returns-4 : tie.Need-returns-4
 unfolding sectionWord
@@ -39,7 +44,13 @@ returns-5 c =
     let b = b .before in let is-word2 = b .is-word2 in
     let b = b .before .before in let if1 = b .if1 in
     let b = b .before in let is-word = b .is-word in
-    simp (sym (is-word .ensures) ∙ if1 .left, sym (is-word2 .ensures) ∙ if2 .left, sym (is-word3 .ensures) ∙ if3 .left, sym (is-word4 .ensures) ∙ if4 .left, sym (c .before .is-word5 .ensures) ∙ c .if5 .taken)
+    simp (
+      sym (is-word .ensures) ∙ if1 .left,
+      sym (is-word2 .ensures) ∙ if2 .left,
+      sym (is-word3 .ensures) ∙ if3 .left,
+      sym (is-word4 .ensures) ∙ if4 .left,
+      sym (c .before .is-word5 .ensures) ∙ c .if5 .taken,
+    )
 
 returns-6 : tie.Need-returns-6
 unfolding sectionWord
@@ -52,7 +63,13 @@ returns-6 c =
     let b = b .before in let is-word2 = b .is-word2 in
     let b = b .before .before in let if1 = b .if1 in
     let b = b .before in let is-word = b .is-word in
-    simp (sym (is-word .ensures) ∙ if1 .left, sym (is-word2 .ensures) ∙ if2 .left, sym (is-word3 .ensures) ∙ if3 .left, sym (is-word4 .ensures) ∙ if4 .left, sym (c .before .is-word5 .ensures) ∙ c .if5 .left)
+    simp (
+      sym (is-word .ensures) ∙ if1 .left,
+      sym (is-word2 .ensures) ∙ if2 .left,
+      sym (is-word3 .ensures) ∙ if3 .left,
+      sym (is-word4 .ensures) ∙ if4 .left,
+      sym (c .before .is-word5 .ensures) ∙ c .if5 .left,
+    )
 
 pub section-word-spec : {M : Type 1} → statement M
 section-word-spec =

@@ -29,13 +29,9 @@ pub announce-spec : {M : Type 1} → statement M
 announce-spec =
     tie.close
     (tie.spec
-    (λ c κs. search needs)  -- shows-requires
-    (λ c. search needs)  -- cast-by-uid
-    (λ c. search needs)  -- slice-aggregate-by-uid
-    (λ c κs. search needs)  -- by-uid-requires
-    (λ c. search needs)  -- slice-aggregate-say-news
-    (λ c. search needs)  -- cast-t11
+    (λ c κs. search needs) (λ c. search needs)  -- shows-requires, cast-by-uid
+    (λ c. search needs) (λ c κs. search needs)  -- slice-aggregate-by-uid, by-uid-requires
+    (λ c. search needs) (λ c. search needs)  -- slice-aggregate-say-news, cast-t11
     say-news-requires
-    (λ c κs. search needs)  -- announced-requires
-    (λ c. search needs)  -- same-length
+    (λ c κs. search needs) (λ c. search needs)  -- announced-requires, same-length
     returns)

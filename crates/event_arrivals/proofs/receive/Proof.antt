@@ -94,24 +94,15 @@ pub receive-spec : {M : Type 1} → statement M
 receive-spec =
     tie.close
     (tie.spec
-    (λ c. search needs)  -- cast-fresh
-    (λ c κs. search needs)  -- fresh-requires
-    (λ c. search needs)  -- cast-next
-    (λ c. search needs)  -- add-next
-    (λ c κs. search needs)  -- put-requires
-    (λ c. search needs)  -- add-more
-    (λ c κs. search needs)  -- with-next-requires
-    (λ c κs. search needs)  -- is-chosen-requires
+    (λ c. search needs) (λ c κs. search needs) (λ c. search needs)  -- cast-fresh, fresh-requires, cast-next
+    (λ c. search needs) (λ c κs. search needs) (λ c. search needs)  -- add-next, put-requires, add-more
+    (λ c κs. search needs) (λ c κs. search needs)  -- with-next-requires, is-chosen-requires
     (λ c κs. search needs)  -- is-soon-requires
     announce-requires
-    (λ c. search needs)  -- same-length
-    (λ c. search needs)  -- same-length-2
+    (λ c. search needs) (λ c. search needs)  -- same-length, same-length-2
     returns
-    (λ c κs. search needs)  -- is-told-requires
-    (λ c. search needs)  -- same-length-3
+    (λ c κs. search needs) (λ c. search needs)  -- is-told-requires, same-length-3
     returns-2
     say-row-requires
-    (λ c κs. search needs)  -- hear-requires
-    (λ c. search needs)  -- same-length-4
-    (λ c. search needs)  -- same-length-5
+    (λ c κs. search needs) (λ c. search needs) (λ c. search needs)  -- hear-requires, same-length-4, same-length-5
     returns-3)

@@ -17,9 +17,6 @@ pub drop-now-spec : {M : Type 1} → statement M
 drop-now-spec =
     tie.close
     (tie.spec
-    (λ c κs. search needs)  -- say-expunge-requires
-    (λ c κs. search needs)  -- take-out-requires
-    (λ c κs. search needs)  -- hear-requires
-    (λ c. search needs)  -- same-length
-    (λ c. search needs)  -- same-length-2
+    (λ c κs. search needs) (λ c κs. search needs)  -- say-expunge-requires, take-out-requires
+    (λ c κs. search needs) (λ c. search needs) (λ c. search needs)  -- hear-requires, same-length, same-length-2
     returns)

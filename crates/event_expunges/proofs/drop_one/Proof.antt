@@ -33,12 +33,8 @@ pub drop-one-spec : {M : Type 1} → statement M
 drop-one-spec =
     tie.close
     (tie.spec
-    (λ c κs. search needs)  -- remove-requires
-    (λ c. search needs)  -- sub-rest
-    (λ c. search needs)  -- same-length
+    (λ c κs. search needs) (λ c. search needs) (λ c. search needs)  -- remove-requires, sub-rest, same-length
     returns
     say-row-requires
-    (λ c κs. search needs)  -- hear-requires
-    (λ c. search needs)  -- same-length-2
-    (λ c. search needs)  -- same-length-3
+    (λ c κs. search needs) (λ c. search needs) (λ c. search needs)  -- hear-requires, same-length-2, same-length-3
     returns-2)

@@ -77,24 +77,16 @@ pub expunge-spec : {M : Type 1} → statement M
 expunge-spec =
     tie.close
     (tie.spec
-    (λ c κs. search needs)  -- get-requires
-    (λ c. search needs)  -- cast-t19
-    (λ c κs. search needs)  -- is-chosen-requires
-    (λ c κs. search needs)  -- both-requires
-    (λ c κs. search needs)  -- is-told-requires
+    (λ c κs. search needs) (λ c. search needs) (λ c κs. search needs)  -- get-requires, cast-t19, is-chosen-requires
+    (λ c κs. search needs) (λ c κs. search needs)  -- both-requires, is-told-requires
     drop-one-requires
-    (λ c. search needs)  -- same-length
-    (λ c. search needs)  -- same-length-2
+    (λ c. search needs) (λ c. search needs)  -- same-length, same-length-2
     returns
-    (λ c κs. search needs)  -- both-requires-2
-    (λ c κs. search needs)  -- immediate-asks-requires
-    (λ c κs. search needs)  -- both-requires-3
-    (λ c. search needs)  -- cast-place-of
+    (λ c κs. search needs) (λ c κs. search needs)  -- both-requires-2, immediate-asks-requires
+    (λ c κs. search needs) (λ c. search needs)  -- both-requires-3, cast-place-of
     (λ c κs. search needs)  -- place-of-requires
     drop-now-requires
-    (λ c. search needs)  -- same-length-3
-    (λ c. search needs)  -- same-length-4
+    (λ c. search needs) (λ c. search needs)  -- same-length-3, same-length-4
     returns-2
-    (λ c κs. search needs)  -- take-out-requires
-    (λ c. search needs)  -- same-length-5
+    (λ c κs. search needs) (λ c. search needs)  -- take-out-requires, same-length-5
     returns-3)

@@ -23,12 +23,8 @@ pub take-out-spec : {M : Type 1} → statement M
 take-out-spec =
     tie.close
     (tie.spec
-    (λ c κs. search needs)  -- remove-requires
-    (λ c. search needs)  -- sub-result
-    (λ c. search needs)  -- same-length
+    (λ c κs. search needs) (λ c. search needs) (λ c. search needs)  -- remove-requires, sub-result, same-length
     returns
-    (λ c κs. search needs)  -- get-requires
-    (λ c κs. search needs)  -- changed-requires
-    (λ c κs. search needs)  -- put-requires
-    (λ c. search needs)  -- same-length-2
+    (λ c κs. search needs) (λ c κs. search needs)  -- get-requires, changed-requires
+    (λ c κs. search needs) (λ c. search needs)  -- put-requires, same-length-2
     returns-2)

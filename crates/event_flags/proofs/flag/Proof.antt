@@ -75,23 +75,15 @@ pub flag-spec : {M : Type 1} → statement M
 flag-spec =
     tie.close
     (tie.spec
-    (λ c κs. search needs)  -- get-requires
-    (λ c. search needs)  -- cast-t22
-    (λ c κs. search needs)  -- is-chosen-requires
-    (λ c κs. search needs)  -- both-requires
-    (λ c κs. search needs)  -- is-soon-requires
-    (λ c. search needs)  -- cast-place-of
-    (λ c κs. search needs)  -- place-of-requires
+    (λ c κs. search needs) (λ c. search needs) (λ c κs. search needs)  -- get-requires, cast-t22, is-chosen-requires
+    (λ c κs. search needs) (λ c κs. search needs)  -- both-requires, is-soon-requires
+    (λ c. search needs) (λ c κs. search needs)  -- cast-place-of, place-of-requires
     flag-now-requires
-    (λ c. search needs)  -- same-length
-    (λ c. search needs)  -- same-length-2
+    (λ c. search needs) (λ c. search needs)  -- same-length, same-length-2
     returns
-    (λ c κs. search needs)  -- both-requires-2
-    (λ c κs. search needs)  -- both-requires-3
-    (λ c κs. search needs)  -- both-requires-4
-    (λ c κs. search needs)  -- pick-requires
+    (λ c κs. search needs) (λ c κs. search needs)  -- both-requires-2, both-requires-3
+    (λ c κs. search needs) (λ c κs. search needs)  -- both-requires-4, pick-requires
     (λ c κs. search needs)  -- is-told-requires
     flag-kept-requires
-    (λ c. search needs)  -- same-length-3
-    (λ c. search needs)  -- same-length-4
+    (λ c. search needs) (λ c. search needs)  -- same-length-3, same-length-4
     returns-2)

@@ -39,13 +39,9 @@ pub flag-kept-spec : {M : Type 1} → statement M
 flag-kept-spec =
     tie.close
     (tie.spec
-    (λ c κs. search needs)  -- get-requires
-    (λ c κs. search needs)  -- changed-requires
-    (λ c κs. search needs)  -- put-requires
-    (λ c. search needs)  -- same-length
+    (λ c κs. search needs) (λ c κs. search needs)  -- get-requires, changed-requires
+    (λ c κs. search needs) (λ c. search needs)  -- put-requires, same-length
     returns
     say-change-requires
-    (λ c κs. search needs)  -- hear-requires
-    (λ c. search needs)  -- same-length-2
-    (λ c. search needs)  -- same-length-3
+    (λ c κs. search needs) (λ c. search needs) (λ c. search needs)  -- hear-requires, same-length-2, same-length-3
     returns-2)

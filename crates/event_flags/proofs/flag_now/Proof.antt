@@ -20,12 +20,8 @@ pub flag-now-spec : {M : Type 1} → statement M
 flag-now-spec =
     tie.close
     (tie.spec
-    (λ c κs. search needs)  -- get-requires
-    (λ c κs. search needs)  -- say-fetch-requires
-    (λ c κs. search needs)  -- pick-requires
-    (λ c κs. search needs)  -- changed-requires
-    (λ c κs. search needs)  -- put-requires
-    (λ c κs. search needs)  -- hear-requires
-    (λ c. search needs)  -- same-length
+    (λ c κs. search needs) (λ c κs. search needs)  -- get-requires, say-fetch-requires
+    (λ c κs. search needs) (λ c κs. search needs)  -- pick-requires, changed-requires
+    (λ c κs. search needs) (λ c κs. search needs) (λ c. search needs)  -- put-requires, hear-requires, same-length
     (λ c. search needs)  -- same-length-2
     returns)

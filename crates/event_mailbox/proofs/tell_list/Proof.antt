@@ -42,6 +42,5 @@ tell-list-spec =
     say-list-requires
     (λ c. search needs)  -- same-length
     returns-2
-    (λ c κs. search needs)  -- silence-requires
-    (λ c. search needs)  -- same-length-2
+    (λ c κs. search needs) (λ c. search needs)  -- silence-requires, same-length-2
     returns-3)

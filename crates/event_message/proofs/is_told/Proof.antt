@@ -17,8 +17,7 @@ pub is-told-spec : {M : Type 1} → statement M
 is-told-spec =
     tie.close
     (tie.spec
-    (λ c. search needs)  -- returns
-    (λ c κs. search needs)  -- both-requires
+    (λ c. search needs) (λ c κs. search needs)  -- returns, both-requires
     returns-2
     (λ c κs. search needs)  -- is-asked-of-requires
     returns-3)

@@ -30,8 +30,7 @@ pub say-change-spec : {M : Type 1} → statement M
 say-change-spec =
     tie.close
     (tie.spec
-    (λ c. search needs)  -- cast-validity
-    (λ c κs. search needs)  -- counter-of-requires
+    (λ c. search needs) (λ c κs. search needs)  -- cast-validity, counter-of-requires
     (λ c κs. search needs)  -- name-end-requires
     array-share-prefix-o
     slice-aggregate-say-flag-status

@@ -29,11 +29,8 @@ pub say-row-spec : {M : Type 1} → statement M
 say-row-spec =
     tie.close
     (tie.spec
-    (λ c. search needs)  -- cast-count
-    (λ c κs. search needs)  -- count-requires
-    (λ c. search needs)  -- cast-next
-    (λ c κs. search needs)  -- counter-of-requires
-    (λ c κs. search needs)  -- name-end-requires
+    (λ c. search needs) (λ c κs. search needs) (λ c. search needs)  -- cast-count, count-requires, cast-next
+    (λ c κs. search needs) (λ c κs. search needs)  -- counter-of-requires, name-end-requires
     array-share-prefix-o
     slice-aggregate-say-status
     say-status-requires

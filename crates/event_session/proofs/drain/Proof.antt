@@ -40,11 +40,8 @@ drain-spec =
     μ-loop
     (λ c. search needs)  -- sub-rest
     loop-holds
-    (λ c. search needs)  -- add-queue
-    (λ c. search needs)  -- slice-read-queue
-    (λ c. search needs)  -- slice-write-queue
-    (λ c. search needs)  -- add-i
-    (λ c. search needs)  -- loop-less
+    (λ c. search needs) (λ c. search needs) (λ c. search needs)  -- add-queue, slice-read-queue, slice-write-queue
+    (λ c. search needs) (λ c. search needs)  -- add-i, loop-less
     loop-again
     (λ c. search needs)  -- same-length
     returns)

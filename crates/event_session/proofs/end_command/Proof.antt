@@ -36,14 +36,9 @@ end-command-spec =
     tie.close
     (tie.spec
     returns
-    (λ c. search needs)  -- cast-id
-    (λ c. search needs)  -- cast-told
-    (λ c. search needs)  -- sub-limit
+    (λ c. search needs) (λ c. search needs) (λ c. search needs)  -- cast-id, cast-told, sub-limit
     (λ c κs. search needs)  -- by-uid-requires
     speak-requires
-    (λ c κs. search needs)  -- settle-requires
-    (λ c κs. search needs)  -- announced-requires
-    (λ c. search needs)  -- same-length
-    (λ c. search needs)  -- same-length-2
-    (λ c. search needs)  -- same-length-3
+    (λ c κs. search needs) (λ c κs. search needs)  -- settle-requires, announced-requires
+    (λ c. search needs) (λ c. search needs) (λ c. search needs)  -- same-length, same-length-2, same-length-3
     returns-2)

@@ -40,7 +40,6 @@ is-owed-spec =
     loop-holds
     (λ c κs. search needs)  -- owes-one-requires
     returns
-    (λ c. search needs)  -- add-i
-    (λ c. search needs)  -- loop-less
+    (λ c. search needs) (λ c. search needs)  -- add-i, loop-less
     loop-again
     returns-2)

@@ -23,7 +23,6 @@ pub select-spec : {M : Type 1} → statement M
 select-spec =
     tie.close
     (tie.spec
-    (λ c κs. search needs)  -- settle-requires
-    (λ c κs. search needs)  -- viewed-requires
+    (λ c κs. search needs) (λ c κs. search needs)  -- settle-requires, viewed-requires
     (λ c. search needs)  -- same-length
     returns)

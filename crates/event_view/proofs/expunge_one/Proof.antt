@@ -55,8 +55,7 @@ expunge-one-spec =
     (tie.spec
     (λ c κs. search needs)  -- entry-requires
     returns
-    (λ c. search needs)  -- slice-aggregate-say-count
-    (λ c κs. search needs)  -- say-count-requires
+    (λ c. search needs) (λ c κs. search needs)  -- slice-aggregate-say-count, say-count-requires
     (λ c. search needs)  -- same-length
     returns-2
     (λ c κs. search needs)  -- advanced-requires

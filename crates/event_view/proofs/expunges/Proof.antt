@@ -55,10 +55,8 @@ expunges-spec =
     Inv-loop
     μ-loop
     loop-holds
-    (λ c. search needs)  -- sub-j
-    (λ c. search needs)  -- mul-expunge-one
-    (λ c. search needs)  -- shared-slice-read-expunge-one
-    (λ c κs. search needs)  -- expunge-one-requires
+    (λ c. search needs) (λ c. search needs)  -- sub-j, mul-expunge-one
+    (λ c. search needs) (λ c κs. search needs)  -- shared-slice-read-expunge-one, expunge-one-requires
     (λ c. search needs)  -- loop-less
     loop-again
     (λ c. search needs)  -- same-length

@@ -55,11 +55,8 @@ marks-spec =
     Inv-loop
     μ-loop
     loop-holds
-    (λ c. search needs)  -- sub-j
-    (λ c. search needs)  -- mul-mark-one
-    (λ c. search needs)  -- shared-slice-read-mark-one
-    (λ c κs. search needs)  -- mark-one-requires
-    (λ c. search needs)  -- loop-less
+    (λ c. search needs) (λ c. search needs) (λ c. search needs)  -- sub-j, mul-mark-one, shared-slice-read-mark-one
+    (λ c κs. search needs) (λ c. search needs)  -- mark-one-requires, loop-less
     loop-again
     (λ c. search needs)  -- same-length
     returns)

@@ -38,7 +38,6 @@ pub say-first-spec : {M : Type 1} → statement M
 say-first-spec =
     tie.close
     (tie.spec
-    (λ c κs. search needs)  -- expunges-requires
-    (λ c. search needs)  -- same-length
+    (λ c κs. search needs) (λ c. search needs)  -- expunges-requires, same-length
     returns
     returns-2)

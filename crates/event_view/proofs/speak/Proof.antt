@@ -67,10 +67,8 @@ pub speak-spec : {M : Type 1} → statement M
 speak-spec =
     tie.close
     (tie.spec
-    (λ c κs. search needs)  -- say-first-requires
-    (λ c κs. search needs)  -- staying-requires
-    (λ c κs. search needs)  -- unseen-requires
-    (λ c κs. search needs)  -- begun-requires
+    (λ c κs. search needs) (λ c κs. search needs)  -- say-first-requires, staying-requires
+    (λ c κs. search needs) (λ c κs. search needs)  -- unseen-requires, begun-requires
     say-exists-requires
     (λ c κs. search needs)  -- begun-requires-2
     marks-requires

@@ -49,9 +49,7 @@ contents-ok-spec =
     (tie.spec
     (λ c κs. search needs)  -- session-ok-requires
     returns
-    (λ c. search needs)  -- cast-selected
-    (λ c. search needs)  -- cast-t16
-    (λ c κs. search needs)  -- view-ok-requires
+    (λ c. search needs) (λ c. search needs) (λ c κs. search needs)  -- cast-selected, cast-t16, view-ok-requires
     returns-2
     (λ c κs. search needs)  -- rows-ok-requires
     returns-3

@@ -37,11 +37,9 @@ pub rows-differ-spec : {M : Type 1} → statement M
 rows-differ-spec =
     tie.close
     (tie.spec
-    (λ c κs. search needs)  -- differ-requires
-    (λ c κs. search needs)  -- rows-apart-requires
+    (λ c κs. search needs) (λ c κs. search needs)  -- differ-requires, rows-apart-requires
     returns
-    (λ c κs. search needs)  -- digests-of-requires
-    (λ c κs. search needs)  -- differ-requires-2
+    (λ c κs. search needs) (λ c κs. search needs)  -- digests-of-requires, differ-requires-2
     returns-2
     (λ c κs. search needs)  -- rows-apart-requires-2
     returns-3)

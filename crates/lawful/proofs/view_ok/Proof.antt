@@ -32,6 +32,5 @@ view-ok-spec =
     returns
     (λ c κs. search needs)  -- find-requires
     returns-2
-    (λ c. search needs)  -- mul-result
-    (λ c. search needs)  -- element-copy-out-result
+    (λ c. search needs) (λ c. search needs)  -- mul-result, element-copy-out-result
     returns-3)

@@ -37,10 +37,8 @@ absent-spec =
     Inv-loop
     μ-loop
     loop-holds
-    (λ c. search needs)  -- mul-if1
-    (λ c. search needs)  -- element-copy-out-if1
+    (λ c. search needs) (λ c. search needs)  -- mul-if1, element-copy-out-if1
     returns
-    (λ c. search needs)  -- add-j
-    (λ c. search needs)  -- loop-less
+    (λ c. search needs) (λ c. search needs)  -- add-j, loop-less
     loop-again
     returns-2)

@@ -74,14 +74,9 @@ differ-spec =
     loop-holds
     is-new-requires
     returns
-    (λ c. search needs)  -- mul-slot
-    (λ c. search needs)  -- element-copy-out-slot
-    (λ c κs. search needs)  -- slot-requires
-    (λ c. search needs)  -- element-copy-out-chain
-    (λ c. search needs)  -- element-write-chain
-    (λ c κs. search needs)  -- octet-requires
-    (λ c. search needs)  -- element-write-slots
-    (λ c. search needs)  -- add-i
+    (λ c. search needs) (λ c. search needs) (λ c κs. search needs)  -- mul-slot, element-copy-out-slot, slot-requires
+    (λ c. search needs) (λ c. search needs)  -- element-copy-out-chain, element-write-chain
+    (λ c κs. search needs) (λ c. search needs) (λ c. search needs)  -- octet-requires, element-write-slots, add-i
     (λ c. search needs)  -- loop-less
     loop-again
     returns-2)

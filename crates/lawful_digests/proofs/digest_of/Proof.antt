@@ -37,12 +37,8 @@ digest-of-spec =
     Inv-loop
     μ-loop
     loop-holds
-    (λ c. search needs)  -- mul-word
-    (λ c. search needs)  -- mul-word-2
-    (λ c. search needs)  -- add-word
-    (λ c κs. search needs)  -- word-requires
-    (λ c κs. search needs)  -- mix-requires
-    (λ c. search needs)  -- add-i
+    (λ c. search needs) (λ c. search needs) (λ c. search needs)  -- mul-word, mul-word-2, add-word
+    (λ c κs. search needs) (λ c κs. search needs) (λ c. search needs)  -- word-requires, mix-requires, add-i
     (λ c. search needs)  -- loop-less
     loop-again
     (λ c κs. search needs)  -- fold-requires

@@ -34,10 +34,7 @@ digests-of-spec =
     Inv-loop
     μ-loop
     loop-holds
-    (λ c κs. search needs)  -- digest-of-requires
-    (λ c. search needs)  -- mul-digests
-    (λ c. search needs)  -- array-write-digests
-    (λ c. search needs)  -- add-i
-    (λ c. search needs)  -- loop-less
+    (λ c κs. search needs) (λ c. search needs)  -- digest-of-requires, mul-digests
+    (λ c. search needs) (λ c. search needs) (λ c. search needs)  -- array-write-digests, add-i, loop-less
     loop-again
     returns)

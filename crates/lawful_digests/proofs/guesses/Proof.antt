@@ -21,13 +21,8 @@ guesses-spec =
     (tie.spec
     Inv-loop
     μ-loop
-    (λ c. search needs)  -- loop-holds
-    (λ c κs. search needs)  -- octet-requires
-    (λ c. search needs)  -- mul-slot
-    (λ c. search needs)  -- element-copy-out-slot
-    (λ c κs. search needs)  -- slot-requires
-    (λ c. search needs)  -- array-write-slots
-    (λ c. search needs)  -- add-i
-    (λ c. search needs)  -- loop-less
+    (λ c. search needs) (λ c κs. search needs) (λ c. search needs)  -- loop-holds, octet-requires, mul-slot
+    (λ c. search needs) (λ c κs. search needs)  -- element-copy-out-slot, slot-requires
+    (λ c. search needs) (λ c. search needs) (λ c. search needs)  -- array-write-slots, add-i, loop-less
     loop-again
     (λ c. search needs))  -- returns

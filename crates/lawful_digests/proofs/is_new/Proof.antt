@@ -19,11 +19,8 @@ pub is-new-spec : {M : Type 1} → statement M
 is-new-spec =
     tie.close
     (tie.spec
-    (λ c. search needs)  -- mul-x
-    (λ c. search needs)  -- element-copy-out-x
-    (λ c κs. search needs)  -- slot-requires
-    (λ c. search needs)  -- element-copy-out-if1
-    (λ c. search needs)  -- element-copy-out-result
+    (λ c. search needs) (λ c. search needs) (λ c κs. search needs)  -- mul-x, element-copy-out-x, slot-requires
+    (λ c. search needs) (λ c. search needs)  -- element-copy-out-if1, element-copy-out-result
     returns
     (λ c κs. search needs)  -- absent-requires
     (λ c. search needs))  -- returns-2

@@ -11,7 +11,6 @@ pub mix-spec : {M : Type 1} → statement M
 mix-spec =
     tie.close
     (tie.spec
-    (λ c κs. search needs)  -- wrapping-add-u64-requires
-    (λ c κs. search needs)  -- wrapping-add-u64-requires-2
+    (λ c κs. search needs) (λ c κs. search needs)  -- wrapping-add-u64-requires, wrapping-add-u64-requires-2
     (λ c κs. search needs)  -- wrapping-add-u64-requires-3
     returns)

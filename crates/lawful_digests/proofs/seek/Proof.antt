@@ -16,11 +16,7 @@ seek-spec =
     (tie.spec
     Inv-loop
     μ-loop
-    (λ c. search needs)  -- loop-holds
-    (λ c. search needs)  -- mul-if1
-    (λ c. search needs)  -- element-copy-out-if1
-    (λ c. search needs)  -- returns
-    (λ c. search needs)  -- add-i
-    (λ c. search needs)  -- loop-less
+    (λ c. search needs) (λ c. search needs) (λ c. search needs)  -- loop-holds, mul-if1, element-copy-out-if1
+    (λ c. search needs) (λ c. search needs) (λ c. search needs)  -- returns, add-i, loop-less
     (λ c. search needs)  -- loop-again
     (λ c. search needs))  -- returns-2

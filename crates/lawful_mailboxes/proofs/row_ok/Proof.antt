@@ -38,16 +38,11 @@ pub row-ok-spec : {M : Type 1} → statement M
 row-ok-spec =
     tie.close
     (tie.spec
-    (λ c. search needs)  -- element-copy-out-len
-    (λ c. search needs)  -- mul-numbers-ok
-    (λ c. search needs)  -- element-copy-out-numbers-ok
-    (λ c. search needs)  -- element-copy-out-numbers-ok-2
-    (λ c. search needs)  -- mul-numbers-ok-2
-    (λ c. search needs)  -- element-copy-out-numbers-ok-3
-    (λ c. search needs)  -- mul-numbers-ok-3
-    (λ c. search needs)  -- element-copy-out-numbers-ok-4
-    (λ c. search needs)  -- mul-numbers-ok-4
-    (λ c. search needs)  -- element-copy-out-numbers-ok-5
+    (λ c. search needs) (λ c. search needs)  -- element-copy-out-len, mul-numbers-ok
+    (λ c. search needs) (λ c. search needs)  -- element-copy-out-numbers-ok, element-copy-out-numbers-ok-2
+    (λ c. search needs) (λ c. search needs)  -- mul-numbers-ok-2, element-copy-out-numbers-ok-3
+    (λ c. search needs) (λ c. search needs)  -- mul-numbers-ok-3, element-copy-out-numbers-ok-4
+    (λ c. search needs) (λ c. search needs)  -- mul-numbers-ok-4, element-copy-out-numbers-ok-5
     (λ c κs. search needs)  -- numbers-ok-requires
     returns
     (λ c κs. search needs)  -- name-seen-requires

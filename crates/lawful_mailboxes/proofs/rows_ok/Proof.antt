@@ -57,7 +57,6 @@ rows-ok-spec =
     loop-holds
     (λ c κs. search needs)  -- row-ok-requires
     returns
-    (λ c. search needs)  -- add-i
-    (λ c. search needs)  -- loop-less
+    (λ c. search needs) (λ c. search needs)  -- add-i, loop-less
     loop-again
     returns-2)

@@ -56,7 +56,6 @@ any-clash-spec =
     loop-holds
     (λ c κs. search needs)  -- do-clash-requires
     returns
-    (λ c. search needs)  -- add-i
-    (λ c. search needs)  -- loop-less
+    (λ c. search needs) (λ c. search needs)  -- add-i, loop-less
     loop-again
     returns-2)

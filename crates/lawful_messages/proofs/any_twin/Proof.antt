@@ -49,10 +49,8 @@ any-twin-spec =
     Inv-loop
     μ-loop
     loop-holds
-    (λ c κs. search needs)  -- get-requires
-    (λ c κs. search needs)  -- are-twins-requires
+    (λ c κs. search needs) (λ c κs. search needs)  -- get-requires, are-twins-requires
     returns
-    (λ c. search needs)  -- add-i
-    (λ c. search needs)  -- loop-less
+    (λ c. search needs) (λ c. search needs)  -- add-i, loop-less
     loop-again
     returns-2)

@@ -25,15 +25,10 @@ pub do-clash-spec : {M : Type 1} → statement M
 do-clash-spec =
     tie.close
     (tie.spec
-    (λ c. search needs)  -- mul-if1
-    (λ c. search needs)  -- element-copy-out-if1
-    (λ c. search needs)  -- mul-if1-2
+    (λ c. search needs) (λ c. search needs) (λ c. search needs)  -- mul-if1, element-copy-out-if1, mul-if1-2
     (λ c. search needs)  -- element-copy-out-if1-2
     returns
-    (λ c. search needs)  -- mul-from
-    (λ c κs. search needs)  -- name-end-requires
-    (λ c. search needs)  -- sub-has-name
-    (λ c. search needs)  -- part-has-name-start
-    (λ c. search needs)  -- part-has-name-end
+    (λ c. search needs) (λ c κs. search needs) (λ c. search needs)  -- mul-from, name-end-requires, sub-has-name
+    (λ c. search needs) (λ c. search needs)  -- part-has-name-start, part-has-name-end
     (λ c κs. search needs)  -- has-name-requires
     returns-2)

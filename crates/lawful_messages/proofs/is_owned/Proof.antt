@@ -28,9 +28,7 @@ is-owned-spec =
     (tie.spec
     (λ c κs. search needs)  -- find-requires
     returns
-    (λ c. search needs)  -- mul-if2
-    (λ c. search needs)  -- element-copy-out-if2
+    (λ c. search needs) (λ c. search needs)  -- mul-if2, element-copy-out-if2
     returns-2
-    (λ c. search needs)  -- mul-result
-    (λ c. search needs)  -- element-copy-out-result
+    (λ c. search needs) (λ c. search needs)  -- mul-result, element-copy-out-result
     returns-3)

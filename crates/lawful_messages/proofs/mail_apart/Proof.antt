@@ -59,11 +59,9 @@ mail-apart-spec =
     Inv-loop
     μ-loop
     loop-holds
-    (λ c. search needs)  -- add-any-twin
-    (λ c κs. search needs)  -- get-requires
+    (λ c. search needs) (λ c κs. search needs)  -- add-any-twin, get-requires
     (λ c κs. search needs)  -- any-twin-requires
     returns
-    (λ c. search needs)  -- add-i
-    (λ c. search needs)  -- loop-less
+    (λ c. search needs) (λ c. search needs)  -- add-i, loop-less
     loop-again
     returns-2)

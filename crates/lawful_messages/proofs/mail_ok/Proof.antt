@@ -63,10 +63,8 @@ mail-ok-spec =
     Inv-loop
     μ-loop
     loop-holds
-    (λ c κs. search needs)  -- get-requires
-    (λ c κs. search needs)  -- entry-ok-requires
+    (λ c κs. search needs) (λ c κs. search needs)  -- get-requires, entry-ok-requires
     returns
-    (λ c. search needs)  -- add-i
-    (λ c. search needs)  -- loop-less
+    (λ c. search needs) (λ c. search needs)  -- add-i, loop-less
     loop-again
     returns-2)

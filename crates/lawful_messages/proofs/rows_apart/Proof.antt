@@ -45,10 +45,8 @@ rows-apart-spec =
     Inv-loop
     μ-loop
     loop-holds
-    (λ c. search needs)  -- add-any-clash
-    (λ c κs. search needs)  -- any-clash-requires
+    (λ c. search needs) (λ c κs. search needs)  -- add-any-clash, any-clash-requires
     returns
-    (λ c. search needs)  -- add-i
-    (λ c. search needs)  -- loop-less
+    (λ c. search needs) (λ c. search needs)  -- add-i, loop-less
     loop-again
     returns-2)

@@ -98,11 +98,8 @@ run-spec =
     Inv-loop
     μ-loop
     loop-holds
-    (λ c. search needs)  -- mul-slot
-    (λ c. search needs)  -- shared-slice-read-slot
-    (λ c κs. search needs)  -- slot-requires
-    (λ c. search needs)  -- element-copy-out-row
-    (λ c κs. search needs)  -- row-requires
+    (λ c. search needs) (λ c. search needs) (λ c κs. search needs)  -- mul-slot, shared-slice-read-slot, slot-requires
+    (λ c. search needs) (λ c κs. search needs)  -- element-copy-out-row, row-requires
     mul-entry-fits
     element-copy-out-entry-fits
     mul-entry-fits-2
@@ -111,18 +108,11 @@ run-spec =
     element-copy-out-entry-fits-3
     (λ c κs. search needs)  -- entry-fits-requires
     returns
-    (λ c. search needs)  -- add-last
-    (λ c. search needs)  -- mul-last
-    (λ c. search needs)  -- shared-slice-read-last
+    (λ c. search needs) (λ c. search needs) (λ c. search needs)  -- add-last, mul-last, shared-slice-read-last
     mul-last-2
     element-write-last
-    (λ c. search needs)  -- add-flags
-    (λ c. search needs)  -- mul-flags
-    (λ c. search needs)  -- shared-slice-read-flags
-    (λ c. search needs)  -- add-size
-    (λ c. search needs)  -- mul-size
-    (λ c. search needs)  -- shared-slice-read-size
-    (λ c. search needs)  -- add-b
-    (λ c. search needs)  -- loop-less
+    (λ c. search needs) (λ c. search needs) (λ c. search needs)  -- add-flags, mul-flags, shared-slice-read-flags
+    (λ c. search needs) (λ c. search needs) (λ c. search needs)  -- add-size, mul-size, shared-slice-read-size
+    (λ c. search needs) (λ c. search needs)  -- add-b, loop-less
     loop-again
     returns-2)

@@ -13,8 +13,6 @@ pub attributes-ok-spec : {M : Type 1} → statement M
 attributes-ok-spec =
     tie.close
     (tie.spec
-    (λ c κs. search needs)  -- has-requires
-    (λ c κs. search needs)  -- both-requires
-    (λ c κs. search needs)  -- either-requires
-    (λ c κs. search needs)  -- both-requires-2
+    (λ c κs. search needs) (λ c κs. search needs)  -- has-requires, both-requires
+    (λ c κs. search needs) (λ c κs. search needs)  -- either-requires, both-requires-2
     returns)

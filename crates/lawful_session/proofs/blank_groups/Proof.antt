@@ -46,11 +46,8 @@ blank-groups-spec =
     Inv-loop
     μ-loop
     loop-holds
-    (λ c. search needs)  -- mul-g
-    (λ c. search needs)  -- array-copy-out-g
-    (λ c κs. search needs)  -- blank-group-requires
+    (λ c. search needs) (λ c. search needs) (λ c κs. search needs)  -- mul-g, array-copy-out-g, blank-group-requires
     returns
-    (λ c. search needs)  -- add-i
-    (λ c. search needs)  -- loop-less
+    (λ c. search needs) (λ c. search needs)  -- add-i, loop-less
     loop-again
     returns-2)

@@ -13,8 +13,6 @@ pub events-fit-spec : {M : Type 1} → statement M
 events-fit-spec =
     tie.close
     (tie.spec
-    (λ c κs. search needs)  -- has-requires
-    (λ c κs. search needs)  -- has-requires-2
-    (λ c κs. search needs)  -- both-requires
-    (λ c κs. search needs)  -- either-requires
+    (λ c κs. search needs) (λ c κs. search needs)  -- has-requires, has-requires-2
+    (λ c κs. search needs) (λ c κs. search needs)  -- both-requires, either-requires
     returns)

@@ -18,13 +18,9 @@ pub events-ok-spec : {M : Type 1} → statement M
 events-ok-spec =
     tie.close
     (tie.spec
-    (λ c κs. search needs)  -- has-requires
-    (λ c κs. search needs)  -- has-requires-2
-    (λ c κs. search needs)  -- alike-requires
-    (λ c κs. search needs)  -- has-requires-3
-    (λ c κs. search needs)  -- either-requires
-    (λ c κs. search needs)  -- events-fit-requires
-    (λ c κs. search needs)  -- both-requires
-    (λ c κs. search needs)  -- both-requires-2
+    (λ c κs. search needs) (λ c κs. search needs)  -- has-requires, has-requires-2
+    (λ c κs. search needs) (λ c κs. search needs)  -- alike-requires, has-requires-3
+    (λ c κs. search needs) (λ c κs. search needs)  -- either-requires, events-fit-requires
+    (λ c κs. search needs) (λ c κs. search needs)  -- both-requires, both-requires-2
     (λ c κs. search needs)  -- both-requires-3
     returns)

@@ -37,10 +37,7 @@ filled-spec =
     Inv-loop
     μ-loop
     loop-holds
-    (λ c. search needs)  -- shared-slice-read-octet-if
-    (λ c κs. search needs)  -- octet-if-requires
-    (λ c. search needs)  -- add-sum
-    (λ c. search needs)  -- add-i
-    (λ c. search needs)  -- loop-less
+    (λ c. search needs) (λ c κs. search needs)  -- shared-slice-read-octet-if, octet-if-requires
+    (λ c. search needs) (λ c. search needs) (λ c. search needs)  -- add-sum, add-i, loop-less
     loop-again
     returns)

@@ -17,10 +17,7 @@ pub group-ok-spec : {M : Type 1} → statement M
 group-ok-spec =
     tie.close
     (tie.spec
-    (λ c κs. search needs)  -- events-ok-requires
-    (λ c κs. search needs)  -- attributes-ok-requires
-    (λ c κs. search needs)  -- range-ok-requires
-    (λ c κs. search needs)  -- both-requires
-    (λ c κs. search needs)  -- both-requires-2
-    (λ c κs. search needs)  -- both-requires-3
+    (λ c κs. search needs) (λ c κs. search needs)  -- events-ok-requires, attributes-ok-requires
+    (λ c κs. search needs) (λ c κs. search needs)  -- range-ok-requires, both-requires
+    (λ c κs. search needs) (λ c κs. search needs)  -- both-requires-2, both-requires-3
     returns)

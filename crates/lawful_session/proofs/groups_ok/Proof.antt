@@ -46,13 +46,9 @@ groups-ok-spec =
     Inv-loop
     μ-loop
     loop-holds
-    (λ c. search needs)  -- mul-g
-    (λ c. search needs)  -- array-copy-out-g
-    (λ c κs. search needs)  -- group-ok-requires
+    (λ c. search needs) (λ c. search needs) (λ c κs. search needs)  -- mul-g, array-copy-out-g, group-ok-requires
     returns
-    (λ c κs. search needs)  -- wide-octet-requires
-    (λ c. search needs)  -- add-first
-    (λ c. search needs)  -- add-i
+    (λ c κs. search needs) (λ c. search needs) (λ c. search needs)  -- wide-octet-requires, add-first, add-i
     (λ c. search needs)  -- loop-less
     loop-again
     returns-2)

@@ -30,8 +30,7 @@ lent-name-ok-spec =
     tie.close
     (tie.spec
     returns
-    (λ c. search needs)  -- cast-n
-    (λ c. search needs)  -- slice-aggregate-all-zero
+    (λ c. search needs) (λ c. search needs)  -- cast-n, slice-aggregate-all-zero
     all-zero-requires
     returns-2
     (λ c. search needs)  -- slice-aggregate-is-kept

@@ -39,11 +39,7 @@ name-count-spec =
     Inv-loop
     μ-loop
     loop-holds
-    (λ c. search needs)  -- mul-g
-    (λ c. search needs)  -- array-copy-out-g
-    (λ c κs. search needs)  -- wide-octet-requires
-    (λ c. search needs)  -- add-sum
-    (λ c. search needs)  -- add-i
-    (λ c. search needs)  -- loop-less
+    (λ c. search needs) (λ c. search needs) (λ c κs. search needs)  -- mul-g, array-copy-out-g, wide-octet-requires
+    (λ c. search needs) (λ c. search needs) (λ c. search needs)  -- add-sum, add-i, loop-less
     loop-again
     returns)

@@ -51,11 +51,8 @@ names-fit-spec =
     Inv-loop
     μ-loop
     loop-holds
-    (λ c. search needs)  -- mul-x
-    (λ c. search needs)  -- array-copy-out-x
-    (λ c κs. search needs)  -- name-fits-requires
+    (λ c. search needs) (λ c. search needs) (λ c κs. search needs)  -- mul-x, array-copy-out-x, name-fits-requires
     returns
-    (λ c. search needs)  -- add-i
-    (λ c. search needs)  -- loop-less
+    (λ c. search needs) (λ c. search needs)  -- add-i, loop-less
     loop-again
     returns-2)

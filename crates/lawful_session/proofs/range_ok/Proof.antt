@@ -17,6 +17,5 @@ range-ok-spec =
     (tie.spec
     (λ c κs. search needs)  -- both-requires
     returns
-    (λ c κs. search needs)  -- wide-octet-requires
-    (λ c κs. search needs)  -- both-requires-2
+    (λ c κs. search needs) (λ c κs. search needs)  -- wide-octet-requires, both-requires-2
     returns-2)

@@ -38,11 +38,7 @@ selected-count-spec =
     Inv-loop
     μ-loop
     loop-holds
-    (λ c. search needs)  -- mul-g
-    (λ c. search needs)  -- array-copy-out-g
-    (λ c κs. search needs)  -- one-if-requires
-    (λ c. search needs)  -- add-sum
-    (λ c. search needs)  -- add-i
-    (λ c. search needs)  -- loop-less
+    (λ c. search needs) (λ c. search needs) (λ c κs. search needs)  -- mul-g, array-copy-out-g, one-if-requires
+    (λ c. search needs) (λ c. search needs) (λ c. search needs)  -- add-sum, add-i, loop-less
     loop-again
     returns)

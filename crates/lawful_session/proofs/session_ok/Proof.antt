@@ -79,8 +79,7 @@ session-ok-spec =
     returns-2
     (λ c κs. search needs)  -- either-requires
     returns-3
-    (λ c. search needs)  -- cast-n
-    (λ c κs. search needs)  -- groups-ok-requires
+    (λ c. search needs) (λ c κs. search needs)  -- cast-n, groups-ok-requires
     returns-4
     (λ c κs. search needs)  -- selected-count-requires
     returns-5

@@ -33,9 +33,7 @@ moved-from-spec =
     tie.close
     (tie.spec
     returns
-    (λ c. search needs)  -- enum-told
-    (λ c. search needs)  -- enum-told-2
-    (λ c. search needs)  -- enum-told-3
+    (λ c. search needs) (λ c. search needs) (λ c. search needs)  -- enum-told, enum-told-2, enum-told-3
     returns-2
     returns-3
     returns-4

@@ -19,9 +19,7 @@ pub numbers-spec : {M : Type 1} → statement M
 numbers-spec =
     tie.close
     (tie.spec
-    (λ c. search needs)  -- enum-told
-    (λ c. search needs)  -- enum-known-answer
-    (λ c. search needs)  -- enum-known-answer-2
+    (λ c. search needs) (λ c. search needs) (λ c. search needs)  -- enum-told, enum-known-answer, enum-known-answer-2
     (λ c κs. search needs)  -- number-requires
     returns
     returns-2

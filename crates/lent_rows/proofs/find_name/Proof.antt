@@ -58,11 +58,9 @@ find-name-spec =
     Inv-loop
     μ-loop
     loop-holds
-    (λ c. search needs)  -- mul-is-named
-    (λ c. search needs)  -- array-copy-out-is-named
+    (λ c. search needs) (λ c. search needs)  -- mul-is-named, array-copy-out-is-named
     (λ c κs. search needs)  -- is-named-requires
     returns
-    (λ c. search needs)  -- add-i
-    (λ c. search needs)  -- loop-less
+    (λ c. search needs) (λ c. search needs)  -- add-i, loop-less
     loop-again
     returns-2)

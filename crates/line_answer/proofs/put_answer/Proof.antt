@@ -24,11 +24,8 @@ pub put-answer-spec : {M : Type 1} → statement M
 put-answer-spec =
     tie.close
     (tie.spec
-    (λ c κs. search needs)  -- put-requires
-    (λ c. search needs)  -- slice-aggregate-put
-    (λ c κs. search needs)  -- put-requires-2
-    (λ c κs. search needs)  -- put-words-requires
-    (λ c. search needs)  -- slice-aggregate-put-2
-    (λ c κs. search needs)  -- put-requires-3
+    (λ c κs. search needs) (λ c. search needs)  -- put-requires, slice-aggregate-put
+    (λ c κs. search needs) (λ c κs. search needs)  -- put-requires-2, put-words-requires
+    (λ c. search needs) (λ c κs. search needs)  -- slice-aggregate-put-2, put-requires-3
     (λ c. search needs)  -- same-length
     returns)

@@ -52,10 +52,8 @@ pub put-reply-spec : {M : Type 1} → statement M
 put-reply-spec =
     tie.close
     (tie.spec
-    (λ c κs. search needs)  -- is-tagged-requires
-    (λ c. search needs)  -- slice-aggregate-put-answer
-    (λ c κs. search needs)  -- put-answer-requires
-    (λ c. search needs)  -- same-length
+    (λ c κs. search needs) (λ c. search needs)  -- is-tagged-requires, slice-aggregate-put-answer
+    (λ c κs. search needs) (λ c. search needs)  -- put-answer-requires, same-length
     returns
     (λ c κs. search needs)  -- tag-end-requires
     slice-aggregate-put-answer-2

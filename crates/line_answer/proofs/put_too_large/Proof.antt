@@ -35,15 +35,10 @@ put-too-large-spec =
     tie.close
     (tie.spec
     enum-told
-    (λ c. search needs)  -- slice-aggregate-put
-    (λ c κs. search needs)  -- put-requires
-    (λ c. search needs)  -- enum-told-2
-    (λ c. search needs)  -- slice-aggregate-put-2
-    (λ c κs. search needs)  -- put-requires-2
-    (λ c. search needs)  -- enum-told-3
-    (λ c. search needs)  -- slice-aggregate-put-3
-    (λ c κs. search needs)  -- put-requires-3
-    (λ c. search needs)  -- same-length
+    (λ c. search needs) (λ c κs. search needs) (λ c. search needs)  -- slice-aggregate-put, put-requires, enum-told-2
+    (λ c. search needs) (λ c κs. search needs)  -- slice-aggregate-put-2, put-requires-2
+    (λ c. search needs) (λ c. search needs)  -- enum-told-3, slice-aggregate-put-3
+    (λ c κs. search needs) (λ c. search needs)  -- put-requires-3, same-length
     returns
     (λ c. search needs)  -- same-length-2
     returns-2

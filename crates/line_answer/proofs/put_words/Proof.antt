@@ -58,22 +58,13 @@ put-words-spec =
     tie.close
     (tie.spec
     enum-told
-    (λ c. search needs)  -- slice-aggregate-put
-    (λ c κs. search needs)  -- put-requires
-    (λ c. search needs)  -- enum-told-2
-    (λ c. search needs)  -- slice-aggregate-put-2
-    (λ c κs. search needs)  -- put-requires-2
-    (λ c. search needs)  -- enum-told-3
-    (λ c. search needs)  -- slice-aggregate-put-3
-    (λ c κs. search needs)  -- put-requires-3
-    (λ c. search needs)  -- enum-told-4
-    (λ c. search needs)  -- slice-aggregate-put-4
-    (λ c κs. search needs)  -- put-requires-4
-    (λ c. search needs)  -- enum-told-5
-    (λ c κs. search needs)  -- put-too-large-requires
-    (λ c. search needs)  -- enum-told-6
-    (λ c κs. search needs)  -- put-done-requires
-    (λ c. search needs)  -- same-length
+    (λ c. search needs) (λ c κs. search needs) (λ c. search needs)  -- slice-aggregate-put, put-requires, enum-told-2
+    (λ c. search needs) (λ c κs. search needs)  -- slice-aggregate-put-2, put-requires-2
+    (λ c. search needs) (λ c. search needs)  -- enum-told-3, slice-aggregate-put-3
+    (λ c κs. search needs) (λ c. search needs)  -- put-requires-3, enum-told-4
+    (λ c. search needs) (λ c κs. search needs)  -- slice-aggregate-put-4, put-requires-4
+    (λ c. search needs) (λ c κs. search needs)  -- enum-told-5, put-too-large-requires
+    (λ c. search needs) (λ c κs. search needs) (λ c. search needs)  -- enum-told-6, put-done-requires, same-length
     returns
     (λ c. search needs)  -- same-length-2
     returns-2

@@ -23,10 +23,8 @@ pub say-reply-spec : {M : Type 1} → statement M
 say-reply-spec =
     tie.close
     (tie.spec
-    (λ c. search needs)  -- sub-limit
-    (λ c κs. search needs)  -- put-reply-requires
-    (λ c κs. search needs)  -- put-reply-requires-2
-    (λ c. search needs)  -- same-length
+    (λ c. search needs) (λ c κs. search needs)  -- sub-limit, put-reply-requires
+    (λ c κs. search needs) (λ c. search needs)  -- put-reply-requires-2, same-length
     returns
     (λ c. search needs)  -- same-length-2
     returns-2)

@@ -35,8 +35,6 @@ put-counted-spec =
     tie.close
     (tie.spec
     returns
-    (λ c κs. search needs)  -- put-gap-requires
-    (λ c κs. search needs)  -- put-requires
-    (λ c κs. search needs)  -- put-number-requires
-    (λ c. search needs)  -- same-length
+    (λ c κs. search needs) (λ c κs. search needs)  -- put-gap-requires, put-requires
+    (λ c κs. search needs) (λ c. search needs)  -- put-number-requires, same-length
     returns-2)

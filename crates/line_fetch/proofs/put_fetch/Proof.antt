@@ -48,14 +48,10 @@ pub put-fetch-spec : {M : Type 1} → statement M
 put-fetch-spec =
     tie.close
     (tie.spec
-    (λ c. search needs)  -- slice-aggregate-put
-    (λ c κs. search needs)  -- put-requires
-    (λ c κs. search needs)  -- put-number-requires
-    (λ c. search needs)  -- slice-aggregate-put-2
-    (λ c κs. search needs)  -- put-requires-2
-    (λ c κs. search needs)  -- put-number-requires-2
-    (λ c κs. search needs)  -- put-flag-item-requires
-    (λ c κs. search needs)  -- put-modseq-requires
+    (λ c. search needs) (λ c κs. search needs)  -- slice-aggregate-put, put-requires
+    (λ c κs. search needs) (λ c. search needs)  -- put-number-requires, slice-aggregate-put-2
+    (λ c κs. search needs) (λ c κs. search needs)  -- put-requires-2, put-number-requires-2
+    (λ c κs. search needs) (λ c κs. search needs)  -- put-flag-item-requires, put-modseq-requires
     (λ c. search needs)  -- slice-aggregate-put-3
     put-requires-3
     (λ c. search needs)  -- same-length

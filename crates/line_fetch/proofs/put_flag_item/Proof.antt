@@ -32,11 +32,8 @@ put-flag-item-spec =
     tie.close
     (tie.spec
     returns
-    (λ c κs. search needs)  -- put-gap-requires
-    (λ c. search needs)  -- slice-aggregate-put
-    (λ c κs. search needs)  -- put-requires
-    (λ c κs. search needs)  -- put-flags-requires
-    (λ c. search needs)  -- slice-aggregate-put-2
-    (λ c κs. search needs)  -- put-requires-2
+    (λ c κs. search needs) (λ c. search needs)  -- put-gap-requires, slice-aggregate-put
+    (λ c κs. search needs) (λ c κs. search needs)  -- put-requires, put-flags-requires
+    (λ c. search needs) (λ c κs. search needs)  -- slice-aggregate-put-2, put-requires-2
     (λ c. search needs)  -- same-length
     returns-2)

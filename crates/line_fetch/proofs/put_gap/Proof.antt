@@ -25,6 +25,5 @@ put-gap-spec =
     tie.close
     (tie.spec
     returns
-    (λ c κs. search needs)  -- put-byte-requires
-    (λ c. search needs)  -- same-length
+    (λ c κs. search needs) (λ c. search needs)  -- put-byte-requires, same-length
     returns-2)

@@ -29,13 +29,9 @@ pub put-items-spec : {M : Type 1} → statement M
 put-items-spec =
     tie.close
     (tie.spec
-    (λ c. search needs)  -- slice-aggregate-put-counted
-    (λ c κs. search needs)  -- put-counted-requires
-    (λ c κs. search needs)  -- put-flag-item-requires
-    (λ c κs. search needs)  -- either-requires
-    (λ c. search needs)  -- slice-aggregate-put-counted-2
-    (λ c κs. search needs)  -- put-counted-requires-2
-    (λ c κs. search needs)  -- either-requires-2
-    (λ c κs. search needs)  -- put-modseq-requires
+    (λ c. search needs) (λ c κs. search needs)  -- slice-aggregate-put-counted, put-counted-requires
+    (λ c κs. search needs) (λ c κs. search needs)  -- put-flag-item-requires, either-requires
+    (λ c. search needs) (λ c κs. search needs)  -- slice-aggregate-put-counted-2, put-counted-requires-2
+    (λ c κs. search needs) (λ c κs. search needs)  -- either-requires-2, put-modseq-requires
     (λ c. search needs)  -- same-length
     returns)

@@ -27,11 +27,8 @@ pub put-modseq-spec : {M : Type 1} → statement M
 put-modseq-spec =
     tie.close
     (tie.spec
-    (λ c κs. search needs)  -- put-gap-requires
-    (λ c. search needs)  -- slice-aggregate-put
-    (λ c κs. search needs)  -- put-requires
-    (λ c κs. search needs)  -- put-number-requires
-    (λ c. search needs)  -- slice-aggregate-put-2
-    (λ c κs. search needs)  -- put-requires-2
+    (λ c κs. search needs) (λ c. search needs)  -- put-gap-requires, slice-aggregate-put
+    (λ c κs. search needs) (λ c κs. search needs)  -- put-requires, put-number-requires
+    (λ c. search needs) (λ c κs. search needs)  -- slice-aggregate-put-2, put-requires-2
     (λ c. search needs)  -- same-length
     returns)

@@ -23,13 +23,9 @@ pub put-new-spec : {M : Type 1} → statement M
 put-new-spec =
     tie.close
     (tie.spec
-    (λ c. search needs)  -- slice-aggregate-put
-    (λ c κs. search needs)  -- put-requires
-    (λ c κs. search needs)  -- put-number-requires
-    (λ c. search needs)  -- slice-aggregate-put-2
-    (λ c κs. search needs)  -- put-requires-2
-    (λ c κs. search needs)  -- put-items-requires
-    (λ c. search needs)  -- slice-aggregate-put-3
-    (λ c κs. search needs)  -- put-requires-3
+    (λ c. search needs) (λ c κs. search needs)  -- slice-aggregate-put, put-requires
+    (λ c κs. search needs) (λ c. search needs)  -- put-number-requires, slice-aggregate-put-2
+    (λ c κs. search needs) (λ c κs. search needs)  -- put-requires-2, put-items-requires
+    (λ c. search needs) (λ c κs. search needs)  -- slice-aggregate-put-3, put-requires-3
     (λ c. search needs)  -- same-length
     returns)

@@ -22,11 +22,8 @@ pub say-fetch-spec : {M : Type 1} → statement M
 say-fetch-spec =
     tie.close
     (tie.spec
-    (λ c. search needs)  -- sub-limit
-    (λ c κs. search needs)  -- put-fetch-requires
-    (λ c κs. search needs)  -- put-fetch-requires-2
-    (λ c. search needs)  -- same-length
+    (λ c. search needs) (λ c κs. search needs)  -- sub-limit, put-fetch-requires
+    (λ c κs. search needs) (λ c. search needs)  -- put-fetch-requires-2, same-length
     returns
-    (λ c κs. search needs)  -- overflow-requires
-    (λ c. search needs)  -- same-length-2
+    (λ c κs. search needs) (λ c. search needs)  -- overflow-requires, same-length-2
     returns-2)

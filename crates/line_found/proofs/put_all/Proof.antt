@@ -31,8 +31,6 @@ put-all-spec =
     tie.close
     (tie.spec
     returns
-    (λ c. search needs)  -- slice-aggregate-put
-    (λ c κs. search needs)  -- put-requires
-    (λ c κs. search needs)  -- put-set-requires
-    (λ c. search needs)  -- same-length
+    (λ c. search needs) (λ c κs. search needs)  -- slice-aggregate-put, put-requires
+    (λ c κs. search needs) (λ c. search needs)  -- put-set-requires, same-length
     returns-2)

@@ -20,10 +20,7 @@ pub put-found-spec : {M : Type 1} → statement M
 put-found-spec =
     tie.close
     (tie.spec
-    (λ c κs. search needs)  -- put-tag-requires
-    (λ c κs. search needs)  -- put-box-requires
-    (λ c κs. search needs)  -- put-results-requires
-    (λ c. search needs)  -- slice-aggregate-put
-    (λ c κs. search needs)  -- put-requires
-    (λ c. search needs)  -- same-length
+    (λ c κs. search needs) (λ c κs. search needs)  -- put-tag-requires, put-box-requires
+    (λ c κs. search needs) (λ c. search needs)  -- put-results-requires, slice-aggregate-put
+    (λ c κs. search needs) (λ c. search needs)  -- put-requires, same-length
     returns)

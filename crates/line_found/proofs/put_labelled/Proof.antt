@@ -28,7 +28,6 @@ put-labelled-spec =
     tie.close
     (tie.spec
     returns
-    (λ c κs. search needs)  -- put-requires
-    (λ c κs. search needs)  -- put-number-requires
+    (λ c κs. search needs) (λ c κs. search needs)  -- put-requires, put-number-requires
     (λ c. search needs)  -- same-length
     returns-2)

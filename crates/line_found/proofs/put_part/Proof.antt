@@ -15,7 +15,6 @@ pub put-part-spec : {M : Type 1} → statement M
 put-part-spec =
     tie.close
     (tie.spec
-    (λ c κs. search needs)  -- put-run-requires
-    (λ c κs. search needs)  -- put-byte-requires
+    (λ c κs. search needs) (λ c κs. search needs)  -- put-run-requires, put-byte-requires
     (λ c. search needs)  -- same-length
     returns)

@@ -23,16 +23,10 @@ pub put-results-spec : {M : Type 1} → statement M
 put-results-spec =
     tie.close
     (tie.spec
-    (λ c. search needs)  -- shared-slice-read-put-labelled
-    (λ c. search needs)  -- sub-put-labelled
-    (λ c. search needs)  -- mul-put-labelled
-    (λ c. search needs)  -- shared-slice-read-put-labelled-2
-    (λ c. search needs)  -- slice-aggregate-put-uid
-    (λ c κs. search needs)  -- put-uid-requires
-    (λ c. search needs)  -- slice-aggregate-put-uid-2
-    (λ c κs. search needs)  -- put-uid-requires-2
-    (λ c κs. search needs)  -- put-all-requires
-    (λ c. search needs)  -- slice-aggregate-put-labelled
-    (λ c κs. search needs)  -- put-labelled-requires
-    (λ c. search needs)  -- same-length
+    (λ c. search needs) (λ c. search needs)  -- shared-slice-read-put-labelled, sub-put-labelled
+    (λ c. search needs) (λ c. search needs)  -- mul-put-labelled, shared-slice-read-put-labelled-2
+    (λ c. search needs) (λ c κs. search needs)  -- slice-aggregate-put-uid, put-uid-requires
+    (λ c. search needs) (λ c κs. search needs)  -- slice-aggregate-put-uid-2, put-uid-requires-2
+    (λ c κs. search needs) (λ c. search needs)  -- put-all-requires, slice-aggregate-put-labelled
+    (λ c κs. search needs) (λ c. search needs)  -- put-labelled-requires, same-length
     returns)

@@ -54,17 +54,9 @@ put-row-spec =
     tie.close
     (tie.spec
     returns
-    (λ c. search needs)  -- mul-a
-    (λ c κs. search needs)  -- clip-requires
-    (λ c. search needs)  -- add-e
-    (λ c. search needs)  -- add-to
-    (λ c. search needs)  -- sub-put-found
-    (λ c. search needs)  -- part-put-found-start
-    (λ c. search needs)  -- part-put-found-end
-    (λ c. search needs)  -- mul-put-found
-    (λ c. search needs)  -- sub-put-found-2
-    (λ c. search needs)  -- part-put-found-start-2
-    (λ c. search needs)  -- part-put-found-end-2
-    (λ c κs. search needs)  -- put-found-requires
-    (λ c. search needs)  -- same-length
+    (λ c. search needs) (λ c κs. search needs) (λ c. search needs)  -- mul-a, clip-requires, add-e
+    (λ c. search needs) (λ c. search needs) (λ c. search needs)  -- add-to, sub-put-found, part-put-found-start
+    (λ c. search needs) (λ c. search needs) (λ c. search needs)  -- part-put-found-end, mul-put-found, sub-put-found-2
+    (λ c. search needs) (λ c. search needs)  -- part-put-found-start-2, part-put-found-end-2
+    (λ c κs. search needs) (λ c. search needs)  -- put-found-requires, same-length
     returns-2)

@@ -73,15 +73,10 @@ put-rows-spec =
     Inv-loop
     μ-loop
     loop-holds
-    (λ c. search needs)  -- sub-i
-    (λ c. search needs)  -- mul-k
-    (λ c. search needs)  -- shared-slice-read-k
-    (λ c. search needs)  -- element-copy-out-put-row
-    (λ c. search needs)  -- mul-put-row
-    (λ c. search needs)  -- element-copy-out-put-row-2
-    (λ c. search needs)  -- mul-put-row-2
-    (λ c. search needs)  -- shared-slice-read-put-row
-    (λ c. search needs)  -- mul-put-row-3
+    (λ c. search needs) (λ c. search needs) (λ c. search needs)  -- sub-i, mul-k, shared-slice-read-k
+    (λ c. search needs) (λ c. search needs)  -- element-copy-out-put-row, mul-put-row
+    (λ c. search needs) (λ c. search needs)  -- element-copy-out-put-row-2, mul-put-row-2
+    (λ c. search needs) (λ c. search needs)  -- shared-slice-read-put-row, mul-put-row-3
     (λ c. search needs)  -- shared-slice-read-put-row-2
     put-row-requires
     (λ c. search needs)  -- loop-less

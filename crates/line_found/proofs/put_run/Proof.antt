@@ -25,10 +25,8 @@ pub put-run-spec : {M : Type 1} → statement M
 put-run-spec =
     tie.close
     (tie.spec
-    (λ c κs. search needs)  -- put-number-requires
-    (λ c. search needs)  -- same-length
+    (λ c κs. search needs) (λ c. search needs)  -- put-number-requires, same-length
     returns
-    (λ c κs. search needs)  -- put-byte-requires
-    (λ c κs. search needs)  -- put-number-requires-2
+    (λ c κs. search needs) (λ c κs. search needs)  -- put-byte-requires, put-number-requires-2
     (λ c. search needs)  -- same-length-2
     returns-2)

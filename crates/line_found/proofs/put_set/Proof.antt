@@ -65,11 +65,8 @@ put-set-spec =
     μ-loop
     (λ c. search needs)  -- shared-slice-read-t12
     loop-holds
-    (λ c. search needs)  -- mul-t14
-    (λ c. search needs)  -- shared-slice-read-t16
-    (λ c. search needs)  -- add-i
-    (λ c κs. search needs)  -- follows-requires
-    (λ c. search needs)  -- loop-less
+    (λ c. search needs) (λ c. search needs) (λ c. search needs)  -- mul-t14, shared-slice-read-t16, add-i
+    (λ c κs. search needs) (λ c. search needs)  -- follows-requires, loop-less
     loop-again
     put-part-requires
     (λ c. search needs)  -- loop-less-2

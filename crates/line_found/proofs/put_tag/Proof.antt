@@ -18,10 +18,7 @@ pub put-tag-spec : {M : Type 1} → statement M
 put-tag-spec =
     tie.close
     (tie.spec
-    (λ c. search needs)  -- slice-aggregate-put
-    (λ c κs. search needs)  -- put-requires
-    (λ c κs. search needs)  -- put-requires-2
-    (λ c. search needs)  -- slice-aggregate-put-2
-    (λ c κs. search needs)  -- put-requires-3
-    (λ c. search needs)  -- same-length
+    (λ c. search needs) (λ c κs. search needs)  -- slice-aggregate-put, put-requires
+    (λ c κs. search needs) (λ c. search needs)  -- put-requires-2, slice-aggregate-put-2
+    (λ c κs. search needs) (λ c. search needs)  -- put-requires-3, same-length
     returns)

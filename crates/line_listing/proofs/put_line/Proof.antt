@@ -43,11 +43,8 @@ pub put-line-spec : {M : Type 1} → statement M
 put-line-spec =
     tie.close
     (tie.spec
-    (λ c κs. search needs)  -- has-requires
-    (λ c κs. search needs)  -- put-list-requires
-    (λ c. search needs)  -- same-length
+    (λ c κs. search needs) (λ c κs. search needs) (λ c. search needs)  -- has-requires, put-list-requires, same-length
     returns
     returns-2
-    (λ c κs. search needs)  -- put-status-at-set-requires
-    (λ c. search needs)  -- same-length-2
+    (λ c κs. search needs) (λ c. search needs)  -- put-status-at-set-requires, same-length-2
     returns-3)

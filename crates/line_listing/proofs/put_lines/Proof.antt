@@ -55,11 +55,8 @@ put-lines-spec =
     Inv-loop
     μ-loop
     loop-holds
-    (λ c. search needs)  -- sub-i
-    (λ c. search needs)  -- mul-k
-    (λ c. search needs)  -- shared-slice-read-k
-    (λ c. search needs)  -- element-copy-out-on
-    (λ c. search needs)  -- mul-put-row
+    (λ c. search needs) (λ c. search needs) (λ c. search needs)  -- sub-i, mul-k, shared-slice-read-k
+    (λ c. search needs) (λ c. search needs)  -- element-copy-out-on, mul-put-row
     (λ c. search needs)  -- element-copy-out-put-row
     put-row-requires
     (λ c. search needs)  -- loop-less

@@ -24,18 +24,10 @@ pub put-row-spec : {M : Type 1} → statement M
 put-row-spec =
     tie.close
     (tie.spec
-    (λ c. search needs)  -- mul-from
-    (λ c κs. search needs)  -- name-end-requires
-    (λ c. search needs)  -- element-copy-out-a
-    (λ c. search needs)  -- mul-next
-    (λ c. search needs)  -- element-copy-out-next
-    (λ c. search needs)  -- mul-validity
-    (λ c. search needs)  -- element-copy-out-validity
-    (λ c. search needs)  -- mul-highest
-    (λ c. search needs)  -- element-copy-out-highest
-    (λ c. search needs)  -- sub-put-line
-    (λ c. search needs)  -- part-put-line-start
-    (λ c. search needs)  -- part-put-line-end
-    (λ c κs. search needs)  -- put-line-requires
-    (λ c. search needs)  -- same-length
+    (λ c. search needs) (λ c κs. search needs) (λ c. search needs)  -- mul-from, name-end-requires, element-copy-out-a
+    (λ c. search needs) (λ c. search needs) (λ c. search needs)  -- mul-next, element-copy-out-next, mul-validity
+    (λ c. search needs) (λ c. search needs)  -- element-copy-out-validity, mul-highest
+    (λ c. search needs) (λ c. search needs)  -- element-copy-out-highest, sub-put-line
+    (λ c. search needs) (λ c. search needs)  -- part-put-line-start, part-put-line-end
+    (λ c κs. search needs) (λ c. search needs)  -- put-line-requires, same-length
     returns)

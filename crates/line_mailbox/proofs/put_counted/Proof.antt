@@ -15,7 +15,6 @@ pub put-counted-spec : {M : Type 1} → statement M
 put-counted-spec =
     tie.close
     (tie.spec
-    (λ c κs. search needs)  -- put-requires
-    (λ c κs. search needs)  -- put-number-requires
+    (λ c κs. search needs) (λ c κs. search needs)  -- put-requires, put-number-requires
     (λ c. search needs)  -- same-length
     returns)

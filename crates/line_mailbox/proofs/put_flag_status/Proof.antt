@@ -20,9 +20,7 @@ pub put-flag-status-spec : {M : Type 1} → statement M
 put-flag-status-spec =
     tie.close
     (tie.spec
-    (λ c κs. search needs)  -- put-opening-requires
-    (λ c. search needs)  -- slice-aggregate-put-counted
-    (λ c κs. search needs)  -- put-counted-requires
-    (λ c κs. search needs)  -- put-highest-requires
+    (λ c κs. search needs) (λ c. search needs)  -- put-opening-requires, slice-aggregate-put-counted
+    (λ c κs. search needs) (λ c κs. search needs)  -- put-counted-requires, put-highest-requires
     (λ c. search needs)  -- same-length
     returns)

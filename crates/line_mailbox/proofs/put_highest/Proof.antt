@@ -17,9 +17,6 @@ pub put-highest-spec : {M : Type 1} → statement M
 put-highest-spec =
     tie.close
     (tie.spec
-    (λ c. search needs)  -- slice-aggregate-put-counted
-    (λ c κs. search needs)  -- put-counted-requires
-    (λ c. search needs)  -- slice-aggregate-put
-    (λ c κs. search needs)  -- put-requires
-    (λ c. search needs)  -- same-length
+    (λ c. search needs) (λ c κs. search needs)  -- slice-aggregate-put-counted, put-counted-requires
+    (λ c. search needs) (λ c κs. search needs) (λ c. search needs)  -- slice-aggregate-put, put-requires, same-length
     returns)

@@ -17,8 +17,6 @@ pub put-list-spec : {M : Type 1} → statement M
 put-list-spec =
     tie.close
     (tie.spec
-    (λ c κs. search needs)  -- put-listed-requires
-    (λ c. search needs)  -- slice-aggregate-put
-    (λ c κs. search needs)  -- put-requires
-    (λ c. search needs)  -- same-length
+    (λ c κs. search needs) (λ c. search needs)  -- put-listed-requires, slice-aggregate-put
+    (λ c κs. search needs) (λ c. search needs)  -- put-requires, same-length
     returns)

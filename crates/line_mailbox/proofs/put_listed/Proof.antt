@@ -20,11 +20,8 @@ pub put-listed-spec : {M : Type 1} → statement M
 put-listed-spec =
     tie.close
     (tie.spec
-    (λ c. search needs)  -- slice-aggregate-put
-    (λ c κs. search needs)  -- put-requires
-    (λ c κs. search needs)  -- put-mark-requires
-    (λ c. search needs)  -- slice-aggregate-put-2
-    (λ c κs. search needs)  -- put-requires-2
-    (λ c κs. search needs)  -- put-quoted-requires
+    (λ c. search needs) (λ c κs. search needs)  -- slice-aggregate-put, put-requires
+    (λ c κs. search needs) (λ c. search needs)  -- put-mark-requires, slice-aggregate-put-2
+    (λ c κs. search needs) (λ c κs. search needs)  -- put-requires-2, put-quoted-requires
     (λ c. search needs)  -- same-length
     returns)

@@ -28,21 +28,13 @@ pub put-mark-spec : {M : Type 1} → statement M
 put-mark-spec =
     tie.close
     (tie.spec
-    (λ c. search needs)  -- enum-told
-    (λ c. search needs)  -- slice-aggregate-put
-    (λ c κs. search needs)  -- put-requires
-    (λ c. search needs)  -- enum-told-2
-    (λ c. search needs)  -- slice-aggregate-put-2
-    (λ c κs. search needs)  -- put-requires-2
-    (λ c. search needs)  -- enum-told-3
-    (λ c. search needs)  -- slice-aggregate-put-3
-    (λ c κs. search needs)  -- put-requires-3
-    (λ c. search needs)  -- enum-told-4
-    (λ c. search needs)  -- slice-aggregate-put-4
-    (λ c κs. search needs)  -- put-requires-4
-    (λ c. search needs)  -- enum-told-5
-    (λ c. search needs)  -- slice-aggregate-put-5
-    (λ c κs. search needs)  -- put-requires-5
+    (λ c. search needs) (λ c. search needs) (λ c κs. search needs)  -- enum-told, slice-aggregate-put, put-requires
+    (λ c. search needs) (λ c. search needs)  -- enum-told-2, slice-aggregate-put-2
+    (λ c κs. search needs) (λ c. search needs)  -- put-requires-2, enum-told-3
+    (λ c. search needs) (λ c κs. search needs)  -- slice-aggregate-put-3, put-requires-3
+    (λ c. search needs) (λ c. search needs)  -- enum-told-4, slice-aggregate-put-4
+    (λ c κs. search needs) (λ c. search needs)  -- put-requires-4, enum-told-5
+    (λ c. search needs) (λ c κs. search needs)  -- slice-aggregate-put-5, put-requires-5
     (λ c. search needs)  -- same-length
     returns
     (λ c. search needs)  -- same-length-2

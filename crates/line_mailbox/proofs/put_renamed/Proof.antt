@@ -20,11 +20,8 @@ pub put-renamed-spec : {M : Type 1} → statement M
 put-renamed-spec =
     tie.close
     (tie.spec
-    (λ c κs. search needs)  -- put-listed-requires
-    (λ c. search needs)  -- slice-aggregate-put
-    (λ c κs. search needs)  -- put-requires
-    (λ c κs. search needs)  -- put-quoted-requires
-    (λ c. search needs)  -- slice-aggregate-put-2
-    (λ c κs. search needs)  -- put-requires-2
+    (λ c κs. search needs) (λ c. search needs)  -- put-listed-requires, slice-aggregate-put
+    (λ c κs. search needs) (λ c κs. search needs)  -- put-requires, put-quoted-requires
+    (λ c. search needs) (λ c κs. search needs)  -- slice-aggregate-put-2, put-requires-2
     (λ c. search needs)  -- same-length
     returns)

@@ -22,11 +22,8 @@ pub put-status-spec : {M : Type 1} → statement M
 put-status-spec =
     tie.close
     (tie.spec
-    (λ c κs. search needs)  -- put-opening-requires
-    (λ c. search needs)  -- slice-aggregate-put-counted
-    (λ c κs. search needs)  -- put-counted-requires
-    (λ c. search needs)  -- slice-aggregate-put-counted-2
-    (λ c κs. search needs)  -- put-counted-requires-2
-    (λ c κs. search needs)  -- put-highest-requires
+    (λ c κs. search needs) (λ c. search needs)  -- put-opening-requires, slice-aggregate-put-counted
+    (λ c κs. search needs) (λ c. search needs)  -- put-counted-requires, slice-aggregate-put-counted-2
+    (λ c κs. search needs) (λ c κs. search needs)  -- put-counted-requires-2, put-highest-requires
     (λ c. search needs)  -- same-length
     returns)

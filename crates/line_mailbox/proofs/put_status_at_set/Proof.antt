@@ -24,13 +24,9 @@ pub put-status-at-set-spec : {M : Type 1} → statement M
 put-status-at-set-spec =
     tie.close
     (tie.spec
-    (λ c κs. search needs)  -- put-opening-requires
-    (λ c. search needs)  -- slice-aggregate-put-counted
-    (λ c κs. search needs)  -- put-counted-requires
-    (λ c. search needs)  -- slice-aggregate-put-counted-2
-    (λ c κs. search needs)  -- put-counted-requires-2
-    (λ c. search needs)  -- slice-aggregate-put-counted-3
-    (λ c κs. search needs)  -- put-counted-requires-3
-    (λ c κs. search needs)  -- put-highest-requires
+    (λ c κs. search needs) (λ c. search needs)  -- put-opening-requires, slice-aggregate-put-counted
+    (λ c κs. search needs) (λ c. search needs)  -- put-counted-requires, slice-aggregate-put-counted-2
+    (λ c κs. search needs) (λ c. search needs)  -- put-counted-requires-2, slice-aggregate-put-counted-3
+    (λ c κs. search needs) (λ c κs. search needs)  -- put-counted-requires-3, put-highest-requires
     (λ c. search needs)  -- same-length
     returns)

@@ -18,9 +18,7 @@ pub put-count-spec : {M : Type 1} → statement M
 put-count-spec =
     tie.close
     (tie.spec
-    (λ c. search needs)  -- slice-aggregate-put
-    (λ c κs. search needs)  -- put-requires
-    (λ c κs. search needs)  -- put-number-requires
-    (λ c κs. search needs)  -- put-requires-2
+    (λ c. search needs) (λ c κs. search needs)  -- slice-aggregate-put, put-requires
+    (λ c κs. search needs) (λ c κs. search needs)  -- put-number-requires, put-requires-2
     (λ c. search needs)  -- same-length
     returns)

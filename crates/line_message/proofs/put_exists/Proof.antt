@@ -22,8 +22,6 @@ put-exists-spec =
     tie.close
     (tie.spec
     returns
-    (λ c. search needs)  -- add-t10
-    (λ c. search needs)  -- slice-aggregate-put-count
-    (λ c κs. search needs)  -- put-count-requires
-    (λ c. search needs)  -- same-length
+    (λ c. search needs) (λ c. search needs)  -- add-t10, slice-aggregate-put-count
+    (λ c κs. search needs) (λ c. search needs)  -- put-count-requires, same-length
     returns-2)

@@ -30,12 +30,8 @@ pub put-news-spec : {M : Type 1} → statement M
 put-news-spec =
     tie.close
     (tie.spec
-    (λ c κs. search needs)  -- staying-requires
-    (λ c κs. search needs)  -- unseen-requires
-    (λ c κs. search needs)  -- put-exists-requires
-    (λ c. search needs)  -- same-length
+    (λ c κs. search needs) (λ c κs. search needs)  -- staying-requires, unseen-requires
+    (λ c κs. search needs) (λ c. search needs)  -- put-exists-requires, same-length
     returns
-    (λ c. search needs)  -- add-from
-    (λ c κs. search needs)  -- put-part-requires
-    (λ c. search needs)  -- same-length-2
+    (λ c. search needs) (λ c κs. search needs) (λ c. search needs)  -- add-from, put-part-requires, same-length-2
     returns-2)

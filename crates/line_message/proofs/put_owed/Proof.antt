@@ -21,10 +21,7 @@ pub put-owed-spec : {M : Type 1} → statement M
 put-owed-spec =
     tie.close
     (tie.spec
-    (λ c κs. search needs)  -- put-part-requires
-    (λ c κs. search needs)  -- staying-requires
-    (λ c κs. search needs)  -- unseen-requires
-    (λ c κs. search needs)  -- put-exists-requires
-    (λ c κs. search needs)  -- put-part-requires-2
-    (λ c. search needs)  -- same-length
+    (λ c κs. search needs) (λ c κs. search needs)  -- put-part-requires, staying-requires
+    (λ c κs. search needs) (λ c κs. search needs)  -- unseen-requires, put-exists-requires
+    (λ c κs. search needs) (λ c. search needs)  -- put-part-requires-2, same-length
     returns)

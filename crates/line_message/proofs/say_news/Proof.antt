@@ -17,11 +17,8 @@ pub say-news-spec : {M : Type 1} → statement M
 say-news-spec =
     tie.close
     (tie.spec
-    (λ c. search needs)  -- sub-limit
-    (λ c κs. search needs)  -- put-news-requires
-    (λ c κs. search needs)  -- put-news-requires-2
-    (λ c. search needs)  -- same-length
+    (λ c. search needs) (λ c κs. search needs)  -- sub-limit, put-news-requires
+    (λ c κs. search needs) (λ c. search needs)  -- put-news-requires-2, same-length
     returns
-    (λ c κs. search needs)  -- overflow-requires
-    (λ c. search needs)  -- same-length-2
+    (λ c κs. search needs) (λ c. search needs)  -- overflow-requires, same-length-2
     returns-2)

@@ -57,14 +57,10 @@ pub +put-number-spec : {M : Type 1} → statement M
 )
     (put-number-at t)
     put-number.Post
-    (λ c. search needs)  -- put-number-cast-put-byte
-    (λ c. search needs)  -- put-number-add-put-byte
-    (λ c κs. search needs)  -- put-number-put-byte-requires
-    (λ c. search needs)  -- put-number-same-length
+    (λ c. search needs) (λ c. search needs)  -- put-number-cast-put-byte, put-number-add-put-byte
+    (λ c κs. search needs) (λ c. search needs)  -- put-number-put-byte-requires, put-number-same-length
     (put-number-returns t)
-    (λ c κs. search needs)  -- put-number-put-number-requires
-    (λ c. search needs)  -- put-number-cast-put-byte-2
-    (λ c. search needs)  -- put-number-add-put-byte-2
-    (λ c κs. search needs)  -- put-number-put-byte-requires-2
+    (λ c κs. search needs) (λ c. search needs)  -- put-number-put-number-requires, put-number-cast-put-byte-2
+    (λ c. search needs) (λ c κs. search needs)  -- put-number-add-put-byte-2, put-number-put-byte-requires-2
     (λ c. search needs)  -- put-number-same-length-2
     (put-number-returns-2 t)

@@ -43,11 +43,8 @@ copy-spec =
     Inv-loop
     μ-loop
     loop-holds
-    (λ c. search needs)  -- shared-slice-read-queue
-    (λ c. search needs)  -- slice-write-queue
-    (λ c. search needs)  -- add-o
-    (λ c. search needs)  -- add-i
-    (λ c. search needs)  -- loop-less
+    (λ c. search needs) (λ c. search needs) (λ c. search needs)  -- shared-slice-read-queue, slice-write-queue, add-o
+    (λ c. search needs) (λ c. search needs)  -- add-i, loop-less
     loop-again
     (λ c. search needs)  -- same-length
     returns)

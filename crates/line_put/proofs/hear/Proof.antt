@@ -13,6 +13,5 @@ pub hear-spec : {M : Type 1} → statement M
 hear-spec =
     tie.close
     (tie.spec
-    (λ c. search needs)  -- returns
-    (λ c κs. search needs)  -- silence-requires
+    (λ c. search needs) (λ c κs. search needs)  -- returns, silence-requires
     returns-2)

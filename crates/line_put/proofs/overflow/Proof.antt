@@ -13,7 +13,5 @@ pub overflow-spec : {M : Type 1} → statement M
 overflow-spec =
     tie.close
     (tie.spec
-    (λ c. search needs)  -- slice-aggregate-put
-    (λ c κs. search needs)  -- put-requires
-    (λ c. search needs)  -- same-length
+    (λ c. search needs) (λ c κs. search needs) (λ c. search needs)  -- slice-aggregate-put, put-requires, same-length
     returns)

@@ -20,6 +20,5 @@ put-spec =
     (tie.spec
     (λ c. search needs)  -- add-end
     returns
-    (λ c κs. search needs)  -- copy-requires
-    (λ c. search needs)  -- same-length
+    (λ c κs. search needs) (λ c. search needs)  -- copy-requires, same-length
     returns-2)

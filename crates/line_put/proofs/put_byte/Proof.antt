@@ -19,7 +19,5 @@ put-byte-spec =
     (tie.spec
     (λ c. search needs)  -- add-result
     returns
-    (λ c. search needs)  -- slice-write-queue
-    (λ c. search needs)  -- add-result-2
-    (λ c. search needs)  -- same-length
+    (λ c. search needs) (λ c. search needs) (λ c. search needs)  -- slice-write-queue, add-result-2, same-length
     returns-2)

@@ -25,14 +25,11 @@ pub put-escaped-spec : {M : Type 1} → statement M
 put-escaped-spec =
     tie.close
     (tie.spec
-    (λ c κs. search needs)  -- put-byte-requires
-    (λ c κs. search needs)  -- put-byte-requires-2
+    (λ c κs. search needs) (λ c κs. search needs)  -- put-byte-requires, put-byte-requires-2
     (λ c. search needs)  -- same-length
     returns
-    (λ c κs. search needs)  -- put-byte-requires-3
-    (λ c κs. search needs)  -- put-byte-requires-4
+    (λ c κs. search needs) (λ c κs. search needs)  -- put-byte-requires-3, put-byte-requires-4
     (λ c. search needs)  -- same-length-2
     returns-2
-    (λ c κs. search needs)  -- put-byte-requires-5
-    (λ c. search needs)  -- same-length-3
+    (λ c κs. search needs) (λ c. search needs)  -- put-byte-requires-5, same-length-3
     returns-3)

@@ -51,11 +51,8 @@ put-quoted-spec =
     μ-loop
     (λ c κs. search needs)  -- put-byte-requires
     loop-holds
-    (λ c. search needs)  -- shared-slice-read-put-escaped
-    (λ c κs. search needs)  -- put-escaped-requires
-    (λ c. search needs)  -- add-i
-    (λ c. search needs)  -- loop-less
+    (λ c. search needs) (λ c κs. search needs)  -- shared-slice-read-put-escaped, put-escaped-requires
+    (λ c. search needs) (λ c. search needs)  -- add-i, loop-less
     loop-again
-    (λ c κs. search needs)  -- put-byte-requires-2
-    (λ c. search needs)  -- same-length
+    (λ c κs. search needs) (λ c. search needs)  -- put-byte-requires-2, same-length
     returns)

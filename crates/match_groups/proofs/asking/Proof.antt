@@ -53,13 +53,9 @@ asking-spec =
     μ-loop
     (λ c κs. search needs)  -- groups-requires
     loop-holds
-    (λ c. search needs)  -- mul-group-of
-    (λ c. search needs)  -- element-copy-out-group-of
-    (λ c κs. search needs)  -- group-of-requires
-    (λ c κs. search needs)  -- asks-requires
-    (λ c. search needs)  -- add-result
+    (λ c. search needs) (λ c. search needs)  -- mul-group-of, element-copy-out-group-of
+    (λ c κs. search needs) (λ c κs. search needs) (λ c. search needs)  -- group-of-requires, asks-requires, add-result
     returns
-    (λ c. search needs)  -- add-i
-    (λ c. search needs)  -- loop-less
+    (λ c. search needs) (λ c. search needs)  -- add-i, loop-less
     loop-again
     returns-2)

@@ -32,20 +32,12 @@ pub is-met-spec : {M : Type 1} → statement M
 is-met-spec =
     tie.close
     (tie.spec
-    (λ c. search needs)  -- enum-told
-    (λ c. search needs)  -- enum-told-2
-    (λ c. search needs)  -- enum-told-3
-    (λ c κs. search needs)  -- takes-inboxes-requires
-    (λ c. search needs)  -- enum-told-4
-    (λ c κs. search needs)  -- takes-personal-requires
-    (λ c. search needs)  -- enum-told-5
-    (λ c κs. search needs)  -- has-requires
-    (λ c. search needs)  -- enum-known-selector
-    (λ c κs. search needs)  -- takes-subtree-requires
-    (λ c. search needs)  -- enum-known-selector-2
-    (λ c κs. search needs)  -- any-name-requires
-    (λ c. search needs)  -- returns
-    (λ c. search needs)  -- returns-2
+    (λ c. search needs) (λ c. search needs) (λ c. search needs)  -- enum-told, enum-told-2, enum-told-3
+    (λ c κs. search needs) (λ c. search needs)  -- takes-inboxes-requires, enum-told-4
+    (λ c κs. search needs) (λ c. search needs)  -- takes-personal-requires, enum-told-5
+    (λ c κs. search needs) (λ c. search needs)  -- has-requires, enum-known-selector
+    (λ c κs. search needs) (λ c. search needs)  -- takes-subtree-requires, enum-known-selector-2
+    (λ c κs. search needs) (λ c. search needs) (λ c. search needs)  -- any-name-requires, returns, returns-2
     returns-3
     returns-4
     returns-5

@@ -22,8 +22,6 @@ pub reach-spec : {M : Type 1} → statement M
 reach-spec =
     tie.close
     (tie.spec
-    (λ c κs. search needs)  -- wide-requires
-    (λ c κs. search needs)  -- wide-requires-2
-    (λ c. search needs)  -- add-end
+    (λ c κs. search needs) (λ c κs. search needs) (λ c. search needs)  -- wide-requires, wide-requires-2, add-end
     returns
     returns-2)

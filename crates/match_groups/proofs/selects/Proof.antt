@@ -30,12 +30,8 @@ pub selects-spec : {M : Type 1} → statement M
 selects-spec =
     tie.close
     (tie.spec
-    (λ c. search needs)  -- enum-told
-    (λ c. search needs)  -- enum-told-2
-    (λ c. search needs)  -- enum-told-3
-    (λ c. search needs)  -- enum-told-4
-    (λ c. search needs)  -- enum-told-5
-    (λ c. search needs)  -- enum-told-6
+    (λ c. search needs) (λ c. search needs) (λ c. search needs)  -- enum-told, enum-told-2, enum-told-3
+    (λ c. search needs) (λ c. search needs) (λ c. search needs)  -- enum-told-4, enum-told-5, enum-told-6
     (λ c. search needs)  -- enum-told-7
     returns
     returns-2

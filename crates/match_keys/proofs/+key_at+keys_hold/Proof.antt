@@ -215,10 +215,8 @@ pub +key-at+keys-hold-spec : {M : Type 1} → statement M
 )
     (key-at-at t)
     key-at.Post
-    (λ c κs. search needs)  -- key-at-cell-requires
-    (λ c κs. search needs)  -- key-at-test-at-requires
-    (λ c. search needs)  -- key-at-returns
-    (λ c κs. search needs)  -- key-at-behind-requires
+    (λ c κs. search needs) (λ c κs. search needs)  -- key-at-cell-requires, key-at-test-at-requires
+    (λ c. search needs) (λ c κs. search needs)  -- key-at-returns, key-at-behind-requires
     (λ c. search needs)  -- key-at-add-keys-hold
     (key-at-keys-hold-requires t)
     (λ c κs. search needs)  -- key-at-agree-requires
@@ -240,18 +238,14 @@ pub +key-at+keys-hold-spec : {M : Type 1} → statement M
     keys-hold-Inv-loop
     keys-hold-μ-loop
     (keys-hold-loop-holds t)
-    (λ c κs. search needs)  -- keys-hold-last-nest-requires
-    (λ c κs. search needs)  -- keys-hold-cell-requires
-    (λ c κs. search needs)  -- keys-hold-agree-requires
-    (λ c. search needs)  -- keys-hold-add-i
+    (λ c κs. search needs) (λ c κs. search needs)  -- keys-hold-last-nest-requires, keys-hold-cell-requires
+    (λ c κs. search needs) (λ c. search needs)  -- keys-hold-agree-requires, keys-hold-add-i
     (λ c. search needs)  -- keys-hold-loop-less
     (keys-hold-loop-again t)
     (keys-hold-key-at-requires t)
-    (λ c κs. search needs)  -- keys-hold-agree-requires-2
-    (λ c κs. search needs)  -- keys-hold-agree-requires-3
+    (λ c κs. search needs) (λ c κs. search needs)  -- keys-hold-agree-requires-2, keys-hold-agree-requires-3
     (keys-hold-returns t)
     (keys-hold-loop-less-2 t)
     (keys-hold-loop-again-2 t)
-    (λ c κs. search needs)  -- keys-hold-negated-requires
-    (λ c κs. search needs)  -- keys-hold-agree-requires-4
+    (λ c κs. search needs) (λ c κs. search needs)  -- keys-hold-negated-requires, keys-hold-agree-requires-4
     (keys-hold-returns-2 t)

@@ -15,6 +15,5 @@ pub all-hold-spec : {M : Type 1} → statement M
 all-hold-spec =
     tie.close
     (tie.spec
-    (λ c κs. search needs)  -- facts-of-requires
-    (λ c κs. search needs)  -- keys-hold-requires
+    (λ c κs. search needs) (λ c κs. search needs)  -- facts-of-requires, keys-hold-requires
     returns)

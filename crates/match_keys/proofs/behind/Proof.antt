@@ -28,11 +28,8 @@ pub behind-spec : {M : Type 1} → statement M
 behind-spec =
     tie.close
     (tie.spec
-    (λ c κs. search needs)  -- cell-requires
-    (λ c. search needs)  -- add-cell
-    (λ c κs. search needs)  -- cell-requires-2
-    (λ c. search needs)  -- sub-left
-    (λ c κs. search needs)  -- width-requires
+    (λ c κs. search needs) (λ c. search needs) (λ c κs. search needs)  -- cell-requires, add-cell, cell-requires-2
+    (λ c. search needs) (λ c κs. search needs)  -- sub-left, width-requires
     returns
     (λ c. search needs)  -- add-result
     returns-2)

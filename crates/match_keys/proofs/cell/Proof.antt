@@ -13,7 +13,5 @@ pub cell-spec : {M : Type 1} → statement M
 cell-spec =
     tie.close
     (tie.spec
-    (λ c. search needs)  -- mul-result
-    (λ c. search needs)  -- shared-slice-read-result
-    (λ c. search needs)  -- returns
+    (λ c. search needs) (λ c. search needs) (λ c. search needs)  -- mul-result, shared-slice-read-result, returns
     returns-2)

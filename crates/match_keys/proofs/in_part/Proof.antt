@@ -29,8 +29,7 @@ pub in-part-spec : {M : Type 1} → statement M
 in-part-spec =
     tie.close
     (tie.spec
-    (λ c κs. search needs)  -- bound-requires
-    (λ c κs. search needs)  -- bound-requires-2
+    (λ c κs. search needs) (λ c κs. search needs)  -- bound-requires, bound-requires-2
     returns
     returns-2
     returns-3)

@@ -46,15 +46,10 @@ in-set-spec =
     Inv-loop
     μ-loop
     loop-holds
-    (λ c. search needs)  -- add-loop
-    (λ c. search needs)  -- mul-from
-    (λ c. search needs)  -- shared-slice-read-from
-    (λ c. search needs)  -- add-upto
-    (λ c. search needs)  -- mul-upto
-    (λ c. search needs)  -- shared-slice-read-upto
+    (λ c. search needs) (λ c. search needs) (λ c. search needs)  -- add-loop, mul-from, shared-slice-read-from
+    (λ c. search needs) (λ c. search needs) (λ c. search needs)  -- add-upto, mul-upto, shared-slice-read-upto
     (λ c κs. search needs)  -- in-part-requires
     returns
-    (λ c. search needs)  -- add-i
-    (λ c. search needs)  -- loop-less
+    (λ c. search needs) (λ c. search needs)  -- add-i, loop-less
     loop-again
     returns-2)

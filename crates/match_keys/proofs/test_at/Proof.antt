@@ -64,18 +64,13 @@ pub test-at-spec : {M : Type 1} → statement M
 test-at-spec =
     tie.close
     (tie.spec
-    (λ c κs. search needs)  -- cell-requires
-    (λ c κs. search needs)  -- set-at-requires
+    (λ c κs. search needs) (λ c κs. search needs)  -- cell-requires, set-at-requires
     returns
     (λ c κs. search needs)  -- set-at-requires-2
     returns-2
-    (λ c. search needs)  -- add-cell
-    (λ c κs. search needs)  -- cell-requires-2
-    (λ c. search needs)  -- add-cell-2
-    (λ c κs. search needs)  -- cell-requires-3
-    (λ c κs. search needs)  -- bit-of-requires
-    (λ c κs. search needs)  -- agree-requires
-    (λ c. search needs)  -- add-t24
+    (λ c. search needs) (λ c κs. search needs) (λ c. search needs)  -- add-cell, cell-requires-2, add-cell-2
+    (λ c κs. search needs) (λ c κs. search needs)  -- cell-requires-3, bit-of-requires
+    (λ c κs. search needs) (λ c. search needs)  -- agree-requires, add-t24
     returns-3
     (λ c. search needs)  -- add-t32
     returns-4

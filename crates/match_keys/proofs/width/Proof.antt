@@ -19,8 +19,7 @@ width-spec =
     tie.close
     (tie.spec
     returns
-    (λ c. search needs)  -- mul-result
-    (λ c. search needs)  -- add-result
+    (λ c. search needs) (λ c. search needs)  -- mul-result, add-result
     returns-2
     (λ c. search needs)  -- add-result-2
     returns-3)

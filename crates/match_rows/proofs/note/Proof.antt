@@ -22,9 +22,7 @@ pub note-spec : {M : Type 1} → statement M
 note-spec =
     tie.close
     (tie.spec
-    (λ c κs. search needs)  -- is-selected-requires
-    (λ c κs. search needs)  -- is-picked-requires
-    (λ c κs. search needs)  -- octet-requires
-    (λ c κs. search needs)  -- has-status-requires
+    (λ c κs. search needs) (λ c κs. search needs)  -- is-selected-requires, is-picked-requires
+    (λ c κs. search needs) (λ c κs. search needs)  -- octet-requires, has-status-requires
     (λ c κs. search needs)  -- octet-requires-2
     returns)

@@ -75,22 +75,16 @@ note-rows-spec =
     (tie.spec
     Inv-loop
     μ-loop
-    (λ c. search needs)  -- slice-aggregate-mark-asked
-    (λ c κs. search needs)  -- mark-asked-requires
-    (λ c. search needs)  -- slice-aggregate-mark-asked-2
-    (λ c κs. search needs)  -- mark-asked-requires-2
+    (λ c. search needs) (λ c κs. search needs)  -- slice-aggregate-mark-asked, mark-asked-requires
+    (λ c. search needs) (λ c κs. search needs)  -- slice-aggregate-mark-asked-2, mark-asked-requires-2
     (λ c κs. search needs)  -- selected-asks-any-requires
     loop-holds
-    (λ c. search needs)  -- mul-note
-    (λ c. search needs)  -- element-copy-out-note
-    (λ c. search needs)  -- element-copy-out-note-2
-    (λ c. search needs)  -- array-read-note
-    (λ c. search needs)  -- array-read-note-2
-    (λ c κs. search needs)  -- note-requires
+    (λ c. search needs) (λ c. search needs)  -- mul-note, element-copy-out-note
+    (λ c. search needs) (λ c. search needs)  -- element-copy-out-note-2, array-read-note
+    (λ c. search needs) (λ c κs. search needs)  -- array-read-note-2, note-requires
     slice-write-picked
     slice-write-asks
-    (λ c. search needs)  -- add-k
-    (λ c. search needs)  -- loop-less
+    (λ c. search needs) (λ c. search needs)  -- add-k, loop-less
     loop-again
     same-length
     same-length-2

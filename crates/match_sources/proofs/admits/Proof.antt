@@ -32,10 +32,7 @@ admits-spec =
     returns
     returns-2
     returns-3
-    (λ c κs. search needs)  -- has-requires
-    (λ c κs. search needs)  -- has-requires-2
-    (λ c κs. search needs)  -- has-requires-3
-    (λ c κs. search needs)  -- has-requires-4
-    (λ c κs. search needs)  -- has-requires-5
-    (λ c κs. search needs)  -- by-rights-requires
+    (λ c κs. search needs) (λ c κs. search needs)  -- has-requires, has-requires-2
+    (λ c κs. search needs) (λ c κs. search needs)  -- has-requires-3, has-requires-4
+    (λ c κs. search needs) (λ c κs. search needs)  -- has-requires-5, by-rights-requires
     returns-4)

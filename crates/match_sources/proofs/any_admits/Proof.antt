@@ -61,11 +61,9 @@ any-admits-spec =
     μ-loop
     (λ c κs. search needs)  -- listed-count-requires
     loop-holds
-    (λ c. search needs)  -- mul-one
-    (λ c. search needs)  -- element-copy-out-one
+    (λ c. search needs) (λ c. search needs)  -- mul-one, element-copy-out-one
     (λ c κs. search needs)  -- is-admitted-requires
     returns
-    (λ c. search needs)  -- add-i
-    (λ c. search needs)  -- loop-less
+    (λ c. search needs) (λ c. search needs)  -- add-i, loop-less
     loop-again
     returns-2)

@@ -14,6 +14,5 @@ pub is-admitted-spec : {M : Type 1} → statement M
 is-admitted-spec =
     tie.close
     (tie.spec
-    (λ c κs. search needs)  -- is-named-requires
-    (λ c κs. search needs)  -- admits-requires
+    (λ c κs. search needs) (λ c κs. search needs)  -- is-named-requires, admits-requires
     returns)

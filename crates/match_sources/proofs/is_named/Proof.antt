@@ -55,11 +55,8 @@ is-named-spec =
     μ-loop
     (λ c κs. search needs)  -- run-end-requires
     loop-holds
-    (λ c. search needs)  -- mul-x
-    (λ c. search needs)  -- element-copy-out-x
-    (λ c κs. search needs)  -- is-meant-requires
+    (λ c. search needs) (λ c. search needs) (λ c κs. search needs)  -- mul-x, element-copy-out-x, is-meant-requires
     returns
-    (λ c. search needs)  -- add-i
-    (λ c. search needs)  -- loop-less
+    (λ c. search needs) (λ c. search needs)  -- add-i, loop-less
     loop-again
     returns-2)

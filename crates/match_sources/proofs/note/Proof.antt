@@ -31,12 +31,8 @@ pub note-spec : {M : Type 1} → statement M
 note-spec =
     tie.close
     (tie.spec
-    (λ c. search needs)  -- mul-from
-    (λ c κs. search needs)  -- clip-requires
-    (λ c. search needs)  -- add-end
-    (λ c. search needs)  -- sub-is-searched
-    (λ c. search needs)  -- part-is-searched-start
-    (λ c. search needs)  -- part-is-searched-end
-    (λ c κs. search needs)  -- is-searched-requires
+    (λ c. search needs) (λ c κs. search needs) (λ c. search needs)  -- mul-from, clip-requires, add-end
+    (λ c. search needs) (λ c. search needs)  -- sub-is-searched, part-is-searched-start
+    (λ c. search needs) (λ c κs. search needs)  -- part-is-searched-end, is-searched-requires
     returns
     returns-2)

@@ -37,15 +37,10 @@ pick-spec =
     Inv-loop
     μ-loop
     loop-holds
-    (λ c. search needs)  -- mul-is-selected
-    (λ c. search needs)  -- element-copy-out-is-selected
-    (λ c κs. search needs)  -- is-selected-requires
-    (λ c. search needs)  -- element-copy-out-note
-    (λ c. search needs)  -- element-copy-out-note-2
-    (λ c κs. search needs)  -- note-requires
-    (λ c. search needs)  -- slice-write-picked
-    (λ c. search needs)  -- add-k
-    (λ c. search needs)  -- loop-less
+    (λ c. search needs) (λ c. search needs)  -- mul-is-selected, element-copy-out-is-selected
+    (λ c κs. search needs) (λ c. search needs)  -- is-selected-requires, element-copy-out-note
+    (λ c. search needs) (λ c κs. search needs)  -- element-copy-out-note-2, note-requires
+    (λ c. search needs) (λ c. search needs) (λ c. search needs)  -- slice-write-picked, add-k, loop-less
     loop-again
     (λ c. search needs)  -- same-length
     returns)

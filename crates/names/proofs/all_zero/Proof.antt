@@ -36,10 +36,7 @@ all-zero-spec =
     Inv-loop
     μ-loop
     loop-holds
-    (λ c. search needs)  -- shared-slice-read-wide
-    (λ c κs. search needs)  -- wide-requires
-    (λ c. search needs)  -- add-sum
-    (λ c. search needs)  -- add-i
-    (λ c. search needs)  -- loop-less
+    (λ c. search needs) (λ c κs. search needs) (λ c. search needs)  -- shared-slice-read-wide, wide-requires, add-sum
+    (λ c. search needs) (λ c. search needs)  -- add-i, loop-less
     loop-again
     returns)

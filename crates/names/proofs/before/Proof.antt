@@ -50,12 +50,9 @@ before-spec =
     μ-loop
     loop-holds
     returns
-    (λ c. search needs)  -- shared-slice-read-if2
-    (λ c. search needs)  -- shared-slice-read-if2-2
-    (λ c. search needs)  -- shared-slice-read-result
-    (λ c. search needs)  -- shared-slice-read-result-2
+    (λ c. search needs) (λ c. search needs)  -- shared-slice-read-if2, shared-slice-read-if2-2
+    (λ c. search needs) (λ c. search needs)  -- shared-slice-read-result, shared-slice-read-result-2
     returns-2
-    (λ c. search needs)  -- add-i
-    (λ c. search needs)  -- loop-less
+    (λ c. search needs) (λ c. search needs)  -- add-i, loop-less
     loop-again
     returns-3)

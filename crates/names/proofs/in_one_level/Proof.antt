@@ -30,8 +30,7 @@ in-one-level-spec =
     (tie.spec
     (λ c κs. search needs)  -- same-requires
     returns
-    (λ c κs. search needs)  -- beneath-requires
-    (λ c. search needs)  -- add-slash-from
+    (λ c κs. search needs) (λ c. search needs)  -- beneath-requires, add-slash-from
     (λ c κs. search needs)  -- slash-from-requires
     returns-2
     returns-3)

@@ -16,8 +16,7 @@ pub is-folded-spec : {M : Type 1} → statement M
 is-folded-spec =
     tie.close
     (tie.spec
-    (λ c κs. search needs)  -- is-inbox-requires
-    (λ c. search needs)  -- slice-aggregate-same
+    (λ c κs. search needs) (λ c. search needs)  -- is-inbox-requires, slice-aggregate-same
     (λ c κs. search needs)  -- same-requires
     returns
     returns-2)

@@ -42,8 +42,6 @@ is-kept-spec =
     slice-aggregate-is-folded
     (λ c κs. search needs)  -- is-folded-requires
     returns-2
-    (λ c. search needs)  -- sub-all-zero
-    (λ c. search needs)  -- part-all-zero-start
-    (λ c. search needs)  -- part-all-zero-end
-    (λ c κs. search needs)  -- all-zero-requires
+    (λ c. search needs) (λ c. search needs)  -- sub-all-zero, part-all-zero-start
+    (λ c. search needs) (λ c κs. search needs)  -- part-all-zero-end, all-zero-requires
     returns-3)

@@ -37,10 +37,8 @@ kept-spec =
     Inv-loop
     μ-loop
     loop-holds
-    (λ c. search needs)  -- shared-slice-read-octets
-    (λ c. search needs)  -- array-write-octets
-    (λ c. search needs)  -- add-i
-    (λ c. search needs)  -- loop-less
+    (λ c. search needs) (λ c. search needs)  -- shared-slice-read-octets, array-write-octets
+    (λ c. search needs) (λ c. search needs)  -- add-i, loop-less
     loop-again
     (λ c. search needs)  -- cast-t10
     returns)

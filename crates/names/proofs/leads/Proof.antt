@@ -47,11 +47,9 @@ leads-spec =
     μ-loop
     returns
     loop-holds
-    (λ c. search needs)  -- shared-slice-read-if2
-    (λ c. search needs)  -- shared-slice-read-if2-2
+    (λ c. search needs) (λ c. search needs)  -- shared-slice-read-if2, shared-slice-read-if2-2
     returns-2
-    (λ c. search needs)  -- add-i
-    (λ c. search needs)  -- loop-less
+    (λ c. search needs) (λ c. search needs)  -- add-i, loop-less
     loop-again
     (λ c. search needs)  -- shared-slice-read-result
     returns-3)

@@ -51,12 +51,9 @@ same-word-spec =
     μ-loop
     returns
     loop-holds
-    (λ c. search needs)  -- shared-slice-read-upper
-    (λ c κs. search needs)  -- upper-requires
-    (λ c. search needs)  -- shared-slice-read-upper-2
-    (λ c κs. search needs)  -- upper-requires-2
+    (λ c. search needs) (λ c κs. search needs)  -- shared-slice-read-upper, upper-requires
+    (λ c. search needs) (λ c κs. search needs)  -- shared-slice-read-upper-2, upper-requires-2
     returns-2
-    (λ c. search needs)  -- add-i
-    (λ c. search needs)  -- loop-less
+    (λ c. search needs) (λ c. search needs)  -- add-i, loop-less
     loop-again
     returns-3)

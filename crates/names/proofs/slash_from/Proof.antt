@@ -45,7 +45,6 @@ slash-from-spec =
     loop-holds
     (λ c. search needs)  -- shared-slice-read-if1
     returns
-    (λ c. search needs)  -- add-i
-    (λ c. search needs)  -- loop-less
+    (λ c. search needs) (λ c. search needs)  -- add-i, loop-less
     loop-again
     returns-2)

@@ -22,12 +22,10 @@ pub stored-spec : {M : Type 1} → statement M
 stored-spec =
     tie.close
     (tie.spec
-    (λ c κs. search needs)  -- is-valid-requires
-    (λ c. search needs)  -- slice-aggregate-kept
+    (λ c κs. search needs) (λ c. search needs)  -- is-valid-requires, slice-aggregate-kept
     (λ c κs. search needs)  -- kept-requires
     returns
-    (λ c κs. search needs)  -- is-inbox-requires
-    (λ c. search needs)  -- slice-aggregate-kept-2
+    (λ c κs. search needs) (λ c. search needs)  -- is-inbox-requires, slice-aggregate-kept-2
     (λ c κs. search needs)  -- kept-requires-2
     returns-2
     kept-requires-3

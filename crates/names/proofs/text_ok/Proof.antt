@@ -57,7 +57,6 @@ text-ok-spec =
     returns-2
     (λ c κs. search needs)  -- both-slashes-requires
     returns-3
-    (λ c. search needs)  -- add-i
-    (λ c. search needs)  -- loop-less
+    (λ c. search needs) (λ c. search needs)  -- add-i, loop-less
     loop-again
     returns-4)

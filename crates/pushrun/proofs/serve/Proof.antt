@@ -25,22 +25,12 @@ serve-spec =
     (tie.spec
     Inv-loop
     μ-loop
-    (λ c κs. search needs)  -- start-requires
-    (λ c. search needs)  -- loop-holds
-    (λ c κs. search needs)  -- next-record-requires
-    (λ c. search needs)  -- slice-reshare-prefix-serve-one
+    (λ c κs. search needs) (λ c. search needs)  -- start-requires, loop-holds
+    (λ c κs. search needs) (λ c. search needs)  -- next-record-requires, slice-reshare-prefix-serve-one
     slice-aggregate-serve-one
-    (λ c κs. search needs)  -- serve-one-requires
-    (λ c. search needs)  -- add-turns
-    (λ c. search needs)  -- loop-less
-    (λ c. search needs)  -- loop-again
-    (λ c. search needs)  -- same-length
-    (λ c. search needs)  -- same-length-2
-    (λ c. search needs)  -- same-length-3
-    (λ c. search needs)  -- same-length-4
-    (λ c. search needs)  -- returns
-    (λ c. search needs)  -- same-length-5
-    (λ c. search needs)  -- same-length-6
-    (λ c. search needs)  -- same-length-7
+    (λ c κs. search needs) (λ c. search needs) (λ c. search needs)  -- serve-one-requires, add-turns, loop-less
+    (λ c. search needs) (λ c. search needs) (λ c. search needs)  -- loop-again, same-length, same-length-2
+    (λ c. search needs) (λ c. search needs) (λ c. search needs)  -- same-length-3, same-length-4, returns
+    (λ c. search needs) (λ c. search needs) (λ c. search needs)  -- same-length-5, same-length-6, same-length-7
     (λ c. search needs)  -- same-length-8
     (λ c. search needs))  -- returns-2

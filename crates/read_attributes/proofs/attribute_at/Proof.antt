@@ -83,19 +83,12 @@ pub attribute-at-spec : {M : Type 1} → statement M
 attribute-at-spec =
     tie.close
     (tie.spec
-    (λ c κs. search needs)  -- run-at-requires
-    (λ c. search needs)  -- enum-known-end
-    (λ c κs. search needs)  -- label-of-requires
-    (λ c. search needs)  -- enum-known-k
-    (λ c. search needs)  -- enum-told
-    (λ c κs. search needs)  -- octet-at-requires
-    (λ c κs. search needs)  -- section-at-requires
-    (λ c κs. search needs)  -- with-section-requires
-    (λ c. search needs)  -- enum-told-2
-    (λ c κs. search needs)  -- section-at-requires-2
-    (λ c κs. search needs)  -- with-section-requires-2
-    (λ c. search needs)  -- enum-told-3
-    (λ c. search needs)  -- enum-told-4
+    (λ c κs. search needs) (λ c. search needs)  -- run-at-requires, enum-known-end
+    (λ c κs. search needs) (λ c. search needs) (λ c. search needs)  -- label-of-requires, enum-known-k, enum-told
+    (λ c κs. search needs) (λ c κs. search needs)  -- octet-at-requires, section-at-requires
+    (λ c κs. search needs) (λ c. search needs)  -- with-section-requires, enum-told-2
+    (λ c κs. search needs) (λ c κs. search needs)  -- section-at-requires-2, with-section-requires-2
+    (λ c. search needs) (λ c. search needs)  -- enum-told-3, enum-told-4
     returns
     returns-2
     returns-3

@@ -10,7 +10,6 @@ pub with-section-spec : {M : Type 1} → statement M
 with-section-spec =
     tie.close
     (tie.spec
-    (λ c. search needs)  -- enum-known-r
-    (λ c. search needs)  -- enum-told
+    (λ c. search needs) (λ c. search needs)  -- enum-known-r, enum-told
     returns
     (λ c. search needs))  -- returns-2

@@ -18,7 +18,6 @@ head-spec =
     (tie.spec
     (λ c κs. search needs)  -- is-tagged-requires
     returns
-    (λ c κs. search needs)  -- tag-end-requires
-    (λ c. search needs)  -- add-verb-at
+    (λ c κs. search needs) (λ c. search needs)  -- tag-end-requires, add-verb-at
     (λ c κs. search needs)  -- verb-at-requires
     returns-2)

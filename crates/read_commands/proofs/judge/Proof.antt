@@ -17,11 +17,8 @@ pub judge-spec : {M : Type 1} → statement M
 judge-spec =
     tie.close
     (tie.spec
-    (λ c κs. search needs)  -- head-requires
-    (λ c. search needs)  -- enum-known-verb
-    (λ c κs. search needs)  -- judge-by-requires
-    (λ c. search needs)  -- enum-told
-    (λ c κs. search needs)  -- unread-requires
-    (λ c. search needs)  -- same-length
+    (λ c κs. search needs) (λ c. search needs)  -- head-requires, enum-known-verb
+    (λ c κs. search needs) (λ c. search needs)  -- judge-by-requires, enum-told
+    (λ c κs. search needs) (λ c. search needs)  -- unread-requires, same-length
     returns
     returns-2)

@@ -20,11 +20,8 @@ pub judge-by-spec : {M : Type 1} → statement M
 judge-by-spec =
     tie.close
     (tie.spec
-    (λ c. search needs)  -- enum-told
-    (λ c κs. search needs)  -- judge-notify-requires
-    (λ c. search needs)  -- enum-told-2
-    (λ c κs. search needs)  -- judge-search-requires
-    (λ c. search needs)  -- enum-told-3
+    (λ c. search needs) (λ c κs. search needs) (λ c. search needs)  -- enum-told, judge-notify-requires, enum-told-2
+    (λ c κs. search needs) (λ c. search needs)  -- judge-search-requires, enum-told-3
     (λ c κs. search needs)  -- unread-requires
     returns
     (λ c. search needs)  -- same-length

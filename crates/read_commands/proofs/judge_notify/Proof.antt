@@ -15,6 +15,5 @@ pub judge-notify-spec : {M : Type 1} → statement M
 judge-notify-spec =
     tie.close
     (tie.spec
-    (λ c κs. search needs)  -- notify-at-requires
-    (λ c κs. search needs)  -- notify-reply-requires
+    (λ c κs. search needs) (λ c κs. search needs)  -- notify-at-requires, notify-reply-requires
     returns)

@@ -14,7 +14,6 @@ pub judge-search-spec : {M : Type 1} → statement M
 judge-search-spec =
     tie.close
     (tie.spec
-    (λ c κs. search needs)  -- search-at-requires
-    (λ c κs. search needs)  -- search-reply-requires
+    (λ c κs. search needs) (λ c κs. search needs)  -- search-at-requires, search-reply-requires
     (λ c. search needs)  -- same-length
     returns)

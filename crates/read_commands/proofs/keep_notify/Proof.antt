@@ -29,10 +29,8 @@ pub keep-notify-spec : {M : Type 1} → statement M
 keep-notify-spec =
     tie.close
     (tie.spec
-    (λ c κs. search needs)  -- octet-at-requires
-    (λ c κs. search needs)  -- unkept-requires
+    (λ c κs. search needs) (λ c κs. search needs)  -- octet-at-requires, unkept-requires
     returns
     add-keep-at
-    (λ c κs. search needs)  -- keep-at-requires
-    (λ c κs. search needs)  -- notify-upto-requires
+    (λ c κs. search needs) (λ c κs. search needs)  -- keep-at-requires, notify-upto-requires
     returns-2)

@@ -16,13 +16,9 @@ pub notify-reply-spec : {M : Type 1} → statement M
 notify-reply-spec =
     tie.close
     (tie.spec
-    (λ c. search needs)  -- enum-told
-    (λ c κs. search needs)  -- answer-requires
-    (λ c. search needs)  -- enum-known-r
-    (λ c κs. search needs)  -- reply-for-requires
-    (λ c κs. search needs)  -- answer-requires-2
-    (λ c. search needs)  -- enum-told-2
-    (λ c κs. search needs)  -- unread-requires
+    (λ c. search needs) (λ c κs. search needs) (λ c. search needs)  -- enum-told, answer-requires, enum-known-r
+    (λ c κs. search needs) (λ c κs. search needs)  -- reply-for-requires, answer-requires-2
+    (λ c. search needs) (λ c κs. search needs)  -- enum-told-2, unread-requires
     returns
     returns-2
     (λ c. search needs))  -- returns-3

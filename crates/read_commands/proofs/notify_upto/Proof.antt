@@ -20,9 +20,7 @@ pub notify-upto-spec : {M : Type 1} → statement M
 notify-upto-spec =
     tie.close
     (tie.spec
-    (λ c. search needs)  -- enum-known-r
-    (λ c. search needs)  -- enum-known-r-2
-    (λ c. search needs)  -- enum-told
+    (λ c. search needs) (λ c. search needs) (λ c. search needs)  -- enum-known-r, enum-known-r-2, enum-told
     returns
     returns-2
     returns-3

@@ -32,7 +32,6 @@ search-at-spec =
     (λ c κs. search needs)  -- octet-at-requires
     returns
     add-search-at
-    (λ c κs. search needs)  -- search-at-requires
-    (λ c κs. search needs)  -- search-upto-requires
+    (λ c κs. search needs) (λ c κs. search needs)  -- search-at-requires, search-upto-requires
     (λ c. search needs)  -- same-length
     returns-2)

@@ -13,10 +13,7 @@ pub search-reply-spec : {M : Type 1} → statement M
 search-reply-spec =
     tie.close
     (tie.spec
-    (λ c. search needs)  -- enum-known-r
-    (λ c κs. search needs)  -- reply-for-requires
-    (λ c κs. search needs)  -- answer-requires
-    (λ c. search needs)  -- enum-told
-    (λ c κs. search needs)  -- unread-requires
+    (λ c. search needs) (λ c κs. search needs)  -- enum-known-r, reply-for-requires
+    (λ c κs. search needs) (λ c. search needs) (λ c κs. search needs)  -- answer-requires, enum-told, unread-requires
     returns
     (λ c. search needs))  -- returns-2

@@ -14,8 +14,7 @@ pub search-upto-spec : {M : Type 1} → statement M
 search-upto-spec =
     tie.close
     (tie.spec
-    (λ c. search needs)  -- enum-known-r
-    (λ c. search needs)  -- enum-told
+    (λ c. search needs) (λ c. search needs)  -- enum-known-r, enum-told
     returns
     returns-2
     (λ c. search needs))  -- returns-3

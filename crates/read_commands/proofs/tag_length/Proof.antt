@@ -15,7 +15,6 @@ pub tag-length-spec : {M : Type 1} → statement M
 tag-length-spec =
     tie.close
     (tie.spec
-    (λ c κs. search needs)  -- is-tagged-requires
-    (λ c κs. search needs)  -- tag-end-requires
+    (λ c κs. search needs) (λ c κs. search needs)  -- is-tagged-requires, tag-end-requires
     returns
     returns-2)

@@ -16,9 +16,7 @@ pub watch-by-spec : {M : Type 1} → statement M
 watch-by-spec =
     tie.close
     (tie.spec
-    (λ c. search needs)  -- enum-told
-    (λ c κs. search needs)  -- watch-notify-requires
-    (λ c. search needs)  -- enum-told-2
+    (λ c. search needs) (λ c κs. search needs) (λ c. search needs)  -- enum-told, watch-notify-requires, enum-told-2
     (λ c. search needs)  -- enum-told-3
     returns
     returns-2

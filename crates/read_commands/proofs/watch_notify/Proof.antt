@@ -10,6 +10,5 @@ pub watch-notify-spec : {M : Type 1} → statement M
 watch-notify-spec =
     tie.close
     (tie.spec
-    (λ c κs. search needs)  -- keep-notify-requires
-    (λ c κs. search needs)  -- watch-by-requires
+    (λ c κs. search needs) (λ c κs. search needs)  -- keep-notify-requires, watch-by-requires
     returns)

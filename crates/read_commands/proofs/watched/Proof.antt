@@ -14,9 +14,7 @@ pub watched-spec : {M : Type 1} → statement M
 watched-spec =
     tie.close
     (tie.spec
-    (λ c κs. search needs)  -- head-requires
-    (λ c. search needs)  -- enum-known-verb
-    (λ c κs. search needs)  -- watch-by-requires
-    (λ c. search needs)  -- enum-told
+    (λ c κs. search needs) (λ c. search needs)  -- head-requires, enum-known-verb
+    (λ c κs. search needs) (λ c. search needs)  -- watch-by-requires, enum-told
     returns
     returns-2)

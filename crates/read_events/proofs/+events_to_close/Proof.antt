@@ -147,8 +147,7 @@ pub +events-to-close-spec : {M : Type 1} → statement M
 +events-to-close-spec = close μ-events-to-close λ t. events-to-close-lts.spec (events-to-close-calls t)
     (events-to-close-at t)
     events-to-close.Post
-    (λ c κs. search needs)  -- events-to-close-event-at-requires
-    (λ c. search needs)  -- events-to-close-enum-known-e
+    (λ c κs. search needs) (λ c. search needs)  -- events-to-close-event-at-requires, events-to-close-enum-known-e
     (λ c κs. search needs)  -- events-to-close-octet-at-requires
     (events-to-close-add-events-to-close t)
     (events-to-close-events-to-close-requires t)

@@ -10,8 +10,6 @@ pub all-attributes-spec : {M : Type 1} → statement M
 all-attributes-spec =
     tie.close
     (tie.spec
-    (λ c κs. search needs)  -- either-requires
-    (λ c κs. search needs)  -- either-requires-2
-    (λ c κs. search needs)  -- either-requires-3
-    (λ c κs. search needs)  -- either-requires-4
+    (λ c κs. search needs) (λ c κs. search needs)  -- either-requires, either-requires-2
+    (λ c κs. search needs) (λ c κs. search needs)  -- either-requires-3, either-requires-4
     returns)

@@ -34,14 +34,10 @@ pub event-at-spec : {M : Type 1} → statement M
 event-at-spec =
     tie.close
     (tie.spec
-    (λ c κs. search needs)  -- run-at-requires
-    (λ c. search needs)  -- enum-known-end
-    (λ c κs. search needs)  -- named-by-requires
-    (λ c. search needs)  -- enum-told
-    (λ c κs. search needs)  -- new-at-requires
-    (λ c. search needs)  -- enum-known-k
-    (λ c κs. search needs)  -- plain-event-requires
-    (λ c. search needs)  -- enum-told-2
+    (λ c κs. search needs) (λ c. search needs)  -- run-at-requires, enum-known-end
+    (λ c κs. search needs) (λ c. search needs)  -- named-by-requires, enum-told
+    (λ c κs. search needs) (λ c. search needs)  -- new-at-requires, enum-known-k
+    (λ c κs. search needs) (λ c. search needs)  -- plain-event-requires, enum-told-2
     returns
     returns-2
     returns-3)

@@ -64,9 +64,7 @@ events-at-spec =
     add-events-to-close
     (λ c κs. search needs)  -- events-to-close-requires
     returns
-    (λ c. search needs)  -- slice-aggregate-word-at
-    (λ c κs. search needs)  -- word-at-requires
-    (λ c κs. search needs)  -- run-end-requires
-    (λ c κs. search needs)  -- no-events-requires
+    (λ c. search needs) (λ c κs. search needs)  -- slice-aggregate-word-at, word-at-requires
+    (λ c κs. search needs) (λ c κs. search needs)  -- run-end-requires, no-events-requires
     returns-2
     returns-3)

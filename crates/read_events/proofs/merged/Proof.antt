@@ -19,13 +19,9 @@ pub merged-spec : {M : Type 1} → statement M
 merged-spec =
     tie.close
     (tie.spec
-    (λ c κs. search needs)  -- all-attributes-requires
-    (λ c κs. search needs)  -- either-requires
-    (λ c κs. search needs)  -- either-requires-2
-    (λ c κs. search needs)  -- either-requires-3
-    (λ c κs. search needs)  -- either-requires-4
-    (λ c κs. search needs)  -- either-requires-5
-    (λ c κs. search needs)  -- either-requires-6
-    (λ c κs. search needs)  -- either-requires-7
+    (λ c κs. search needs) (λ c κs. search needs)  -- all-attributes-requires, either-requires
+    (λ c κs. search needs) (λ c κs. search needs)  -- either-requires-2, either-requires-3
+    (λ c κs. search needs) (λ c κs. search needs)  -- either-requires-4, either-requires-5
+    (λ c κs. search needs) (λ c κs. search needs)  -- either-requires-6, either-requires-7
     (λ c κs. search needs)  -- either-requires-8
     returns)

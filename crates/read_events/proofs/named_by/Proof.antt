@@ -75,22 +75,16 @@ pub named-by-spec : {M : Type 1} → statement M
 named-by-spec =
     tie.close
     (tie.spec
-    (λ c. search needs)  -- slice-aggregate-is-word
-    (λ c κs. search needs)  -- is-word-requires
+    (λ c. search needs) (λ c κs. search needs)  -- slice-aggregate-is-word, is-word-requires
     returns
-    (λ c. search needs)  -- slice-aggregate-is-word-2
-    (λ c κs. search needs)  -- is-word-requires-2
+    (λ c. search needs) (λ c κs. search needs)  -- slice-aggregate-is-word-2, is-word-requires-2
     returns-2
-    (λ c. search needs)  -- slice-aggregate-is-word-3
-    (λ c κs. search needs)  -- is-word-requires-3
+    (λ c. search needs) (λ c κs. search needs)  -- slice-aggregate-is-word-3, is-word-requires-3
     returns-3
-    (λ c. search needs)  -- slice-aggregate-is-word-4
-    (λ c κs. search needs)  -- is-word-requires-4
+    (λ c. search needs) (λ c κs. search needs)  -- slice-aggregate-is-word-4, is-word-requires-4
     returns-4
-    (λ c. search needs)  -- slice-aggregate-is-word-5
-    (λ c κs. search needs)  -- is-word-requires-5
+    (λ c. search needs) (λ c κs. search needs)  -- slice-aggregate-is-word-5, is-word-requires-5
     returns-5
-    (λ c. search needs)  -- slice-aggregate-is-word-6
-    (λ c κs. search needs)  -- is-word-requires-6
+    (λ c. search needs) (λ c κs. search needs)  -- slice-aggregate-is-word-6, is-word-requires-6
     returns-6
     returns-7)

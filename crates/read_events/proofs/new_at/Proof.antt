@@ -58,13 +58,10 @@ pub new-at-spec : {M : Type 1} → statement M
 new-at-spec =
     tie.close
     (tie.spec
-    (λ c κs. search needs)  -- octet-at-requires
-    (λ c κs. search needs)  -- bare-new-requires
+    (λ c κs. search needs) (λ c κs. search needs)  -- octet-at-requires, bare-new-requires
     returns
     add-next
-    (λ c κs. search needs)  -- octet-at-requires-2
-    (λ c κs. search needs)  -- bare-new-requires-2
+    (λ c κs. search needs) (λ c κs. search needs)  -- octet-at-requires-2, bare-new-requires-2
     returns-2
-    (λ c κs. search needs)  -- attributes-at-requires
-    (λ c κs. search needs)  -- new-with-requires
+    (λ c κs. search needs) (λ c κs. search needs)  -- attributes-at-requires, new-with-requires
     returns-3)

@@ -10,7 +10,6 @@ pub new-with-spec : {M : Type 1} → statement M
 new-with-spec =
     tie.close
     (tie.spec
-    (λ c. search needs)  -- enum-known-r
-    (λ c. search needs)  -- enum-told
+    (λ c. search needs) (λ c. search needs)  -- enum-known-r, enum-told
     returns
     (λ c. search needs))  -- returns-2

@@ -25,12 +25,8 @@ pub plain-event-spec : {M : Type 1} → statement M
 plain-event-spec =
     tie.close
     (tie.spec
-    (λ c κs. search needs)  -- no-events-requires
-    (λ c. search needs)  -- enum-told
-    (λ c. search needs)  -- enum-told-2
-    (λ c. search needs)  -- enum-told-3
-    (λ c. search needs)  -- enum-told-4
-    (λ c. search needs)  -- enum-told-5
+    (λ c κs. search needs) (λ c. search needs) (λ c. search needs)  -- no-events-requires, enum-told, enum-told-2
+    (λ c. search needs) (λ c. search needs) (λ c. search needs)  -- enum-told-3, enum-told-4, enum-told-5
     (λ c. search needs)  -- enum-told-6
     returns
     returns-2

@@ -39,8 +39,7 @@ pub filter-at-spec : {M : Type 1} → statement M
 filter-at-spec =
     tie.close
     (tie.spec
-    (λ c κs. search needs)  -- run-at-requires
-    (λ c. search needs)  -- enum-known-p
+    (λ c κs. search needs) (λ c. search needs)  -- run-at-requires, enum-known-p
     (λ c κs. search needs)  -- word-of-requires
     filter-by-requires
     (λ c. search needs)  -- enum-told

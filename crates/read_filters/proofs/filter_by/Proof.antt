@@ -25,10 +25,8 @@ pub filter-by-spec : {M : Type 1} → statement M
 filter-by-spec =
     tie.close
     (tie.spec
-    (λ c. search needs)  -- enum-known-word
-    (λ c. search needs)  -- enum-known-word-2
-    (λ c κs. search needs)  -- named-at-requires
-    (λ c. search needs)  -- enum-told
+    (λ c. search needs) (λ c. search needs)  -- enum-known-word, enum-known-word-2
+    (λ c κs. search needs) (λ c. search needs)  -- named-at-requires, enum-told
     returns
     returns-2
     returns-3)

@@ -32,14 +32,9 @@ pub is-groupable-spec : {M : Type 1} → statement M
 is-groupable-spec =
     tie.close
     (tie.spec
-    (λ c. search needs)  -- enum-told
-    (λ c. search needs)  -- enum-told-2
-    (λ c. search needs)  -- enum-told-3
-    (λ c. search needs)  -- enum-told-4
-    (λ c. search needs)  -- enum-told-5
-    (λ c. search needs)  -- enum-told-6
-    (λ c. search needs)  -- enum-told-7
-    (λ c. search needs)  -- enum-told-8
+    (λ c. search needs) (λ c. search needs) (λ c. search needs)  -- enum-told, enum-told-2, enum-told-3
+    (λ c. search needs) (λ c. search needs) (λ c. search needs)  -- enum-told-4, enum-told-5, enum-told-6
+    (λ c. search needs) (λ c. search needs)  -- enum-told-7, enum-told-8
     returns
     returns-2
     returns-3

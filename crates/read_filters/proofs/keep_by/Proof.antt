@@ -26,11 +26,8 @@ pub keep-by-spec : {M : Type 1} → statement M
 keep-by-spec =
     tie.close
     (tie.spec
-    (λ c. search needs)  -- enum-told
-    (λ c. search needs)  -- enum-told-2
-    (λ c κs. search needs)  -- keep-named-requires
-    (λ c. search needs)  -- enum-told-3
-    (λ c κs. search needs)  -- unread-requires
+    (λ c. search needs) (λ c. search needs) (λ c κs. search needs)  -- enum-told, enum-told-2, keep-named-requires
+    (λ c. search needs) (λ c κs. search needs)  -- enum-told-3, unread-requires
     returns
     returns-2
     returns-3)

@@ -45,9 +45,7 @@ pub keep-filter-spec : {M : Type 1} → statement M
 keep-filter-spec =
     tie.close
     (tie.spec
-    (λ c κs. search needs)  -- run-at-requires
-    (λ c. search needs)  -- enum-known-p
-    (λ c. search needs)  -- enum-told
+    (λ c κs. search needs) (λ c. search needs) (λ c. search needs)  -- run-at-requires, enum-known-p, enum-told
     (λ c κs. search needs)  -- unread-requires
     returns
     (λ c κs. search needs)  -- word-of-requires

@@ -38,8 +38,7 @@ pub keep-named-spec : {M : Type 1} → statement M
 keep-named-spec =
     tie.close
     (tie.spec
-    (λ c κs. search needs)  -- octet-at-requires
-    (λ c κs. search needs)  -- unread-requires
+    (λ c κs. search needs) (λ c κs. search needs)  -- octet-at-requires, unread-requires
     returns
     add-keep-names
     (λ c κs. search needs)  -- keep-names-requires

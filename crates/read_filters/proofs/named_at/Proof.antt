@@ -53,8 +53,6 @@ named-at-spec =
     (λ c κs. search needs)  -- octet-at-requires
     returns
     add-names-at
-    (λ c κs. search needs)  -- names-at-requires
-    (λ c. search needs)  -- enum-known-count
-    (λ c. search needs)  -- enum-told
+    (λ c κs. search needs) (λ c. search needs) (λ c. search needs)  -- names-at-requires, enum-known-count, enum-told
     returns-2
     returns-3)

@@ -357,28 +357,22 @@ pub +key-at+keys-at-spec : {M : Type 1} → statement M
 +key-at+keys-at-spec = close μ-key-at μ-keys-at (λ t. key-at-lts.spec (key-at-calls t)
     (key-at-at t)
     key-at.Post
-    (λ c κs. search needs)  -- key-at-begin-requires
-    (λ c. search needs)  -- key-at-enum-known-next
-    (λ c. search needs)  -- key-at-enum-known-p
-    (λ c. search needs)  -- key-at-add-key-at
+    (λ c κs. search needs) (λ c. search needs)  -- key-at-begin-requires, key-at-enum-known-next
+    (λ c. search needs) (λ c. search needs)  -- key-at-enum-known-p, key-at-add-key-at
     (key-at-key-at-requires t)
     (key-at-closed-requires t)
-    (λ c. search needs)  -- key-at-enum-known-p-2
-    (λ c. search needs)  -- key-at-add-key-at-2
+    (λ c. search needs) (λ c. search needs)  -- key-at-enum-known-p-2, key-at-add-key-at-2
     (key-at-key-at-requires-2 t)
-    (λ c. search needs)  -- key-at-enum-known-first
-    (λ c κs. search needs)  -- key-at-octet-at-requires
+    (λ c. search needs) (λ c κs. search needs)  -- key-at-enum-known-first, key-at-octet-at-requires
     (key-at-add-key-at-3 t)
     (key-at-key-at-requires-3 t)
     (key-at-joined-requires t)
     (key-at-closed-requires-2 t)
-    (λ c. search needs)  -- key-at-enum-told
-    (λ c. search needs)  -- key-at-enum-known-p-3
+    (λ c. search needs) (λ c. search needs)  -- key-at-enum-told, key-at-enum-known-p-3
     (λ c. search needs)  -- key-at-add-keys-at
     (key-at-keys-at-requires t)
     (key-at-closed-requires-3 t)
-    (λ c. search needs)  -- key-at-enum-told-2
-    (λ c. search needs)  -- key-at-same-length
+    (λ c. search needs) (λ c. search needs)  -- key-at-enum-told-2, key-at-same-length
     (key-at-returns t)
     (λ c. search needs)  -- key-at-same-length-2
     (key-at-returns-2 t)
@@ -395,16 +389,13 @@ pub +key-at+keys-at-spec : {M : Type 1} → statement M
     λ t. keys-at-lts.spec (keys-at-calls t)
     (keys-at-at t)
     keys-at.Post
-    (λ c κs. search needs)  -- keys-at-key-at-requires
-    (λ c. search needs)  -- keys-at-enum-known-first
+    (λ c κs. search needs) (λ c. search needs)  -- keys-at-key-at-requires, keys-at-enum-known-first
     (keys-at-next-at-requires t)
     (λ c. search needs)  -- keys-at-enum-known-p
     (keys-at-keys-at-requires t)
     (keys-at-joined-requires t)
-    (λ c. search needs)  -- keys-at-enum-known-p-2
-    (λ c κs. search needs)  -- keys-at-ended-requires
-    (λ c. search needs)  -- keys-at-enum-told
-    (λ c. search needs)  -- keys-at-enum-told-2
+    (λ c. search needs) (λ c κs. search needs)  -- keys-at-enum-known-p-2, keys-at-ended-requires
+    (λ c. search needs) (λ c. search needs)  -- keys-at-enum-told, keys-at-enum-told-2
     (λ c. search needs)  -- keys-at-same-length
     (keys-at-returns t)
     (λ c. search needs)  -- keys-at-same-length-2

@@ -50,7 +50,6 @@ closed-spec =
     store-two-requires
     add-t18
     add-t19
-    (λ c. search needs)  -- enum-told
-    (λ c. search needs)  -- same-length
+    (λ c. search needs) (λ c. search needs)  -- enum-told, same-length
     returns
     returns-2)

@@ -11,7 +11,6 @@ pub ended-spec : {M : Type 1} → statement M
 ended-spec =
     tie.close
     (tie.spec
-    (λ c. search needs)  -- enum-known-r
-    (λ c. search needs)  -- enum-told
+    (λ c. search needs) (λ c. search needs)  -- enum-known-r, enum-told
     returns
     (λ c. search needs))  -- returns-2

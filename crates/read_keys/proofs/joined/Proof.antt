@@ -25,14 +25,10 @@ pub joined-spec : {M : Type 1} → statement M
 joined-spec =
     tie.close
     (tie.spec
-    (λ c. search needs)  -- enum-known-a
-    (λ c. search needs)  -- enum-known-b
+    (λ c. search needs) (λ c. search needs)  -- enum-known-a, enum-known-b
     add-t15
-    (λ c κs. search needs)  -- higher-requires
-    (λ c κs. search needs)  -- either-of-requires
-    (λ c κs. search needs)  -- higher-requires-2
-    (λ c. search needs)  -- enum-told
-    (λ c. search needs)  -- enum-told-2
+    (λ c κs. search needs) (λ c κs. search needs)  -- higher-requires, either-of-requires
+    (λ c κs. search needs) (λ c. search needs) (λ c. search needs)  -- higher-requires-2, enum-told, enum-told-2
     returns
     returns-2
     (λ c. search needs))  -- returns-3

@@ -30,8 +30,7 @@ pub next-at-spec : {M : Type 1} → statement M
 next-at-spec =
     tie.close
     (tie.spec
-    (λ c κs. search needs)  -- octet-at-requires
-    (λ c. search needs)  -- add-t6
+    (λ c κs. search needs) (λ c. search needs)  -- octet-at-requires, add-t6
     returns
     (λ c κs. search needs)  -- over-at-requires
     returns-2)

@@ -34,9 +34,7 @@ pub over-at-spec : {M : Type 1} → statement M
 over-at-spec =
     tie.close
     (tie.spec
-    (λ c. search needs)  -- enum-told
-    (λ c κs. search needs)  -- octet-at-requires
-    (λ c. search needs)  -- add-t8
+    (λ c. search needs) (λ c κs. search needs) (λ c. search needs)  -- enum-told, octet-at-requires, add-t8
     (λ c. search needs)  -- enum-told-2
     returns
     returns-2

@@ -17,6 +17,5 @@ pub program-at-spec : {M : Type 1} → statement M
 program-at-spec =
     tie.close
     (tie.spec
-    (λ c κs. search needs)  -- keys-at-requires
-    (λ c. search needs)  -- same-length
+    (λ c κs. search needs) (λ c. search needs)  -- keys-at-requires, same-length
     returns)

@@ -124,8 +124,7 @@ pub +row-at-spec : {M : Type 1} → statement M
 +row-at-spec = close μ-row-at λ t. row-at-lts.spec (row-at-calls t)
     (row-at-at t)
     row-at.Post
-    (λ c κs. search needs)  -- row-at-option-at-requires
-    (λ c. search needs)  -- row-at-enum-known-o
+    (λ c κs. search needs) (λ c. search needs)  -- row-at-option-at-requires, row-at-enum-known-o
     (λ c κs. search needs)  -- row-at-octet-at-requires
     (row-at-add-row-at t)
     (row-at-row-at-requires t)

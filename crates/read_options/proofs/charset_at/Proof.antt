@@ -21,9 +21,7 @@ pub charset-at-spec : {M : Type 1} → statement M
 charset-at-spec =
     tie.close
     (tie.spec
-    (λ c κs. search needs)  -- text-at-requires
-    (λ c. search needs)  -- enum-known-end
-    (λ c κs. search needs)  -- is-known-requires
-    (λ c. search needs)  -- enum-told
+    (λ c κs. search needs) (λ c. search needs)  -- text-at-requires, enum-known-end
+    (λ c κs. search needs) (λ c. search needs)  -- is-known-requires, enum-told
     returns
     returns-2)

@@ -24,9 +24,7 @@ pub is-known-spec : {M : Type 1} → statement M
 is-known-spec =
     tie.close
     (tie.spec
-    (λ c. search needs)  -- slice-aggregate-value-of
-    (λ c κs. search needs)  -- value-of-requires
+    (λ c. search needs) (λ c κs. search needs)  -- slice-aggregate-value-of, value-of-requires
     returns
-    (λ c. search needs)  -- slice-aggregate-known-name
-    (λ c κs. search needs)  -- known-name-requires
+    (λ c. search needs) (λ c κs. search needs)  -- slice-aggregate-known-name, known-name-requires
     returns-2)

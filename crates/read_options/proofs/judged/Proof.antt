@@ -12,6 +12,5 @@ judged-spec =
     (tie.spec
     (λ c. search needs)  -- enum-known-r
     returns
-    (λ c. search needs)  -- enum-told
-    (λ c. search needs)  -- returns-2
+    (λ c. search needs) (λ c. search needs)  -- enum-told, returns-2
     (λ c. search needs))  -- returns-3

@@ -22,9 +22,7 @@ pub option-at-spec : {M : Type 1} → statement M
 option-at-spec =
     tie.close
     (tie.spec
-    (λ c κs. search needs)  -- run-at-requires
-    (λ c. search needs)  -- enum-known-end
-    (λ c κs. search needs)  -- option-of-requires
-    (λ c. search needs)  -- enum-told
+    (λ c κs. search needs) (λ c. search needs)  -- run-at-requires, enum-known-end
+    (λ c κs. search needs) (λ c. search needs)  -- option-of-requires, enum-told
     returns
     returns-2)

@@ -53,16 +53,12 @@ pub option-of-spec : {M : Type 1} → statement M
 option-of-spec =
     tie.close
     (tie.spec
-    (λ c. search needs)  -- slice-aggregate-is-word
-    (λ c κs. search needs)  -- is-word-requires
+    (λ c. search needs) (λ c κs. search needs)  -- slice-aggregate-is-word, is-word-requires
     returns
-    (λ c. search needs)  -- slice-aggregate-is-word-2
-    (λ c κs. search needs)  -- is-word-requires-2
+    (λ c. search needs) (λ c κs. search needs)  -- slice-aggregate-is-word-2, is-word-requires-2
     returns-2
-    (λ c. search needs)  -- slice-aggregate-is-word-3
-    (λ c κs. search needs)  -- is-word-requires-3
+    (λ c. search needs) (λ c κs. search needs)  -- slice-aggregate-is-word-3, is-word-requires-3
     returns-3
-    (λ c. search needs)  -- slice-aggregate-is-word-4
-    (λ c κs. search needs)  -- is-word-requires-4
+    (λ c. search needs) (λ c κs. search needs)  -- slice-aggregate-is-word-4, is-word-requires-4
     returns-4
     returns-5)

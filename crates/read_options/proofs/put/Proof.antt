@@ -10,8 +10,6 @@ pub put-spec : {M : Type 1} → statement M
 put-spec =
     tie.close
     (tie.spec
-    (λ c. search needs)  -- enum-known-r
-    (λ c κs. search needs)  -- with-requires
-    (λ c. search needs)  -- enum-told
+    (λ c. search needs) (λ c κs. search needs) (λ c. search needs)  -- enum-known-r, with-requires, enum-told
     returns
     (λ c. search needs))  -- returns-2

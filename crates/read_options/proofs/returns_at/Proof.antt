@@ -71,6 +71,5 @@ returns-at-spec =
     add-t7
     returns-2
     add-row-at
-    (λ c κs. search needs)  -- row-at-requires
-    (λ c κs. search needs)  -- judged-requires
+    (λ c κs. search needs) (λ c κs. search needs)  -- row-at-requires, judged-requires
     returns-3)

@@ -21,9 +21,7 @@ pub verb-at-spec : {M : Type 1} → statement M
 verb-at-spec =
     tie.close
     (tie.spec
-    (λ c κs. search needs)  -- run-at-requires
-    (λ c. search needs)  -- enum-known-end
-    (λ c κs. search needs)  -- verb-of-requires
-    (λ c. search needs)  -- enum-told
+    (λ c κs. search needs) (λ c. search needs)  -- run-at-requires, enum-known-end
+    (λ c κs. search needs) (λ c. search needs)  -- verb-of-requires, enum-told
     returns
     returns-2)

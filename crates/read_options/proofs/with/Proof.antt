@@ -19,13 +19,9 @@ pub with-spec : {M : Type 1} → statement M
 with-spec =
     tie.close
     (tie.spec
-    (λ c. search needs)  -- enum-told
-    (λ c κs. search needs)  -- still-requires
-    (λ c. search needs)  -- enum-told-2
-    (λ c κs. search needs)  -- still-requires-2
-    (λ c. search needs)  -- enum-told-3
-    (λ c κs. search needs)  -- still-requires-3
-    (λ c. search needs)  -- enum-told-4
+    (λ c. search needs) (λ c κs. search needs) (λ c. search needs)  -- enum-told, still-requires, enum-told-2
+    (λ c κs. search needs) (λ c. search needs)  -- still-requires-2, enum-told-3
+    (λ c κs. search needs) (λ c. search needs)  -- still-requires-3, enum-told-4
     (λ c κs. search needs)  -- still-requires-4
     returns
     returns-2

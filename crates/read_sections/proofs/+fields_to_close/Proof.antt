@@ -128,8 +128,7 @@ pub +fields-to-close-spec : {M : Type 1} → statement M
 +fields-to-close-spec = close μ-fields-to-close λ t. fields-to-close-lts.spec (fields-to-close-calls t)
     (fields-to-close-at t)
     fields-to-close.Post
-    (λ c κs. search needs)  -- fields-to-close-text-at-requires
-    (λ c. search needs)  -- fields-to-close-enum-known-next
+    (λ c κs. search needs) (λ c. search needs)  -- fields-to-close-text-at-requires, fields-to-close-enum-known-next
     (λ c κs. search needs)  -- fields-to-close-octet-at-requires
     (fields-to-close-add-fields-to-close t)
     (fields-to-close-fields-to-close-requires t)

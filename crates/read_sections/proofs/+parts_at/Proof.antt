@@ -121,13 +121,11 @@ pub +parts-at-spec : {M : Type 1} → statement M
 +parts-at-spec = close μ-parts-at λ t. parts-at-lts.spec (parts-at-calls t)
     (parts-at-at t)
     parts-at.Post
-    (λ c κs. search needs)  -- parts-at-positive-at-requires
-    (λ c. search needs)  -- parts-at-enum-known-next
+    (λ c κs. search needs) (λ c. search needs)  -- parts-at-positive-at-requires, parts-at-enum-known-next
     (λ c κs. search needs)  -- parts-at-octet-at-requires
     (parts-at-returns t)
     (parts-at-add-part t)
-    (λ c κs. search needs)  -- parts-at-octet-at-requires-2
-    (λ c κs. search needs)  -- parts-at-in-class-requires
+    (λ c κs. search needs) (λ c κs. search needs)  -- parts-at-octet-at-requires-2, parts-at-in-class-requires
     (parts-at-parts-at-requires t)
     (λ c. search needs)  -- parts-at-enum-told
     (parts-at-returns-2 t)

@@ -51,7 +51,6 @@ close-at-spec =
     (λ c κs. search needs)  -- octet-at-requires
     returns
     add-next
-    (λ c κs. search needs)  -- octet-at-requires-2
-    (λ c κs. search needs)  -- partial-at-requires
+    (λ c κs. search needs) (λ c κs. search needs)  -- octet-at-requires-2, partial-at-requires
     returns-2
     returns-3)

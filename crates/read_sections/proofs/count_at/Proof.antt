@@ -69,8 +69,7 @@ count-at-spec =
     (λ c κs. search needs)  -- octet-at-requires
     returns
     add-positive-at
-    (λ c κs. search needs)  -- positive-at-requires
-    (λ c. search needs)  -- enum-known-next
+    (λ c κs. search needs) (λ c. search needs)  -- positive-at-requires, enum-known-next
     (λ c κs. search needs)  -- octet-at-requires-2
     add-t12
     (λ c. search needs)  -- enum-told

@@ -46,9 +46,7 @@ partial-at-spec =
     (λ c κs. search needs)  -- octet-at-requires
     returns
     add-number-at
-    (λ c κs. search needs)  -- number-at-requires
-    (λ c. search needs)  -- enum-known-next
-    (λ c κs. search needs)  -- count-at-requires
-    (λ c. search needs)  -- enum-told
+    (λ c κs. search needs) (λ c. search needs)  -- number-at-requires, enum-known-next
+    (λ c κs. search needs) (λ c. search needs)  -- count-at-requires, enum-told
     returns-2
     returns-3)

@@ -52,9 +52,7 @@ section-at-spec =
     (λ c κs. search needs)  -- octet-at-requires
     returns
     add-section-spec-at
-    (λ c κs. search needs)  -- section-spec-at-requires
-    (λ c. search needs)  -- enum-known-next
-    (λ c κs. search needs)  -- close-at-requires
-    (λ c. search needs)  -- enum-told
+    (λ c κs. search needs) (λ c. search needs)  -- section-spec-at-requires, enum-known-next
+    (λ c κs. search needs) (λ c. search needs)  -- close-at-requires, enum-told
     returns-2
     returns-3)

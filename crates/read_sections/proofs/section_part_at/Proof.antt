@@ -52,12 +52,10 @@ pub section-part-at-spec : {M : Type 1} → statement M
 section-part-at-spec =
     tie.close
     (tie.spec
-    (λ c κs. search needs)  -- parts-at-requires
-    (λ c. search needs)  -- enum-known-next
+    (λ c κs. search needs) (λ c. search needs)  -- parts-at-requires, enum-known-next
     (λ c κs. search needs)  -- octet-at-requires
     add-section-text-at
-    (λ c κs. search needs)  -- section-text-at-requires
-    (λ c. search needs)  -- enum-told
+    (λ c κs. search needs) (λ c. search needs)  -- section-text-at-requires, enum-told
     returns
     returns-2
     returns-3)

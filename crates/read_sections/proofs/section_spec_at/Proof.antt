@@ -49,8 +49,7 @@ section-spec-at-spec =
     (tie.spec
     (λ c κs. search needs)  -- octet-at-requires
     returns
-    (λ c κs. search needs)  -- in-class-requires
-    (λ c κs. search needs)  -- section-part-at-requires
+    (λ c κs. search needs) (λ c κs. search needs)  -- in-class-requires, section-part-at-requires
     (λ c κs. search needs)  -- section-text-at-requires
     returns-2
     returns-3)

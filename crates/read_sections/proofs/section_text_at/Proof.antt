@@ -87,14 +87,9 @@ pub section-text-at-spec : {M : Type 1} → statement M
 section-text-at-spec =
     tie.close
     (tie.spec
-    (λ c κs. search needs)  -- run-at-requires
-    (λ c. search needs)  -- enum-known-end
-    (λ c κs. search needs)  -- section-word-requires
-    (λ c. search needs)  -- enum-told
-    (λ c. search needs)  -- enum-told-2
-    (λ c κs. search needs)  -- fields-at-requires
-    (λ c. search needs)  -- enum-told-3
-    (λ c. search needs)  -- enum-told-4
+    (λ c κs. search needs) (λ c. search needs)  -- run-at-requires, enum-known-end
+    (λ c κs. search needs) (λ c. search needs) (λ c. search needs)  -- section-word-requires, enum-told, enum-told-2
+    (λ c κs. search needs) (λ c. search needs) (λ c. search needs)  -- fields-at-requires, enum-told-3, enum-told-4
     (λ c. search needs)  -- enum-told-5
     returns
     returns-2

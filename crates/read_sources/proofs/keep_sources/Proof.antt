@@ -25,11 +25,9 @@ pub keep-sources-spec : {M : Type 1} → statement M
 keep-sources-spec =
     tie.close
     (tie.spec
-    (λ c. search needs)  -- slice-aggregate-word-at
-    (λ c κs. search needs)  -- word-at-requires
+    (λ c. search needs) (λ c κs. search needs)  -- slice-aggregate-word-at, word-at-requires
     (λ c κs. search needs)  -- list-by-requires
     returns
-    (λ c κs. search needs)  -- nothing-listed-requires
-    (λ c κs. search needs)  -- keep-nothing-requires
+    (λ c κs. search needs) (λ c κs. search needs)  -- nothing-listed-requires, keep-nothing-requires
     put-listed-requires
     returns-2)

@@ -40,8 +40,7 @@ pub list-at-spec : {M : Type 1} → statement M
 list-at-spec =
     tie.close
     (tie.spec
-    (λ c κs. search needs)  -- octet-at-requires
-    (λ c κs. search needs)  -- unlisted-requires
+    (λ c κs. search needs) (λ c κs. search needs)  -- octet-at-requires, unlisted-requires
     returns
     add-list-row
     (λ c κs. search needs)  -- nothing-listed-requires

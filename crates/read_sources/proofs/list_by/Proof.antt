@@ -46,15 +46,11 @@ pub list-by-spec : {M : Type 1} → statement M
 list-by-spec =
     tie.close
     (tie.spec
-    (λ c κs. search needs)  -- behind-word-requires
-    (λ c. search needs)  -- enum-known-q
-    (λ c. search needs)  -- enum-told
+    (λ c κs. search needs) (λ c. search needs) (λ c. search needs)  -- behind-word-requires, enum-known-q, enum-told
     (λ c κs. search needs)  -- unlisted-requires
     returns
-    (λ c κs. search needs)  -- list-at-requires
-    (λ c κs. search needs)  -- behind-space-requires
-    (λ c. search needs)  -- enum-known-next
-    (λ c. search needs)  -- enum-told-2
+    (λ c κs. search needs) (λ c κs. search needs)  -- list-at-requires, behind-space-requires
+    (λ c. search needs) (λ c. search needs)  -- enum-known-next, enum-told-2
     (λ c κs. search needs)  -- unlisted-requires-2
     returns-2
     returns-3

@@ -14,7 +14,6 @@ pub list-one-spec : {M : Type 1} → statement M
 list-one-spec =
     tie.close
     (tie.spec
-    (λ c κs. search needs)  -- scope-number-requires
-    (λ c κs. search needs)  -- keep-filter-requires
+    (λ c κs. search needs) (λ c κs. search needs)  -- scope-number-requires, keep-filter-requires
     (λ c κs. search needs)  -- put-listed-requires
     returns)

@@ -101,9 +101,7 @@ list-row-spec =
     Inv-loop
     μ-loop
     loop-holds
-    (λ c κs. search needs)  -- filter-at-requires
-    (λ c. search needs)  -- enum-known-scope
-    (λ c. search needs)  -- enum-told
+    (λ c κs. search needs) (λ c. search needs) (λ c. search needs)  -- filter-at-requires, enum-known-scope, enum-told
     (λ c κs. search needs)  -- unlisted-requires
     returns
     list-one-requires

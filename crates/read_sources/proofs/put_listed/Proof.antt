@@ -15,9 +15,6 @@ pub put-listed-spec : {M : Type 1} → statement M
 put-listed-spec =
     tie.close
     (tie.spec
-    (λ c. search needs)  -- mul-sources
-    (λ c. search needs)  -- array-set-from-sources
-    (λ c. search needs)  -- add-t11
-    (λ c. search needs)  -- returns
-    (λ c. search needs)  -- add-t13
+    (λ c. search needs) (λ c. search needs) (λ c. search needs)  -- mul-sources, array-set-from-sources, add-t11
+    (λ c. search needs) (λ c. search needs)  -- returns, add-t13
     returns-2)

@@ -112,18 +112,14 @@ begin-spec =
     (λ c κs. search needs)  -- octet-at-requires
     add-t9
     returns
-    (λ c κs. search needs)  -- put-set-requires
-    (λ c. search needs)  -- same-length
+    (λ c κs. search needs) (λ c. search needs)  -- put-set-requires, same-length
     returns-2
-    (λ c κs. search needs)  -- in-class-requires
-    (λ c κs. search needs)  -- put-set-requires-2
+    (λ c κs. search needs) (λ c κs. search needs)  -- in-class-requires, put-set-requires-2
     (λ c. search needs)  -- same-length-2
     returns-3
-    (λ c κs. search needs)  -- run-at-requires
-    (λ c. search needs)  -- enum-known-p
+    (λ c κs. search needs) (λ c. search needs)  -- run-at-requires, enum-known-p
     (λ c κs. search needs)  -- key-word-requires
     begin-by-requires
-    (λ c. search needs)  -- enum-told
-    (λ c. search needs)  -- same-length-3
+    (λ c. search needs) (λ c. search needs)  -- enum-told, same-length-3
     returns-4
     returns-5)

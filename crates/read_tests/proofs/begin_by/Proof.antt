@@ -175,31 +175,17 @@ pub begin-by-spec : {M : Type 1} → statement M
 begin-by-spec =
     tie.close
     (tie.spec
-    (λ c. search needs)  -- enum-told
-    (λ c κs. search needs)  -- put-all-requires
-    (λ c. search needs)  -- enum-known-word
-    (λ c κs. search needs)  -- put-flag-requires
-    (λ c. search needs)  -- enum-told-2
-    (λ c κs. search needs)  -- size-behind-requires
-    (λ c κs. search needs)  -- put-size-requires
-    (λ c. search needs)  -- enum-told-3
-    (λ c κs. search needs)  -- size-behind-requires-2
-    (λ c κs. search needs)  -- put-size-requires-2
-    (λ c. search needs)  -- enum-told-4
-    (λ c κs. search needs)  -- octet-at-requires
-    (λ c. search needs)  -- add-put-set
-    (λ c κs. search needs)  -- put-set-requires
-    (λ c. search needs)  -- enum-known-word-2
-    (λ c κs. search needs)  -- argument-at-requires
-    (λ c κs. search needs)  -- put-unsupported-requires
-    (λ c. search needs)  -- enum-told-5
-    (λ c κs. search needs)  -- octet-at-requires-2
-    (λ c. search needs)  -- add-t32
-    (λ c. search needs)  -- enum-told-6
-    (λ c κs. search needs)  -- octet-at-requires-3
-    (λ c. search needs)  -- add-t36
-    (λ c. search needs)  -- enum-told-7
-    (λ c. search needs)  -- same-length
+    (λ c. search needs) (λ c κs. search needs) (λ c. search needs)  -- enum-told, put-all-requires, enum-known-word
+    (λ c κs. search needs) (λ c. search needs)  -- put-flag-requires, enum-told-2
+    (λ c κs. search needs) (λ c κs. search needs)  -- size-behind-requires, put-size-requires
+    (λ c. search needs) (λ c κs. search needs)  -- enum-told-3, size-behind-requires-2
+    (λ c κs. search needs) (λ c. search needs)  -- put-size-requires-2, enum-told-4
+    (λ c κs. search needs) (λ c. search needs)  -- octet-at-requires, add-put-set
+    (λ c κs. search needs) (λ c. search needs)  -- put-set-requires, enum-known-word-2
+    (λ c κs. search needs) (λ c κs. search needs)  -- argument-at-requires, put-unsupported-requires
+    (λ c. search needs) (λ c κs. search needs) (λ c. search needs)  -- enum-told-5, octet-at-requires-2, add-t32
+    (λ c. search needs) (λ c κs. search needs) (λ c. search needs)  -- enum-told-6, octet-at-requires-3, add-t36
+    (λ c. search needs) (λ c. search needs)  -- enum-told-7, same-length
     returns
     (λ c. search needs)  -- same-length-2
     returns-2

@@ -18,10 +18,7 @@ pub put-flag-spec : {M : Type 1} → statement M
 put-flag-spec =
     tie.close
     (tie.spec
-    (λ c κs. search needs)  -- store-requires
-    (λ c κs. search needs)  -- flag-number-requires
-    (λ c. search needs)  -- add-store-two
-    (λ c κs. search needs)  -- store-two-requires
-    (λ c. search needs)  -- add-t12
+    (λ c κs. search needs) (λ c κs. search needs)  -- store-requires, flag-number-requires
+    (λ c. search needs) (λ c κs. search needs) (λ c. search needs)  -- add-store-two, store-two-requires, add-t12
     (λ c. search needs)  -- same-length
     returns)

@@ -52,15 +52,11 @@ pub put-set-spec : {M : Type 1} → statement M
 put-set-spec =
     tie.close
     (tie.spec
-    (λ c. search needs)  -- add-set-at
-    (λ c κs. search needs)  -- set-at-requires
-    (λ c. search needs)  -- enum-known-parts
-    (λ c κs. search needs)  -- store-two-requires
-    (λ c. search needs)  -- add-t16
+    (λ c. search needs) (λ c κs. search needs) (λ c. search needs)  -- add-set-at, set-at-requires, enum-known-parts
+    (λ c κs. search needs) (λ c. search needs)  -- store-two-requires, add-t16
     mul-t18
     add-t19
-    (λ c. search needs)  -- enum-told
-    (λ c. search needs)  -- same-length
+    (λ c. search needs) (λ c. search needs)  -- enum-told, same-length
     returns
     (λ c. search needs)  -- same-length-2
     returns-2)

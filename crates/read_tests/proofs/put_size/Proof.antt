@@ -16,10 +16,7 @@ pub put-size-spec : {M : Type 1} → statement M
 put-size-spec =
     tie.close
     (tie.spec
-    (λ c. search needs)  -- enum-known-x
-    (λ c κs. search needs)  -- store-two-requires
-    (λ c. search needs)  -- add-t11
-    (λ c. search needs)  -- enum-told
-    (λ c. search needs)  -- same-length
+    (λ c. search needs) (λ c κs. search needs) (λ c. search needs)  -- enum-known-x, store-two-requires, add-t11
+    (λ c. search needs) (λ c. search needs)  -- enum-told, same-length
     returns
     returns-2)

@@ -16,10 +16,7 @@ pub put-unsupported-spec : {M : Type 1} → statement M
 put-unsupported-spec =
     tie.close
     (tie.spec
-    (λ c. search needs)  -- enum-known-x
-    (λ c κs. search needs)  -- store-requires
-    (λ c. search needs)  -- add-t9
-    (λ c. search needs)  -- enum-told
-    (λ c. search needs)  -- same-length
+    (λ c. search needs) (λ c κs. search needs) (λ c. search needs)  -- enum-known-x, store-requires, add-t9
+    (λ c. search needs) (λ c. search needs)  -- enum-told, same-length
     returns
     returns-2)

@@ -71,18 +71,11 @@ pub argument-at-spec : {M : Type 1} → statement M
 argument-at-spec =
     tie.close
     (tie.spec
-    (λ c. search needs)  -- enum-told
-    (λ c. search needs)  -- enum-told-2
-    (λ c κs. search needs)  -- text-behind-requires
-    (λ c. search needs)  -- enum-told-3
-    (λ c κs. search needs)  -- atom-behind-requires
-    (λ c. search needs)  -- enum-told-4
-    (λ c κs. search needs)  -- date-behind-requires
-    (λ c. search needs)  -- enum-told-5
-    (λ c κs. search needs)  -- text-behind-requires-2
-    (λ c. search needs)  -- enum-known-p
-    (λ c κs. search needs)  -- text-behind-requires-3
-    (λ c. search needs)  -- enum-told-6
+    (λ c. search needs) (λ c. search needs) (λ c κs. search needs)  -- enum-told, enum-told-2, text-behind-requires
+    (λ c. search needs) (λ c κs. search needs) (λ c. search needs)  -- enum-told-3, atom-behind-requires, enum-told-4
+    (λ c κs. search needs) (λ c. search needs)  -- date-behind-requires, enum-told-5
+    (λ c κs. search needs) (λ c. search needs)  -- text-behind-requires-2, enum-known-p
+    (λ c κs. search needs) (λ c. search needs)  -- text-behind-requires-3, enum-told-6
     returns
     returns-2
     returns-3

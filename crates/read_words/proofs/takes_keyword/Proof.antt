@@ -18,10 +18,8 @@ pub takes-keyword-spec : {M : Type 1} → statement M
 takes-keyword-spec =
     tie.close
     (tie.spec
-    (λ c. search needs)  -- slice-aggregate-is-word
-    (λ c κs. search needs)  -- is-word-requires
+    (λ c. search needs) (λ c κs. search needs)  -- slice-aggregate-is-word, is-word-requires
     returns
-    (λ c. search needs)  -- slice-aggregate-is-word-2
-    (λ c κs. search needs)  -- is-word-requires-2
+    (λ c. search needs) (λ c κs. search needs)  -- slice-aggregate-is-word-2, is-word-requires-2
     returns-2
     returns-3)

@@ -66,7 +66,6 @@ unsupported-word-spec =
     returns-3
     (λ c κs. search needs)  -- takes-date-requires
     returns-4
-    (λ c. search needs)  -- slice-aggregate-is-word
-    (λ c κs. search needs)  -- is-word-requires
+    (λ c. search needs) (λ c κs. search needs)  -- slice-aggregate-is-word, is-word-requires
     returns-5
     returns-6)

@@ -41,13 +41,10 @@ pub answer-spec : {M : Type 1} → statement M
 answer-spec =
     tie.close
     (tie.spec
-    (λ c κs. search needs)  -- head-requires
-    (λ c. search needs)  -- enum-known-verb
-    (λ c κs. search needs)  -- answer-by-requires
-    (λ c. search needs)  -- enum-told
+    (λ c κs. search needs) (λ c. search needs)  -- head-requires, enum-known-verb
+    (λ c κs. search needs) (λ c. search needs)  -- answer-by-requires, enum-told
     refuse-requires
-    (λ c. search needs)  -- same-length
-    (λ c. search needs)  -- same-length-2
+    (λ c. search needs) (λ c. search needs)  -- same-length, same-length-2
     returns
     (λ c. search needs)  -- same-length-3
     returns-2)

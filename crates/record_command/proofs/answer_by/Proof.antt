@@ -49,17 +49,12 @@ pub answer-by-spec : {M : Type 1} → statement M
 answer-by-spec =
     tie.close
     (tie.spec
-    (λ c. search needs)  -- enum-told
-    (λ c κs. search needs)  -- notify-requires
-    (λ c. search needs)  -- enum-told-2
-    (λ c κs. search needs)  -- search-requires
-    (λ c. search needs)  -- enum-told-3
+    (λ c. search needs) (λ c κs. search needs) (λ c. search needs)  -- enum-told, notify-requires, enum-told-2
+    (λ c κs. search needs) (λ c. search needs)  -- search-requires, enum-told-3
     refuse-requires
-    (λ c. search needs)  -- same-length
-    (λ c. search needs)  -- same-length-2
+    (λ c. search needs) (λ c. search needs)  -- same-length, same-length-2
     returns
-    (λ c. search needs)  -- same-length-3
-    (λ c. search needs)  -- same-length-4
+    (λ c. search needs) (λ c. search needs)  -- same-length-3, same-length-4
     returns-2
     (λ c. search needs)  -- same-length-5
     returns-3)

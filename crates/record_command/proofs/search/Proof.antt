@@ -59,13 +59,10 @@ pub search-spec : {M : Type 1} → statement M
 search-spec =
     tie.close
     (tie.spec
-    (λ c κs. search needs)  -- limits-requires
-    (λ c. search needs)  -- slice-aggregate-judge-search
-    (λ c κs. search needs)  -- judge-search-requires
-    (λ c κs. search needs)  -- is-accepted-requires
+    (λ c κs. search needs) (λ c. search needs)  -- limits-requires, slice-aggregate-judge-search
+    (λ c κs. search needs) (λ c κs. search needs)  -- judge-search-requires, is-accepted-requires
     refuse-requires
     (λ c. search needs)  -- same-length
     returns
-    (λ c κs. search needs)  -- answer-requires
-    (λ c. search needs)  -- same-length-2
+    (λ c κs. search needs) (λ c. search needs)  -- answer-requires, same-length-2
     returns-2)

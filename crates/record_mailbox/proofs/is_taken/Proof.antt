@@ -25,6 +25,5 @@ pub is-taken-spec : {M : Type 1} → statement M
 is-taken-spec =
     tie.close
     (tie.spec
-    (λ c κs. search needs)  -- stored-requires
-    (λ c κs. search needs)  -- is-kept-requires
+    (λ c κs. search needs) (λ c κs. search needs)  -- stored-requires, is-kept-requires
     returns)

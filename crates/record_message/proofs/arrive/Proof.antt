@@ -64,17 +64,13 @@ arrive-spec =
     (tie.spec
     (λ c κs. search needs)  -- refused-requires
     returns
-    (λ c. search needs)  -- cast-if2
-    (λ c κs. search needs)  -- refused-requires-2
+    (λ c. search needs) (λ c κs. search needs)  -- cast-if2, refused-requires-2
     returns-2
-    (λ c κs. search needs)  -- is-stale-requires
-    (λ c κs. search needs)  -- refused-requires-3
+    (λ c κs. search needs) (λ c κs. search needs)  -- is-stale-requires, refused-requires-3
     returns-3
     (λ c κs. search needs)  -- refused-requires-4
     returns-4
     (λ c κs. search needs)  -- with-counter-requires
     receive-requires
-    (λ c κs. search needs)  -- put-requires
-    (λ c. search needs)  -- same-length
-    (λ c. search needs)  -- same-length-2
+    (λ c κs. search needs) (λ c. search needs) (λ c. search needs)  -- put-requires, same-length, same-length-2
     returns-5)

@@ -61,16 +61,12 @@ expunge-spec =
     (tie.spec
     (λ c κs. search needs)  -- refused-requires
     returns
-    (λ c κs. search needs)  -- is-stale-requires
-    (λ c κs. search needs)  -- refused-requires-2
+    (λ c κs. search needs) (λ c κs. search needs)  -- is-stale-requires, refused-requires-2
     returns-2
     find-requires
-    (λ c κs. search needs)  -- refused-requires-3
-    (λ c. search needs)  -- same-length
+    (λ c κs. search needs) (λ c. search needs)  -- refused-requires-3, same-length
     returns-3
     (λ c κs. search needs)  -- with-counter-requires
     expunge-requires
-    (λ c κs. search needs)  -- put-left-requires
-    (λ c. search needs)  -- same-length-2
-    (λ c. search needs)  -- same-length-3
+    (λ c κs. search needs) (λ c. search needs) (λ c. search needs)  -- put-left-requires, same-length-2, same-length-3
     returns-4)

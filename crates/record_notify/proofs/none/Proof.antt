@@ -41,11 +41,8 @@ none-spec =
     tie.close
     (tie.spec
     say-reply-requires
-    (λ c κs. search needs)  -- ending-at-requires
-    (λ c κs. search needs)  -- watched-requires
-    (λ c κs. search needs)  -- unmoved-requires
-    (λ c. search needs)  -- same-length
+    (λ c κs. search needs) (λ c κs. search needs)  -- ending-at-requires, watched-requires
+    (λ c κs. search needs) (λ c. search needs)  -- unmoved-requires, same-length
     returns
-    (λ c κs. search needs)  -- refused-requires
-    (λ c. search needs)  -- same-length-2
+    (λ c κs. search needs) (λ c. search needs)  -- refused-requires, same-length-2
     returns-2)

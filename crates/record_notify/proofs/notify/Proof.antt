@@ -97,23 +97,16 @@ pub notify-spec : {M : Type 1} → statement M
 notify-spec =
     tie.close
     (tie.spec
-    (λ c κs. search needs)  -- keep-notify-requires
-    (λ c κs. search needs)  -- limits-requires
-    (λ c κs. search needs)  -- notify-reply-requires
-    (λ c κs. search needs)  -- is-accepted-requires
+    (λ c κs. search needs) (λ c κs. search needs)  -- keep-notify-requires, limits-requires
+    (λ c κs. search needs) (λ c κs. search needs)  -- notify-reply-requires, is-accepted-requires
     refuse-requires
     (λ c. search needs)  -- same-length
     returns
-    (λ c. search needs)  -- enum-told
-    (λ c κs. search needs)  -- none-requires
-    (λ c. search needs)  -- enum-known-read
+    (λ c. search needs) (λ c κs. search needs) (λ c. search needs)  -- enum-told, none-requires, enum-known-read
     (λ c κs. search needs)  -- settled-requires
     set-requires
-    (λ c. search needs)  -- enum-told-2
-    (λ c κs. search needs)  -- refused-requires
-    (λ c. search needs)  -- same-length-2
+    (λ c. search needs) (λ c κs. search needs) (λ c. search needs)  -- enum-told-2, refused-requires, same-length-2
     returns-2
-    (λ c. search needs)  -- same-length-3
-    (λ c. search needs)  -- same-length-4
+    (λ c. search needs) (λ c. search needs)  -- same-length-3, same-length-4
     returns-3
     returns-4)

@@ -29,8 +29,7 @@ pub about-spec : {M : Type 1} → statement M
 about-spec =
     tie.close
     (tie.spec
-    (λ c κs. search needs)  -- kind-of-requires
-    (λ c κs. search needs)  -- starts-with-id-requires
+    (λ c κs. search needs) (λ c κs. search needs)  -- kind-of-requires, starts-with-id-requires
     returns
     returns-2
     (λ c κs. search needs)  -- little-requires

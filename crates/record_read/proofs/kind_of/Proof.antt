@@ -19,11 +19,8 @@ pub kind-of-spec : {M : Type 1} → statement M
 kind-of-spec =
     tie.close
     (tie.spec
-    (λ c κs. search needs)  -- later-kind-requires
-    (λ c κs. search needs)  -- by-mark-requires
-    (λ c κs. search needs)  -- by-mark-requires-2
-    (λ c κs. search needs)  -- by-mark-requires-3
-    (λ c κs. search needs)  -- by-mark-requires-4
-    (λ c κs. search needs)  -- by-mark-requires-5
+    (λ c κs. search needs) (λ c κs. search needs)  -- later-kind-requires, by-mark-requires
+    (λ c κs. search needs) (λ c κs. search needs)  -- by-mark-requires-2, by-mark-requires-3
+    (λ c κs. search needs) (λ c κs. search needs)  -- by-mark-requires-4, by-mark-requires-5
     (λ c κs. search needs)  -- by-mark-requires-6
     returns)

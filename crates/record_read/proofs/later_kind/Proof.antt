@@ -18,10 +18,7 @@ pub later-kind-spec : {M : Type 1} → statement M
 later-kind-spec =
     tie.close
     (tie.spec
-    (λ c κs. search needs)  -- by-mark-requires
-    (λ c κs. search needs)  -- by-mark-requires-2
-    (λ c κs. search needs)  -- by-mark-requires-3
-    (λ c κs. search needs)  -- by-mark-requires-4
-    (λ c κs. search needs)  -- by-mark-requires-5
-    (λ c κs. search needs)  -- by-mark-requires-6
+    (λ c κs. search needs) (λ c κs. search needs)  -- by-mark-requires, by-mark-requires-2
+    (λ c κs. search needs) (λ c κs. search needs)  -- by-mark-requires-3, by-mark-requires-4
+    (λ c κs. search needs) (λ c κs. search needs)  -- by-mark-requires-5, by-mark-requires-6
     returns)

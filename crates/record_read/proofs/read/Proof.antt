@@ -20,11 +20,8 @@ pub read-spec : {M : Type 1} → statement M
 read-spec =
     tie.close
     (tie.spec
-    (λ c κs. search needs)  -- kind-of-requires
-    (λ c κs. search needs)  -- layout-of-requires
+    (λ c κs. search needs) (λ c κs. search needs)  -- kind-of-requires, layout-of-requires
     fields-at-requires
-    (λ c κs. search needs)  -- is-known-requires
-    (λ c κs. search needs)  -- both-requires
-    (λ c κs. search needs)  -- is-whole-requires
-    (λ c κs. search needs)  -- both-requires-2
+    (λ c κs. search needs) (λ c κs. search needs)  -- is-known-requires, both-requires
+    (λ c κs. search needs) (λ c κs. search needs)  -- is-whole-requires, both-requires-2
     returns)

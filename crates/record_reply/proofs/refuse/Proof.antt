@@ -29,11 +29,8 @@ pub refuse-spec : {M : Type 1} → statement M
 refuse-spec =
     tie.close
     (tie.spec
-    (λ c κs. search needs)  -- say-reply-requires
-    (λ c κs. search needs)  -- ending-at-requires
-    (λ c κs. search needs)  -- unmoved-requires
-    (λ c. search needs)  -- same-length
+    (λ c κs. search needs) (λ c κs. search needs)  -- say-reply-requires, ending-at-requires
+    (λ c κs. search needs) (λ c. search needs)  -- unmoved-requires, same-length
     returns
-    (λ c κs. search needs)  -- refused-requires
-    (λ c. search needs)  -- same-length-2
+    (λ c κs. search needs) (λ c. search needs)  -- refused-requires, same-length-2
     returns-2)

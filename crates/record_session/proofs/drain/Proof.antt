@@ -18,7 +18,6 @@ drain-spec =
     (tie.spec
     (λ c κs. search needs)  -- refused-requires
     returns
-    (λ c κs. search needs)  -- drain-requires
-    (λ c κs. search needs)  -- unmoved-requires
+    (λ c κs. search needs) (λ c κs. search needs)  -- drain-requires, unmoved-requires
     (λ c. search needs)  -- same-length
     returns-2)

@@ -36,16 +36,12 @@ pub end-command-spec : {M : Type 1} → statement M
 end-command-spec =
     tie.close
     (tie.spec
-    (λ c. search needs)  -- cast-is-owed
-    (λ c. search needs)  -- cast-t16
+    (λ c. search needs) (λ c. search needs)  -- cast-is-owed, cast-t16
     is-owed-requires
-    (λ c κs. search needs)  -- unmoved-requires
-    (λ c. search needs)  -- same-length
+    (λ c κs. search needs) (λ c. search needs)  -- unmoved-requires, same-length
     returns
-    (λ c κs. search needs)  -- both-requires
-    (λ c. search needs)  -- slice-aggregate-end-command
+    (λ c κs. search needs) (λ c. search needs)  -- both-requires, slice-aggregate-end-command
     end-command-requires
-    (λ c κs. search needs)  -- unmoved-requires-2
-    (λ c. search needs)  -- same-length-2
+    (λ c κs. search needs) (λ c. search needs)  -- unmoved-requires-2, same-length-2
     (λ c. search needs)  -- same-length-3
     returns-2)

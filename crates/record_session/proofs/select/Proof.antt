@@ -30,14 +30,10 @@ pub select-spec : {M : Type 1} → statement M
 select-spec =
     tie.close
     (tie.spec
-    (λ c κs. search needs)  -- is-unknown-requires
-    (λ c κs. search needs)  -- refused-requires
+    (λ c κs. search needs) (λ c κs. search needs)  -- is-unknown-requires, refused-requires
     returns
-    (λ c κs. search needs)  -- is-barred-requires
-    (λ c κs. search needs)  -- refused-requires-2
+    (λ c κs. search needs) (λ c κs. search needs)  -- is-barred-requires, refused-requires-2
     returns-2
-    (λ c. search needs)  -- cast-select
-    (λ c κs. search needs)  -- select-requires
-    (λ c κs. search needs)  -- unmoved-requires
-    (λ c. search needs)  -- same-length
+    (λ c. search needs) (λ c κs. search needs)  -- cast-select, select-requires
+    (λ c κs. search needs) (λ c. search needs)  -- unmoved-requires, same-length
     returns-3)

@@ -40,11 +40,8 @@ owed-size-spec =
     tie.close
     (tie.spec
     returns
-    (λ c. search needs)  -- cast-id
-    (λ c. search needs)  -- cast-told
-    (λ c. search needs)  -- slice-aggregate-by-uid
-    (λ c κs. search needs)  -- by-uid-requires
-    (λ c. search needs)  -- slice-aggregate-put-owed
+    (λ c. search needs) (λ c. search needs) (λ c. search needs)  -- cast-id, cast-told, slice-aggregate-by-uid
+    (λ c κs. search needs) (λ c. search needs)  -- by-uid-requires, slice-aggregate-put-owed
     put-owed-requires
     (λ c. search needs)  -- same-length
     returns-2)

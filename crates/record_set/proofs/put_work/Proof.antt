@@ -17,7 +17,6 @@ pub put-work-spec : {M : Type 1} → statement M
 put-work-spec =
     tie.close
     (tie.spec
-    (λ c κs. search needs)  -- put-listing-requires
-    (λ c κs. search needs)  -- put-reply-requires
+    (λ c κs. search needs) (λ c κs. search needs)  -- put-listing-requires, put-reply-requires
     (λ c. search needs)  -- same-length
     returns)

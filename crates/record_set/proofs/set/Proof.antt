@@ -44,15 +44,10 @@ pub set-spec : {M : Type 1} → statement M
 set-spec =
     tie.close
     (tie.spec
-    (λ c. search needs)  -- slice-aggregate-note-rows
-    (λ c. search needs)  -- slice-aggregate-note-rows-2
-    (λ c κs. search needs)  -- note-rows-requires
-    (λ c. search needs)  -- slice-aggregate-by-name
-    (λ c. search needs)  -- slice-aggregate-by-name-2
-    (λ c κs. search needs)  -- by-name-requires
-    (λ c κs. search needs)  -- existing-requires
-    (λ c κs. search needs)  -- both-requires
+    (λ c. search needs) (λ c. search needs)  -- slice-aggregate-note-rows, slice-aggregate-note-rows-2
+    (λ c κs. search needs) (λ c. search needs)  -- note-rows-requires, slice-aggregate-by-name
+    (λ c. search needs) (λ c κs. search needs)  -- slice-aggregate-by-name-2, by-name-requires
+    (λ c κs. search needs) (λ c κs. search needs)  -- existing-requires, both-requires
     set-noted-requires
-    (λ c. search needs)  -- same-length
-    (λ c. search needs)  -- same-length-2
+    (λ c. search needs) (λ c. search needs)  -- same-length, same-length-2
     returns)

@@ -68,22 +68,13 @@ pub set-noted-spec : {M : Type 1} → statement M
 set-noted-spec =
     tie.close
     (tie.spec
-    (λ c. search needs)  -- sub-limit
-    (λ c κs. search needs)  -- owed-size-requires
-    (λ c κs. search needs)  -- put-work-requires
-    (λ c. search needs)  -- add-if1
-    (λ c κs. search needs)  -- refuse-requires
-    (λ c. search needs)  -- same-length
-    (λ c. search needs)  -- same-length-2
+    (λ c. search needs) (λ c κs. search needs)  -- sub-limit, owed-size-requires
+    (λ c κs. search needs) (λ c. search needs) (λ c κs. search needs)  -- put-work-requires, add-if1, refuse-requires
+    (λ c. search needs) (λ c. search needs)  -- same-length, same-length-2
     returns
-    (λ c. search needs)  -- add-if2
-    (λ c. search needs)  -- add-if2-2
-    (λ c κs. search needs)  -- refused-requires
-    (λ c. search needs)  -- same-length-3
-    (λ c. search needs)  -- same-length-4
+    (λ c. search needs) (λ c. search needs) (λ c κs. search needs)  -- add-if2, add-if2-2, refused-requires
+    (λ c. search needs) (λ c. search needs)  -- same-length-3, same-length-4
     returns-2
-    (λ c. search needs)  -- add-write-set
-    (λ c κs. search needs)  -- write-set-requires
-    (λ c. search needs)  -- same-length-5
-    (λ c. search needs)  -- same-length-6
+    (λ c. search needs) (λ c κs. search needs)  -- add-write-set, write-set-requires
+    (λ c. search needs) (λ c. search needs)  -- same-length-5, same-length-6
     returns-3)

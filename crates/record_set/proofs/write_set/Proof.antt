@@ -32,12 +32,9 @@ pub write-set-spec : {M : Type 1} → statement M
 write-set-spec =
     tie.close
     (tie.spec
-    (λ c. search needs)  -- sub-limit
-    (λ c. search needs)  -- slice-aggregate-end-command
-    (λ c κs. search needs)  -- end-command-requires
-    (λ c κs. search needs)  -- put-work-requires
-    (λ c κs. search needs)  -- with-counts-requires
-    (λ c κs. search needs)  -- viewed-requires
+    (λ c. search needs) (λ c. search needs)  -- sub-limit, slice-aggregate-end-command
+    (λ c κs. search needs) (λ c κs. search needs)  -- end-command-requires, put-work-requires
+    (λ c κs. search needs) (λ c κs. search needs)  -- with-counts-requires, viewed-requires
     (λ c κs. search needs)  -- unmoved-requires
     same-length
     (λ c. search needs)  -- same-length-2

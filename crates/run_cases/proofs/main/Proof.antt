@@ -16,10 +16,6 @@ main-spec =
     (tie.spec
     Inv-loop
     μ-loop
-    (λ c. search needs)  -- loop-holds
-    (λ c κs. search needs)  -- next-tally-requires
-    (λ c. search needs)  -- add-turns
-    (λ c. search needs)  -- loop-less
-    (λ c. search needs)  -- loop-again
-    (λ c κs. search needs)  -- print-total-requires
+    (λ c. search needs) (λ c κs. search needs) (λ c. search needs)  -- loop-holds, next-tally-requires, add-turns
+    (λ c. search needs) (λ c. search needs) (λ c κs. search needs)  -- loop-less, loop-again, print-total-requires
     (λ c. search needs))  -- returns

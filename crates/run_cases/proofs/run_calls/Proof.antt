@@ -21,20 +21,10 @@ run-calls-spec =
     (tie.spec
     Inv-loop
     μ-loop
-    (λ c κs. search needs)  -- start-requires
-    (λ c. search needs)  -- loop-holds
-    (λ c. search needs)  -- add-i
-    (λ c κs. search needs)  -- next-turn-requires
-    (λ c κs. search needs)  -- noted-requires
-    (λ c. search needs)  -- same-length
-    (λ c. search needs)  -- same-length-2
-    (λ c. search needs)  -- same-length-3
-    (λ c. search needs)  -- same-length-4
-    (λ c. search needs)  -- returns
-    (λ c. search needs)  -- loop-less
-    (λ c. search needs)  -- loop-again
-    (λ c. search needs)  -- same-length-5
-    (λ c. search needs)  -- same-length-6
-    (λ c. search needs)  -- same-length-7
-    (λ c. search needs)  -- same-length-8
+    (λ c κs. search needs) (λ c. search needs) (λ c. search needs)  -- start-requires, loop-holds, add-i
+    (λ c κs. search needs) (λ c κs. search needs)  -- next-turn-requires, noted-requires
+    (λ c. search needs) (λ c. search needs) (λ c. search needs)  -- same-length, same-length-2, same-length-3
+    (λ c. search needs) (λ c. search needs) (λ c. search needs)  -- same-length-4, returns, loop-less
+    (λ c. search needs) (λ c. search needs) (λ c. search needs)  -- loop-again, same-length-5, same-length-6
+    (λ c. search needs) (λ c. search needs)  -- same-length-7, same-length-8
     (λ c. search needs))  -- returns-2

@@ -16,12 +16,10 @@ pub run-case-spec : {M : Type 1} → statement M
 run-case-spec =
     tie.close
     (tie.spec
-    (λ c. search needs)  -- mul-n
-    (λ c. search needs)  -- array-borrow-prefix-words
+    (λ c. search needs) (λ c. search needs)  -- mul-n, array-borrow-prefix-words
     slice-aggregate-run-calls
     (λ c. search needs)  -- array-borrow-prefix-queue
     slice-aggregate-run-calls-2
-    (λ c. search needs)  -- slice-aggregate-run-calls-3
-    (λ c. search needs)  -- slice-aggregate-run-calls-4
+    (λ c. search needs) (λ c. search needs)  -- slice-aggregate-run-calls-3, slice-aggregate-run-calls-4
     (λ c κs. search needs)  -- run-calls-requires
     (λ c. search needs))  -- returns

@@ -13,15 +13,11 @@ pub answer-spec : {M : Type 1} → statement M
 answer-spec =
     tie.close
     (tie.spec
-    (λ c κs. search needs)  -- next-length-requires
-    (λ c κs. search needs)  -- next-length-requires-2
-    (λ c κs. search needs)  -- next-rows-requires
-    (λ c κs. search needs)  -- next-counts-requires
-    (λ c κs. search needs)  -- next-length-requires-3
-    (λ c κs. search needs)  -- at-most-requires
+    (λ c κs. search needs) (λ c κs. search needs)  -- next-length-requires, next-length-requires-2
+    (λ c κs. search needs) (λ c κs. search needs)  -- next-rows-requires, next-counts-requires
+    (λ c κs. search needs) (λ c κs. search needs)  -- next-length-requires-3, at-most-requires
     (λ c. search needs)  -- array-borrow-prefix-words
     slice-aggregate-judge-rest
-    (λ c κs. search needs)  -- judge-rest-requires
-    (λ c κs. search needs)  -- print-answer-requires
+    (λ c κs. search needs) (λ c κs. search needs)  -- judge-rest-requires, print-answer-requires
     (λ c. search needs)  -- returns
     (λ c. search needs))  -- returns-2

@@ -18,12 +18,7 @@ fill-spec =
     (tie.spec
     Inv-loop
     μ-loop
-    (λ c. search needs)  -- loop-holds
-    (λ c κs. search needs)  -- next-number-requires
-    (λ c. search needs)  -- mul-words
-    (λ c. search needs)  -- slice-write-words
-    (λ c. search needs)  -- add-i
-    (λ c. search needs)  -- loop-less
-    (λ c. search needs)  -- loop-again
-    (λ c. search needs)  -- same-length
+    (λ c. search needs) (λ c κs. search needs) (λ c. search needs)  -- loop-holds, next-number-requires, mul-words
+    (λ c. search needs) (λ c. search needs) (λ c. search needs)  -- slice-write-words, add-i, loop-less
+    (λ c. search needs) (λ c. search needs)  -- loop-again, same-length
     (λ c. search needs))  -- returns

@@ -13,6 +13,5 @@ pub judge-spec : {M : Type 1} → statement M
 judge-spec =
     tie.close
     (tie.spec
-    (λ c κs. search needs)  -- lay-requires
-    (λ c κs. search needs)  -- is-lawful-requires
+    (λ c κs. search needs) (λ c κs. search needs)  -- lay-requires, is-lawful-requires
     returns)

@@ -16,11 +16,7 @@ main-spec =
     (tie.spec
     Inv-loop
     μ-loop
-    (λ c. search needs)  -- loop-holds
-    (λ c κs. search needs)  -- step-requires
-    (λ c. search needs)  -- add-yes
-    (λ c. search needs)  -- add-cases
-    (λ c. search needs)  -- loop-less
-    (λ c. search needs)  -- loop-again
+    (λ c. search needs) (λ c κs. search needs) (λ c. search needs)  -- loop-holds, step-requires, add-yes
+    (λ c. search needs) (λ c. search needs) (λ c. search needs)  -- add-cases, loop-less, loop-again
     (λ c κs. search needs)  -- print-total-requires
     (λ c. search needs))  -- returns

@@ -18,11 +18,7 @@ next-groups-spec =
     (tie.spec
     Inv-loop
     μ-loop
-    (λ c. search needs)  -- loop-holds
-    (λ c κs. search needs)  -- next-group-requires
-    (λ c. search needs)  -- mul-groups
-    (λ c. search needs)  -- array-set-from-groups
-    (λ c. search needs)  -- add-i
-    (λ c. search needs)  -- loop-less
+    (λ c. search needs) (λ c κs. search needs) (λ c. search needs)  -- loop-holds, next-group-requires, mul-groups
+    (λ c. search needs) (λ c. search needs) (λ c. search needs)  -- array-set-from-groups, add-i, loop-less
     (λ c. search needs)  -- loop-again
     (λ c. search needs))  -- returns

@@ -18,11 +18,7 @@ next-names-spec =
     (tie.spec
     Inv-loop
     μ-loop
-    (λ c. search needs)  -- loop-holds
-    (λ c κs. search needs)  -- next-name-requires
-    (λ c. search needs)  -- mul-names
-    (λ c. search needs)  -- array-set-from-names
-    (λ c. search needs)  -- add-i
-    (λ c. search needs)  -- loop-less
+    (λ c. search needs) (λ c κs. search needs) (λ c. search needs)  -- loop-holds, next-name-requires, mul-names
+    (λ c. search needs) (λ c. search needs) (λ c. search needs)  -- array-set-from-names, add-i, loop-less
     (λ c. search needs)  -- loop-again
     (λ c. search needs))  -- returns

@@ -18,13 +18,8 @@ next-rows-spec =
     (tie.spec
     Inv-loop
     μ-loop
-    (λ c κs. search needs)  -- vacant-requires
-    (λ c κs. search needs)  -- at-most-requires
-    (λ c. search needs)  -- loop-holds
-    (λ c κs. search needs)  -- next-row-requires
-    (λ c. search needs)  -- mul-table
-    (λ c. search needs)  -- array-set-from-table
-    (λ c. search needs)  -- add-i
-    (λ c. search needs)  -- loop-less
+    (λ c κs. search needs) (λ c κs. search needs)  -- vacant-requires, at-most-requires
+    (λ c. search needs) (λ c κs. search needs) (λ c. search needs)  -- loop-holds, next-row-requires, mul-table
+    (λ c. search needs) (λ c. search needs) (λ c. search needs)  -- array-set-from-table, add-i, loop-less
     (λ c. search needs)  -- loop-again
     (λ c. search needs))  -- returns

@@ -13,8 +13,7 @@ pub print-name-spec : {M : Type 1} → statement M
 print-name-spec =
     tie.close
     (tie.spec
-    (λ c κs. search needs)  -- at-most-requires
-    (λ c. search needs)  -- array-borrow-prefix-name
+    (λ c κs. search needs) (λ c. search needs)  -- at-most-requires, array-borrow-prefix-name
     slice-aggregate-copy-name
     (λ c κs. search needs)  -- copy-name-requires
     (λ c. search needs))  -- returns

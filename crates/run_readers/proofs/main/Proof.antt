@@ -28,9 +28,7 @@ main-spec =
     Inv-loop
     μ-loop
     loop-holds
-    (λ c κs. search needs)  -- step-requires
-    (λ c. search needs)  -- sub-turns
-    (λ c. search needs)  -- loop-less
+    (λ c κs. search needs) (λ c. search needs) (λ c. search needs)  -- step-requires, sub-turns, loop-less
     loop-again
     returns
     returns-2)

@@ -27,10 +27,7 @@ print-cells-spec =
     Inv-loop
     μ-loop
     loop-holds
-    (λ c. search needs)  -- mul-print-cell
-    (λ c. search needs)  -- shared-slice-read-print-cell
-    (λ c κs. search needs)  -- print-cell-requires
-    (λ c. search needs)  -- add-i
-    (λ c. search needs)  -- loop-less
+    (λ c. search needs) (λ c. search needs)  -- mul-print-cell, shared-slice-read-print-cell
+    (λ c κs. search needs) (λ c. search needs) (λ c. search needs)  -- print-cell-requires, add-i, loop-less
     loop-again
     returns)

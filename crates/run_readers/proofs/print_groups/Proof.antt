@@ -27,10 +27,7 @@ print-groups-spec =
     μ-loop
     (λ c κs. search needs)  -- wide-requires
     loop-holds
-    (λ c. search needs)  -- mul-print-group
-    (λ c. search needs)  -- array-copy-out-print-group
-    (λ c κs. search needs)  -- print-group-requires
-    (λ c. search needs)  -- add-i
-    (λ c. search needs)  -- loop-less
+    (λ c. search needs) (λ c. search needs)  -- mul-print-group, array-copy-out-print-group
+    (λ c κs. search needs) (λ c. search needs) (λ c. search needs)  -- print-group-requires, add-i, loop-less
     loop-again
     returns)

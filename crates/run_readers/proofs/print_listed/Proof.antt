@@ -26,10 +26,7 @@ print-listed-spec =
     Inv-loop
     μ-loop
     loop-holds
-    (λ c. search needs)  -- mul-print-source
-    (λ c. search needs)  -- array-copy-out-print-source
-    (λ c κs. search needs)  -- print-source-requires
-    (λ c. search needs)  -- add-i
-    (λ c. search needs)  -- loop-less
+    (λ c. search needs) (λ c. search needs)  -- mul-print-source, array-copy-out-print-source
+    (λ c κs. search needs) (λ c. search needs) (λ c. search needs)  -- print-source-requires, add-i, loop-less
     loop-again
     returns)

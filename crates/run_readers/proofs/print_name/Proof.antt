@@ -25,13 +25,10 @@ print-name-spec =
     (tie.spec
     Inv-loop
     μ-loop
-    (λ c. search needs)  -- slice-aggregate-print
-    (λ c κs. search needs)  -- print-requires
+    (λ c. search needs) (λ c κs. search needs)  -- slice-aggregate-print, print-requires
     (λ c κs. search needs)  -- wide-requires
     loop-holds
-    (λ c. search needs)  -- array-read-print-octet
-    (λ c κs. search needs)  -- print-octet-requires
-    (λ c. search needs)  -- add-i
-    (λ c. search needs)  -- loop-less
+    (λ c. search needs) (λ c κs. search needs)  -- array-read-print-octet, print-octet-requires
+    (λ c. search needs) (λ c. search needs)  -- add-i, loop-less
     loop-again
     returns)

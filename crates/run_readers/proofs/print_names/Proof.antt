@@ -26,10 +26,7 @@ print-names-spec =
     Inv-loop
     μ-loop
     loop-holds
-    (λ c. search needs)  -- mul-print-name
-    (λ c. search needs)  -- array-copy-out-print-name
-    (λ c κs. search needs)  -- print-name-requires
-    (λ c. search needs)  -- add-i
-    (λ c. search needs)  -- loop-less
+    (λ c. search needs) (λ c. search needs)  -- mul-print-name, array-copy-out-print-name
+    (λ c κs. search needs) (λ c. search needs) (λ c. search needs)  -- print-name-requires, add-i, loop-less
     loop-again
     returns)

@@ -15,13 +15,9 @@ pub step-spec : {M : Type 1} → statement M
 step-spec =
     tie.close
     (tie.spec
-    (λ c. search needs)  -- slice-aggregate-read-full
-    (λ c κs. search needs)  -- read-full-requires
-    (λ c. search needs)  -- returns
-    (λ c κs. search needs)  -- little-requires
-    (λ c. search needs)  -- returns-2
-    (λ c κs. search needs)  -- buffer-requires
-    (λ c. search needs)  -- array-borrow-prefix-text
+    (λ c. search needs) (λ c κs. search needs)  -- slice-aggregate-read-full, read-full-requires
+    (λ c. search needs) (λ c κs. search needs) (λ c. search needs)  -- returns, little-requires, returns-2
+    (λ c κs. search needs) (λ c. search needs)  -- buffer-requires, array-borrow-prefix-text
     slice-aggregate-answer
     answer-requires
     (λ c. search needs))  -- returns-3

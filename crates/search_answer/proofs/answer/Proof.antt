@@ -30,9 +30,7 @@ pub answer-spec : {M : Type 1} → statement M
 answer-spec =
     tie.close
     (tie.spec
-    (λ c κs. search needs)  -- wide-id-requires
-    (λ c κs. search needs)  -- wide-number-requires
+    (λ c κs. search needs) (λ c κs. search needs)  -- wide-id-requires, wide-number-requires
     tell-requires
-    (λ c κs. search needs)  -- outcome-requires
-    (λ c. search needs)  -- same-length
+    (λ c κs. search needs) (λ c. search needs)  -- outcome-requires, same-length
     returns)

@@ -34,18 +34,12 @@ pub tell-spec : {M : Type 1} → statement M
 tell-spec =
     tie.close
     (tie.spec
-    (λ c. search needs)  -- slice-aggregate-find
-    (λ c. search needs)  -- slice-aggregate-find-2
-    (λ c. search needs)  -- slice-aggregate-find-3
-    (λ c. search needs)  -- slice-aggregate-find-4
-    (λ c. search needs)  -- slice-aggregate-find-5
-    (λ c. search needs)  -- slice-aggregate-find-6
-    (λ c. search needs)  -- slice-aggregate-find-7
-    (λ c. search needs)  -- slice-aggregate-find-8
-    (λ c κs. search needs)  -- find-requires
-    (λ c. search needs)  -- slice-aggregate-say
-    (λ c. search needs)  -- slice-aggregate-say-2
-    (λ c. search needs)  -- slice-aggregate-say-3
+    (λ c. search needs) (λ c. search needs)  -- slice-aggregate-find, slice-aggregate-find-2
+    (λ c. search needs) (λ c. search needs)  -- slice-aggregate-find-3, slice-aggregate-find-4
+    (λ c. search needs) (λ c. search needs)  -- slice-aggregate-find-5, slice-aggregate-find-6
+    (λ c. search needs) (λ c. search needs)  -- slice-aggregate-find-7, slice-aggregate-find-8
+    (λ c κs. search needs) (λ c. search needs)  -- find-requires, slice-aggregate-say
+    (λ c. search needs) (λ c. search needs)  -- slice-aggregate-say-2, slice-aggregate-say-3
     (λ c. search needs)  -- slice-aggregate-say-4
     say-requires
     (λ c. search needs)  -- same-length

@@ -70,8 +70,7 @@ find-spec =
     Inv-loop
     μ-loop
     returns
-    (λ c. search needs)  -- shared-slice-read-bottom
-    (λ c κs. search needs)  -- entry-requires
+    (λ c. search needs) (λ c κs. search needs)  -- shared-slice-read-bottom, entry-requires
     loop-holds
     (λ c. search needs)  -- sub-k
     mul-i

@@ -138,16 +138,10 @@ find-runs-spec =
     (λ c. search needs)  -- slice-aggregate-link
     link-requires
     loop-holds
-    (λ c. search needs)  -- sub-i
-    (λ c. search needs)  -- mul-id
-    (λ c. search needs)  -- shared-slice-read-id
-    (λ c. search needs)  -- mul-id-2
-    (λ c. search needs)  -- element-copy-out-id
-    (λ c κs. search needs)  -- within-requires
-    (λ c. search needs)  -- slice-aggregate-search-row
-    (λ c. search needs)  -- mul-search-row
-    (λ c. search needs)  -- sub-search-row
-    (λ c. search needs)  -- part-search-row-start
+    (λ c. search needs) (λ c. search needs) (λ c. search needs)  -- sub-i, mul-id, shared-slice-read-id
+    (λ c. search needs) (λ c. search needs) (λ c κs. search needs)  -- mul-id-2, element-copy-out-id, within-requires
+    (λ c. search needs) (λ c. search needs)  -- slice-aggregate-search-row, mul-search-row
+    (λ c. search needs) (λ c. search needs)  -- sub-search-row, part-search-row-start
     (λ c. search needs)  -- part-search-row-end
     search-row-requires
     mul-starts
@@ -157,9 +151,6 @@ find-runs-spec =
     add-total
     (λ c. search needs)  -- loop-less
     loop-again
-    (λ c. search needs)  -- same-length
-    (λ c. search needs)  -- same-length-2
-    (λ c. search needs)  -- same-length-3
-    (λ c. search needs)  -- same-length-4
-    (λ c. search needs)  -- same-length-5
+    (λ c. search needs) (λ c. search needs) (λ c. search needs)  -- same-length, same-length-2, same-length-3
+    (λ c. search needs) (λ c. search needs)  -- same-length-4, same-length-5
     returns)

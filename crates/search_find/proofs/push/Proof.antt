@@ -18,9 +18,7 @@ pub push-spec : {M : Type 1} → statement M
 push-spec =
     tie.close
     (tie.spec
-    (λ c. search needs)  -- mul-list
-    (λ c. search needs)  -- slice-write-list
-    (λ c. search needs)  -- add-result
+    (λ c. search needs) (λ c. search needs) (λ c. search needs)  -- mul-list, slice-write-list, add-result
     (λ c. search needs)  -- same-length
     returns
     returns-2)

@@ -27,6 +27,5 @@ search-box-spec =
     (tie.spec
     (λ c κs. search needs)  -- by-uid-requires
     find-requires
-    (λ c. search needs)  -- same-length
-    (λ c. search needs)  -- same-length-2
+    (λ c. search needs) (λ c. search needs)  -- same-length, same-length-2
     returns)

@@ -26,13 +26,9 @@ pub search-row-spec : {M : Type 1} → statement M
 search-row-spec =
     tie.close
     (tie.spec
-    (λ c κs. search needs)  -- is-selected-requires
-    (λ c κs. search needs)  -- search-view-requires
-    (λ c. search needs)  -- same-length
-    (λ c. search needs)  -- same-length-2
-    (λ c. search needs)  -- same-length-3
+    (λ c κs. search needs) (λ c κs. search needs)  -- is-selected-requires, search-view-requires
+    (λ c. search needs) (λ c. search needs) (λ c. search needs)  -- same-length, same-length-2, same-length-3
     returns
-    (λ c κs. search needs)  -- search-box-requires
-    (λ c. search needs)  -- same-length-4
+    (λ c κs. search needs) (λ c. search needs)  -- search-box-requires, same-length-4
     (λ c. search needs)  -- same-length-5
     returns-2)

@@ -36,7 +36,5 @@ search-view-spec =
     (λ c κs. search needs)  -- by-uid-requires
     told-of-requires
     find-requires
-    (λ c. search needs)  -- same-length
-    (λ c. search needs)  -- same-length-2
-    (λ c. search needs)  -- same-length-3
+    (λ c. search needs) (λ c. search needs) (λ c. search needs)  -- same-length, same-length-2, same-length-3
     returns)

@@ -52,12 +52,10 @@ told-of-spec =
     Inv-loop
     μ-loop
     loop-holds
-    (λ c. search needs)  -- mul-place
-    (λ c. search needs)  -- shared-slice-read-place
+    (λ c. search needs) (λ c. search needs)  -- mul-place, shared-slice-read-place
     (λ c κs. search needs)  -- entry-requires
     push-place-requires
-    (λ c. search needs)  -- add-i
-    (λ c. search needs)  -- loop-less
+    (λ c. search needs) (λ c. search needs)  -- add-i, loop-less
     loop-again
     same-length
     returns)

@@ -16,8 +16,6 @@ pub choose-spec : {M : Type 1} → statement M
 choose-spec =
     tie.close
     (tie.spec
-    (λ c κs. search needs)  -- pick-requires
-    (λ c κs. search needs)  -- by-name-requires
-    (λ c. search needs)  -- same-length
+    (λ c κs. search needs) (λ c κs. search needs) (λ c. search needs)  -- pick-requires, by-name-requires, same-length
     (λ c. search needs)  -- same-length-2
     returns)

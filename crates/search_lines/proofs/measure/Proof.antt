@@ -18,9 +18,6 @@ pub measure-spec : {M : Type 1} → statement M
 measure-spec =
     tie.close
     (tie.spec
-    (λ c κs. search needs)  -- put-lines-requires
-    (λ c κs. search needs)  -- put-reply-requires
-    (λ c. search needs)  -- sub-result
-    (λ c. search needs)  -- add-result
-    (λ c. search needs)  -- same-length
+    (λ c κs. search needs) (λ c κs. search needs)  -- put-lines-requires, put-reply-requires
+    (λ c. search needs) (λ c. search needs) (λ c. search needs)  -- sub-result, add-result, same-length
     returns)

@@ -11,7 +11,6 @@ pub put-whole-spec : {M : Type 1} → statement M
 put-whole-spec =
     tie.close
     (tie.spec
-    (λ c κs. search needs)  -- put-lines-requires
-    (λ c κs. search needs)  -- put-reply-requires
+    (λ c κs. search needs) (λ c κs. search needs)  -- put-lines-requires, put-reply-requires
     (λ c. search needs)  -- same-length
     returns)

@@ -61,13 +61,9 @@ pub say-spec : {M : Type 1} → statement M
 say-spec =
     tie.close
     (tie.spec
-    (λ c. search needs)  -- sub-limit
-    (λ c κs. search needs)  -- measure-requires
-    (λ c. search needs)  -- sub-reply-within
-    (λ c κs. search needs)  -- reply-within-requires
-    (λ c κs. search needs)  -- is-accepted-requires
-    (λ c κs. search needs)  -- say-reply-requires
-    (λ c. search needs)  -- same-length
+    (λ c. search needs) (λ c κs. search needs) (λ c. search needs)  -- sub-limit, measure-requires, sub-reply-within
+    (λ c κs. search needs) (λ c κs. search needs)  -- reply-within-requires, is-accepted-requires
+    (λ c κs. search needs) (λ c. search needs)  -- say-reply-requires, same-length
     returns
     (λ c. search needs)  -- same-length-2
     returns-2

@@ -53,15 +53,12 @@ pub decide-spec : {M : Type 1} → statement M
 decide-spec =
     tie.close
     (tie.spec
-    (λ c κs. search needs)  -- is-lawful-requires
-    (λ c κs. search needs)  -- refused-requires
+    (λ c κs. search needs) (λ c κs. search needs)  -- is-lawful-requires, refused-requires
     (λ c. search needs)  -- same-length
     returns
-    (λ c κs. search needs)  -- read-requires
-    (λ c κs. search needs)  -- refused-requires-2
+    (λ c κs. search needs) (λ c κs. search needs)  -- read-requires, refused-requires-2
     (λ c. search needs)  -- same-length-2
     returns-2
     serve-requires
-    (λ c. search needs)  -- same-length-3
-    (λ c. search needs)  -- same-length-4
+    (λ c. search needs) (λ c. search needs)  -- same-length-3, same-length-4
     returns-3)

@@ -81,33 +81,23 @@ pub dispatch-spec : {M : Type 1} → statement M
 dispatch-spec =
     tie.close
     (tie.spec
-    (λ c κs. search needs)  -- subject-of-requires
-    (λ c. search needs)  -- enum-known-of-mailbox
-    (λ c. search needs)  -- sub-serve
-    (λ c. search needs)  -- part-serve-start
-    (λ c. search needs)  -- part-serve-end
+    (λ c κs. search needs) (λ c. search needs)  -- subject-of-requires, enum-known-of-mailbox
+    (λ c. search needs) (λ c. search needs) (λ c. search needs)  -- sub-serve, part-serve-start, part-serve-end
     serve-requires
     (λ c. search needs)  -- enum-known-of-message
     serve-requires-2
     (λ c. search needs)  -- enum-known-of-session
     serve-requires-3
-    (λ c. search needs)  -- enum-told
-    (λ c. search needs)  -- sub-answer
-    (λ c. search needs)  -- part-answer-start
+    (λ c. search needs) (λ c. search needs) (λ c. search needs)  -- enum-told, sub-answer, part-answer-start
     (λ c. search needs)  -- part-answer-end
     answer-requires
-    (λ c. search needs)  -- enum-told-2
-    (λ c κs. search needs)  -- refused-requires
-    (λ c. search needs)  -- same-length
+    (λ c. search needs) (λ c κs. search needs) (λ c. search needs)  -- enum-told-2, refused-requires, same-length
     (λ c. search needs)  -- same-length-2
     returns
-    (λ c. search needs)  -- same-length-3
-    (λ c. search needs)  -- same-length-4
+    (λ c. search needs) (λ c. search needs)  -- same-length-3, same-length-4
     returns-2
-    (λ c. search needs)  -- same-length-5
-    (λ c. search needs)  -- same-length-6
+    (λ c. search needs) (λ c. search needs)  -- same-length-5, same-length-6
     returns-3
-    (λ c. search needs)  -- same-length-7
-    (λ c. search needs)  -- same-length-8
+    (λ c. search needs) (λ c. search needs)  -- same-length-7, same-length-8
     returns-4
     returns-5)

@@ -34,11 +34,8 @@ pub serve-spec : {M : Type 1} → statement M
 serve-spec =
     tie.close
     (tie.spec
-    (λ c. search needs)  -- array-read-sought-id
-    (λ c κs. search needs)  -- sought-id-requires
-    (λ c κs. search needs)  -- find-requires
-    (λ c κs. search needs)  -- row-at-requires
+    (λ c. search needs) (λ c κs. search needs)  -- array-read-sought-id, sought-id-requires
+    (λ c κs. search needs) (λ c κs. search needs)  -- find-requires, row-at-requires
     dispatch-requires
-    (λ c. search needs)  -- same-length
-    (λ c. search needs)  -- same-length-2
+    (λ c. search needs) (λ c. search needs)  -- same-length, same-length-2
     returns)

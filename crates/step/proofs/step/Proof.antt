@@ -52,6 +52,5 @@ step-spec =
     (tie.spec
     (λ c κs. search needs)  -- lay-requires
     decide-requires
-    (λ c. search needs)  -- same-length
-    (λ c. search needs)  -- same-length-2
+    (λ c. search needs) (λ c. search needs)  -- same-length, same-length-2
     returns)

@@ -85,12 +85,8 @@ pub serve-spec : {M : Type 1} → statement M
 serve-spec =
     tie.close
     (tie.spec
-    (λ c. search needs)  -- array-read-a
-    (λ c. search needs)  -- array-read-b
-    (λ c. search needs)  -- array-read-c
-    (λ c. search needs)  -- array-read-d
-    (λ c. search needs)  -- array-read-e
-    (λ c. search needs)  -- enum-told
+    (λ c. search needs) (λ c. search needs) (λ c. search needs)  -- array-read-a, array-read-b, array-read-c
+    (λ c. search needs) (λ c. search needs) (λ c. search needs)  -- array-read-d, array-read-e, enum-told
     create-requires
     (λ c. search needs)  -- enum-told-2
     delete-requires
@@ -102,8 +98,7 @@ serve-spec =
     grant-requires
     (λ c. search needs)  -- same-length
     returns
-    (λ c. search needs)  -- same-length-2
-    (λ c. search needs)  -- same-length-3
+    (λ c. search needs) (λ c. search needs)  -- same-length-2, same-length-3
     returns-2
     (λ c. search needs)  -- same-length-4
     returns-3

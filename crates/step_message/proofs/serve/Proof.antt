@@ -39,23 +39,13 @@ pub serve-spec : {M : Type 1} → statement M
 serve-spec =
     tie.close
     (tie.spec
-    (λ c. search needs)  -- array-read-a
-    (λ c. search needs)  -- array-read-b
-    (λ c. search needs)  -- array-read-c
-    (λ c. search needs)  -- array-read-d
-    (λ c. search needs)  -- array-read-e
-    (λ c. search needs)  -- enum-told
+    (λ c. search needs) (λ c. search needs) (λ c. search needs)  -- array-read-a, array-read-b, array-read-c
+    (λ c. search needs) (λ c. search needs) (λ c. search needs)  -- array-read-d, array-read-e, enum-told
     arrive-requires
-    (λ c. search needs)  -- enum-told-2
-    (λ c κs. search needs)  -- expunge-requires
-    (λ c. search needs)  -- enum-told-3
-    (λ c κs. search needs)  -- flag-requires
-    (λ c. search needs)  -- same-length
-    (λ c. search needs)  -- same-length-2
+    (λ c. search needs) (λ c κs. search needs) (λ c. search needs)  -- enum-told-2, expunge-requires, enum-told-3
+    (λ c κs. search needs) (λ c. search needs) (λ c. search needs)  -- flag-requires, same-length, same-length-2
     returns
-    (λ c. search needs)  -- same-length-3
-    (λ c. search needs)  -- same-length-4
+    (λ c. search needs) (λ c. search needs)  -- same-length-3, same-length-4
     returns-2
-    (λ c. search needs)  -- same-length-5
-    (λ c. search needs)  -- same-length-6
+    (λ c. search needs) (λ c. search needs)  -- same-length-5, same-length-6
     returns-3)

@@ -43,17 +43,13 @@ pub serve-spec : {M : Type 1} → statement M
 serve-spec =
     tie.close
     (tie.spec
-    (λ c. search needs)  -- array-read-a
-    (λ c. search needs)  -- enum-told
+    (λ c. search needs) (λ c. search needs)  -- array-read-a, enum-told
     select-requires
-    (λ c. search needs)  -- enum-told-2
-    (λ c κs. search needs)  -- end-command-requires
-    (λ c. search needs)  -- enum-told-3
+    (λ c. search needs) (λ c κs. search needs) (λ c. search needs)  -- enum-told-2, end-command-requires, enum-told-3
     drain-requires
     (λ c. search needs)  -- same-length
     returns
-    (λ c. search needs)  -- same-length-2
-    (λ c. search needs)  -- same-length-3
+    (λ c. search needs) (λ c. search needs)  -- same-length-2, same-length-3
     returns-2
     (λ c. search needs)  -- same-length-4
     returns-3)

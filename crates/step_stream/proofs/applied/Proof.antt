@@ -18,11 +18,8 @@ pub applied-spec : {M : Type 1} → statement M
 applied-spec =
     tie.close
     (tie.spec
-    (λ c. search needs)  -- enum-told
-    (λ c. search needs)  -- enum-told-2
-    (λ c κs. search needs)  -- put-row-requires
-    (λ c. search needs)  -- enum-told-3
-    (λ c κs. search needs)  -- take-out-requires
+    (λ c. search needs) (λ c. search needs) (λ c κs. search needs)  -- enum-told, enum-told-2, put-row-requires
+    (λ c. search needs) (λ c κs. search needs)  -- enum-told-3, take-out-requires
     returns
     returns-2
     returns-3)

@@ -22,9 +22,6 @@ put-spec =
     (tie.spec
     (λ c. search needs)  -- add-end
     returns
-    (λ c. search needs)  -- sub-put
-    (λ c. search needs)  -- part-put-start
-    (λ c. search needs)  -- part-put-end
-    (λ c κs. search needs)  -- put-requires
-    (λ c. search needs)  -- same-length
+    (λ c. search needs) (λ c. search needs) (λ c. search needs)  -- sub-put, part-put-start, part-put-end
+    (λ c κs. search needs) (λ c. search needs)  -- put-requires, same-length
     returns-2)

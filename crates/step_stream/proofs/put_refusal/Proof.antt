@@ -31,8 +31,6 @@ put-refusal-spec =
     (tie.spec
     (λ c κs. search needs)  -- number-of-requires
     returns
-    (λ c. search needs)  -- add-t7
-    (λ c. search needs)  -- slice-aggregate-put
-    (λ c κs. search needs)  -- put-requires
+    (λ c. search needs) (λ c. search needs) (λ c κs. search needs)  -- add-t7, slice-aggregate-put, put-requires
     (λ c. search needs)  -- same-length
     returns-2)

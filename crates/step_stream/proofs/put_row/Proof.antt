@@ -13,6 +13,5 @@ pub put-row-spec : {M : Type 1} → statement M
 put-row-spec =
     tie.close
     (tie.spec
-    (λ c κs. search needs)  -- put-row-requires
-    (λ c. search needs)  -- returns
+    (λ c κs. search needs) (λ c. search needs)  -- put-row-requires, returns
     returns-2)

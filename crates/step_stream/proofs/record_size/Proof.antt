@@ -35,8 +35,6 @@ record-size-spec =
     (tie.spec
     (λ c. search needs)  -- sub-left
     returns
-    (λ c. search needs)  -- add-little
-    (λ c κs. search needs)  -- little-requires
-    (λ c. search needs)  -- add-size
+    (λ c. search needs) (λ c κs. search needs) (λ c. search needs)  -- add-little, little-requires, add-size
     returns-2
     returns-3)

@@ -17,8 +17,6 @@ run-spec =
     tie.close
     (tie.spec
     returns
-    (λ c. search needs)  -- slice-aggregate-walk
-    (λ c. search needs)  -- slice-aggregate-walk-2
-    (λ c κs. search needs)  -- walk-requires
-    (λ c. search needs)  -- same-length
+    (λ c. search needs) (λ c. search needs)  -- slice-aggregate-walk, slice-aggregate-walk-2
+    (λ c κs. search needs) (λ c. search needs)  -- walk-requires, same-length
     returns-2)

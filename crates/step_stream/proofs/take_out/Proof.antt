@@ -23,6 +23,5 @@ take-out-spec =
     returns
     (λ c κs. search needs)  -- close-up-requires
     returns-2
-    (λ c. search needs)  -- sub-close-up
-    (λ c κs. search needs)  -- close-up-requires-2
+    (λ c. search needs) (λ c κs. search needs)  -- sub-close-up, close-up-requires-2
     returns-3)

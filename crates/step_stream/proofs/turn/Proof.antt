@@ -29,11 +29,7 @@ pub turn-spec : {M : Type 1} → statement M
 turn-spec =
     tie.close
     (tie.spec
-    (λ c κs. search needs)  -- step-requires
-    (λ c κs. search needs)  -- put-refusal-requires
-    (λ c κs. search needs)  -- put-held-requires
-    (λ c κs. search needs)  -- drained-requires
-    (λ c. search needs)  -- same-length
-    (λ c. search needs)  -- same-length-2
-    (λ c. search needs)  -- same-length-3
+    (λ c κs. search needs) (λ c κs. search needs)  -- step-requires, put-refusal-requires
+    (λ c κs. search needs) (λ c κs. search needs)  -- put-held-requires, drained-requires
+    (λ c. search needs) (λ c. search needs) (λ c. search needs)  -- same-length, same-length-2, same-length-3
     returns)

@@ -69,13 +69,9 @@ walk-spec =
     loop-holds
     record-size-requires
     add-e
-    (λ c. search needs)  -- sub-turn
-    (λ c. search needs)  -- part-turn-start
-    (λ c. search needs)  -- part-turn-end
+    (λ c. search needs) (λ c. search needs) (λ c. search needs)  -- sub-turn, part-turn-start, part-turn-end
     turn-requires
     loop-less
     loop-again
-    (λ c. search needs)  -- same-length
-    (λ c. search needs)  -- same-length-2
-    (λ c. search needs)  -- same-length-3
+    (λ c. search needs) (λ c. search needs) (λ c. search needs)  -- same-length, same-length-2, same-length-3
     returns)

@@ -27,7 +27,6 @@ pub count-spec : {M : Type 1} → statement M
 count-spec =
     tie.close
     (tie.spec
-    (λ c κs. search needs)  -- guesses-requires
-    (λ c. search needs)  -- slice-aggregate-tally-all
+    (λ c κs. search needs) (λ c. search needs)  -- guesses-requires, slice-aggregate-tally-all
     tally-all-requires
     returns)

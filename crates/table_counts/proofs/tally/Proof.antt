@@ -43,10 +43,7 @@ tally-spec =
     returns
     (λ c κs. search needs)  -- row-of-requires
     returns-2
-    (λ c. search needs)  -- mul-c
-    (λ c. search needs)  -- slice-read-c
+    (λ c. search needs) (λ c. search needs)  -- mul-c, slice-read-c
     add-counts
-    (λ c. search needs)  -- mul-counts
-    (λ c. search needs)  -- slice-write-counts
-    (λ c. search needs)  -- same-length
+    (λ c. search needs) (λ c. search needs) (λ c. search needs)  -- mul-counts, slice-write-counts, same-length
     returns-3)

@@ -47,8 +47,7 @@ tally-all-spec =
     μ-loop
     loop-holds
     tally-requires
-    (λ c. search needs)  -- add-i
-    (λ c. search needs)  -- loop-less
+    (λ c. search needs) (λ c. search needs)  -- add-i, loop-less
     loop-again
     (λ c. search needs)  -- same-length
     returns)

@@ -37,9 +37,7 @@ blank-spec =
     Inv-loop
     μ-loop
     loop-holds
-    (λ c. search needs)  -- mul-column
-    (λ c. search needs)  -- slice-write-column
-    (λ c. search needs)  -- add-i
+    (λ c. search needs) (λ c. search needs) (λ c. search needs)  -- mul-column, slice-write-column, add-i
     (λ c. search needs)  -- loop-less
     loop-again
     same-length

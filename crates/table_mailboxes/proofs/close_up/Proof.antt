@@ -41,16 +41,9 @@ close-up-spec =
     Inv-loop
     μ-loop
     loop-holds
-    (λ c. search needs)  -- add-loop
-    (λ c. search needs)  -- add-x
-    (λ c. search needs)  -- mul-x
-    (λ c. search needs)  -- array-copy-out-x
-    (λ c. search needs)  -- mul-t
-    (λ c. search needs)  -- array-set-from-t
-    (λ c. search needs)  -- add-i
-    (λ c. search needs)  -- loop-less
+    (λ c. search needs) (λ c. search needs) (λ c. search needs)  -- add-loop, add-x, mul-x
+    (λ c. search needs) (λ c. search needs) (λ c. search needs)  -- array-copy-out-x, mul-t, array-set-from-t
+    (λ c. search needs) (λ c. search needs)  -- add-i, loop-less
     loop-again
-    (λ c κs. search needs)  -- vacant-requires
-    (λ c. search needs)  -- mul-t-2
-    (λ c. search needs)  -- array-set-from-t-2
+    (λ c κs. search needs) (λ c. search needs) (λ c. search needs)  -- vacant-requires, mul-t-2, array-set-from-t-2
     returns)

@@ -85,25 +85,14 @@ fill-spec =
     μ-loop
     (λ c κs. search needs)  -- blank-requires
     loop-holds
-    (λ c. search needs)  -- mul-x
-    (λ c. search needs)  -- array-copy-out-x
-    (λ c κs. search needs)  -- wide-id-requires
-    (λ c. search needs)  -- mul-ids
-    (λ c. search needs)  -- slice-write-ids
-    (λ c. search needs)  -- slice-write-attributes
-    (λ c. search needs)  -- slice-write-lens
-    (λ c κs. search needs)  -- wide-number-requires
-    (λ c. search needs)  -- mul-validities
-    (λ c. search needs)  -- slice-write-validities
-    (λ c κs. search needs)  -- wide-number-requires-2
-    (λ c. search needs)  -- mul-nexts
-    (λ c. search needs)  -- slice-write-nexts
-    (λ c κs. search needs)  -- joined-requires
-    (λ c. search needs)  -- mul-counters
-    (λ c. search needs)  -- slice-write-counters
-    (λ c κs. search needs)  -- keep-name-requires
-    (λ c. search needs)  -- add-i
-    (λ c. search needs)  -- loop-less
+    (λ c. search needs) (λ c. search needs) (λ c κs. search needs)  -- mul-x, array-copy-out-x, wide-id-requires
+    (λ c. search needs) (λ c. search needs) (λ c. search needs)  -- mul-ids, slice-write-ids, slice-write-attributes
+    (λ c. search needs) (λ c κs. search needs)  -- slice-write-lens, wide-number-requires
+    (λ c. search needs) (λ c. search needs)  -- mul-validities, slice-write-validities
+    (λ c κs. search needs) (λ c. search needs)  -- wide-number-requires-2, mul-nexts
+    (λ c. search needs) (λ c κs. search needs)  -- slice-write-nexts, joined-requires
+    (λ c. search needs) (λ c. search needs)  -- mul-counters, slice-write-counters
+    (λ c κs. search needs) (λ c. search needs) (λ c. search needs)  -- keep-name-requires, add-i, loop-less
     loop-again
     same-length
     same-length-2

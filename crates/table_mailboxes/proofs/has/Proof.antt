@@ -34,7 +34,6 @@ has-spec =
     Inv-loop
     μ-loop
     loop-holds
-    (λ c. search needs)  -- sub-i
-    (λ c. search needs)  -- loop-less
+    (λ c. search needs) (λ c. search needs)  -- sub-i, loop-less
     loop-again
     returns)

@@ -14,10 +14,6 @@ pub has-name-spec : {M : Type 1} → statement M
 has-name-spec =
     tie.close
     (tie.spec
-    (λ c. search needs)  -- mul-from
-    (λ c κs. search needs)  -- name-end-requires
-    (λ c. search needs)  -- sub-same
-    (λ c. search needs)  -- part-same-start
-    (λ c. search needs)  -- part-same-end
-    (λ c κs. search needs)  -- same-requires
+    (λ c. search needs) (λ c κs. search needs) (λ c. search needs)  -- mul-from, name-end-requires, sub-same
+    (λ c. search needs) (λ c. search needs) (λ c κs. search needs)  -- part-same-start, part-same-end, same-requires
     returns)

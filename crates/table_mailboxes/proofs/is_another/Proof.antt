@@ -20,6 +20,5 @@ is-another-spec =
     (tie.spec
     (λ c κs. search needs)  -- has-name-requires
     returns
-    (λ c. search needs)  -- mul-result
-    (λ c. search needs)  -- element-copy-out-result
+    (λ c. search needs) (λ c. search needs)  -- mul-result, element-copy-out-result
     returns-2)

@@ -56,7 +56,6 @@ is-held-spec =
     loop-holds
     (λ c κs. search needs)  -- is-another-requires
     returns
-    (λ c. search needs)  -- add-i
-    (λ c. search needs)  -- loop-less
+    (λ c. search needs) (λ c. search needs)  -- add-i, loop-less
     loop-again
     returns-2)

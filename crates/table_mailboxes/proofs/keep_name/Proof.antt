@@ -46,11 +46,8 @@ keep-name-spec =
     μ-loop
     (λ c. search needs)  -- mul-at
     loop-holds
-    (λ c. search needs)  -- array-read-names
-    (λ c. search needs)  -- add-names
-    (λ c. search needs)  -- slice-write-names
-    (λ c. search needs)  -- add-j
-    (λ c. search needs)  -- loop-less
+    (λ c. search needs) (λ c. search needs) (λ c. search needs)  -- array-read-names, add-names, slice-write-names
+    (λ c. search needs) (λ c. search needs)  -- add-j, loop-less
     loop-again
     same-length
     returns)

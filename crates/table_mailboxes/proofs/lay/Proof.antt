@@ -16,6 +16,5 @@ pub lay-spec : {M : Type 1} → statement M
 lay-spec =
     tie.close
     (tie.spec
-    (λ c κs. search needs)  -- few-requires
-    (λ c κs. search needs)  -- fill-requires
+    (λ c κs. search needs) (λ c κs. search needs)  -- few-requires, fill-requires
     returns)

@@ -14,8 +14,6 @@ pub name-end-spec : {M : Type 1} → statement M
 name-end-spec =
     tie.close
     (tie.spec
-    (λ c. search needs)  -- mul-result
-    (λ c. search needs)  -- element-copy-out-clip
-    (λ c κs. search needs)  -- clip-requires
-    (λ c. search needs)  -- add-result
+    (λ c. search needs) (λ c. search needs)  -- mul-result, element-copy-out-clip
+    (λ c κs. search needs) (λ c. search needs)  -- clip-requires, add-result
     returns)

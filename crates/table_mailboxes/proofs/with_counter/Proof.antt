@@ -10,6 +10,5 @@ pub with-counter-spec : {M : Type 1} → statement M
 with-counter-spec =
     tie.close
     (tie.spec
-    (λ c κs. search needs)  -- low-half-requires
-    (λ c κs. search needs)  -- high-half-requires
+    (λ c κs. search needs) (λ c κs. search needs)  -- low-half-requires, high-half-requires
     returns)

@@ -48,7 +48,6 @@ count-each-spec =
     loop-holds
     (λ c κs. search needs)  -- count-one-requires
     add-n
-    (λ c. search needs)  -- add-i
-    (λ c. search needs)  -- loop-less
+    (λ c. search needs) (λ c. search needs)  -- add-i, loop-less
     loop-again
     returns)

@@ -61,7 +61,6 @@ find-spec =
     loop-holds
     (λ c κs. search needs)  -- is-message-requires
     returns
-    (λ c. search needs)  -- add-i
-    (λ c. search needs)  -- loop-less
+    (λ c. search needs) (λ c. search needs)  -- add-i, loop-less
     loop-again
     returns-2)

@@ -15,22 +15,10 @@ pub get-spec : {M : Type 1} → statement M
 get-spec =
     tie.close
     (tie.spec
-    (λ c. search needs)  -- mul-b
-    (λ c. search needs)  -- mul-t4
-    (λ c. search needs)  -- shared-slice-read-t6
-    (λ c. search needs)  -- add-t7
-    (λ c. search needs)  -- mul-t8
-    (λ c. search needs)  -- shared-slice-read-t10
-    (λ c. search needs)  -- add-t12
-    (λ c. search needs)  -- mul-t13
-    (λ c. search needs)  -- shared-slice-read-t15
-    (λ c. search needs)  -- add-t16
-    (λ c. search needs)  -- mul-t17
-    (λ c. search needs)  -- shared-slice-read-t19
-    (λ c. search needs)  -- add-t20
-    (λ c. search needs)  -- mul-t21
-    (λ c. search needs)  -- shared-slice-read-t23
-    (λ c. search needs)  -- add-t24
-    (λ c. search needs)  -- mul-t25
-    (λ c. search needs)  -- shared-slice-read-t27
+    (λ c. search needs) (λ c. search needs) (λ c. search needs)  -- mul-b, mul-t4, shared-slice-read-t6
+    (λ c. search needs) (λ c. search needs) (λ c. search needs)  -- add-t7, mul-t8, shared-slice-read-t10
+    (λ c. search needs) (λ c. search needs) (λ c. search needs)  -- add-t12, mul-t13, shared-slice-read-t15
+    (λ c. search needs) (λ c. search needs) (λ c. search needs)  -- add-t16, mul-t17, shared-slice-read-t19
+    (λ c. search needs) (λ c. search needs) (λ c. search needs)  -- add-t20, mul-t21, shared-slice-read-t23
+    (λ c. search needs) (λ c. search needs) (λ c. search needs)  -- add-t24, mul-t25, shared-slice-read-t27
     returns)

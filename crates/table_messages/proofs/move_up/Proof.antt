@@ -38,12 +38,8 @@ move-up-spec =
     Inv-loop
     μ-loop
     loop-holds
-    (λ c. search needs)  -- add-words
-    (λ c. search needs)  -- mul-words
-    (λ c. search needs)  -- slice-read-words
-    (λ c. search needs)  -- mul-words-2
-    (λ c. search needs)  -- slice-write-words
-    (λ c. search needs)  -- add-i
+    (λ c. search needs) (λ c. search needs) (λ c. search needs)  -- add-words, mul-words, slice-read-words
+    (λ c. search needs) (λ c. search needs) (λ c. search needs)  -- mul-words-2, slice-write-words, add-i
     (λ c. search needs)  -- loop-less
     loop-again
     (λ c. search needs)  -- same-length

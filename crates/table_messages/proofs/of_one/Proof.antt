@@ -15,8 +15,6 @@ pub of-one-spec : {M : Type 1} → statement M
 of-one-spec =
     tie.close
     (tie.spec
-    (λ c. search needs)  -- mul-if1
-    (λ c. search needs)  -- mul-if1-2
-    (λ c. search needs)  -- shared-slice-read-if1
+    (λ c. search needs) (λ c. search needs) (λ c. search needs)  -- mul-if1, mul-if1-2, shared-slice-read-if1
     returns
     returns-2)

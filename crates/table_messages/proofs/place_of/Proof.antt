@@ -48,8 +48,7 @@ place-of-spec =
     loop-holds
     (λ c κs. search needs)  -- before-one-requires
     add-n
-    (λ c. search needs)  -- add-i
-    (λ c. search needs)  -- loop-less
+    (λ c. search needs) (λ c. search needs)  -- add-i, loop-less
     loop-again
     (λ c. search needs)  -- add-place
     returns)

@@ -28,23 +28,16 @@ pub put-spec : {M : Type 1} → statement M
 put-spec =
     tie.close
     (tie.spec
-    (λ c. search needs)  -- mul-b
-    (λ c. search needs)  -- mul-words
-    (λ c. search needs)  -- slice-write-words
-    (λ c. search needs)  -- add-words
-    (λ c. search needs)  -- mul-words-2
+    (λ c. search needs) (λ c. search needs) (λ c. search needs)  -- mul-b, mul-words, slice-write-words
+    (λ c. search needs) (λ c. search needs)  -- add-words, mul-words-2
     slice-write-words-2
-    (λ c. search needs)  -- add-words-2
-    (λ c. search needs)  -- mul-words-3
+    (λ c. search needs) (λ c. search needs)  -- add-words-2, mul-words-3
     slice-write-words-3
-    (λ c. search needs)  -- add-words-3
-    (λ c. search needs)  -- mul-words-4
+    (λ c. search needs) (λ c. search needs)  -- add-words-3, mul-words-4
     slice-write-words-4
-    (λ c. search needs)  -- add-words-4
-    (λ c. search needs)  -- mul-words-5
+    (λ c. search needs) (λ c. search needs)  -- add-words-4, mul-words-5
     slice-write-words-5
-    (λ c. search needs)  -- add-words-5
-    (λ c. search needs)  -- mul-words-6
+    (λ c. search needs) (λ c. search needs)  -- add-words-5, mul-words-6
     slice-write-words-6
     (λ c. search needs)  -- same-length
     returns)

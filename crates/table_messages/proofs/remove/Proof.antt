@@ -17,16 +17,8 @@ pub remove-spec : {M : Type 1} → statement M
 remove-spec =
     tie.close
     (tie.spec
-    (λ c. search needs)  -- sub-last
-    (λ c. search needs)  -- mul-move-up
-    (λ c. search needs)  -- mul-move-up-2
-    (λ c. search needs)  -- sub-move-up
-    (λ c. search needs)  -- part-move-up-start
-    (λ c. search needs)  -- part-move-up-end
-    (λ c. search needs)  -- sub-move-up-2
-    (λ c. search needs)  -- mul-move-up-3
-    (λ c κs. search needs)  -- move-up-requires
-    (λ c κs. search needs)  -- nothing-requires
-    (λ c κs. search needs)  -- put-requires
-    (λ c. search needs)  -- same-length
+    (λ c. search needs) (λ c. search needs) (λ c. search needs)  -- sub-last, mul-move-up, mul-move-up-2
+    (λ c. search needs) (λ c. search needs) (λ c. search needs)  -- sub-move-up, part-move-up-start, part-move-up-end
+    (λ c. search needs) (λ c. search needs) (λ c κs. search needs)  -- sub-move-up-2, mul-move-up-3, move-up-requires
+    (λ c κs. search needs) (λ c κs. search needs) (λ c. search needs)  -- nothing-requires, put-requires, same-length
     returns)

@@ -45,11 +45,7 @@ tally-all-spec =
     loop-holds
     (λ c κs. search needs)  -- of-one-requires
     add-count
-    (λ c. search needs)  -- mul-states
-    (λ c. search needs)  -- add-states
-    (λ c. search needs)  -- mul-states-2
-    (λ c. search needs)  -- shared-slice-read-states
-    (λ c. search needs)  -- add-i
-    (λ c. search needs)  -- loop-less
+    (λ c. search needs) (λ c. search needs) (λ c. search needs)  -- mul-states, add-states, mul-states-2
+    (λ c. search needs) (λ c. search needs) (λ c. search needs)  -- shared-slice-read-states, add-i, loop-less
     loop-again
     returns)

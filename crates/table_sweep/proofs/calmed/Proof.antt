@@ -19,11 +19,8 @@ pub calmed-spec : {M : Type 1} → statement M
 calmed-spec =
     tie.close
     (tie.spec
-    (λ c. search needs)  -- enum-told
-    (λ c κs. search needs)  -- changed-requires
-    (λ c. search needs)  -- enum-known-sweep
-    (λ c κs. search needs)  -- shown-one-requires
-    (λ c. search needs)  -- enum-told-2
+    (λ c. search needs) (λ c κs. search needs) (λ c. search needs)  -- enum-told, changed-requires, enum-known-sweep
+    (λ c κs. search needs) (λ c. search needs)  -- shown-one-requires, enum-told-2
     returns
     returns-2
     returns-3)

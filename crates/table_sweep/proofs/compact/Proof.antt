@@ -45,8 +45,7 @@ compact-spec =
     μ-loop
     loop-holds
     move-one-requires
-    (λ c. search needs)  -- add-i
-    (λ c. search needs)  -- loop-less
+    (λ c. search needs) (λ c. search needs)  -- add-i, loop-less
     loop-again
     (λ c. search needs)  -- same-length
     returns)

@@ -24,11 +24,8 @@ pub is-gone-spec : {M : Type 1} → statement M
 is-gone-spec =
     tie.close
     (tie.spec
-    (λ c. search needs)  -- enum-told
-    (λ c. search needs)  -- enum-known-sweep
-    (λ c κs. search needs)  -- is-below-requires
-    (λ c κs. search needs)  -- both-requires
-    (λ c. search needs)  -- enum-known-sweep-2
+    (λ c. search needs) (λ c. search needs) (λ c κs. search needs)  -- enum-told, enum-known-sweep, is-below-requires
+    (λ c κs. search needs) (λ c. search needs)  -- both-requires, enum-known-sweep-2
     returns
     returns-2
     returns-3)

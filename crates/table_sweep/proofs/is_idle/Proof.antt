@@ -18,9 +18,7 @@ pub is-idle-spec : {M : Type 1} → statement M
 is-idle-spec =
     tie.close
     (tie.spec
-    (λ c. search needs)  -- enum-told
-    (λ c. search needs)  -- enum-known-sweep
-    (λ c κs. search needs)  -- both-requires
+    (λ c. search needs) (λ c. search needs) (λ c κs. search needs)  -- enum-told, enum-known-sweep, both-requires
     (λ c. search needs)  -- enum-told-2
     returns
     returns-2

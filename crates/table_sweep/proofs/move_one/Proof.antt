@@ -48,16 +48,10 @@ pub move-one-spec : {M : Type 1} → statement M
 move-one-spec =
     tie.close
     (tie.spec
-    (λ c κs. search needs)  -- get-requires
-    (λ c κs. search needs)  -- is-gone-requires
-    (λ c. search needs)  -- same-length
+    (λ c κs. search needs) (λ c κs. search needs) (λ c. search needs)  -- get-requires, is-gone-requires, same-length
     returns
-    (λ c κs. search needs)  -- calmed-requires
-    (λ c κs. search needs)  -- both-requires
-    (λ c. search needs)  -- add-result
+    (λ c κs. search needs) (λ c κs. search needs) (λ c. search needs)  -- calmed-requires, both-requires, add-result
     (λ c. search needs)  -- same-length-2
     returns-2
-    (λ c κs. search needs)  -- put-requires
-    (λ c. search needs)  -- add-result-2
-    (λ c. search needs)  -- same-length-3
+    (λ c κs. search needs) (λ c. search needs) (λ c. search needs)  -- put-requires, add-result-2, same-length-3
     returns-3)

@@ -28,7 +28,5 @@ settle-spec =
     (tie.spec
     (λ c κs. search needs)  -- is-idle-requires
     returns
-    (λ c κs. search needs)  -- compact-requires
-    (λ c κs. search needs)  -- wipe-requires
-    (λ c. search needs)  -- same-length
+    (λ c κs. search needs) (λ c κs. search needs) (λ c. search needs)  -- compact-requires, wipe-requires, same-length
     returns-2)

@@ -29,8 +29,7 @@ pub shown-one-spec : {M : Type 1} → statement M
 shown-one-spec =
     tie.close
     (tie.spec
-    (λ c κs. search needs)  -- is-below-requires
-    (λ c κs. search needs)  -- both-requires
+    (λ c κs. search needs) (λ c κs. search needs)  -- is-below-requires, both-requires
     (λ c κs. search needs)  -- changed-requires
     returns
     returns-2)

@@ -46,9 +46,7 @@ wipe-spec =
     Inv-loop
     μ-loop
     loop-holds
-    (λ c κs. search needs)  -- nothing-requires
-    (λ c κs. search needs)  -- put-requires
-    (λ c. search needs)  -- add-j
+    (λ c κs. search needs) (λ c κs. search needs) (λ c. search needs)  -- nothing-requires, put-requires, add-j
     (λ c. search needs)  -- loop-less
     loop-again
     (λ c. search needs)  -- same-length

@@ -15,7 +15,6 @@ pub create-spec : {M : Type 1} → statement M
 create-spec =
     tie.close
     (tie.spec
-    (λ c κs. search needs)  -- new-box-requires
-    (λ c κs. search needs)  -- tell-new-requires
+    (λ c κs. search needs) (λ c κs. search needs)  -- new-box-requires, tell-new-requires
     (λ c. search needs)  -- same-length
     returns)

@@ -21,7 +21,6 @@ pub new-box-spec : {M : Type 1} → statement M
 new-box-spec =
     tie.close
     (tie.spec
-    (λ c κs. search needs)  -- stored-requires
-    (λ c κs. search needs)  -- low-half-requires
+    (λ c κs. search needs) (λ c κs. search needs)  -- stored-requires, low-half-requires
     (λ c κs. search needs)  -- high-half-requires
     returns)

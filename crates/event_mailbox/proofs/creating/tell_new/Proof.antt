@@ -29,8 +29,7 @@ pub tell-new-spec : {M : Type 1} → statement M
 tell-new-spec =
     tie.close
     (tie.spec
-    (λ c κs. search needs)  -- create-told-requires
-    (λ c κs. search needs)  -- mark-of-requires
+    (λ c κs. search needs) (λ c κs. search needs)  -- create-told-requires, mark-of-requires
     tell-row-requires
     (λ c. search needs)  -- same-length
     returns)

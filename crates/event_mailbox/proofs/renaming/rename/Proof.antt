@@ -37,8 +37,7 @@ pub rename-spec : {M : Type 1} → statement M
 rename-spec =
     tie.close
     (tie.spec
-    (λ c κs. search needs)  -- with-name-requires
-    (λ c κs. search needs)  -- rename-told-requires
+    (λ c κs. search needs) (λ c κs. search needs)  -- with-name-requires, rename-told-requires
     (λ c κs. search needs)  -- mark-of-requires
     tell-rows-requires
     (λ c. search needs)  -- same-length

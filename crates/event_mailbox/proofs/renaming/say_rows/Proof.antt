@@ -34,8 +34,7 @@ pub say-rows-spec : {M : Type 1} → statement M
 say-rows-spec =
     tie.close
     (tie.spec
-    (λ c κs. search needs)  -- name-end-requires
-    (λ c κs. search needs)  -- name-end-requires-2
+    (λ c κs. search needs) (λ c κs. search needs)  -- name-end-requires, name-end-requires-2
     (λ c. search needs)  -- array-share-prefix-new
     slice-aggregate-say-renamed
     (λ c. search needs)  -- array-share-prefix-old

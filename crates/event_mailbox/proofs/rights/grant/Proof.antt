@@ -36,8 +36,7 @@ pub grant-spec : {M : Type 1} → statement M
 grant-spec =
     tie.close
     (tie.spec
-    (λ c κs. search needs)  -- with-rights-requires
-    (λ c κs. search needs)  -- grant-told-requires
+    (λ c κs. search needs) (λ c κs. search needs)  -- with-rights-requires, grant-told-requires
     (λ c κs. search needs)  -- grant-mark-requires
     tell-row-requires
     (λ c. search needs)  -- same-length

@@ -41,12 +41,10 @@ pub grant-told-spec : {M : Type 1} → statement M
 grant-told-spec =
     tie.close
     (tie.spec
-    (λ c κs. search needs)  -- has-requires
-    (λ c κs. search needs)  -- has-requires-2
+    (λ c κs. search needs) (λ c κs. search needs)  -- has-requires, has-requires-2
     returns
     (λ c κs. search needs)  -- noticed-requires
     returns-2
-    (λ c κs. search needs)  -- has-requires-3
-    (λ c κs. search needs)  -- noticed-requires-2
+    (λ c κs. search needs) (λ c κs. search needs)  -- has-requires-3, noticed-requires-2
     returns-3
     returns-4)

@@ -32,10 +32,8 @@ pub subscribe-spec : {M : Type 1} → statement M
 subscribe-spec =
     tie.close
     (tie.spec
-    (λ c κs. search needs)  -- with-subscribed-requires
-    (λ c κs. search needs)  -- with-attributes-requires
-    (λ c κs. search needs)  -- subscribe-told-requires
-    (λ c κs. search needs)  -- subscribe-mark-requires
+    (λ c κs. search needs) (λ c κs. search needs)  -- with-subscribed-requires, with-attributes-requires
+    (λ c κs. search needs) (λ c κs. search needs)  -- subscribe-told-requires, subscribe-mark-requires
     tell-row-requires
     (λ c. search needs)  -- same-length
     returns)

@@ -55,7 +55,6 @@ subscribe-told-spec =
     returns-2
     (λ c κs. search needs)  -- both-requires
     returns-3
-    (λ c κs. search needs)  -- with-subscribed-requires
-    (λ c κs. search needs)  -- with-attributes-requires
+    (λ c κs. search needs) (λ c κs. search needs)  -- with-subscribed-requires, with-attributes-requires
     (λ c κs. search needs)  -- is-asked-of-requires
     returns-4)

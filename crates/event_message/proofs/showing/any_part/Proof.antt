@@ -55,11 +55,8 @@ any-part-spec =
     μ-loop
     (λ c κs. search needs)  -- standing-requires
     loop-holds
-    (λ c. search needs)  -- mul-g
-    (λ c. search needs)  -- element-copy-out-g
-    (λ c κs. search needs)  -- has-part-requires
+    (λ c. search needs) (λ c. search needs) (λ c κs. search needs)  -- mul-g, element-copy-out-g, has-part-requires
     returns
-    (λ c. search needs)  -- add-i
-    (λ c. search needs)  -- loop-less
+    (λ c. search needs) (λ c. search needs)  -- add-i, loop-less
     loop-again
     returns-2)

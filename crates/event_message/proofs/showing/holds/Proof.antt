@@ -19,6 +19,5 @@ holds-spec =
     tie.close
     (tie.spec
     returns
-    (λ c. search needs)  -- sub-has
-    (λ c κs. search needs)  -- has-requires
+    (λ c. search needs) (λ c κs. search needs)  -- sub-has, has-requires
     returns-2)

@@ -10,8 +10,6 @@ pub shows-spec : {M : Type 1} → statement M
 shows-spec =
     tie.close
     (tie.spec
-    (λ c κs. search needs)  -- any-part-requires
-    (λ c κs. search needs)  -- any-part-requires-2
-    (λ c κs. search needs)  -- any-part-requires-3
-    (λ c κs. search needs)  -- any-part-requires-4
+    (λ c κs. search needs) (λ c κs. search needs)  -- any-part-requires, any-part-requires-2
+    (λ c κs. search needs) (λ c κs. search needs)  -- any-part-requires-3, any-part-requires-4
     returns)

@@ -58,11 +58,8 @@ say-count-spec =
     (tie.spec
     (λ c κs. search needs)  -- refused-requires
     returns
-    (λ c κs. search needs)  -- put-count-requires
-    (λ c κs. search needs)  -- refused-requires-2
+    (λ c κs. search needs) (λ c κs. search needs)  -- put-count-requires, refused-requires-2
     (λ c. search needs)  -- same-length
     returns-2
-    (λ c κs. search needs)  -- put-count-requires-2
-    (λ c. search needs)  -- add-bound
-    (λ c. search needs)  -- same-length-2
+    (λ c κs. search needs) (λ c. search needs) (λ c. search needs)  -- put-count-requires-2, add-bound, same-length-2
     returns-3)

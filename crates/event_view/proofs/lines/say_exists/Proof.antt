@@ -28,8 +28,6 @@ say-exists-spec =
     tie.close
     (tie.spec
     returns
-    (λ c. search needs)  -- add-t10
-    (λ c. search needs)  -- slice-aggregate-say-count
-    (λ c κs. search needs)  -- say-count-requires
-    (λ c. search needs)  -- same-length
+    (λ c. search needs) (λ c. search needs)  -- add-t10, slice-aggregate-say-count
+    (λ c κs. search needs) (λ c. search needs)  -- say-count-requires, same-length
     returns-2)

@@ -50,9 +50,7 @@ ends-ok-spec =
     returns-3
     (λ c. search needs)  -- shared-slice-read-if4
     returns-4
-    (λ c. search needs)  -- add-end
-    (λ c. search needs)  -- sub-last
-    (λ c. search needs)  -- shared-slice-read-last
+    (λ c. search needs) (λ c. search needs) (λ c. search needs)  -- add-end, sub-last, shared-slice-read-last
     returns-5
     returns-6
     (λ c. search needs)  -- shared-slice-read-result

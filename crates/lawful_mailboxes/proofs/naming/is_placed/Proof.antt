@@ -10,9 +10,7 @@ pub is-placed-spec : {M : Type 1} → statement M
 is-placed-spec =
     tie.close
     (tie.spec
-    (λ c κs. search needs)  -- both-requires
-    (λ c κs. search needs)  -- both-requires-2
-    (λ c κs. search needs)  -- both-requires-3
-    (λ c κs. search needs)  -- both-requires-4
+    (λ c κs. search needs) (λ c κs. search needs)  -- both-requires, both-requires-2
+    (λ c κs. search needs) (λ c κs. search needs)  -- both-requires-3, both-requires-4
     (λ c κs. search needs)  -- either-requires
     returns)

@@ -33,14 +33,9 @@ misplaced-from-spec =
     Inv-loop
     μ-loop
     loop-holds
-    (λ c. search needs)  -- add-misplaced
-    (λ c. search needs)  -- shared-slice-read-misplaced
-    (λ c. search needs)  -- add-misplaced-2
-    (λ c. search needs)  -- add-misplaced-3
-    (λ c. search needs)  -- shared-slice-read-misplaced-2
-    (λ c κs. search needs)  -- misplaced-requires
-    (λ c. search needs)  -- add-sum
-    (λ c. search needs)  -- add-i
-    (λ c. search needs)  -- loop-less
+    (λ c. search needs) (λ c. search needs)  -- add-misplaced, shared-slice-read-misplaced
+    (λ c. search needs) (λ c. search needs)  -- add-misplaced-2, add-misplaced-3
+    (λ c. search needs) (λ c κs. search needs)  -- shared-slice-read-misplaced-2, misplaced-requires
+    (λ c. search needs) (λ c. search needs) (λ c. search needs)  -- add-sum, add-i, loop-less
     loop-again
     returns)

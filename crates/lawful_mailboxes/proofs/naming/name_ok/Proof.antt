@@ -12,10 +12,7 @@ pub name-ok-spec : {M : Type 1} → statement M
 name-ok-spec =
     tie.close
     (tie.spec
-    (λ c. search needs)  -- mul-from
-    (λ c. search needs)  -- add-stop
-    (λ c. search needs)  -- sub-is-kept
-    (λ c. search needs)  -- part-is-kept-start
-    (λ c. search needs)  -- part-is-kept-end
+    (λ c. search needs) (λ c. search needs) (λ c. search needs)  -- mul-from, add-stop, sub-is-kept
+    (λ c. search needs) (λ c. search needs)  -- part-is-kept-start, part-is-kept-end
     (λ c κs. search needs)  -- is-kept-requires
     returns)

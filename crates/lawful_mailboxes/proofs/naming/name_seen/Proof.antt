@@ -34,8 +34,7 @@ pub name-seen-spec : {M : Type 1} → statement M
 name-seen-spec =
     tie.close
     (tie.spec
-    (λ c. search needs)  -- mul-from
-    (λ c κs. search needs)  -- ends-ok-requires
+    (λ c. search needs) (λ c κs. search needs)  -- mul-from, ends-ok-requires
     returns
     (λ c κs. search needs)  -- misplaced-from-requires
     returns-2

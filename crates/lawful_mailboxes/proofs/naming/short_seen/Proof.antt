@@ -31,9 +31,7 @@ short-seen-spec =
     (tie.spec
     (λ c κs. search needs)  -- misplaced-from-requires
     returns
-    (λ c. search needs)  -- add-word
-    (λ c κs. search needs)  -- word-requires
+    (λ c. search needs) (λ c κs. search needs)  -- add-word, word-requires
     returns-2
-    (λ c. search needs)  -- add-word-2
-    (λ c κs. search needs)  -- word-requires-2
+    (λ c. search needs) (λ c κs. search needs)  -- add-word-2, word-requires-2
     returns-3)

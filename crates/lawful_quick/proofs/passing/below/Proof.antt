@@ -39,12 +39,9 @@ below-spec =
     Inv-loop
     μ-loop
     loop-holds
-    (λ c. search needs)  -- mul-if1
-    (λ c. search needs)  -- element-copy-out-if1
-    (λ c. search needs)  -- mul-if1-2
+    (λ c. search needs) (λ c. search needs) (λ c. search needs)  -- mul-if1, element-copy-out-if1, mul-if1-2
     (λ c. search needs)  -- element-copy-out-if1-2
     returns
-    (λ c. search needs)  -- add-i
-    (λ c. search needs)  -- loop-less
+    (λ c. search needs) (λ c. search needs)  -- add-i, loop-less
     loop-again
     returns-2)

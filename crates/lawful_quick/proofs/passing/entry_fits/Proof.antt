@@ -26,17 +26,12 @@ pub entry-fits-spec : {M : Type 1} → statement M
 entry-fits-spec =
     tie.close
     (tie.spec
-    (λ c. search needs)  -- mul-if1
-    (λ c. search needs)  -- shared-slice-read-if1
+    (λ c. search needs) (λ c. search needs)  -- mul-if1, shared-slice-read-if1
     returns
-    (λ c. search needs)  -- add-if2
-    (λ c. search needs)  -- mul-if2
-    (λ c. search needs)  -- shared-slice-read-if2
+    (λ c. search needs) (λ c. search needs) (λ c. search needs)  -- add-if2, mul-if2, shared-slice-read-if2
     returns-2
-    (λ c. search needs)  -- add-is-counted
-    (λ c. search needs)  -- mul-is-counted
-    (λ c. search needs)  -- shared-slice-read-is-counted
-    (λ c κs. search needs)  -- is-counted-requires
+    (λ c. search needs) (λ c. search needs)  -- add-is-counted, mul-is-counted
+    (λ c. search needs) (λ c κs. search needs)  -- shared-slice-read-is-counted, is-counted-requires
     returns-3
     (λ c κs. search needs)  -- in-view-requires
     returns-4)

@@ -24,18 +24,11 @@ pub in-view-spec : {M : Type 1} → statement M
 in-view-spec =
     tie.close
     (tie.spec
-    (λ c. search needs)  -- add-if1
-    (λ c. search needs)  -- mul-if1
-    (λ c. search needs)  -- shared-slice-read-if1
+    (λ c. search needs) (λ c. search needs) (λ c. search needs)  -- add-if1, mul-if1, shared-slice-read-if1
     returns
-    (λ c. search needs)  -- add-if2
-    (λ c. search needs)  -- mul-if2
-    (λ c. search needs)  -- shared-slice-read-if2
+    (λ c. search needs) (λ c. search needs) (λ c. search needs)  -- add-if2, mul-if2, shared-slice-read-if2
     returns-2
-    (λ c. search needs)  -- mul-if3
-    (λ c. search needs)  -- shared-slice-read-if3
+    (λ c. search needs) (λ c. search needs)  -- mul-if3, shared-slice-read-if3
     returns-3
-    (λ c. search needs)  -- add-result
-    (λ c. search needs)  -- mul-result
-    (λ c. search needs)  -- shared-slice-read-result
+    (λ c. search needs) (λ c. search needs) (λ c. search needs)  -- add-result, mul-result, shared-slice-read-result
     returns-4)

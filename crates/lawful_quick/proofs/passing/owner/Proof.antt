@@ -36,8 +36,7 @@ pub owner-spec : {M : Type 1} → statement M
 owner-spec =
     tie.close
     (tie.spec
-    (λ c κs. search needs)  -- slot-requires
-    (λ c. search needs)  -- element-copy-out-row
+    (λ c κs. search needs) (λ c. search needs)  -- slot-requires, element-copy-out-row
     (λ c κs. search needs)  -- row-requires
     mul-if1
     element-copy-out-if1
@@ -47,6 +46,5 @@ owner-spec =
     mul-if2
     element-copy-out-if2
     returns-2
-    (λ c κs. search needs)  -- seek-requires
-    (λ c. search needs)  -- returns-3
+    (λ c κs. search needs) (λ c. search needs)  -- seek-requires, returns-3
     (λ c. search needs))  -- returns-4

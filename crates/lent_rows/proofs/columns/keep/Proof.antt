@@ -27,19 +27,11 @@ pub keep-spec : {M : Type 1} → statement M
 keep-spec =
     tie.close
     (tie.spec
-    (λ c κs. search needs)  -- wide-id-requires
-    (λ c. search needs)  -- mul-ids
-    (λ c. search needs)  -- element-write-ids
-    (λ c. search needs)  -- element-write-attributes
-    (λ c. search needs)  -- element-write-lens
-    (λ c κs. search needs)  -- wide-number-requires
-    (λ c. search needs)  -- mul-validities
-    (λ c. search needs)  -- element-write-validities
-    (λ c κs. search needs)  -- wide-number-requires-2
-    (λ c. search needs)  -- mul-nexts
-    (λ c. search needs)  -- element-write-nexts
-    (λ c κs. search needs)  -- joined-requires
-    (λ c. search needs)  -- mul-counters
-    (λ c. search needs)  -- element-write-counters
+    (λ c κs. search needs) (λ c. search needs) (λ c. search needs)  -- wide-id-requires, mul-ids, element-write-ids
+    (λ c. search needs) (λ c. search needs)  -- element-write-attributes, element-write-lens
+    (λ c κs. search needs) (λ c. search needs)  -- wide-number-requires, mul-validities
+    (λ c. search needs) (λ c κs. search needs)  -- element-write-validities, wide-number-requires-2
+    (λ c. search needs) (λ c. search needs) (λ c κs. search needs)  -- mul-nexts, element-write-nexts, joined-requires
+    (λ c. search needs) (λ c. search needs)  -- mul-counters, element-write-counters
     (λ c κs. search needs)  -- keep-name-requires
     returns)

@@ -44,10 +44,7 @@ octets-of-spec =
     μ-loop
     (λ c. search needs)  -- mul-at
     loop-holds
-    (λ c. search needs)  -- add-name
-    (λ c. search needs)  -- shared-slice-read-name
-    (λ c. search needs)  -- array-write-name
-    (λ c. search needs)  -- add-j
-    (λ c. search needs)  -- loop-less
+    (λ c. search needs) (λ c. search needs) (λ c. search needs)  -- add-name, shared-slice-read-name, array-write-name
+    (λ c. search needs) (λ c. search needs)  -- add-j, loop-less
     loop-again
     returns)

@@ -26,22 +26,13 @@ row-at-spec =
     (tie.spec
     (λ c κs. search needs)  -- vacant-requires
     returns
-    (λ c κs. search needs)  -- octets-of-requires
-    (λ c. search needs)  -- mul-narrow-id
-    (λ c. search needs)  -- element-copy-out-narrow-id
-    (λ c κs. search needs)  -- narrow-id-requires
-    (λ c. search needs)  -- element-copy-out-t19
-    (λ c. search needs)  -- element-copy-out-t22
-    (λ c. search needs)  -- mul-narrow-number
-    (λ c. search needs)  -- element-copy-out-narrow-number
-    (λ c κs. search needs)  -- narrow-number-requires
-    (λ c. search needs)  -- mul-narrow-number-2
-    (λ c. search needs)  -- element-copy-out-narrow-number-2
-    (λ c κs. search needs)  -- narrow-number-requires-2
-    (λ c. search needs)  -- mul-low-half
-    (λ c. search needs)  -- element-copy-out-low-half
-    (λ c κs. search needs)  -- low-half-requires
-    (λ c. search needs)  -- mul-high-half
-    (λ c. search needs)  -- element-copy-out-high-half
-    (λ c κs. search needs)  -- high-half-requires
+    (λ c κs. search needs) (λ c. search needs)  -- octets-of-requires, mul-narrow-id
+    (λ c. search needs) (λ c κs. search needs)  -- element-copy-out-narrow-id, narrow-id-requires
+    (λ c. search needs) (λ c. search needs)  -- element-copy-out-t19, element-copy-out-t22
+    (λ c. search needs) (λ c. search needs)  -- mul-narrow-number, element-copy-out-narrow-number
+    (λ c κs. search needs) (λ c. search needs)  -- narrow-number-requires, mul-narrow-number-2
+    (λ c. search needs) (λ c κs. search needs)  -- element-copy-out-narrow-number-2, narrow-number-requires-2
+    (λ c. search needs) (λ c. search needs)  -- mul-low-half, element-copy-out-low-half
+    (λ c κs. search needs) (λ c. search needs)  -- low-half-requires, mul-high-half
+    (λ c. search needs) (λ c κs. search needs)  -- element-copy-out-high-half, high-half-requires
     returns-2)

@@ -38,10 +38,8 @@ put-flag-spec =
     tie.close
     (tie.spec
     returns
-    (λ c κs. search needs)  -- put-requires
-    (λ c. search needs)  -- same-length
+    (λ c κs. search needs) (λ c. search needs)  -- put-requires, same-length
     returns-2
-    (λ c κs. search needs)  -- put-byte-requires
-    (λ c κs. search needs)  -- put-requires-2
+    (λ c κs. search needs) (λ c κs. search needs)  -- put-byte-requires, put-requires-2
     (λ c. search needs)  -- same-length-2
     returns-3)

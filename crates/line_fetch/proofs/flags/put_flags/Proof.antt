@@ -27,9 +27,7 @@ pub put-flags-spec : {M : Type 1} → statement M
 put-flags-spec =
     tie.close
     (tie.spec
-    (λ c κs. search needs)  -- put-three-requires
-    (λ c κs. search needs)  -- either-requires
-    (λ c κs. search needs)  -- either-requires-2
-    (λ c κs. search needs)  -- put-two-requires
+    (λ c κs. search needs) (λ c κs. search needs)  -- put-three-requires, either-requires
+    (λ c κs. search needs) (λ c κs. search needs)  -- either-requires-2, put-two-requires
     (λ c. search needs)  -- same-length
     returns)

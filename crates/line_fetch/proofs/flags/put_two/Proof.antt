@@ -23,10 +23,7 @@ pub put-two-spec : {M : Type 1} → statement M
 put-two-spec =
     tie.close
     (tie.spec
-    (λ c. search needs)  -- slice-aggregate-put-flag
-    (λ c κs. search needs)  -- put-flag-requires
-    (λ c κs. search needs)  -- either-requires
-    (λ c. search needs)  -- slice-aggregate-put-flag-2
-    (λ c κs. search needs)  -- put-flag-requires-2
-    (λ c. search needs)  -- same-length
+    (λ c. search needs) (λ c κs. search needs)  -- slice-aggregate-put-flag, put-flag-requires
+    (λ c κs. search needs) (λ c. search needs)  -- either-requires, slice-aggregate-put-flag-2
+    (λ c κs. search needs) (λ c. search needs)  -- put-flag-requires-2, same-length
     returns)

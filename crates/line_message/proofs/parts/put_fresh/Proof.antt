@@ -25,7 +25,5 @@ put-fresh-spec =
     tie.close
     (tie.spec
     returns
-    (λ c. search needs)  -- add-more
-    (λ c κs. search needs)  -- put-new-requires
-    (λ c. search needs)  -- same-length
+    (λ c. search needs) (λ c κs. search needs) (λ c. search needs)  -- add-more, put-new-requires, same-length
     returns-2)

@@ -34,8 +34,7 @@ put-gone-spec =
     tie.close
     (tie.spec
     returns
-    (λ c κs. search needs)  -- put-expunge-requires
-    (λ c. search needs)  -- same-length
+    (λ c κs. search needs) (λ c. search needs)  -- put-expunge-requires, same-length
     returns-2
     (λ c. search needs)  -- add-more
     returns-3)

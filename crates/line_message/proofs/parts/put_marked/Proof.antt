@@ -43,8 +43,6 @@ put-marked-spec =
     (tie.spec
     returns
     returns-2
-    (λ c. search needs)  -- add-more
-    (λ c κs. search needs)  -- put-fetch-requires
-    (λ c. search needs)  -- same-length
+    (λ c. search needs) (λ c κs. search needs) (λ c. search needs)  -- add-more, put-fetch-requires, same-length
     returns-3
     returns-4)

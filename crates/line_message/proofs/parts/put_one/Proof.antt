@@ -17,13 +17,9 @@ pub put-one-spec : {M : Type 1} → statement M
 put-one-spec =
     tie.close
     (tie.spec
-    (λ c. search needs)  -- enum-told
-    (λ c κs. search needs)  -- put-gone-requires
-    (λ c. search needs)  -- enum-told-2
-    (λ c κs. search needs)  -- put-marked-requires
-    (λ c. search needs)  -- enum-known-part
-    (λ c κs. search needs)  -- put-fresh-requires
-    (λ c. search needs)  -- same-length
+    (λ c. search needs) (λ c κs. search needs) (λ c. search needs)  -- enum-told, put-gone-requires, enum-told-2
+    (λ c κs. search needs) (λ c. search needs)  -- put-marked-requires, enum-known-part
+    (λ c κs. search needs) (λ c. search needs)  -- put-fresh-requires, same-length
     returns
     (λ c. search needs)  -- same-length-2
     returns-2

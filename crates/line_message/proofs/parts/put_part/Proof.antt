@@ -47,9 +47,7 @@ put-part-spec =
     Inv-loop
     μ-loop
     loop-holds
-    (λ c. search needs)  -- sub-j
-    (λ c. search needs)  -- mul-entry
-    (λ c. search needs)  -- shared-slice-read-entry
+    (λ c. search needs) (λ c. search needs) (λ c. search needs)  -- sub-j, mul-entry, shared-slice-read-entry
     (λ c κs. search needs)  -- entry-requires
     put-one-requires
     (λ c. search needs)  -- loop-less

@@ -37,18 +37,11 @@ pub lies-spec : {M : Type 1} → statement M
 lies-spec =
     tie.close
     (tie.spec
-    (λ c. search needs)  -- mul-from
-    (λ c κs. search needs)  -- name-end-requires
-    (λ c. search needs)  -- sub-same
-    (λ c. search needs)  -- part-same-start
-    (λ c. search needs)  -- part-same-end
-    (λ c κs. search needs)  -- same-requires
+    (λ c. search needs) (λ c κs. search needs) (λ c. search needs)  -- mul-from, name-end-requires, sub-same
+    (λ c. search needs) (λ c. search needs) (λ c κs. search needs)  -- part-same-start, part-same-end, same-requires
     returns
-    (λ c. search needs)  -- element-copy-out-has
-    (λ c κs. search needs)  -- has-requires
+    (λ c. search needs) (λ c κs. search needs)  -- element-copy-out-has, has-requires
     returns-2
-    (λ c. search needs)  -- sub-in-subtree
-    (λ c. search needs)  -- part-in-subtree-start
-    (λ c. search needs)  -- part-in-subtree-end
-    (λ c κs. search needs)  -- in-subtree-requires
+    (λ c. search needs) (λ c. search needs)  -- sub-in-subtree, part-in-subtree-start
+    (λ c. search needs) (λ c κs. search needs)  -- part-in-subtree-end, in-subtree-requires
     returns-3)

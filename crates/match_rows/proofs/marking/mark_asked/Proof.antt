@@ -80,12 +80,10 @@ mark-asked-spec =
     μ-loop
     (λ c κs. search needs)  -- groups-requires
     loop-holds
-    (λ c. search needs)  -- mul-group-of
-    (λ c. search needs)  -- element-copy-out-group-of
+    (λ c. search needs) (λ c. search needs)  -- mul-group-of, element-copy-out-group-of
     (λ c κs. search needs)  -- group-of-requires
     mark-group-requires
-    (λ c. search needs)  -- add-i
-    (λ c. search needs)  -- loop-less
+    (λ c. search needs) (λ c. search needs)  -- add-i, loop-less
     loop-again
     same-length
     returns)

@@ -32,6 +32,5 @@ mark-group-spec =
     (tie.spec
     (λ c κs. search needs)  -- asks-of-requires
     returns
-    (λ c κs. search needs)  -- mark-met-requires
-    (λ c. search needs)  -- same-length
+    (λ c κs. search needs) (λ c. search needs)  -- mark-met-requires, same-length
     returns-2)

@@ -65,17 +65,11 @@ pub mark-met-spec : {M : Type 1} → statement M
 mark-met-spec =
     tie.close
     (tie.spec
-    (λ c. search needs)  -- enum-told
-    (λ c. search needs)  -- enum-told-2
-    (λ c. search needs)  -- enum-told-3
-    (λ c κs. search needs)  -- mark-taken-requires
-    (λ c. search needs)  -- enum-told-4
-    (λ c κs. search needs)  -- mark-taken-requires-2
-    (λ c. search needs)  -- enum-told-5
-    (λ c κs. search needs)  -- mark-taken-requires-3
-    (λ c. search needs)  -- enum-known-selector
-    (λ c κs. search needs)  -- mark-range-requires
-    (λ c. search needs)  -- enum-known-selector-2
+    (λ c. search needs) (λ c. search needs) (λ c. search needs)  -- enum-told, enum-told-2, enum-told-3
+    (λ c κs. search needs) (λ c. search needs)  -- mark-taken-requires, enum-told-4
+    (λ c κs. search needs) (λ c. search needs)  -- mark-taken-requires-2, enum-told-5
+    (λ c κs. search needs) (λ c. search needs)  -- mark-taken-requires-3, enum-known-selector
+    (λ c κs. search needs) (λ c. search needs)  -- mark-range-requires, enum-known-selector-2
     (λ c κs. search needs)  -- mark-range-requires-2
     returns
     returns-2

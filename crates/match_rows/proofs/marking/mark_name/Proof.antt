@@ -33,6 +33,5 @@ mark-name-spec =
     (λ c κs. search needs)  -- clip-requires
     array-share-prefix-o
     slice-aggregate-mark-top
-    (λ c κs. search needs)  -- mark-top-requires
-    (λ c. search needs)  -- same-length
+    (λ c κs. search needs) (λ c. search needs)  -- mark-top-requires, same-length
     returns)

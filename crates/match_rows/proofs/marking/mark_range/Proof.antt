@@ -70,14 +70,11 @@ mark-range-spec =
     (tie.spec
     Inv-loop
     μ-loop
-    (λ c κs. search needs)  -- reach-requires
-    (λ c κs. search needs)  -- wide-requires
+    (λ c κs. search needs) (λ c κs. search needs)  -- reach-requires, wide-requires
     loop-holds
-    (λ c. search needs)  -- mul-x
-    (λ c. search needs)  -- element-copy-out-x
+    (λ c. search needs) (λ c. search needs)  -- mul-x, element-copy-out-x
     mark-name-requires
-    (λ c. search needs)  -- add-i
-    (λ c. search needs)  -- loop-less
+    (λ c. search needs) (λ c. search needs)  -- add-i, loop-less
     loop-again
     same-length
     returns)

@@ -53,13 +53,11 @@ mark-taken-spec =
     Inv-loop
     μ-loop
     loop-holds
-    (λ c. search needs)  -- element-copy-out-takes
-    (λ c κs. search needs)  -- takes-requires
+    (λ c. search needs) (λ c κs. search needs)  -- element-copy-out-takes, takes-requires
     slice-read-mark
     (λ c κs. search needs)  -- marked-requires
     slice-write-marks
-    (λ c. search needs)  -- add-k
-    (λ c. search needs)  -- loop-less
+    (λ c. search needs) (λ c. search needs)  -- add-k, loop-less
     loop-again
     same-length
     returns)

@@ -56,8 +56,7 @@ mark-top-spec =
     slice-read-mark
     (λ c κs. search needs)  -- marked-requires
     slice-write-marks
-    (λ c. search needs)  -- add-k
-    (λ c. search needs)  -- loop-less
+    (λ c. search needs) (λ c. search needs)  -- add-k, loop-less
     loop-again
     same-length
     returns)

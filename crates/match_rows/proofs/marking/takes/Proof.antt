@@ -19,18 +19,11 @@ pub takes-spec : {M : Type 1} → statement M
 takes-spec =
     tie.close
     (tie.spec
-    (λ c. search needs)  -- enum-told
-    (λ c. search needs)  -- enum-told-2
-    (λ c. search needs)  -- enum-told-3
-    (λ c κs. search needs)  -- takes-inboxes-requires
-    (λ c. search needs)  -- enum-told-4
-    (λ c κs. search needs)  -- takes-personal-requires
-    (λ c. search needs)  -- enum-told-5
-    (λ c κs. search needs)  -- has-requires
-    (λ c. search needs)  -- enum-told-6
-    (λ c. search needs)  -- enum-told-7
-    (λ c. search needs)  -- returns
-    (λ c. search needs)  -- returns-2
+    (λ c. search needs) (λ c. search needs) (λ c. search needs)  -- enum-told, enum-told-2, enum-told-3
+    (λ c κs. search needs) (λ c. search needs)  -- takes-inboxes-requires, enum-told-4
+    (λ c κs. search needs) (λ c. search needs)  -- takes-personal-requires, enum-told-5
+    (λ c κs. search needs) (λ c. search needs) (λ c. search needs)  -- has-requires, enum-told-6, enum-told-7
+    (λ c. search needs) (λ c. search needs)  -- returns, returns-2
     returns-3
     returns-4
     returns-5

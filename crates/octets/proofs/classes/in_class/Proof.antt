@@ -29,6 +29,5 @@ pub in-class-spec : {M : Type 1} → statement M
 in-class-spec =
     tie.close
     (tie.spec
-    (λ c κs. search needs)  -- mask-of-requires
-    (λ c. search needs)  -- array-read-result
+    (λ c κs. search needs) (λ c. search needs)  -- mask-of-requires, array-read-result
     returns)

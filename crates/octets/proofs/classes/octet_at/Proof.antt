@@ -12,6 +12,5 @@ pub octet-at-spec : {M : Type 1} → statement M
 octet-at-spec =
     tie.close
     (tie.spec
-    (λ c. search needs)  -- shared-slice-read-result
-    (λ c. search needs)  -- returns
+    (λ c. search needs) (λ c. search needs)  -- shared-slice-read-result, returns
     returns-2)

@@ -98,16 +98,12 @@ pub bare-date-at-spec : {M : Type 1} → statement M
 bare-date-at-spec =
     tie.close
     (tie.spec
-    (λ c κs. search needs)  -- digits-at-requires
-    (λ c. search needs)  -- enum-known-q
-    (λ c. search needs)  -- enum-told
+    (λ c κs. search needs) (λ c. search needs) (λ c. search needs)  -- digits-at-requires, enum-known-q, enum-told
     returns
     (λ c κs. search needs)  -- octet-at-requires
     returns-2
     add-month-at
-    (λ c κs. search needs)  -- month-at-requires
-    (λ c. search needs)  -- enum-known-r
-    (λ c. search needs)  -- enum-told-2
+    (λ c κs. search needs) (λ c. search needs) (λ c. search needs)  -- month-at-requires, enum-known-r, enum-told-2
     returns-3
     (λ c κs. search needs)  -- octet-at-requires-2
     returns-4

@@ -77,9 +77,7 @@ date-at-spec =
     (tie.spec
     (λ c κs. search needs)  -- octet-at-requires
     add-bare-date-at
-    (λ c κs. search needs)  -- bare-date-at-requires
-    (λ c. search needs)  -- enum-known-q
-    (λ c. search needs)  -- enum-told
+    (λ c κs. search needs) (λ c. search needs) (λ c. search needs)  -- bare-date-at-requires, enum-known-q, enum-told
     returns
     (λ c κs. search needs)  -- octet-at-requires-2
     returns-2

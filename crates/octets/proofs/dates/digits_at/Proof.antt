@@ -24,8 +24,7 @@ pub digits-at-spec : {M : Type 1} → statement M
 digits-at-spec =
     tie.close
     (tie.spec
-    (λ c κs. search needs)  -- run-end-requires
-    (λ c. search needs)  -- sub-if1
+    (λ c κs. search needs) (λ c. search needs)  -- run-end-requires, sub-if1
     returns
     (λ c. search needs)  -- sub-if2
     returns-2

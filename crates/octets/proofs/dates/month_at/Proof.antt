@@ -40,8 +40,7 @@ month-at-spec =
     returns
     (λ c. search needs)  -- sub-if2
     returns-2
-    (λ c. search needs)  -- add-end
-    (λ c κs. search needs)  -- early-month-requires
+    (λ c. search needs) (λ c κs. search needs)  -- add-end, early-month-requires
     returns-3
     (λ c κs. search needs)  -- late-month-requires
     returns-4

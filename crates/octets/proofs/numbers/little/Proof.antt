@@ -51,11 +51,7 @@ little-spec =
     μ-loop
     (λ c κs. search needs)  -- four-at-most-requires
     loop-holds
-    (λ c. search needs)  -- sub-i
-    (λ c. search needs)  -- mul-v
-    (λ c κs. search needs)  -- octet-from-requires
-    (λ c κs. search needs)  -- wide-requires
-    (λ c. search needs)  -- add-v
-    (λ c. search needs)  -- loop-less
+    (λ c. search needs) (λ c. search needs) (λ c κs. search needs)  -- sub-i, mul-v, octet-from-requires
+    (λ c κs. search needs) (λ c. search needs) (λ c. search needs)  -- wide-requires, add-v, loop-less
     loop-again
     returns)

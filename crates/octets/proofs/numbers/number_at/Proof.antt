@@ -51,12 +51,9 @@ number-at-spec =
     (λ c κs. search needs)  -- run-end-requires
     returns
     loop-holds
-    (λ c. search needs)  -- mul-v
-    (λ c. search needs)  -- shared-slice-read-digit-value
-    (λ c κs. search needs)  -- digit-value-requires
-    (λ c. search needs)  -- add-v
+    (λ c. search needs) (λ c. search needs)  -- mul-v, shared-slice-read-digit-value
+    (λ c κs. search needs) (λ c. search needs)  -- digit-value-requires, add-v
     returns-2
-    (λ c. search needs)  -- add-i
-    (λ c. search needs)  -- loop-less
+    (λ c. search needs) (λ c. search needs)  -- add-i, loop-less
     loop-again
     returns-3)

@@ -24,6 +24,5 @@ octet-from-spec =
     returns
     (λ c. search needs)  -- sub-if2
     returns-2
-    (λ c. search needs)  -- add-result
-    (λ c. search needs)  -- shared-slice-read-result
+    (λ c. search needs) (λ c. search needs)  -- add-result, shared-slice-read-result
     (λ c. search needs))  -- returns-3

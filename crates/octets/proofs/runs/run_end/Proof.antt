@@ -44,10 +44,8 @@ run-end-spec =
     Inv-loop
     μ-loop
     loop-holds
-    (λ c. search needs)  -- shared-slice-read-in-class
-    (λ c κs. search needs)  -- in-class-requires
-    (λ c. search needs)  -- add-p
-    (λ c. search needs)  -- loop-less
+    (λ c. search needs) (λ c κs. search needs)  -- shared-slice-read-in-class, in-class-requires
+    (λ c. search needs) (λ c. search needs)  -- add-p, loop-less
     loop-again
     returns
     returns-2)

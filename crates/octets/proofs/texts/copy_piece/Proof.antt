@@ -44,11 +44,8 @@ copy-piece-spec =
     loop-holds
     (λ c. search needs)  -- same-length
     returns
-    (λ c. search needs)  -- shared-slice-read-store
-    (λ c κs. search needs)  -- store-requires
-    (λ c. search needs)  -- add-n
-    (λ c. search needs)  -- add-i
-    (λ c. search needs)  -- loop-less
+    (λ c. search needs) (λ c κs. search needs) (λ c. search needs)  -- shared-slice-read-store, store-requires, add-n
+    (λ c. search needs) (λ c. search needs)  -- add-i, loop-less
     loop-again
     (λ c. search needs)  -- same-length-2
     returns-2)

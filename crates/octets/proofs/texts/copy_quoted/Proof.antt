@@ -76,19 +76,14 @@ copy-quoted-spec =
     (tie.spec
     Inv-loop
     μ-loop
-    (λ c κs. search needs)  -- quoted-at-requires
-    (λ c. search needs)  -- enum-told
-    (λ c. search needs)  -- enum-told-2
+    (λ c κs. search needs) (λ c. search needs) (λ c. search needs)  -- quoted-at-requires, enum-told, enum-told-2
     returns
     add-p
     loop-holds
-    (λ c. search needs)  -- shared-slice-read-b
-    (λ c κs. search needs)  -- quote-step-requires
+    (λ c. search needs) (λ c κs. search needs)  -- shared-slice-read-b, quote-step-requires
     (λ c. search needs)  -- same-length
     returns-2
-    (λ c κs. search needs)  -- keep-requires
-    (λ c. search needs)  -- add-p-2
-    (λ c. search needs)  -- loop-less
+    (λ c κs. search needs) (λ c. search needs) (λ c. search needs)  -- keep-requires, add-p-2, loop-less
     loop-again
     (λ c. search needs)  -- same-length-2
     returns-3)

@@ -17,8 +17,6 @@ pub keep-spec : {M : Type 1} → statement M
 keep-spec =
     tie.close
     (tie.spec
-    (λ c κs. search needs)  -- store-requires
-    (λ c. search needs)  -- add-result
-    (λ c. search needs)  -- same-length
+    (λ c κs. search needs) (λ c. search needs) (λ c. search needs)  -- store-requires, add-result, same-length
     returns
     returns-2)

@@ -62,12 +62,10 @@ quoted-at-spec =
     returns
     add-p
     loop-holds
-    (λ c. search needs)  -- shared-slice-read-quote-step
-    (λ c κs. search needs)  -- quote-step-requires
+    (λ c. search needs) (λ c κs. search needs)  -- shared-slice-read-quote-step, quote-step-requires
     (λ c. search needs)  -- add-t12
     returns-2
     returns-3
-    (λ c. search needs)  -- add-p-2
-    (λ c. search needs)  -- loop-less
+    (λ c. search needs) (λ c. search needs)  -- add-p-2, loop-less
     loop-again
     returns-4)

@@ -14,7 +14,5 @@ pub store-spec : {M : Type 1} → statement M
 store-spec =
     tie.close
     (tie.spec
-    (λ c. search needs)  -- slice-write-out
-    (λ c. search needs)  -- same-length
-    (λ c. search needs)  -- returns
+    (λ c. search needs) (λ c. search needs) (λ c. search needs)  -- slice-write-out, same-length, returns
     returns-2)

@@ -22,8 +22,7 @@ pub text-at-spec : {M : Type 1} → statement M
 text-at-spec =
     tie.close
     (tie.spec
-    (λ c κs. search needs)  -- octet-at-requires
-    (λ c κs. search needs)  -- quoted-at-requires
+    (λ c κs. search needs) (λ c κs. search needs)  -- octet-at-requires, quoted-at-requires
     returns
     (λ c κs. search needs)  -- run-at-requires
     returns-2)

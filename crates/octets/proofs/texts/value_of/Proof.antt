@@ -26,11 +26,9 @@ pub value-of-spec : {M : Type 1} → statement M
 value-of-spec =
     tie.close
     (tie.spec
-    (λ c κs. search needs)  -- octet-at-requires
-    (λ c κs. search needs)  -- copy-quoted-requires
+    (λ c κs. search needs) (λ c κs. search needs)  -- octet-at-requires, copy-quoted-requires
     (λ c. search needs)  -- same-length
     returns
-    (λ c κs. search needs)  -- run-end-requires
-    (λ c κs. search needs)  -- copy-piece-requires
+    (λ c κs. search needs) (λ c κs. search needs)  -- run-end-requires, copy-piece-requires
     (λ c. search needs)  -- same-length-2
     returns-2)

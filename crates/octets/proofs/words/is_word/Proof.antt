@@ -70,14 +70,10 @@ is-word-spec =
     loop-holds
     returns
     returns-2
-    (λ c. search needs)  -- shared-slice-read-upper-of
-    (λ c κs. search needs)  -- upper-of-requires
-    (λ c. search needs)  -- shared-slice-read-upper-of-2
-    (λ c κs. search needs)  -- upper-of-requires-2
+    (λ c. search needs) (λ c κs. search needs)  -- shared-slice-read-upper-of, upper-of-requires
+    (λ c. search needs) (λ c κs. search needs)  -- shared-slice-read-upper-of-2, upper-of-requires-2
     returns-3
-    (λ c. search needs)  -- add-i
-    (λ c. search needs)  -- add-j
-    (λ c. search needs)  -- loop-less
+    (λ c. search needs) (λ c. search needs) (λ c. search needs)  -- add-i, add-j, loop-less
     loop-again
     returns-4
     returns-5

@@ -10,6 +10,5 @@ pub word-at-spec : {M : Type 1} → statement M
 word-at-spec =
     tie.close
     (tie.spec
-    (λ c κs. search needs)  -- run-end-requires
-    (λ c κs. search needs)  -- is-word-requires
+    (λ c κs. search needs) (λ c κs. search needs)  -- run-end-requires, is-word-requires
     returns)

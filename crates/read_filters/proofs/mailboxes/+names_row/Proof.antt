@@ -135,8 +135,7 @@ pub +names-row-spec : {M : Type 1} → statement M
 +names-row-spec = close μ-names-row λ t. names-row-lts.spec (names-row-calls t)
     (names-row-at t)
     names-row.Post
-    (λ c κs. search needs)  -- names-row-text-at-requires
-    (λ c. search needs)  -- names-row-enum-known-p
+    (λ c κs. search needs) (λ c. search needs)  -- names-row-text-at-requires, names-row-enum-known-p
     (λ c κs. search needs)  -- names-row-octet-at-requires
     (names-row-add-names-row t)
     (names-row-names-row-requires t)

@@ -68,9 +68,7 @@ keep-names-spec =
     add-keep-row
     (λ c κs. search needs)  -- keep-row-requires
     returns
-    (λ c κs. search needs)  -- text-at-requires
-    (λ c. search needs)  -- enum-known-p
-    (λ c. search needs)  -- enum-told
+    (λ c κs. search needs) (λ c. search needs) (λ c. search needs)  -- text-at-requires, enum-known-p, enum-told
     (λ c κs. search needs)  -- unread-requires
     returns-2
     (λ c κs. search needs)  -- name-at-requires

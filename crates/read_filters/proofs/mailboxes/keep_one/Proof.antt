@@ -15,9 +15,6 @@ pub keep-one-spec : {M : Type 1} → statement M
 keep-one-spec =
     tie.close
     (tie.spec
-    (λ c. search needs)  -- mul-names
-    (λ c. search needs)  -- array-set-from-names
-    (λ c. search needs)  -- add-t10
-    (λ c. search needs)  -- returns
-    (λ c. search needs)  -- add-t12
+    (λ c. search needs) (λ c. search needs) (λ c. search needs)  -- mul-names, array-set-from-names, add-t10
+    (λ c. search needs) (λ c. search needs)  -- returns, add-t12
     returns-2)

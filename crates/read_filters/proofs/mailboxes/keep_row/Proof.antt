@@ -124,9 +124,7 @@ keep-row-spec =
     Inv-loop
     μ-loop
     loop-holds
-    (λ c κs. search needs)  -- text-at-requires
-    (λ c. search needs)  -- enum-known-q
-    (λ c. search needs)  -- enum-told
+    (λ c κs. search needs) (λ c. search needs) (λ c. search needs)  -- text-at-requires, enum-known-q, enum-told
     (λ c κs. search needs)  -- unread-requires
     returns
     (λ c κs. search needs)  -- name-at-requires

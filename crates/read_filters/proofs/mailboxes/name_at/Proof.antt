@@ -33,10 +33,8 @@ pub name-at-spec : {M : Type 1} → statement M
 name-at-spec =
     tie.close
     (tie.spec
-    (λ c. search needs)  -- slice-aggregate-value-of
-    (λ c κs. search needs)  -- value-of-requires
-    (λ c. search needs)  -- slice-aggregate-stored
-    (λ c κs. search needs)  -- stored-requires
+    (λ c. search needs) (λ c κs. search needs)  -- slice-aggregate-value-of, value-of-requires
+    (λ c. search needs) (λ c κs. search needs)  -- slice-aggregate-stored, stored-requires
     returns
     (λ c. search needs)  -- array-share-prefix-octets
     slice-aggregate-stored-2

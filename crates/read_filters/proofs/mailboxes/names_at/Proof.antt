@@ -45,8 +45,6 @@ names-at-spec =
     add-names-row
     (λ c κs. search needs)  -- names-row-requires
     returns
-    (λ c κs. search needs)  -- text-at-requires
-    (λ c. search needs)  -- enum-known-p
-    (λ c. search needs)  -- enum-told
+    (λ c κs. search needs) (λ c. search needs) (λ c. search needs)  -- text-at-requires, enum-known-p, enum-told
     returns-2
     returns-3)

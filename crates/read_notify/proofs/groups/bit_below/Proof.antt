@@ -14,8 +14,6 @@ pub bit-below-spec : {M : Type 1} → statement M
 bit-below-spec =
     tie.close
     (tie.spec
-    (λ c. search needs)  -- mul-result
-    (λ c. search needs)  -- add-result
-    (λ c. search needs)  -- mul-result-2
+    (λ c. search needs) (λ c. search needs) (λ c. search needs)  -- mul-result, add-result, mul-result-2
     returns
     returns-2)

@@ -10,8 +10,6 @@ pub lent-spec : {M : Type 1} → statement M
 lent-spec =
     tie.close
     (tie.spec
-    (λ c κs. search needs)  -- first-of-requires
-    (λ c κs. search needs)  -- low-requires
-    (λ c κs. search needs)  -- event-bits-requires
-    (λ c κs. search needs)  -- attribute-bits-requires
+    (λ c κs. search needs) (λ c κs. search needs)  -- first-of-requires, low-requires
+    (λ c κs. search needs) (λ c κs. search needs)  -- event-bits-requires, attribute-bits-requires
     returns)

@@ -65,10 +65,8 @@ lent-at-spec =
     (λ c κs. search needs)  -- octet-at-requires
     returns
     add-filter-at
-    (λ c κs. search needs)  -- filter-at-requires
-    (λ c. search needs)  -- enum-known-scope
-    (λ c κs. search needs)  -- is-groupable-requires
-    (λ c κs. search needs)  -- lent-behind-requires
+    (λ c κs. search needs) (λ c. search needs)  -- filter-at-requires, enum-known-scope
+    (λ c κs. search needs) (λ c κs. search needs)  -- is-groupable-requires, lent-behind-requires
     (λ c. search needs)  -- enum-told
     returns-2
     returns-3

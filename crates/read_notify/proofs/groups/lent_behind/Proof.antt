@@ -87,12 +87,10 @@ lent-behind-spec =
     (λ c κs. search needs)  -- octet-at-requires
     returns
     add-events-at
-    (λ c κs. search needs)  -- events-at-requires
-    (λ c. search needs)  -- enum-known-e
+    (λ c κs. search needs) (λ c. search needs)  -- events-at-requires, enum-known-e
     (λ c κs. search needs)  -- octet-at-requires-2
     returns-2
-    (λ c κs. search needs)  -- selector-of-requires
-    (λ c κs. search needs)  -- lent-requires
+    (λ c κs. search needs) (λ c κs. search needs)  -- selector-of-requires, lent-requires
     (λ c κs. search needs)  -- tally-by-requires
     add-t18
     (λ c. search needs)  -- enum-told

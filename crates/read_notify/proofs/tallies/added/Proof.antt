@@ -10,10 +10,7 @@ pub added-spec : {M : Type 1} → statement M
 added-spec =
     tie.close
     (tie.spec
-    (λ c. search needs)  -- add-t3
-    (λ c. search needs)  -- add-t4
-    (λ c. search needs)  -- add-t5
-    (λ c κs. search needs)  -- either-requires
-    (λ c κs. search needs)  -- either-requires-2
+    (λ c. search needs) (λ c. search needs) (λ c. search needs)  -- add-t3, add-t4, add-t5
+    (λ c κs. search needs) (λ c κs. search needs)  -- either-requires, either-requires-2
     (λ c κs. search needs)  -- either-requires-3
     returns)

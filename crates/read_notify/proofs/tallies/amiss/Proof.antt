@@ -10,7 +10,6 @@ pub amiss-spec : {M : Type 1} → statement M
 amiss-spec =
     tie.close
     (tie.spec
-    (λ c κs. search needs)  -- misplaced-requires
-    (λ c κs. search needs)  -- unpaired-requires
+    (λ c κs. search needs) (λ c κs. search needs)  -- misplaced-requires, unpaired-requires
     (λ c κs. search needs)  -- either-requires
     returns)

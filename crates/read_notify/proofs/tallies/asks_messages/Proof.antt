@@ -10,7 +10,6 @@ pub asks-messages-spec : {M : Type 1} → statement M
 asks-messages-spec =
     tie.close
     (tie.spec
-    (λ c κs. search needs)  -- either-requires
-    (λ c κs. search needs)  -- either-requires-2
+    (λ c κs. search needs) (λ c κs. search needs)  -- either-requires, either-requires-2
     (λ c κs. search needs)  -- either-requires-3
     returns)

@@ -10,6 +10,5 @@ pub asks-others-spec : {M : Type 1} → statement M
 asks-others-spec =
     tie.close
     (tie.spec
-    (λ c κs. search needs)  -- either-requires
-    (λ c κs. search needs)  -- either-requires-2
+    (λ c κs. search needs) (λ c κs. search needs)  -- either-requires, either-requires-2
     returns)

@@ -10,8 +10,6 @@ pub tally-by-spec : {M : Type 1} → statement M
 tally-by-spec =
     tie.close
     (tie.spec
-    (λ c κs. search needs)  -- about-selected-requires
-    (λ c κs. search needs)  -- one-if-requires
-    (λ c κs. search needs)  -- amiss-requires
-    (λ c κs. search needs)  -- either-requires
+    (λ c κs. search needs) (λ c κs. search needs)  -- about-selected-requires, one-if-requires
+    (λ c κs. search needs) (λ c κs. search needs)  -- amiss-requires, either-requires
     returns)

@@ -10,7 +10,6 @@ pub unpaired-spec : {M : Type 1} → statement M
 unpaired-spec =
     tie.close
     (tie.spec
-    (λ c κs. search needs)  -- asks-messages-requires
-    (λ c κs. search needs)  -- both-requires
+    (λ c κs. search needs) (λ c κs. search needs)  -- asks-messages-requires, both-requires
     (λ c κs. search needs)  -- both-requires-2
     returns)

@@ -10,6 +10,5 @@ pub bare-spec : {M : Type 1} → statement M
 bare-spec =
     tie.close
     (tie.spec
-    (λ c κs. search needs)  -- keep-nothing-requires
-    (λ c κs. search needs)  -- no-watch-requires
+    (λ c κs. search needs) (λ c κs. search needs)  -- keep-nothing-requires, no-watch-requires
     returns)

@@ -101,21 +101,17 @@ gather-spec =
     (tie.spec
     Inv-loop
     μ-loop
-    (λ c κs. search needs)  -- no-tally-requires
-    (λ c κs. search needs)  -- no-watch-requires
+    (λ c κs. search needs) (λ c κs. search needs)  -- no-tally-requires, no-watch-requires
     (λ c κs. search needs)  -- keep-nothing-requires
     loop-holds
-    (λ c κs. search needs)  -- lent-at-requires
-    (λ c. search needs)  -- enum-known-group
-    (λ c. search needs)  -- enum-told
+    (λ c κs. search needs) (λ c. search needs) (λ c. search needs)  -- lent-at-requires, enum-known-group, enum-told
     (λ c κs. search needs)  -- ungathered-requires
     returns
     add-keep-more
     keep-more-requires
     keep-group-requires
     added-requires
-    (λ c κs. search needs)  -- octet-at-requires
-    (λ c κs. search needs)  -- gathered-requires
+    (λ c κs. search needs) (λ c κs. search needs)  -- octet-at-requires, gathered-requires
     returns-2
     add-p
     loop-less

@@ -62,17 +62,13 @@ pub keep-at-spec : {M : Type 1} → statement M
 keep-at-spec =
     tie.close
     (tie.spec
-    (λ c κs. search needs)  -- run-end-requires
-    (λ c. search needs)  -- slice-aggregate-is-word
-    (λ c κs. search needs)  -- is-word-requires
-    (λ c κs. search needs)  -- bare-requires
+    (λ c κs. search needs) (λ c. search needs)  -- run-end-requires, slice-aggregate-is-word
+    (λ c κs. search needs) (λ c κs. search needs)  -- is-word-requires, bare-requires
     returns
-    (λ c. search needs)  -- slice-aggregate-is-word-2
-    (λ c κs. search needs)  -- is-word-requires-2
+    (λ c. search needs) (λ c κs. search needs)  -- slice-aggregate-is-word-2, is-word-requires-2
     (λ c κs. search needs)  -- unkept-requires
     returns-2
-    (λ c κs. search needs)  -- octet-at-requires
-    (λ c κs. search needs)  -- unkept-requires-2
+    (λ c κs. search needs) (λ c κs. search needs)  -- octet-at-requires, unkept-requires-2
     returns-3
     add-set-at
     (λ c κs. search needs)  -- set-at-requires

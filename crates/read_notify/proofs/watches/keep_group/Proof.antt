@@ -15,9 +15,6 @@ pub keep-group-spec : {M : Type 1} → statement M
 keep-group-spec =
     tie.close
     (tie.spec
-    (λ c. search needs)  -- mul-groups
-    (λ c. search needs)  -- array-set-from-groups
-    (λ c. search needs)  -- add-t10
-    (λ c. search needs)  -- returns
-    (λ c. search needs)  -- add-t12
+    (λ c. search needs) (λ c. search needs) (λ c. search needs)  -- mul-groups, array-set-from-groups, add-t10
+    (λ c. search needs) (λ c. search needs)  -- returns, add-t12
     returns-2)

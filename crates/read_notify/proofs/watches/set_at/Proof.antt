@@ -47,16 +47,12 @@ pub set-at-spec : {M : Type 1} → statement M
 set-at-spec =
     tie.close
     (tie.spec
-    (λ c κs. search needs)  -- run-end-requires
-    (λ c. search needs)  -- slice-aggregate-is-word
-    (λ c κs. search needs)  -- is-word-requires
-    (λ c κs. search needs)  -- octet-at-requires
+    (λ c κs. search needs) (λ c. search needs)  -- run-end-requires, slice-aggregate-is-word
+    (λ c κs. search needs) (λ c κs. search needs)  -- is-word-requires, octet-at-requires
     (λ c κs. search needs)  -- unkept-requires
     returns
     add-gather
-    (λ c κs. search needs)  -- gather-requires
-    (λ c κs. search needs)  -- noted-requires
+    (λ c κs. search needs) (λ c κs. search needs)  -- gather-requires, noted-requires
     returns-2
-    (λ c κs. search needs)  -- gather-requires-2
-    (λ c κs. search needs)  -- noted-requires-2
+    (λ c κs. search needs) (λ c κs. search needs)  -- gather-requires-2, noted-requires-2
     returns-3)

@@ -10,7 +10,6 @@ pub silence-spec : {M : Type 1} → statement M
 silence-spec =
     tie.close
     (tie.spec
-    (λ c κs. search needs)  -- keep-nothing-requires
-    (λ c κs. search needs)  -- no-watch-requires
+    (λ c κs. search needs) (λ c κs. search needs)  -- keep-nothing-requires, no-watch-requires
     (λ c κs. search needs)  -- settled-requires
     returns)

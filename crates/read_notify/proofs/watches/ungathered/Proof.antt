@@ -10,7 +10,6 @@ pub ungathered-spec : {M : Type 1} → statement M
 ungathered-spec =
     tie.close
     (tie.spec
-    (λ c κs. search needs)  -- keep-nothing-requires
-    (λ c κs. search needs)  -- no-tally-requires
+    (λ c κs. search needs) (λ c κs. search needs)  -- keep-nothing-requires, no-tally-requires
     (λ c κs. search needs)  -- no-watch-requires
     returns)

@@ -32,13 +32,10 @@ pub watch-by-spec : {M : Type 1} → statement M
 watch-by-spec =
     tie.close
     (tie.spec
-    (λ c. search needs)  -- enum-told
-    (λ c κs. search needs)  -- silence-requires
-    (λ c. search needs)  -- enum-known-read
+    (λ c. search needs) (λ c κs. search needs) (λ c. search needs)  -- enum-told, silence-requires, enum-known-read
     returns
     returns-2
-    (λ c κs. search needs)  -- settled-requires
-    (λ c. search needs)  -- enum-told-2
+    (λ c κs. search needs) (λ c. search needs)  -- settled-requires, enum-told-2
     returns-3
     returns-4
     returns-5)

@@ -106,8 +106,7 @@ pub +sources-row-spec : {M : Type 1} → statement M
 +sources-row-spec = close μ-sources-row λ t. sources-row-lts.spec (sources-row-calls t)
     (sources-row-at t)
     sources-row.Post
-    (λ c κs. search needs)  -- sources-row-filter-at-requires
-    (λ c. search needs)  -- sources-row-enum-known-scope
+    (λ c κs. search needs) (λ c. search needs)  -- sources-row-filter-at-requires, sources-row-enum-known-scope
     (λ c κs. search needs)  -- sources-row-octet-at-requires
     (sources-row-add-sources-row t)
     (sources-row-sources-row-requires t)

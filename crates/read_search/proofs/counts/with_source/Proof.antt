@@ -13,8 +13,6 @@ pub with-source-spec : {M : Type 1} → statement M
 with-source-spec =
     tie.close
     (tie.spec
-    (λ c. search needs)  -- add-t4
-    (λ c. search needs)  -- add-t5
-    (λ c κs. search needs)  -- is-delayed-requires
+    (λ c. search needs) (λ c. search needs) (λ c κs. search needs)  -- add-t4, add-t5, is-delayed-requires
     (λ c κs. search needs)  -- is-selected-requires
     returns)

@@ -12,6 +12,5 @@ pub behind-word-spec : {M : Type 1} → statement M
 behind-word-spec =
     tie.close
     (tie.spec
-    (λ c κs. search needs)  -- run-end-requires
-    (λ c κs. search needs)  -- behind-space-requires
+    (λ c κs. search needs) (λ c κs. search needs)  -- run-end-requires, behind-space-requires
     returns)

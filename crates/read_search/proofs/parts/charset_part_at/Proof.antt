@@ -19,8 +19,7 @@ pub charset-part-at-spec : {M : Type 1} → statement M
 charset-part-at-spec =
     tie.close
     (tie.spec
-    (λ c. search needs)  -- slice-aggregate-word-at
-    (λ c κs. search needs)  -- word-at-requires
+    (λ c. search needs) (λ c κs. search needs)  -- slice-aggregate-word-at, word-at-requires
     (λ c κs. search needs)  -- charset-by-requires
     returns
     returns-2)

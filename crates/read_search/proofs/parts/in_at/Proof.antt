@@ -19,8 +19,7 @@ pub in-at-spec : {M : Type 1} → statement M
 in-at-spec =
     tie.close
     (tie.spec
-    (λ c. search needs)  -- slice-aggregate-word-at
-    (λ c κs. search needs)  -- word-at-requires
+    (λ c. search needs) (λ c κs. search needs)  -- slice-aggregate-word-at, word-at-requires
     (λ c κs. search needs)  -- in-by-requires
     returns
     (λ c κs. search needs)  -- no-sources-requires

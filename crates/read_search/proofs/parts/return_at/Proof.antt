@@ -19,8 +19,7 @@ pub return-at-spec : {M : Type 1} → statement M
 return-at-spec =
     tie.close
     (tie.spec
-    (λ c. search needs)  -- slice-aggregate-word-at
-    (λ c κs. search needs)  -- word-at-requires
+    (λ c. search needs) (λ c κs. search needs)  -- slice-aggregate-word-at, word-at-requires
     (λ c κs. search needs)  -- return-by-requires
     returns
     returns-2)

@@ -40,16 +40,12 @@ pub return-by-spec : {M : Type 1} → statement M
 return-by-spec =
     tie.close
     (tie.spec
-    (λ c κs. search needs)  -- behind-word-requires
-    (λ c. search needs)  -- enum-known-q
-    (λ c. search needs)  -- enum-told
+    (λ c κs. search needs) (λ c. search needs) (λ c. search needs)  -- behind-word-requires, enum-known-q, enum-told
     returns
-    (λ c κs. search needs)  -- returns-at-requires
-    (λ c. search needs)  -- enum-known-returns
+    (λ c κs. search needs) (λ c. search needs)  -- returns-at-requires, enum-known-returns
     (λ c. search needs)  -- enum-told-2
     returns-2
-    (λ c κs. search needs)  -- behind-space-requires
-    (λ c. search needs)  -- enum-known-next
+    (λ c κs. search needs) (λ c. search needs)  -- behind-space-requires, enum-known-next
     (λ c. search needs)  -- enum-told-3
     returns-3
     returns-4)

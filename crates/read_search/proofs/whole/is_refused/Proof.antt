@@ -20,7 +20,6 @@ pub is-refused-spec : {M : Type 1} → statement M
 is-refused-spec =
     tie.close
     (tie.spec
-    (λ c. search needs)  -- returns
-    (λ c. search needs)  -- returns-2
+    (λ c. search needs) (λ c. search needs)  -- returns, returns-2
     returns-3
     returns-4)

@@ -42,18 +42,13 @@ pub search-at-spec : {M : Type 1} → statement M
 search-at-spec =
     tie.close
     (tie.spec
-    (λ c κs. search needs)  -- in-at-requires
-    (λ c. search needs)  -- enum-known-sources
-    (λ c. search needs)  -- enum-told
+    (λ c κs. search needs) (λ c. search needs) (λ c. search needs)  -- in-at-requires, enum-known-sources, enum-told
     returns
-    (λ c κs. search needs)  -- return-at-requires
-    (λ c. search needs)  -- enum-known-returns
+    (λ c κs. search needs) (λ c. search needs)  -- return-at-requires, enum-known-returns
     (λ c. search needs)  -- enum-told-2
     returns-2
-    (λ c κs. search needs)  -- charset-part-at-requires
-    (λ c. search needs)  -- enum-known-unknown
+    (λ c κs. search needs) (λ c. search needs)  -- charset-part-at-requires, enum-known-unknown
     (λ c. search needs)  -- enum-told-3
     returns-3
-    (λ c κs. search needs)  -- with-keys-requires
-    (λ c. search needs)  -- same-length
+    (λ c κs. search needs) (λ c. search needs)  -- with-keys-requires, same-length
     returns-4)

@@ -23,9 +23,7 @@ pub with-keys-spec : {M : Type 1} → statement M
 with-keys-spec =
     tie.close
     (tie.spec
-    (λ c κs. search needs)  -- program-at-requires
-    (λ c. search needs)  -- enum-known-next
-    (λ c. search needs)  -- enum-told
+    (λ c κs. search needs) (λ c. search needs) (λ c. search needs)  -- program-at-requires, enum-known-next, enum-told
     (λ c. search needs)  -- same-length
     returns
     (λ c. search needs)  -- same-length-2

@@ -107,16 +107,13 @@ pub +set-at-spec : {M : Type 1} → statement M
 +set-at-spec = close μ-set-at λ t. set-at-lts.spec (set-at-calls t)
     (set-at-at t)
     set-at.Post
-    (λ c κs. search needs)  -- set-at-part-at-requires
-    (λ c. search needs)  -- set-at-enum-known-from
-    (λ c κs. search needs)  -- set-at-store-two-requires
-    (λ c κs. search needs)  -- set-at-octet-at-requires
+    (λ c κs. search needs) (λ c. search needs)  -- set-at-part-at-requires, set-at-enum-known-from
+    (λ c κs. search needs) (λ c κs. search needs)  -- set-at-store-two-requires, set-at-octet-at-requires
     (set-at-add-set-at t)
     (λ c. search needs)  -- set-at-add-set-at-2
     (set-at-set-at-requires t)
     (set-at-one-more-requires t)
-    (λ c. search needs)  -- set-at-enum-told
-    (λ c. search needs)  -- set-at-same-length
+    (λ c. search needs) (λ c. search needs)  -- set-at-enum-told, set-at-same-length
     (set-at-returns t)
     (λ c. search needs)  -- set-at-same-length-2
     (set-at-returns-2 t)

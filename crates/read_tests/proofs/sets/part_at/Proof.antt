@@ -61,13 +61,10 @@ pub part-at-spec : {M : Type 1} → statement M
 part-at-spec =
     tie.close
     (tie.spec
-    (λ c κs. search needs)  -- bound-at-requires
-    (λ c. search needs)  -- enum-known-from
+    (λ c κs. search needs) (λ c. search needs)  -- bound-at-requires, enum-known-from
     (λ c κs. search needs)  -- octet-at-requires
     add-bound-at
-    (λ c κs. search needs)  -- bound-at-requires-2
-    (λ c. search needs)  -- enum-known-upto
-    (λ c. search needs)  -- enum-told
+    (λ c κs. search needs) (λ c. search needs) (λ c. search needs)  -- bound-at-requires-2, enum-known-upto, enum-told
     (λ c. search needs)  -- enum-told-2
     returns
     returns-2

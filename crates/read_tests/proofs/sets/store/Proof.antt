@@ -14,8 +14,6 @@ pub store-spec : {M : Type 1} → statement M
 store-spec =
     tie.close
     (tie.spec
-    (λ c. search needs)  -- mul-cells
-    (λ c. search needs)  -- slice-write-cells
-    (λ c. search needs)  -- same-length
+    (λ c. search needs) (λ c. search needs) (λ c. search needs)  -- mul-cells, slice-write-cells, same-length
     (λ c. search needs)  -- returns
     returns-2)

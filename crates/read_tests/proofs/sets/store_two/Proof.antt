@@ -15,8 +15,6 @@ pub store-two-spec : {M : Type 1} → statement M
 store-two-spec =
     tie.close
     (tie.spec
-    (λ c κs. search needs)  -- store-requires
-    (λ c. search needs)  -- add-store
-    (λ c κs. search needs)  -- store-requires-2
+    (λ c κs. search needs) (λ c. search needs) (λ c κs. search needs)  -- store-requires, add-store, store-requires-2
     (λ c. search needs)  -- same-length
     returns)

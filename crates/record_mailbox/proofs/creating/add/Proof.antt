@@ -14,12 +14,7 @@ pub add-spec : {M : Type 1} → statement M
 add-spec =
     tie.close
     (tie.spec
-    (λ c. search needs)  -- cast-create
-    (λ c. search needs)  -- cast-create-2
-    (λ c. search needs)  -- cast-create-3
-    (λ c. search needs)  -- cast-create-4
-    (λ c κs. search needs)  -- create-requires
-    (λ c. search needs)  -- add-put
-    (λ c κs. search needs)  -- put-requires
-    (λ c. search needs)  -- same-length
+    (λ c. search needs) (λ c. search needs) (λ c. search needs)  -- cast-create, cast-create-2, cast-create-3
+    (λ c. search needs) (λ c κs. search needs) (λ c. search needs)  -- cast-create-4, create-requires, add-put
+    (λ c κs. search needs) (λ c. search needs)  -- put-requires, same-length
     returns)

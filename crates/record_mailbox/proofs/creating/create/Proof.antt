@@ -41,11 +41,9 @@ create-spec =
     (tie.spec
     (λ c κs. search needs)  -- refused-requires
     returns
-    (λ c κs. search needs)  -- is-taken-requires
-    (λ c κs. search needs)  -- refused-requires-2
+    (λ c κs. search needs) (λ c κs. search needs)  -- is-taken-requires, refused-requires-2
     returns-2
     (λ c κs. search needs)  -- refused-requires-3
     returns-3
-    (λ c κs. search needs)  -- add-requires
-    (λ c. search needs)  -- same-length
+    (λ c κs. search needs) (λ c. search needs)  -- add-requires, same-length
     returns-4)

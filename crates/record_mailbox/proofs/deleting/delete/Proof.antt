@@ -31,10 +31,7 @@ delete-spec =
     (tie.spec
     (λ c κs. search needs)  -- refused-requires
     returns
-    (λ c κs. search needs)  -- is-selected-requires
-    (λ c κs. search needs)  -- refused-requires-2
+    (λ c κs. search needs) (λ c κs. search needs)  -- is-selected-requires, refused-requires-2
     returns-2
-    (λ c κs. search needs)  -- take-out-requires
-    (λ c. search needs)  -- same-length
-    (λ c. search needs)  -- same-length-2
+    (λ c κs. search needs) (λ c. search needs) (λ c. search needs)  -- take-out-requires, same-length, same-length-2
     returns-3)

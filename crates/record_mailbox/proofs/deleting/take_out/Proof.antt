@@ -16,10 +16,7 @@ pub take-out-spec : {M : Type 1} → statement M
 take-out-spec =
     tie.close
     (tie.spec
-    (λ c. search needs)  -- cast-delete
-    (λ c κs. search needs)  -- delete-requires
-    (λ c κs. search needs)  -- settle-requires
-    (λ c. search needs)  -- sub-left
-    (λ c. search needs)  -- same-length
+    (λ c. search needs) (λ c κs. search needs)  -- cast-delete, delete-requires
+    (λ c κs. search needs) (λ c. search needs) (λ c. search needs)  -- settle-requires, sub-left, same-length
     (λ c. search needs)  -- same-length-2
     returns)

@@ -35,11 +35,8 @@ rename-spec =
     (tie.spec
     (λ c κs. search needs)  -- refused-requires
     returns
-    (λ c κs. search needs)  -- is-taken-requires
-    (λ c κs. search needs)  -- refused-requires-2
+    (λ c κs. search needs) (λ c κs. search needs)  -- is-taken-requires, refused-requires-2
     returns-2
-    (λ c. search needs)  -- cast-rename
-    (λ c κs. search needs)  -- rename-requires
-    (λ c κs. search needs)  -- put-requires
+    (λ c. search needs) (λ c κs. search needs) (λ c κs. search needs)  -- cast-rename, rename-requires, put-requires
     (λ c. search needs)  -- same-length
     returns-3)

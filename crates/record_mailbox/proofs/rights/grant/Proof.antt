@@ -18,8 +18,6 @@ grant-spec =
     (tie.spec
     (λ c κs. search needs)  -- refused-requires
     returns
-    (λ c. search needs)  -- cast-grant
-    (λ c κs. search needs)  -- grant-requires
-    (λ c κs. search needs)  -- put-requires
+    (λ c. search needs) (λ c κs. search needs) (λ c κs. search needs)  -- cast-grant, grant-requires, put-requires
     (λ c. search needs)  -- same-length
     returns-2)

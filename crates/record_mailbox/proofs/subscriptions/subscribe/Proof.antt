@@ -18,9 +18,7 @@ subscribe-spec =
     (tie.spec
     (λ c κs. search needs)  -- refused-requires
     returns
-    (λ c. search needs)  -- cast-subscribe
-    (λ c. search needs)  -- cast-subscribe-2
-    (λ c κs. search needs)  -- subscribe-requires
-    (λ c κs. search needs)  -- put-requires
+    (λ c. search needs) (λ c. search needs)  -- cast-subscribe, cast-subscribe-2
+    (λ c κs. search needs) (λ c κs. search needs)  -- subscribe-requires, put-requires
     (λ c. search needs)  -- same-length
     returns-2)

@@ -51,16 +51,11 @@ fields-at-spec =
     Inv-loop
     μ-loop
     loop-holds
-    (λ c. search needs)  -- array-read-field-of
-    (λ c κs. search needs)  -- field-of-requires
+    (λ c. search needs) (λ c κs. search needs)  -- array-read-field-of, field-of-requires
     (λ c κs. search needs)  -- width-of-requires
     number-at-requires
-    (λ c κs. search needs)  -- in-range-requires
-    (λ c κs. search needs)  -- both-requires
-    (λ c. search needs)  -- mul-values
-    (λ c. search needs)  -- array-write-values
-    (λ c. search needs)  -- add-end
-    (λ c. search needs)  -- add-i
+    (λ c κs. search needs) (λ c κs. search needs) (λ c. search needs)  -- in-range-requires, both-requires, mul-values
+    (λ c. search needs) (λ c. search needs) (λ c. search needs)  -- array-write-values, add-end, add-i
     (λ c. search needs)  -- loop-less
     loop-again
     returns)

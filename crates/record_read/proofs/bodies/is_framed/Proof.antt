@@ -15,6 +15,5 @@ is-framed-spec =
     tie.close
     (tie.spec
     returns
-    (λ c κs. search needs)  -- little-requires
-    (λ c. search needs)  -- sub-result
+    (λ c κs. search needs) (λ c. search needs)  -- little-requires, sub-result
     returns-2)

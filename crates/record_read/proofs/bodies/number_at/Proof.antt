@@ -20,8 +20,6 @@ number-at-spec =
     (tie.spec
     (λ c κs. search needs)  -- little-requires
     returns
-    (λ c. search needs)  -- add-little
-    (λ c κs. search needs)  -- little-requires-2
-    (λ c. search needs)  -- mul-result
+    (λ c. search needs) (λ c κs. search needs) (λ c. search needs)  -- add-little, little-requires-2, mul-result
     (λ c. search needs)  -- add-result
     returns-2)

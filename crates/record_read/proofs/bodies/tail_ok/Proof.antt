@@ -23,15 +23,10 @@ pub tail-ok-spec : {M : Type 1} → statement M
 tail-ok-spec =
     tie.close
     (tie.spec
-    (λ c. search needs)  -- enum-told
-    (λ c. search needs)  -- sub-result
-    (λ c. search needs)  -- enum-told-2
-    (λ c. search needs)  -- sub-is-valid
-    (λ c. search needs)  -- part-is-valid-start
-    (λ c. search needs)  -- part-is-valid-end
-    (λ c κs. search needs)  -- is-valid-requires
-    (λ c. search needs)  -- enum-told-3
-    (λ c. search needs)  -- sub-result-2
+    (λ c. search needs) (λ c. search needs) (λ c. search needs)  -- enum-told, sub-result, enum-told-2
+    (λ c. search needs) (λ c. search needs)  -- sub-is-valid, part-is-valid-start
+    (λ c. search needs) (λ c κs. search needs)  -- part-is-valid-end, is-valid-requires
+    (λ c. search needs) (λ c. search needs)  -- enum-told-3, sub-result-2
     returns
     returns-2
     returns-3)

@@ -48,23 +48,12 @@ pub in-range-spec : {M : Type 1} → statement M
 in-range-spec =
     tie.close
     (tie.spec
-    (λ c. search needs)  -- enum-told
-    (λ c κs. search needs)  -- between-requires
-    (λ c. search needs)  -- enum-told-2
-    (λ c. search needs)  -- enum-told-3
-    (λ c. search needs)  -- enum-told-4
-    (λ c. search needs)  -- enum-told-5
-    (λ c κs. search needs)  -- between-requires-2
-    (λ c. search needs)  -- enum-told-6
-    (λ c. search needs)  -- enum-told-7
-    (λ c κs. search needs)  -- is-rights-requires
-    (λ c. search needs)  -- enum-told-8
-    (λ c κs. search needs)  -- between-requires-3
-    (λ c. search needs)  -- enum-told-9
-    (λ c. search needs)  -- enum-told-10
-    (λ c. search needs)  -- enum-told-11
-    (λ c. search needs)  -- enum-told-12
-    (λ c. search needs)  -- enum-told-13
+    (λ c. search needs) (λ c κs. search needs) (λ c. search needs)  -- enum-told, between-requires, enum-told-2
+    (λ c. search needs) (λ c. search needs) (λ c. search needs)  -- enum-told-3, enum-told-4, enum-told-5
+    (λ c κs. search needs) (λ c. search needs) (λ c. search needs)  -- between-requires-2, enum-told-6, enum-told-7
+    (λ c κs. search needs) (λ c. search needs)  -- is-rights-requires, enum-told-8
+    (λ c κs. search needs) (λ c. search needs) (λ c. search needs)  -- between-requires-3, enum-told-9, enum-told-10
+    (λ c. search needs) (λ c. search needs) (λ c. search needs)  -- enum-told-11, enum-told-12, enum-told-13
     (λ c κs. search needs)  -- between-requires-4
     returns
     returns-2

@@ -48,18 +48,10 @@ pub layout-of-spec : {M : Type 1} → statement M
 layout-of-spec =
     tie.close
     (tie.spec
-    (λ c. search needs)  -- enum-told
-    (λ c. search needs)  -- enum-told-2
-    (λ c. search needs)  -- enum-told-3
-    (λ c. search needs)  -- enum-told-4
-    (λ c. search needs)  -- enum-told-5
-    (λ c. search needs)  -- enum-told-6
-    (λ c. search needs)  -- enum-told-7
-    (λ c. search needs)  -- enum-told-8
-    (λ c. search needs)  -- enum-told-9
-    (λ c. search needs)  -- enum-told-10
-    (λ c. search needs)  -- enum-told-11
-    (λ c. search needs)  -- enum-told-12
+    (λ c. search needs) (λ c. search needs) (λ c. search needs)  -- enum-told, enum-told-2, enum-told-3
+    (λ c. search needs) (λ c. search needs) (λ c. search needs)  -- enum-told-4, enum-told-5, enum-told-6
+    (λ c. search needs) (λ c. search needs) (λ c. search needs)  -- enum-told-7, enum-told-8, enum-told-9
+    (λ c. search needs) (λ c. search needs) (λ c. search needs)  -- enum-told-10, enum-told-11, enum-told-12
     (λ c. search needs)  -- enum-told-13
     returns
     returns-2

@@ -17,12 +17,7 @@ alike-spec =
     (tie.spec
     Inv-loop
     μ-loop
-    (λ c. search needs)  -- loop-holds
-    (λ c. search needs)  -- returns
-    (λ c. search needs)  -- shared-slice-read-if2
-    (λ c. search needs)  -- shared-slice-read-if2-2
-    (λ c. search needs)  -- returns-2
-    (λ c. search needs)  -- add-i
-    (λ c. search needs)  -- loop-less
-    (λ c. search needs)  -- loop-again
+    (λ c. search needs) (λ c. search needs) (λ c. search needs)  -- loop-holds, returns, shared-slice-read-if2
+    (λ c. search needs) (λ c. search needs) (λ c. search needs)  -- shared-slice-read-if2-2, returns-2, add-i
+    (λ c. search needs) (λ c. search needs)  -- loop-less, loop-again
     (λ c. search needs))  -- returns-3

@@ -13,16 +13,10 @@ pub next-turn-spec : {M : Type 1} → statement M
 next-turn-spec =
     tie.close
     (tie.spec
-    (λ c κs. search needs)  -- next-expected-requires
-    (λ c κs. search needs)  -- passed-requires
-    (λ c. search needs)  -- returns
-    (λ c κs. search needs)  -- passed-requires-2
-    (λ c. search needs)  -- returns-2
+    (λ c κs. search needs) (λ c κs. search needs)  -- next-expected-requires, passed-requires
+    (λ c. search needs) (λ c κs. search needs) (λ c. search needs)  -- returns, passed-requires-2, returns-2
     (λ c. search needs)  -- slice-relend-prefix-run-held
     slice-aggregate-run-held
-    (λ c κs. search needs)  -- run-held-requires
-    (λ c. search needs)  -- same-length
-    (λ c. search needs)  -- same-length-2
-    (λ c. search needs)  -- same-length-3
-    (λ c. search needs)  -- same-length-4
+    (λ c κs. search needs) (λ c. search needs) (λ c. search needs)  -- run-held-requires, same-length, same-length-2
+    (λ c. search needs) (λ c. search needs)  -- same-length-3, same-length-4
     (λ c. search needs))  -- returns-3

@@ -13,13 +13,9 @@ pub run-held-spec : {M : Type 1} → statement M
 run-held-spec =
     tie.close
     (tie.spec
-    (λ c κs. search needs)  -- passed-requires
-    (λ c. search needs)  -- returns
+    (λ c κs. search needs) (λ c. search needs)  -- passed-requires, returns
     (λ c. search needs)  -- slice-relend-prefix-run
     slice-aggregate-run
-    (λ c κs. search needs)  -- run-requires
-    (λ c. search needs)  -- same-length
-    (λ c. search needs)  -- same-length-2
-    (λ c. search needs)  -- same-length-3
-    (λ c. search needs)  -- same-length-4
+    (λ c κs. search needs) (λ c. search needs) (λ c. search needs)  -- run-requires, same-length, same-length-2
+    (λ c. search needs) (λ c. search needs)  -- same-length-3, same-length-4
     (λ c. search needs))  -- returns-2

@@ -21,10 +21,7 @@ pub behind-word-spec : {M : Type 1} → statement M
 behind-word-spec =
     tie.close
     (tie.spec
-    (λ c κs. search needs)  -- tag-end-requires
-    (λ c. search needs)  -- add-verb-at
-    (λ c κs. search needs)  -- verb-at-requires
-    (λ c. search needs)  -- enum-known-at
-    (λ c. search needs)  -- enum-told
+    (λ c κs. search needs) (λ c. search needs)  -- tag-end-requires, add-verb-at
+    (λ c κs. search needs) (λ c. search needs) (λ c. search needs)  -- verb-at-requires, enum-known-at, enum-told
     returns
     returns-2)

@@ -28,13 +28,9 @@ pub read-spec : {M : Type 1} → statement M
 read-spec =
     tie.close
     (tie.spec
-    (λ c κs. search needs)  -- behind-word-requires
-    (λ c. search needs)  -- add-at
-    (λ c κs. search needs)  -- keep-sources-requires
-    (λ c κs. search needs)  -- search-at-requires
-    (λ c. search needs)  -- enum-known-asked
-    (λ c κs. search needs)  -- wanted-of-requires
-    (λ c. search needs)  -- enum-told
+    (λ c κs. search needs) (λ c. search needs)  -- behind-word-requires, add-at
+    (λ c κs. search needs) (λ c κs. search needs)  -- keep-sources-requires, search-at-requires
+    (λ c. search needs) (λ c κs. search needs) (λ c. search needs)  -- enum-known-asked, wanted-of-requires, enum-told
     (λ c. search needs)  -- same-length
     returns
     (λ c. search needs)  -- same-length-2

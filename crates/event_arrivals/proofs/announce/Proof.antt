@@ -12,8 +12,7 @@ use Rattle.event_arrivals.proofs.announce.Tie as tie
 say-news-requires : tie.Need-say-news-requires
 say-news-requires c κs =
     let b = c .before .before .before .before in let by-uid = b .by-uid in
-    let b = b .before .before .before .before .before .before in let a = b .args in
-    let pre = b .pre in
+    let b = b .before .before .before .before .before .before in let a = b .args in let pre = b .pre in
     let n = order-short (messages (a .words .now)) _ (by-uid .result) (a .used) (a .s .selected) (by-uid .ensures) in
     (search needs, omega arith, pre .2, pre .3, pre .4)
 

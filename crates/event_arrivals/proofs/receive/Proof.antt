@@ -27,10 +27,8 @@ announce-requires c κs =
 returns : tie.Need-returns
 returns c =
     let b = c .before .before .before in let announce = b .announce in
-    let b = b .before .before .before in let if1 = b .if1 in
-    let b = b .before in let is-soon = b .is-soon in
-    let b = b .before in let is-chosen = b .is-chosen in
-    let b = b .before in let with-next = b .with-next in
+    let b = b .before .before .before in let if1 = b .if1 in let b = b .before in let is-soon = b .is-soon in
+    let b = b .before in let is-chosen = b .is-chosen in let b = b .before in let with-next = b .with-next in
     let b = b .before .before .before in let put = b .put in
     let b = b .before .before .before in let fresh = b .fresh in
     let b = b .before .before .before .before in let a = b .args in
@@ -44,10 +42,8 @@ returns c =
 
 returns-2 : tie.Need-returns-2
 returns-2 c =
-    let b = c .before in let is-told = b .is-told in
-    let b = b .before .before in let is-soon = b .is-soon in
-    let b = b .before in let is-chosen = b .is-chosen in
-    let b = b .before in let with-next = b .with-next in
+    let b = c .before in let is-told = b .is-told in let b = b .before .before in let is-soon = b .is-soon in
+    let b = b .before in let is-chosen = b .is-chosen in let b = b .before in let with-next = b .with-next in
     let b = b .before .before .before in let put = b .put in
     let b = b .before .before .before in let fresh = b .fresh in
     let b = b .before .before .before .before in let a = b .args in
@@ -70,14 +66,10 @@ say-row-requires c κs =
 
 returns-3 : tie.Need-returns-3
 returns-3 c =
-    let b = c .before in let hear = b .hear in
-    let b = b .before .before .before in let say-row = b .say-row in
-    let b = b .before .before .before in let if2 = b .if2 in
-    let b = b .before in let is-told = b .is-told in
-    let b = b .before in let if1 = b .if1 in
-    let b = b .before in let is-soon = b .is-soon in
-    let b = b .before in let is-chosen = b .is-chosen in
-    let b = b .before in let with-next = b .with-next in
+    let b = c .before in let hear = b .hear in let b = b .before .before .before in let say-row = b .say-row in
+    let b = b .before .before .before in let if2 = b .if2 in let b = b .before in let is-told = b .is-told in
+    let b = b .before in let if1 = b .if1 in let b = b .before in let is-soon = b .is-soon in
+    let b = b .before in let is-chosen = b .is-chosen in let b = b .before in let with-next = b .with-next in
     let b = b .before .before .before in let put = b .put in
     let b = b .before .before .before in let fresh = b .fresh in
     let b = b .before .before .before .before in let a = b .args in

@@ -7,8 +7,7 @@ use Rattle.event_message.specs.After.{once-leaves}
 
 returns : tie.Need-returns
 returns c =
-    let b = c .before in let hear = b .hear in
-    let b = b .before .before .before in let take-out = b .take-out in
+    let b = c .before in let hear = b .hear in let b = b .before .before .before in let take-out = b .take-out in
     let b = b .before .before .before .before in let say-expunge = b .say-expunge in
     let b = b .before .before .before .before in let a = b .args in
     once-leaves (messages (a .words .now)) (a .used) (a .queue .now) (a .s) (a .filled) (a .k) (a .words .now) _ (a .n .0) (take-out .result) (say-expunge .result .fits) _ (say-expunge .result .end) _ _ (take-out .ensures .0) (take-out .ensures .1) (say-expunge .ensures) (hear .ensures .0) (hear .ensures .1)

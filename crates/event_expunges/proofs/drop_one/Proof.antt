@@ -21,8 +21,7 @@ say-row-requires c κs =
 
 returns-2 : tie.Need-returns-2
 returns-2 c =
-    let b = c .before in let hear = b .hear in
-    let b = b .before .before .before in let say-row = b .say-row in
+    let b = c .before in let hear = b .hear in let b = b .before .before .before in let say-row = b .say-row in
     let b = b .before .before .before in let if1 = b .if1 in
     let b = b .before .before .before in let remove = b .remove in
     let b = b .before .before .before .before in let a = b .args in

@@ -15,17 +15,14 @@ drop-one-requires : tie.Need-drop-one-requires
 drop-one-requires c κs =
     let b = c .before .before in let is-told = b .is-told in
     let b = b .before .before .before .before .before in let is-chosen = b .is-chosen in
-    let b = b .before .before .before .before .before .before .before in let args = b .args in
-    let pre = b .pre in
+    let b = b .before .before .before .before .before .before .before in let args = b .args in let pre = b .pre in
     (pre .0, pre .1, pre .2, pre .3, pre .4, λ z. pre .5 (told-some (args .s) (is-told .result) (not (is-chosen .result)) (bothRights (args .x)) _ (is-told .ensures) z))
 
 returns : tie.Need-returns
 returns c =
     let b = c .before .before .before .before in let drop-one = b .drop-one in
-    let b = b .before .before .before in let is-told = b .is-told in
-    let b = b .before in let if1 = b .if1 in
-    let b = b .before in let both = b .both in
-    let b = b .before .before .before in let is-chosen = b .is-chosen in
+    let b = b .before .before .before in let is-told = b .is-told in let b = b .before in let if1 = b .if1 in
+    let b = b .before in let both = b .both in let b = b .before .before .before in let is-chosen = b .is-chosen in
     let b = b .before .before .before in let get = b .get in
     let b = b .before .before .before .before in let a = b .args in
     expunge-drops (messages (a .words .now)) (a .used) (a .queue .now) (a .s) (a .filled) (a .k) (a .x) (get .result) (get .ensures) (is-chosen .result) (both .result) (is-chosen .ensures) (both .ensures) (a .words .now) _ _ _ _ _
@@ -34,8 +31,7 @@ returns c =
 drop-now-requires : tie.Need-drop-now-requires
 drop-now-requires c κs =
     let b = c .before .before .before .before .before in let if2 = b .if2 in
-    let b = b .before in let both2 = b .both2 in
-    let b = b .before in let immediate-asks = b .immediate-asks in
+    let b = b .before in let both2 = b .both2 in let b = b .before in let immediate-asks = b .immediate-asks in
     let b = b .before in let has-rights = b .has-rights in
     let b = b .before .before .before .before .before .before .before .before .before .before .before .before in let args = b .args in
     let pre = b .pre in
@@ -45,13 +41,10 @@ returns-2 : tie.Need-returns-2
 returns-2 c =
     let b = c .before .before .before .before in let drop-now = b .drop-now in
     let b = b .before .before .before in let place-of = b .place-of in
-    let b = b .before .before .before in let if2 = b .if2 in
-    let b = b .before in let both2 = b .both2 in
+    let b = b .before .before .before in let if2 = b .if2 in let b = b .before in let both2 = b .both2 in
     let b = b .before in let immediate-asks = b .immediate-asks in
-    let b = b .before in let has-rights = b .has-rights in
-    let b = b .before in let if1 = b .if1 in
-    let b = b .before in let both = b .both in
-    let b = b .before .before .before in let is-chosen = b .is-chosen in
+    let b = b .before in let has-rights = b .has-rights in let b = b .before in let if1 = b .if1 in
+    let b = b .before in let both = b .both in let b = b .before .before .before in let is-chosen = b .is-chosen in
     let b = b .before .before .before in let get = b .get in
     let b = b .before .before .before .before in let a = b .args in
     expunge-tells (messages (a .words .now)) (a .used) (a .queue .now) (a .s) (a .filled) (a .k) (a .x) (get .result) (get .ensures) (is-chosen .result) (both .result) (is-chosen .ensures) (both .ensures) (a .words .now) _ _ _ _ _
@@ -59,14 +52,10 @@ returns-2 c =
 
 returns-3 : tie.Need-returns-3
 returns-3 c =
-    let b = c .before .before in let take-out = b .take-out in
-    let b = b .before .before in let if2 = b .if2 in
-    let b = b .before in let both2 = b .both2 in
-    let b = b .before in let immediate-asks = b .immediate-asks in
-    let b = b .before in let has-rights = b .has-rights in
-    let b = b .before in let if1 = b .if1 in
-    let b = b .before in let both = b .both in
-    let b = b .before .before .before in let is-chosen = b .is-chosen in
+    let b = c .before .before in let take-out = b .take-out in let b = b .before .before in let if2 = b .if2 in
+    let b = b .before in let both2 = b .both2 in let b = b .before in let immediate-asks = b .immediate-asks in
+    let b = b .before in let has-rights = b .has-rights in let b = b .before in let if1 = b .if1 in
+    let b = b .before in let both = b .both in let b = b .before .before .before in let is-chosen = b .is-chosen in
     let b = b .before .before .before in let get = b .get in
     let b = b .before .before .before .before in let a = b .args in
     expunge-waits (messages (a .words .now)) (a .used) (a .queue .now) (a .s) (a .filled) (a .k) (a .x) (get .result) (get .ensures) (is-chosen .result) (both .result) (is-chosen .ensures) (both .ensures) (a .words .now) _ _ _ _ _

@@ -13,8 +13,7 @@ use Rattle.event_flags.proofs.flag.Tie as tie
 flag-now-requires : tie.Need-flag-now-requires
 flag-now-requires c κs =
     let b = c .before .before .before .before .before in let if1 = b .if1 in
-    let b = b .before in let is-soon = b .is-soon in
-    let b = b .before in let both = b .both in
+    let b = b .before in let is-soon = b .is-soon in let b = b .before in let both = b .both in
     let b = b .before .before .before .before .before .before .before .before .before .before in let args = b .args in
     let pre = b .pre in (
       omega (arith, pre .0, pre .1),
@@ -27,10 +26,8 @@ returns : tie.Need-returns
 returns c =
     let b = c .before .before .before .before in let flag-now = b .flag-now in
     let b = b .before .before .before in let place-of = b .place-of in
-    let b = b .before .before .before in let if1 = b .if1 in
-    let b = b .before in let is-soon = b .is-soon in
-    let b = b .before in let both = b .both in
-    let b = b .before .before .before in let is-chosen = b .is-chosen in
+    let b = b .before .before .before in let if1 = b .if1 in let b = b .before in let is-soon = b .is-soon in
+    let b = b .before in let both = b .both in let b = b .before .before .before in let is-chosen = b .is-chosen in
     let b = b .before .before .before in let get = b .get in
     let b = b .before .before .before .before in let a = b .args in
     reflag-tells (messages (a .words .now)) (a .used) (a .queue .now) (a .s) (a .filled) (a .k) (a .x) (get .result)
@@ -53,14 +50,10 @@ flag-kept-requires c κs =
 returns-2 : tie.Need-returns-2
 returns-2 c =
     let b = c .before .before .before .before in let flag-kept = b .flag-kept in
-    let b = b .before .before .before in let is-told = b .is-told in
-    let b = b .before in let pick = b .pick in
-    let b = b .before in let both3 = b .both3 in
-    let b = b .before in let both2 = b .both2 in
-    let b = b .before .before in let has-rights = b .has-rights in
-    let b = b .before in let if1 = b .if1 in
-    let b = b .before in let is-soon = b .is-soon in
-    let b = b .before in let both = b .both in
+    let b = b .before .before .before in let is-told = b .is-told in let b = b .before in let pick = b .pick in
+    let b = b .before in let both3 = b .both3 in let b = b .before in let both2 = b .both2 in
+    let b = b .before .before in let has-rights = b .has-rights in let b = b .before in let if1 = b .if1 in
+    let b = b .before in let is-soon = b .is-soon in let b = b .before in let both = b .both in
     let b = b .before .before .before in let is-chosen = b .is-chosen in
     let b = b .before .before .before in let get = b .get in
     let b = b .before .before .before .before in let a = b .args in

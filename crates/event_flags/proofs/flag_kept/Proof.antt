@@ -9,10 +9,8 @@ use Rattle.event_flags.proofs.flag_kept.Tie as tie
 
 returns : tie.Need-returns
 returns c =
-    let b = c .before .before .before in let put = b .put in
-    let b = b .before in let changed = b .changed in
-    let b = b .before .before in let get = b .get in
-    let b = b .before .before .before .before in let a = b .args in
+    let b = c .before .before .before in let put = b .put in let b = b .before in let changed = b .changed in
+    let b = b .before .before in let get = b .get in let b = b .before .before .before .before in let a = b .args in
     let pre = b .pre in
     kept-leaves (a .words .now) _ (a .used) (a .queue .now) (a .s) (a .filled) (a .k) (a .flags) (a .counter) (get .result) (changed .result) (a .states) (get .ensures) (changed .ensures) (put .ensures) (pre .0) (a .x) (a .on) _ _ _ (hears-none _ _ _ (a .on) _ (not-true (a .on) (c .if1 .taken)))
 
@@ -24,14 +22,10 @@ say-change-requires c κs =
 
 returns-2 : tie.Need-returns-2
 returns-2 c =
-    let b = c .before in let hear = b .hear in
-    let b = b .before .before .before in let say-change = b .say-change in
-    let b = b .before .before in let if1 = b .if1 in
-    let b = b .before .before .before in let put = b .put in
-    let b = b .before in let changed = b .changed in
-    let b = b .before .before in let get = b .get in
-    let b = b .before .before .before .before in let a = b .args in
-    let pre = b .pre in
+    let b = c .before in let hear = b .hear in let b = b .before .before .before in let say-change = b .say-change in
+    let b = b .before .before in let if1 = b .if1 in let b = b .before .before .before in let put = b .put in
+    let b = b .before in let changed = b .changed in let b = b .before .before in let get = b .get in
+    let b = b .before .before .before .before in let a = b .args in let pre = b .pre in
     kept-leaves (a .words .now) _ (a .used) (a .queue .now) (a .s) (a .filled) (a .k) (a .flags) (a .counter) (get .result) (changed .result) (a .states) (get .ensures) (changed .ensures) (put .ensures) (pre .0) (a .x) (a .on) _ _ _
     (rw (not-false (a .on) (if1 .left)) (hears-said _ _ _ _ _ _ _ _ _ (say-change .ensures) (hear .ensures .0) (hear .ensures .1)))
 

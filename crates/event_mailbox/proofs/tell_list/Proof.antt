@@ -20,16 +20,14 @@ say-list-requires c κs =
 returns-2 : tie.Need-returns-2
 returns-2 c =
     let b = c .before .before .before in let say-list = b .say-list in
-    let b = b .before .before in let if1 = b .if1 in
-    let b = b .before .before .before in let a = b .args in
+    let b = b .before .before in let if1 = b .if1 in let b = b .before .before .before in let a = b .args in
     hears-fits (a .queue .now) (a .s) (a .filled) (a .on) (render (list (markOf (a .mark)) (a .name .now))) _ _
     (not-false _ (if1 .left)) (rw (c .if2 .taken) at (say-list .ensures))
 
 returns-3 : tie.Need-returns-3
 returns-3 c =
     let b = c .before .before .before .before in let say-list = b .say-list in
-    let b = b .before .before in let if1 = b .if1 in
-    let b = b .before .before .before in let a = b .args in
+    let b = b .before .before in let if1 = b .if1 in let b = b .before .before .before in let a = b .args in
     rw (c .silence .ensures)
     (hears-over (a .queue .now) (a .s) (a .filled) (a .on) (render (list (markOf (a .mark)) (a .name .now))) _ _
     (not-false _ (if1 .left)) (rw (c .before .if2 .left) at (say-list .ensures)))

@@ -15,8 +15,7 @@ slice-aggregate-tell-list c = let lx = c .before .before .name-end .ensures .1 i
 
 tell-list-requires : tie.Need-tell-list-requires
 tell-list-requires c κs =
-    let b = c .before .before in let name-end = b .name-end in
-    let b = b .before .before .before in let a = b .args in
+    let b = c .before .before in let name-end = b .name-end in let b = b .before .before .before in let a = b .args in
     let pre = b .pre in
     let lx = name-end .ensures .1 in let lt : length (take (name-end .result) (a .x .name)) ≡ name-end .result = length-take-le (name-end .result) (a .x .name) (omega arith) in
     (omega arith, omega arith, omega arith, λ e. pre .3 e, omega arith)

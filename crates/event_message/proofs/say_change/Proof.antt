@@ -16,8 +16,7 @@ slice-aggregate-say-flag-status c = let l = c .before .before .name-end .ensures
 say-flag-status-requires : tie.Need-say-flag-status-requires
 say-flag-status-requires c κs =
     let b = c .before .before in let name-end = b .name-end in
-    let b = b .before .before .before .before .before in let args = b .args in
-    let at-pre = b .pre in
+    let b = b .before .before .before .before .before in let args = b .args in let at-pre = b .pre in
     let l = name-end .ensures .1 in
     let pre = at-pre in
     let t : length (take (name-end .result) (args .x .name)) ≡ name-end .result = length-take-le (name-end .result) (args .x .name) (omega arith) in

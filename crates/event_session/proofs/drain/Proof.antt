@@ -20,16 +20,12 @@ loop-holds c = (search needs, refl, wrote-none _ _ (omega arith))
 
 loop-again : tie.Need-loop-again Inv-loop μ-loop
 loop-again c =
-    let b = c .before .before in let loop = b .loop in
-    let b = b .before in let args = b .args in
-    let pre = b .pre in
+    let b = c .before .before in let loop = b .loop in let b = b .before in let args = b .args in let pre = b .pre in
     (search needs, search needs, shift-next (args .queue .now) (args .filled) (args .n) (pre .0) (pre .1) (loop .queue) (loop .i) (c .before .loop-test .taken) (loop .inv .2))
 
 returns : tie.Need-returns Inv-loop μ-loop
 returns c =
-    let b = c .before in let loop = b .loop in
-    let b = b .before in let args = b .args in
-    let pre = b .pre in
+    let b = c .before in let loop = b .loop in let b = b .before in let args = b .args in let pre = b .pre in
     (shift-end (args .queue .now) (args .filled) (args .n) (pre .0) (pre .1) (loop .queue) (loop .i) (c .loop-test .left) (loop .inv .0) (loop .inv .2), refl)
 
 pub drain-spec : {M : Type 1} → statement M

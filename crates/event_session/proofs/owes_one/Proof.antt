@@ -6,21 +6,18 @@ use Rattle.event_session.proofs.owes_one.Tie as tie
 
 returns : tie.Need-returns
 returns c =
-    let b = c .before .before in let get = b .get in
-    let b = b .before .before in let a = b .args in
+    let b = c .before .before in let get = b .get in let b = b .before .before in let a = b .args in
     other-box (a .id) (a .told .0) (get .result) _ (get .ensures) (c .if1 .taken)
 
 returns-2 : tie.Need-returns-2
 returns-2 c =
-    let b = c .before .before .before in let if1 = b .if1 in
-    let b = b .before .before in let get = b .get in
+    let b = c .before .before .before in let if1 = b .if1 in let b = b .before .before in let get = b .get in
     let b = b .before .before in let a = b .args in
     owes-news (a .id) (a .told .0) (get .result) _ (get .ensures) (if1 .left) (c .if2 .taken)
 
 returns-3 : tie.Need-returns-3
 returns-3 c =
-    let b = c .before .before .before .before in let if1 = b .if1 in
-    let b = b .before .before in let get = b .get in
+    let b = c .before .before .before .before in let if1 = b .if1 in let b = b .before .before in let get = b .get in
     let b = b .before .before in let a = b .args in
     owes-states (a .id) (a .told .0) (get .result) _ (get .ensures) (if1 .left) (c .before .if2 .left)
 

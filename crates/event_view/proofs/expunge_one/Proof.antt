@@ -23,8 +23,7 @@ returns-2 : tie.Need-returns-2
 returns-2 c =
     let b = c .before .before in let say-count = b .say-count in
     let b = b .before .before .before .before .before in let if2 = b .if2 in
-    let b = b .before .before in let if1 = b .if1 in
-    let b = b .before .before .before in let entry = b .entry in
+    let b = b .before .before in let if1 = b .if1 in let b = b .before .before .before in let entry = b .entry in
     let b = b .before .before .before in let args = b .args in
     let here = getD (messages (args .words .now)) (args .p) noMessage in
     let state = stateOf (args .queue .now) (args .g) in (

@@ -45,10 +45,8 @@ advanced-requires c κs =
 returns-3 : tie.Need-returns-3
 returns-3 c =
     let b = c .before .before .before in let say-fetch = b .say-fetch in
-    let b = b .before .before .before .before in let if3 = b .if3 in
-    let b = b .before .before in let if2 = b .if2 in
-    let b = b .before in let both = b .both in
-    let b = b .before .before in let if1 = b .if1 in
+    let b = b .before .before .before .before in let if3 = b .if3 in let b = b .before .before in let if2 = b .if2 in
+    let b = b .before in let both = b .both in let b = b .before .before in let if1 = b .if1 in
     let b = b .before .before .before in let entry = b .entry in
     let b = b .before .before .before in let args = b .args in
     let here = getD (messages (args .words .now)) (args .p) noMessage in
@@ -66,10 +64,8 @@ returns-3 c =
 
 returns-4 : tie.Need-returns-4
 returns-4 c =
-    let b = c .before .before .before in let if2 = b .if2 in
-    let b = b .before in let both = b .both in
-    let b = b .before .before in let if1 = b .if1 in
-    let b = b .before .before .before in let entry = b .entry in
+    let b = c .before .before .before in let if2 = b .if2 in let b = b .before in let both = b .both in
+    let b = b .before .before in let if1 = b .if1 in let b = b .before .before .before in let entry = b .entry in
     let b = b .before .before .before in let args = b .args in
     let here = getD (messages (args .words .now)) (args .p) noMessage in
     let state = stateOf (args .queue .now) (args .g) in

@@ -26,8 +26,7 @@ loop-holds c = (search needs, search needs, search needs, search needs, search n
 loop-again : tie.Need-loop-again Inv-loop μ-loop
 loop-again c =
     let b = c .before .before in let mark-one = b .mark-one in
-    let b = b .before .before .before in let loop-test = b .loop-test in
-    let b = b .before in let loop = b .loop in
+    let b = b .before .before .before in let loop-test = b .loop-test in let b = b .before in let loop = b .loop in
     let b = b .before .before .before .before in let args = b .args in (
       search needs,
       search needs,

@@ -13,8 +13,7 @@ use Rattle.event_view.specs.Coded.{stateOf}
 
 returns : tie.Need-returns
 returns c =
-    let b = c .before .before in let expunges = b .expunges in
-    let b = b .before .before in let if1 = b .if1 in
+    let b = c .before .before in let expunges = b .expunges in let b = b .before .before in let if1 = b .if1 in
     let args = b .before .before .before .before .args in
     let all = chosen (messages (args .words .now)) (args .order .now) (args .n) in (
       expunges .ensures .0

@@ -53,8 +53,7 @@ returns c =
     let b = c .before .before .before .before .before in let marks = b .marks in
     let b = b .before in let begun2 = b .begun2 in
     let b = b .before .before .before .before in let say-exists = b .say-exists in
-    let b = b .before in let begun = b .begun in
-    let b = b .before .before in let unseen = b .unseen in
+    let b = b .before in let begun = b .begun in let b = b .before .before in let unseen = b .unseen in
     let b = b .before in let staying = b .staying in
     let b = b .before .before .before in let say-first = b .say-first in
     let b = b .before .before .before .before .before in let args = b .args in

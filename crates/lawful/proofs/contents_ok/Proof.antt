@@ -31,10 +31,8 @@ returns-3 c =
 
 returns-4 : tie.Need-returns-4
 returns-4 c =
-    let b = c .before .before .before in let if2 = b .if2 in
-    let b = b .before in let view-ok = b .view-ok in
-    let b = b .before .before .before in let if1 = b .if1 in
-    let b = b .before in let session-ok = b .session-ok in
+    let b = c .before .before .before in let if2 = b .if2 in let b = b .before in let view-ok = b .view-ok in
+    let b = b .before .before .before in let if1 = b .if1 in let b = b .before in let session-ok = b .session-ok in
     let b = b .before .before in let args = b .args in
     λ l h w.
     let ok = sym (c .before .before .rows-ok .ensures l h w) ∙ not-false _ (c .before .if3 .left) in

@@ -46,12 +46,9 @@ returns-7 c =
 
 returns-8 : tie.Need-returns-8
 returns-8 c =
-    let b = c .before .before .before in let if5 = b .if5 in
-    let b = b .before .before in let if4 = b .if4 in
-    let b = b .before in let if3 = b .if3 in
-    let b = b .before in let filled-ok = b .filled-ok in
-    let b = b .before in let if2 = b .if2 in
-    let b = b .before in let if1 = b .if1 in
+    let b = c .before .before .before in let if5 = b .if5 in let b = b .before .before in let if4 = b .if4 in
+    let b = b .before in let if3 = b .if3 in let b = b .before in let filled-ok = b .filled-ok in
+    let b = b .before in let if2 = b .if2 in let b = b .before in let if1 = b .if1 in
     let b = b .before in let args = b .args in
     sym (all-hold (sizesBy (args .room) (args .lent) (args .entries) (args .counts) (args .groups)) (
       right-size (args .room) (if1 .left) (if2 .left),

@@ -14,14 +14,12 @@ returns c =
 
 returns-2 : tie.Need-returns-2
 returns-2 c =
-    let b = c .before in let find = b .find in
-    let b = b .before .before in let args = b .args in
+    let b = c .before in let find = b .find in let b = b .before .before in let args = b .args in
     λ l h w. view-unknown l (args .selected) (args .told .0) (find .result) 0 (find .ensures .0 l h (w .id)) (c .before .before .if1 .left) (omega arith)
 
 returns-3 : tie.Need-returns-3
 returns-3 c =
-    let b = c .before .before .before in let find = b .find in
-    let b = b .before in let if1 = b .if1 in
+    let b = c .before .before .before in let find = b .find in let b = b .before in let if1 = b .if1 in
     let b = b .before in let args = b .args in
     λ l h w. view-known l (args .selected) (args .told .0) (find .result) _ (find .ensures .0 l h (w .id)) (if1 .left) (omega arith) (w .next (find .result) (omega arith))
 

@@ -23,8 +23,7 @@ returns c = λ z. tf false z refl
 
 loop-again : tie.Need-loop-again Inv-loop μ-loop
 loop-again c =
-    let b = c .before .before .before in let loop = b .loop in
-    let b = b .before in let args = b .args in
+    let b = c .before .before .before in let loop = b .loop in let b = b .before in let args = b .args in
     absent-next (args .d .now) (loop .j) (args .x) (loop .inv) (c .if1 .left)
 
 returns-2 : tie.Need-returns-2 Inv-loop μ-loop

@@ -40,10 +40,8 @@ returns c =
 
 loop-again : tie.Need-loop-again Inv-loop μ-loop
 loop-again c =
-    let b = c .before .before in let slot = b .slot in
-    let b = b .before .before in let if1 = b .if1 in
-    let b = b .before in let is-new = b .is-new in
-    let b = b .before .before .before in let turn = b .loop in
+    let b = c .before .before in let slot = b .slot in let b = b .before .before in let if1 = b .if1 in
+    let b = b .before in let is-new = b .is-new in let b = b .before .before .before in let turn = b .loop in
     let b = b .before in let args = b .args in
     let new = is-new .ensures (not-false _ (if1 .left)) in
     let at = slot .result in

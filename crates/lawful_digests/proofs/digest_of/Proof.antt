@@ -20,8 +20,7 @@ loop-holds c = (search needs, refl)
 
 loop-again : tie.Need-loop-again Inv-loop μ-loop
 loop-again c =
-    let b = c .before in let word = b .word in
-    let b = b .before .before in let turn = b .loop in
+    let b = c .before in let word = b .word in let b = b .before .before in let turn = b .loop in
     let b = b .before .before in let args = b .args in
     (search needs, mixed-next (args .names .now) (args .k) (turn .i) (turn .d) (word .result) (c .mix .result) (omega arith) (turn .inv .1) (word .ensures) (c .mix .ensures))
 

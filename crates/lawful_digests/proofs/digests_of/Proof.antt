@@ -20,8 +20,7 @@ loop-holds c = (search needs, search needs, λ k h. absurd (let z : ⊥ = omega 
 
 loop-again : tie.Need-loop-again Inv-loop μ-loop
 loop-again c =
-    let b = c .before .before in let turn = b .loop in
-    let b = b .before .before in let args = b .args in
+    let b = c .before .before in let turn = b .loop in let b = b .before .before in let args = b .args in
     (search needs, simp length-set (turn .inv .1), digested-next (args .names .now) (turn .digests) (turn .i) (c .digest-of .result) (omega arith) (c .digest-of .ensures) (turn .inv .2))
 
 returns : tie.Need-returns Inv-loop μ-loop

@@ -9,8 +9,7 @@ use Rattle.lawful_digests.proofs.is_new.Tie as tie
 
 returns : tie.Need-returns
 returns c =
-    let b = c .before .before .before in let slot = b .slot in
-    let b = b .before .before in let args = b .args in
+    let b = c .before .before .before in let slot = b .slot in let b = b .before .before in let args = b .args in
     let pre = b .pre in
     let free : getD (args .slots .now) (slotOf (getD (args .d .now) (args .i) 0)) 0 ≡ 0 = rw (← slot .ensures .0) (c .before .if1 .taken) in
     λ z. slot-free (args .d .now) (args .slots .now) (args .i) (getD (args .d .now) (args .i) 0) (pre .1) free (eqb-false _ _ (not-true _ z))

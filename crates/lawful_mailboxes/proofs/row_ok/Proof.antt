@@ -24,8 +24,7 @@ returns-2 c =
 name-ok-requires : tie.Need-name-ok-requires
 name-ok-requires c κs =
     let b = c .before .before .before in let numbers-ok = b .numbers-ok in
-    let b = b .before .before .before .before .before .before .before in let args = b .args in
-    let pre = b .pre in
+    let b = b .before .before .before .before .before .before .before in let args = b .args in let pre = b .pre in
     (pre, long-enough (getD (args .ids .now) (args .k) 0) (getD (args .attributes .now) (args .k) 0) (getD (args .lens .now) (args .k) 0) (getD (args .validities .now) (args .k) 0) (getD (args .nexts .now) (args .k) 0) (getD (args .counters .now) (args .k) 0) (sym (numbers-ok .ensures) ∙ not-false _ (c .before .before .if1 .left)))
 
 returns-3 : tie.Need-returns-3

@@ -27,8 +27,7 @@ loop-holds c = (search needs, λ l h w. refl)
 
 returns : tie.Need-returns Inv-loop μ-loop
 returns c =
-    let b = c .before .before .before in let turn = b .loop in
-    let b = b .before in let args = b .args in
+    let b = c .before .before .before in let turn = b .loop in let b = b .before in let args = b .args in
     λ l h w.
     let at = row-at (args .ids .now) (args .attributes .now) (args .lens .now) (args .validities .now) (args .nexts .now) (args .counters .now) (args .names .now) (turn .i) l w (omega arith) in
     sym (turn .inv .1 l h w ∙ all-broken mailboxOk l (turn .i) noMailbox (omega arith) (sym (c .before .row-ok .ensures ∙ at) ∙ not-true _ (c .if1 .taken)))

@@ -25,8 +25,7 @@ loop-holds c = (search needs, search needs, λ l h w. refl)
 
 returns : tie.Need-returns Inv-loop μ-loop
 returns c =
-    let b = c .before .before .before in let turn = b .loop in
-    let b = b .before in let args = b .args in
+    let b = c .before .before .before in let turn = b .loop in let b = b .before in let args = b .args in
     λ l h w.
     let at = clash-at l (args .ids .now) (args .lens .now) (args .names .now) w (args .j) (turn .i) (omega arith) (omega arith) in
     sym (turn .inv .2 l h w ∙ any-found (clash (getD l (args .j) noMailbox)) l (turn .i) noMailbox (omega arith) (sym (c .before .do-clash .ensures ∙ at) ∙ c .if1 .taken))

@@ -24,22 +24,18 @@ loop-holds c = (search needs, search needs, refl)
 returns : tie.Need-returns Inv-loop μ-loop
 returns c =
     let b = c .before .before .before .before in let turn = b .loop in
-    let b = b .before .before in let args = b .args in
-    let pre = b .pre in
+    let b = b .before .before in let args = b .args in let pre = b .pre in
     let k = messages-length (args .n) (args .words .now) (pre .0) in sym (turn .inv .2 ∙ any-here (twin (args .d)) (messages (args .words .now)) (args .n) (turn .i) (omega arith) noMessage (omega arith) (ap (twin (args .d)) (sym (c .before .before .get .ensures)) ∙ sym (c .before .are-twins .ensures) ∙ c .if1 .taken))
 
 loop-again : tie.Need-loop-again Inv-loop μ-loop
 loop-again c =
     let b = c .before .before .before .before in let turn = b .loop in
-    let b = b .before .before in let args = b .args in
-    let pre = b .pre in
+    let b = b .before .before in let args = b .args in let pre = b .pre in
     let k = messages-length (args .n) (args .words .now) (pre .0) in (search needs, search needs, turn .inv .2 ∙ any-next (twin (args .d)) (messages (args .words .now)) (args .n) (turn .i) (omega arith) noMessage (omega arith) (ap (twin (args .d)) (sym (c .before .before .get .ensures)) ∙ sym (c .before .are-twins .ensures) ∙ c .if1 .left))
 
 returns-2 : tie.Need-returns-2 Inv-loop μ-loop
 returns-2 c =
-    let b = c .before in let turn = b .loop in
-    let b = b .before .before in let args = b .args in
-    let pre = b .pre in
+    let b = c .before in let turn = b .loop in let b = b .before .before in let args = b .args in let pre = b .pre in
     let k = messages-length (args .n) (args .words .now) (pre .0) in sym (turn .inv .2 ∙ any-past (twin (args .d)) (messages (args .words .now)) (args .n) (turn .i) (omega arith) (omega arith))
 
 pub any-twin-spec : {M : Type 1} → statement M

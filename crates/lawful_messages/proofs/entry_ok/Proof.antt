@@ -15,14 +15,12 @@ returns c =
 
 returns-2 : tie.Need-returns-2
 returns-2 c =
-    let b = c .before .before .before in let message-ok = b .message-ok in
-    let b = b .before in let args = b .args in
+    let b = c .before .before .before in let message-ok = b .message-ok in let b = b .before in let args = b .args in
     λ l h w v. second-no (messageOk (args .e)) (owned l (args .e)) (stateAt (args .selected) (args .told .0) (args .e)) (sym (message-ok .ensures) ∙ not-false _ (c .before .before .if1 .left)) (sym (c .before .is-owned .ensures l h w v) ∙ not-true _ (c .if2 .taken))
 
 returns-3 : tie.Need-returns-3
 returns-3 c =
-    let b = c .before .before .before in let if1 = b .if1 in
-    let b = b .before in let message-ok = b .message-ok in
+    let b = c .before .before .before in let if1 = b .if1 in let b = b .before in let message-ok = b .message-ok in
     let b = b .before in let args = b .args in
     λ l h w v. third (messageOk (args .e)) (owned l (args .e)) (stateAt (args .selected) (args .told .0) (args .e)) _ (sym (message-ok .ensures) ∙ not-false _ (if1 .left)) (sym (c .before .before .is-owned .ensures l h w v) ∙ not-false _ (c .before .if2 .left)) (c .state-ok .ensures)
 

@@ -12,8 +12,7 @@ returns c =
 
 returns-2 : tie.Need-returns-2
 returns-2 c =
-    let b = c .before .before .before .before in let find = b .find in
-    let b = b .before in let args = b .args in
+    let b = c .before .before .before .before in let find = b .find in let b = b .before in let args = b .args in
     λ l h w v. owner-passed l (args .e) (find .result) _ (find .ensures .0 l h (w .id)) (omega arith) (w .next (find .result) (omega arith)) (c .if2 .taken)
 
 returns-3 : tie.Need-returns-3

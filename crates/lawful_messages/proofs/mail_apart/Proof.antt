@@ -25,8 +25,7 @@ loop-holds c = (search needs, refl)
 returns : tie.Need-returns Inv-loop μ-loop
 returns c =
     let b = c .before .before .before .before in let turn = b .loop in
-    let b = b .before .before in let args = b .args in
-    let pre = b .pre in
+    let b = b .before .before in let args = b .args in let pre = b .pre in
     let all = messages (args .words .now) in
     let k = messages-length (args .n) (args .words .now) pre in
     let same = ap (λ (d : Message). anyb (twin d) (drop (turn .i + 1) (take (args .n) all))) (sym (c .before .before .get .ensures)) in
@@ -36,8 +35,7 @@ returns c =
 loop-again : tie.Need-loop-again Inv-loop μ-loop
 loop-again c =
     let b = c .before .before .before .before in let turn = b .loop in
-    let b = b .before .before in let args = b .args in
-    let pre = b .pre in
+    let b = b .before .before in let args = b .args in let pre = b .pre in
     let all = messages (args .words .now) in
     let k = messages-length (args .n) (args .words .now) pre in
     let same = ap (λ (d : Message). anyb (twin d) (drop (turn .i + 1) (take (args .n) all))) (sym (c .before .before .get .ensures)) in
@@ -46,9 +44,7 @@ loop-again c =
 
 returns-2 : tie.Need-returns-2 Inv-loop μ-loop
 returns-2 c =
-    let b = c .before in let turn = b .loop in
-    let b = b .before .before in let args = b .args in
-    let pre = b .pre in
+    let b = c .before in let turn = b .loop in let b = b .before .before in let args = b .args in let pre = b .pre in
     let k = messages-length (args .n) (args .words .now) pre in
     sym (turn .inv .1 ∙ apart-past twin (messages (args .words .now)) (args .n) (turn .i) (omega arith) (omega arith))
 

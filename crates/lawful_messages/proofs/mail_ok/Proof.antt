@@ -28,8 +28,7 @@ loop-holds c = (search needs, λ l h w v. refl)
 returns : tie.Need-returns Inv-loop μ-loop
 returns c =
     let b = c .before .before .before .before in let turn = b .loop in
-    let b = b .before .before in let args = b .args in
-    let pre = b .pre in
+    let b = b .before .before in let args = b .args in let pre = b .pre in
     λ l h w v.
     let many = messages-length (args .used) (args .words .now) (pre .1) in
     let p = entryOk l (args .selected) (args .told .0) in
@@ -49,9 +48,7 @@ loop-again c =
 
 returns-2 : tie.Need-returns-2 Inv-loop μ-loop
 returns-2 c =
-    let b = c .before in let turn = b .loop in
-    let b = b .before .before in let args = b .args in
-    let pre = b .pre in
+    let b = c .before in let turn = b .loop in let b = b .before .before in let args = b .args in let pre = b .pre in
     λ l h w v.
     let many = messages-length (args .used) (args .words .now) (pre .1) in
     sym (turn .inv .1 l h w v ∙ all-past (entryOk l (args .selected) (args .told .0)) (messages (args .words .now)) (args .used) (turn .i) many (omega arith))

@@ -149,10 +149,8 @@ loop-again : tie.Need-loop-again Inv-loop μ-loop
 loop-again c =
     let b = c .before .before .before .before .before .before .before in let if3 = b .if3 in
     let b = b .before in let entry-fits = b .entry-fits in
-    let b = b .before .before .before in let owner = b .owner in
-    let b = b .before .before in let if2 = b .if2 in
-    let b = b .before .before in let loop = b .loop in
-    let b = b .before .before .before in let if1 = b .if1 in
+    let b = b .before .before .before in let owner = b .owner in let b = b .before .before in let if2 = b .if2 in
+    let b = b .before .before in let loop = b .loop in let b = b .before .before .before in let if1 = b .if1 in
     let start = c .before .before .before .before .before .before .before .before .before .before .before .before .before .before .before .before .before .before .before .before in
     let args = start .args in
     let turn = loop in

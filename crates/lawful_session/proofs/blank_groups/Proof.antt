@@ -23,20 +23,17 @@ loop-holds c = (search needs, refl)
 
 returns : tie.Need-returns Inv-loop μ-loop
 returns c =
-    let b = c .before .before .before .before in let loop = b .loop in
-    let b = b .before in let args = b .args in
+    let b = c .before .before .before .before in let loop = b .loop in let b = b .before in let args = b .args in
     let long : length (args .t1) ≡ 8 = search (needs, mapped-length) in sym (loop .inv .1 ∙ all-broken blankGroup (args .t1) (loop .i) noGroup (omega arith) (sym (c .before .blank-group .ensures) ∙ not-true _ (c .if1 .taken)))
 
 loop-again : tie.Need-loop-again Inv-loop μ-loop
 loop-again c =
-    let b = c .before .before .before .before in let loop = b .loop in
-    let b = b .before in let args = b .args in
+    let b = c .before .before .before .before in let loop = b .loop in let b = b .before in let args = b .args in
     let long : length (args .t1) ≡ 8 = search (needs, mapped-length) in (search needs, loop .inv .1 ∙ all-on blankGroup (args .t1) (loop .i) noGroup (omega arith) (sym (c .before .blank-group .ensures) ∙ not-false _ (c .if1 .left)))
 
 returns-2 : tie.Need-returns-2 Inv-loop μ-loop
 returns-2 c =
-    let b = c .before in let loop = b .loop in
-    let b = b .before in let args = b .args in
+    let b = c .before in let loop = b .loop in let b = b .before in let args = b .args in
     let long : length (args .t1) ≡ 8 = search (needs, mapped-length) in sym (loop .inv .1 ∙ all-over blankGroup (args .t1) (loop .i) (omega arith))
 
 pub blank-groups-spec : {M : Type 1} → statement M

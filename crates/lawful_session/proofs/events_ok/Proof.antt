@@ -7,10 +7,8 @@ use Prim.Native.Nat.{_-_}
 returns : tie.Need-returns
 returns c =
     let b = c .before .before .before in let events-fit = b .events-fit in
-    let b = b .before in let either = b .either in
-    let b = b .before in let has3 = b .has3 in
-    let b = b .before in let alike = b .alike in
-    let b = b .before in let has2 = b .has2 in
+    let b = b .before in let either = b .either in let b = b .before in let has3 = b .has3 in
+    let b = b .before in let alike = b .alike in let b = b .before in let has2 = b .has2 in
     let b = b .before in let has = b .has in
     rw (c .both3 .ensures, c .before .both2 .ensures, c .before .before .both .ensures, events-fit .ensures, either .ensures, alike .ensures, has3 .ensures, has2 .ensures, has .ensures)
 

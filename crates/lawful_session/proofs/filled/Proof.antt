@@ -23,8 +23,7 @@ loop-holds c = (search needs, search needs, refl)
 
 loop-again : tie.Need-loop-again Inv-loop μ-loop
 loop-again c =
-    let b = c .before .before .before in let turn = b .loop in
-    let b = b .before .before in let args = b .args in
+    let b = c .before .before .before in let turn = b .loop in let b = b .before .before in let args = b .args in
     (search needs, search needs, rw (c .octet-if .ensures .0) (filled-next (args .octets .now) (turn .i) (turn .sum) (omega arith) (turn .inv .2)))
 
 returns : tie.Need-returns Inv-loop μ-loop

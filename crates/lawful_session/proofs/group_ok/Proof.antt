@@ -9,8 +9,7 @@ returns : tie.Need-returns
 returns c =
     let b = c .before .before .before in let range-ok = b .range-ok in
     let b = b .before .before in let attributes-ok = b .attributes-ok in
-    let b = b .before in let events-ok = b .events-ok in
-    let b = b .before .before in let args = b .args in
+    let b = b .before in let events-ok = b .events-ok in let b = b .before .before in let args = b .args in
     rw (group-is (args .first) (args .g), c .both3 .ensures, c .before .both2 .ensures, c .before .before .both .ensures, range-ok .ensures, events-ok .ensures, attributes-ok .ensures)
 
 pub group-ok-spec : {M : Type 1} → statement M

@@ -23,8 +23,7 @@ loop-holds c = (search needs, (search needs, refl))
 
 returns : tie.Need-returns Inv-loop μ-loop
 returns c =
-    let b = c .before .before .before .before in let loop = b .loop in
-    let b = b .before in let args = b .args in
+    let b = c .before .before .before .before in let loop = b .loop in let b = b .before in let args = b .args in
     let long : length (args .t1) ≡ 8 = search (needs, mapped-length) in sym (loop .inv .1 .1 ∙ groups-here (args .t1) (args .n) (loop .i) (loop .first) noGroup (omega arith) (omega arith) (sym (c .before .group-ok .ensures) ∙ not-true _ (c .if1 .taken)))
 
 loop-again : tie.Need-loop-again Inv-loop μ-loop
@@ -35,8 +34,7 @@ loop-again c =
 
 returns-2 : tie.Need-returns-2 Inv-loop μ-loop
 returns-2 c =
-    let b = c .before in let loop = b .loop in
-    let b = b .before in let args = b .args in
+    let b = c .before in let loop = b .loop in let b = b .before in let args = b .args in
     let long : length (args .t1) ≡ 8 = search (needs, mapped-length) in sym (loop .inv .1 .1 ∙ groups-past (args .t1) (args .n) (loop .i) (loop .first) noGroup (omega arith) (omega arith))
 
 pub groups-ok-spec : {M : Type 1} → statement M

@@ -21,14 +21,12 @@ loop-holds c = (search needs, (search needs, omega arith))
 
 loop-again : tie.Need-loop-again Inv-loop μ-loop
 loop-again c =
-    let b = c .before .before .before .before in let loop = b .loop in
-    let b = b .before in let args = b .args in
+    let b = c .before .before .before .before in let loop = b .loop in let b = b .before in let args = b .args in
     let long : length (args .t1) ≡ 8 = search (needs, mapped-length) in (search needs, (search needs, selected-next (args .t1) (args .n) (loop .i) (loop .sum) (c .one-if .result) noGroup (omega arith) (omega arith) (loop .inv .1 .1) (c .one-if .ensures .0)))
 
 returns : tie.Need-returns Inv-loop μ-loop
 returns c =
-    let b = c .before in let loop = b .loop in
-    let b = b .before in let args = b .args in
+    let b = c .before in let loop = b .loop in let b = b .before in let args = b .args in
     let long : length (args .t1) ≡ 8 = search (needs, mapped-length) in selected-past (args .t1) (args .n) (loop .i) (loop .sum) 0 noGroup (omega arith) (omega arith) (loop .inv .1 .1)
 
 pub selected-count-spec : {M : Type 1} → statement M

@@ -19,31 +19,25 @@ returns-3 c =
 
 returns-4 : tie.Need-returns-4
 returns-4 c =
-    let b = c .before .before .before in let if1 = b .if1 in
-    let b = b .before in let args = b .args in
+    let b = c .before .before .before in let if1 = b .if1 in let b = b .before in let args = b .args in
     rw (ne-eqb (args .k) 0 (if1 .left), ne-eqb (args .k) 1 (c .before .before .if2 .left), ne-eqb (args .k) 2 (c .before .if3 .left), eq-eqb (args .k) 3 (c .if4 .taken))
 
 returns-5 : tie.Need-returns-5
 returns-5 c =
-    let b = c .before .before .before in let if2 = b .if2 in
-    let b = b .before in let if1 = b .if1 in
+    let b = c .before .before .before in let if2 = b .if2 in let b = b .before in let if1 = b .if1 in
     let b = b .before in let args = b .args in
     rw (ne-eqb (args .k) 0 (if1 .left), ne-eqb (args .k) 1 (if2 .left), ne-eqb (args .k) 2 (c .before .before .if3 .left), ne-eqb (args .k) 3 (c .before .if4 .left), eq-eqb (args .k) 4 (c .if5 .taken))
 
 returns-6 : tie.Need-returns-6
 returns-6 c =
-    let b = c .before .before .before in let if3 = b .if3 in
-    let b = b .before in let if2 = b .if2 in
-    let b = b .before in let if1 = b .if1 in
-    let b = b .before in let args = b .args in
+    let b = c .before .before .before in let if3 = b .if3 in let b = b .before in let if2 = b .if2 in
+    let b = b .before in let if1 = b .if1 in let b = b .before in let args = b .args in
     rw (ne-eqb (args .k) 0 (if1 .left), ne-eqb (args .k) 1 (if2 .left), ne-eqb (args .k) 2 (if3 .left), ne-eqb (args .k) 3 (c .before .before .if4 .left), ne-eqb (args .k) 4 (c .before .if5 .left), eq-eqb (args .k) 5 (c .if6 .taken))
 
 returns-7 : tie.Need-returns-7
 returns-7 c =
-    let b = c .before .before .before in let if3 = b .if3 in
-    let b = b .before in let if2 = b .if2 in
-    let b = b .before in let if1 = b .if1 in
-    let b = b .before in let args = b .args in
+    let b = c .before .before .before in let if3 = b .if3 in let b = b .before in let if2 = b .if2 in
+    let b = b .before in let if1 = b .if1 in let b = b .before in let args = b .args in
     rw (ne-eqb (args .k) 0 (if1 .left), ne-eqb (args .k) 1 (if2 .left), ne-eqb (args .k) 2 (if3 .left), ne-eqb (args .k) 3 (c .before .before .if4 .left), ne-eqb (args .k) 4 (c .before .if5 .left), ne-eqb (args .k) 5 (c .if6 .left))
 
 pub selector-of-spec : {M : Type 1} → statement M

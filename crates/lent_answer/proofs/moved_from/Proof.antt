@@ -18,14 +18,12 @@ returns-3 c = let a = c .before .before .before .args in rw (lt-leb (a .lent) (a
 
 returns-4 : tie.Need-returns-4
 returns-4 c =
-    let b = c .before .before .before in let if1 = b .if1 in
-    let b = b .before in let a = b .args in
+    let b = c .before .before .before in let if1 = b .if1 in let b = b .before in let a = b .args in
     rw (lt-leb (a .lent) (a .k) (if1 .left)) (sym (ap (λ (z : Change). taken z (a .out .at) (a .k)) (c .before .enum-told3 .given .1) ∙ rw (lt-ltb (a .out .at) (a .k) (c .if2 .taken)) refl))
 
 returns-5 : tie.Need-returns-5
 returns-5 c =
-    let b = c .before .before .before in let if1 = b .if1 in
-    let b = b .before in let a = b .args in
+    let b = c .before .before .before in let if1 = b .if1 in let b = b .before in let a = b .args in
     rw (lt-leb (a .lent) (a .k) (if1 .left)) (sym (ap (λ (z : Change). taken z (a .out .at) (a .k)) (c .before .enum-told3 .given .1) ∙ rw (le-ltb (a .out .at) (a .k) (c .if2 .left)) refl))
 
 pub moved-from-spec : {M : Type 1} → statement M

@@ -22,16 +22,14 @@ loop-holds c = (search needs, (let z : 0 + place (c .args .id) (take (c .args .n
 
 returns : tie.Need-returns Inv-loop μ-loop
 returns c =
-    let b = c .before .before in let turn = b .loop in
-    let b = b .before in let args = b .args in
+    let b = c .before .before in let turn = b .loop in let b = b .before in let args = b .args in
     let long : length (args .t1) ≡ 64 = search (needs, mapped-length) in
     let few = length-take-le (args .n) (args .t1) (omega arith) in
     sym (place-found (args .id) (take (args .n) (args .t1)) (turn .i) vacant (omega arith) (ap (λ (x : Mailbox). x .id) (getD-take (args .n) (args .t1) (turn .i) vacant (omega arith)) ∙ c .if1 .taken) (turn .inv .1))
 
 loop-again : tie.Need-loop-again Inv-loop μ-loop
 loop-again c =
-    let b = c .before .before in let turn = b .loop in
-    let b = b .before in let args = b .args in
+    let b = c .before .before in let turn = b .loop in let b = b .before in let args = b .args in
     let long : length (args .t1) ≡ 64 = search (needs, mapped-length) in
     let few = length-take-le (args .n) (args .t1) (omega arith) in (
       search needs,
@@ -40,8 +38,7 @@ loop-again c =
 
 returns-2 : tie.Need-returns-2 Inv-loop μ-loop
 returns-2 c =
-    let b = c .before in let turn = b .loop in
-    let b = b .before in let args = b .args in
+    let b = c .before in let turn = b .loop in let b = b .before in let args = b .args in
     let long : length (args .t1) ≡ 64 = search (needs, mapped-length) in
     let few = length-take-le (args .n) (args .t1) (omega arith) in
     let e : turn .i ≡ args .n = omega arith in

@@ -44,8 +44,7 @@ loop-again c =
 
 returns-2 : tie.Need-returns-2 Inv-loop μ-loop
 returns-2 c =
-    let b = c .before in let turn = b .loop in
-    let b = b .before .before in let args = b .args in
+    let b = c .before in let turn = b .loop in let b = b .before .before in let args = b .args in
     let long : length (args .t1) ≡ 64 = search (needs, mapped-length) in
     let few = length-take-le (args .n) (args .t1) (omega arith) in
     let e : turn .i ≡ args .n = omega arith in

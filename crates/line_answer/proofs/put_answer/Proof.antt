@@ -13,8 +13,7 @@ returns c =
     let b = b .before .before .before .before .before in let put-words = b .put-words in
     let b = b .before .before .before .before in let put2 = b .put2 in
     let b = b .before .before .before .before .before in let put = b .put in
-    let b = b .before .before .before .before in let a = b .args in
-    let pre = b .pre in
+    let b = b .before .before .before .before in let a = b .args in let pre = b .pre in
     let text = _then_ (_then_ (_then_ (put .ensures) (put2 .ensures)) (put-words .ensures .0)) (put3 .ensures) in (
       put-as text (answer-text (a .tag .now) (wordOf (a .verb)) (a .reply)),
       omega (arith, pre, put .ensures .next, put2 .ensures .next, put-words .ensures .1, put3 .ensures .next),

@@ -16,8 +16,7 @@ use Rattle.line_answer.specs.Tagged.{tag-none, tag-some, tag-short}
 returns : tie.Need-returns
 returns c =
     let b = c .before .before in let put-answer = b .put-answer in
-    let b = b .before .before .before in let if1 = b .if1 in
-    let b = b .before in let is-tagged = b .is-tagged in
+    let b = b .before .before .before in let if1 = b .if1 in let b = b .before in let is-tagged = b .is-tagged in
     let b = b .before .before .before in let a = b .args in
     let e = tag-none (a .text .now) (sym (is-tagged .ensures) ∙ not-true _ (if1 .taken)) in
     (put-as (put-answer .ensures .0) (ap (λ (t : List ℕ). render (answer t (wordOf (a .verb)) (a .reply))) e), put-answer .ensures .1)
@@ -27,10 +26,8 @@ slice-aggregate-put-answer-2 c = sym (length-take-le _ _ (c .before .before .tag
 
 put-answer-requires-2 : tie.Need-put-answer-requires-2
 put-answer-requires-2 c κs =
-    let b = c .before .before in let at-tag-end = b .tag-end in
-    let b = b .before in let at-if1 = b .if1 in
-    let b = b .before in let at-is-tagged = b .is-tagged in
-    let b = b .before .before .before in let a = b .args in
+    let b = c .before .before in let at-tag-end = b .tag-end in let b = b .before in let at-if1 = b .if1 in
+    let b = b .before in let at-is-tagged = b .is-tagged in let b = b .before .before .before in let a = b .args in
     let pre = b .pre in
     let w = at-tag-end .ensures in
     let s = tag-short (a .text .now) (sym (at-is-tagged .ensures) ∙ not-false _ (at-if1 .left)) in
@@ -41,10 +38,8 @@ put-answer-requires-2 c κs =
 returns-2 : tie.Need-returns-2
 returns-2 c =
     let b = c .before .before in let put-answer2 = b .put-answer2 in
-    let b = b .before .before .before in let tag-end = b .tag-end in
-    let b = b .before in let if1 = b .if1 in
-    let b = b .before in let is-tagged = b .is-tagged in
-    let b = b .before .before .before in let a = b .args in
+    let b = b .before .before .before in let tag-end = b .tag-end in let b = b .before in let if1 = b .if1 in
+    let b = b .before in let is-tagged = b .is-tagged in let b = b .before .before .before in let a = b .args in
     let e = tag-some (a .text .now) _ (tag-end .ensures .exact) (sym (is-tagged .ensures) ∙ not-false _ (if1 .left)) in
     (put-as (put-answer2 .ensures .0) (ap (λ (t : List ℕ). render (answer t (wordOf (a .verb)) (a .reply))) e), put-answer2 .ensures .1)
 

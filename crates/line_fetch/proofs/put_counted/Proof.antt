@@ -13,8 +13,7 @@ use Rattle.line_fetch.specs.Items.{piece-gap}
 
 returns : tie.Need-returns
 returns c =
-    let b = c .before .before .before in let a = b .args in
-    let pre = b .pre in
+    let b = c .before .before .before in let a = b .args in let pre = b .pre in
     (put-as (put-none _ _ _ (pre .0)) (piece-off (a .on) (a .began) (a .word .now ++ decimal (a .n)) (not-true (a .on) (c .if1 .taken))), omega arith)
 
 returns-2 : tie.Need-returns-2
@@ -22,8 +21,7 @@ returns-2 c =
     let b = c .before .before in let put-number = b .put-number in
     let b = b .before .before .before .before in let put = b .put in
     let b = b .before .before .before .before in let put-gap = b .put-gap in
-    let b = b .before .before in let if1 = b .if1 in
-    let b = b .before .before .before in let a = b .args in
+    let b = b .before .before in let if1 = b .if1 in let b = b .before .before .before in let a = b .args in
     let pre = b .pre in (
       put-as (_then_ (put-gap .ensures .0) (_then_ (put .ensures) (put-number .ensures .0)))
           (piece-gap (a .on) (a .began) (a .word .now ++ decimal (a .n)) (not-false (a .on) (if1 .left))),

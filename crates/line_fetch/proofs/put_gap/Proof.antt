@@ -15,8 +15,7 @@ returns c =
 
 returns-2 : tie.Need-returns-2
 returns-2 c =
-    let b = c .before .before in let put-byte = b .put-byte in
-    let b = b .before .before in let if1 = b .if1 in
+    let b = c .before .before in let put-byte = b .put-byte in let b = b .before .before in let if1 = b .if1 in
     let b = b .before .before in let args = b .args in
     (put-as (put-byte .ensures) (gap-on (args .began) (not-false (args .began) (if1 .left))), omega (arith, put-byte .ensures .next))
 

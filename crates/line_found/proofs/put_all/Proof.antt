@@ -14,8 +14,7 @@ use Rattle.line_found.specs.Writing.{asked-not, asked}
 
 returns : tie.Need-returns
 returns c =
-    let b = c .before .before .before in let args = b .args in
-    let pre = b .pre in
+    let b = c .before .before .before in let args = b .args in let pre = b .pre in
     (put-as (put-none (args .queue .now) (args .at) (args .limit) (pre .0 .0)) (asked-not (args .on) (octets " ALL " ++ setText (uidsOf (take (args .n) (args .uids .now)))) (not-true _ (c .if1 .taken))), omega arith)
 
 returns-2 : tie.Need-returns-2

@@ -12,8 +12,7 @@ returns c =
     let b = b .before .before .before .before .before in let put-results = b .put-results in
     let b = b .before .before .before .before in let put-box = b .put-box in
     let b = b .before .before .before .before in let put-tag = b .put-tag in
-    let b = b .before .before .before .before .before .before in let args = b .args in
-    let pre = b .pre in
+    let b = b .before .before .before .before .before .before in let args = b .args in let pre = b .pre in
     (put-as (_then_ (_then_ (_then_ (put-tag .ensures .0) (put-box .ensures .0)) (put-results .ensures .0)) (put .ensures)) (line-pieces (args .tag .now) (args .name .now) (args .validity) (args .w) (args .uids .now) (args .n) (pre .1 .0) (pre .1 .1 .0)), omega (arith, put-tag .ensures .1, put-box .ensures .1, put-results .ensures .1, put .ensures .next))
 
 pub put-found-spec : {M : Type 1} → statement M

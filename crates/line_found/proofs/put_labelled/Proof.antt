@@ -11,15 +11,13 @@ use Rattle.line_found.specs.Writing.{asked-not, asked}
 
 returns : tie.Need-returns
 returns c =
-    let b = c .before .before .before in let args = b .args in
-    let pre = b .pre in
+    let b = c .before .before .before in let args = b .args in let pre = b .pre in
     (put-as (put-none (args .queue .now) (args .at) (args .limit) (pre .0)) (asked-not (args .on) (args .label .now ++ decimal (args .n)) (not-true _ (c .if1 .taken))), omega arith)
 
 returns-2 : tie.Need-returns-2
 returns-2 c =
     let b = c .before .before in let put-number = b .put-number in
-    let b = b .before .before .before .before in let put = b .put in
-    let b = b .before .before in let if1 = b .if1 in
+    let b = b .before .before .before .before in let put = b .put in let b = b .before .before in let if1 = b .if1 in
     let b = b .before .before .before in let args = b .args in
     (put-as (_then_ (put .ensures) (put-number .ensures .0)) (asked (args .on) (args .label .now ++ decimal (args .n)) (not-false _ (if1 .left))), omega (arith, put .ensures .next, put-number .ensures .1))
 

@@ -12,8 +12,7 @@ returns c =
     let b = b .before .before .before .before .before in let put-all = b .put-all in
     let b = b .before .before .before .before in let put-uid2 = b .put-uid2 in
     let b = b .before .before .before .before .before in let put-uid = b .put-uid in
-    let b = b .before .before .before .before .before .before .before in let a = b .args in
-    let pre = b .pre in
+    let b = b .before .before .before .before .before .before .before in let a = b .args in let pre = b .pre in
     let p = pre .1 in (
       put-as (_then_ (_then_ (_then_ (put-uid .ensures .0) (put-uid2 .ensures .0)) (put-all .ensures .0)) (put-labelled .ensures .0)) (pieces-are (a .w) (a .uids .now) (a .n) (p .0) (p .1 .0)),
       omega (arith, put-uid .ensures .1, put-uid2 .ensures .1, put-all .ensures .1, put-labelled .ensures .1),

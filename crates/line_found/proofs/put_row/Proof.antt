@@ -27,8 +27,7 @@ returns-2 : tie.Need-returns-2
 returns-2 c =
     let b = c .before .before in let put-found = b .put-found in
     let b = b .before .before .before .before in let clip = b .clip in
-    let b = b .before .before .before .before .before .before in let args = b .args in
-    let pre = b .pre in
+    let b = b .before .before .before .before .before .before in let args = b .args in let pre = b .pre in
     let k = args .k in
     let names = args .names .now in
     let cut = clip .result in

@@ -30,9 +30,7 @@ put-row-requires c κs =
     let a = pre .0 .1 .0 in
     let z = pre .1 .0 .0 in
     let u = pre .2 .0 in
-    let b = pre .2 .1 (turn .i - 1) (omega arith) (omega arith) in
-    let b₀ = b .0 in
-    let b₁ = b .1 in
+    let b = pre .2 .1 (turn .i - 1) (omega arith) (omega arith) in let b₀ = b .0 in let b₁ = b .1 in
     ((search needs, (omega arith, pre .0 .1 .1)), ((search needs, search needs), (omega arith, b₁)))
 
 loop-again : tie.Need-loop-again Inv-loop μ-loop
@@ -55,8 +53,7 @@ loop-again c =
 returns : tie.Need-returns Inv-loop μ-loop
 returns c =
     let b = c .before in let loop = b .loop in
-    let b = b .before .before .before .before .before .before .before in let args = b .args in
-    let pre = b .pre in
+    let b = b .before .before .before .before .before .before .before in let args = b .args in let pre = b .pre in
     let e = loop .inv .2 in
     let l = loop .inv .1 in
     let v = pre .0 .0 in (

@@ -15,16 +15,13 @@ abbrev μ-loop : tie.MeasureT-loop
 
 loop-holds : tie.Need-loop-holds Inv-loop μ-loop
 loop-holds c =
-    let b = c .before .before .before in let args = b .args in
-    let pre = b .pre in
+    let b = c .before .before .before in let args = b .args in let pre = b .pre in
     writing-start (args .queue .now) (args .at) (args .limit) (args .uids .now) (args .n) (pre .1 .1 .0) (pre .0 .0) (pre .1 .0)
 
 loop-again : tie.Need-loop-again Inv-loop μ-loop
 loop-again c =
-    let b = c .before in let follows = b .follows in
-    let b = b .before .before in let loop-test = b .loop-test in
-    let b = b .before in let l = b .loop in
-    let b = b .before .before .before .before in let a = b .args in
+    let b = c .before in let follows = b .follows in let b = b .before .before in let loop-test = b .loop-test in
+    let b = b .before in let l = b .loop in let b = b .before .before .before .before in let a = b .args in
     let pre = b .pre in
     writing-joined (a .queue .now) (a .at) (a .limit) (a .uids .now) (a .n) (pre .1 .1 .0) (l .queue) (l .o) (l .from .0) (l .upto .0) (l .i) (l .inv) (loop-test .taken) (follows .result) (follows .ensures) (c .if1 .taken)
 
@@ -33,12 +30,9 @@ put-part-requires c κs = let a = c .before .before .before .before .before .loo
 
 loop-again-2 : tie.Need-loop-again-2 Inv-loop μ-loop
 loop-again-2 c =
-    let b = c .before .before in let put-part = b .put-part in
-    let b = b .before .before in let if1 = b .if1 in
-    let b = b .before in let follows = b .follows in
-    let b = b .before .before in let loop-test = b .loop-test in
-    let b = b .before in let l = b .loop in
-    let b = b .before .before .before .before in let a = b .args in
+    let b = c .before .before in let put-part = b .put-part in let b = b .before .before in let if1 = b .if1 in
+    let b = b .before in let follows = b .follows in let b = b .before .before in let loop-test = b .loop-test in
+    let b = b .before in let l = b .loop in let b = b .before .before .before .before in let a = b .args in
     let pre = b .pre in
     writing-apart (a .queue .now) (a .at) (a .limit) (a .uids .now) (a .n) (pre .1 .1 .0) (l .queue) (l .o) (l .from .0) (l .upto .0) (l .i) (l .inv) (loop-test .taken) (follows .result) (follows .ensures) (if1 .left) _ (put-part .result) (put-part .ensures .0) (put-part .ensures .1)
 
@@ -51,10 +45,8 @@ same-length c = c .before .before .put-run .ensures .0 .same ∙ c .before .befo
 returns : tie.Need-returns Inv-loop μ-loop
 returns c =
     let b = c .before .before in let put-run = b .put-run in
-    let b = b .before .before in let loop-test = b .loop-test in
-    let b = b .before in let l = b .loop in
-    let b = b .before .before .before .before in let a = b .args in
-    let pre = b .pre in
+    let b = b .before .before in let loop-test = b .loop-test in let b = b .before in let l = b .loop in
+    let b = b .before .before .before .before in let a = b .args in let pre = b .pre in
     writing-end (a .queue .now) (a .at) (a .limit) (a .uids .now) (a .n) (pre .1 .1 .0) (l .queue) (l .o) (l .from .0) (l .upto .0) (l .i) (l .inv) (loop-test .left) _ (put-run .result) (put-run .ensures .0) (put-run .ensures .1)
 
 pub put-set-spec : {M : Type 1} → statement M

@@ -9,8 +9,7 @@ use Rattle.line_listing.specs.Telling.{line-barred, line-none, line-stat
 
 returns : tie.Need-returns
 returns c =
-    let b = c .before .before in let put-list = b .put-list in
-    let b = b .before .before in let if1 = b .if1 in
+    let b = c .before .before in let put-list = b .put-list in let b = b .before .before in let if1 = b .if1 in
     let b = b .before in let has = b .has in
     let b = b .before .before .before in let args = b .args in (
       put-as (put-list .ensures .0)
@@ -30,8 +29,7 @@ returns-2 c =
 returns-3 : tie.Need-returns-3
 returns-3 c =
     let b = c .before .before in let put-status-at-set = b .put-status-at-set in
-    let b = b .before .before in let if2 = b .if2 in
-    let b = b .before in let if1 = b .if1 in
+    let b = b .before .before in let if2 = b .if2 in let b = b .before in let if1 = b .if1 in
     let b = b .before in let has = b .has in
     let b = b .before .before .before in let args = b .args in (
       put-as (put-status-at-set .ensures .0)

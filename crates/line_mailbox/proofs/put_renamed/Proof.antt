@@ -12,8 +12,7 @@ returns c =
     let b = b .before .before .before .before .before in let put-quoted = b .put-quoted in
     let b = b .before .before .before .before in let put = b .put in
     let b = b .before .before .before .before .before in let put-listed = b .put-listed in
-    let b = b .before .before .before .before .before in let args = b .args in
-    let pre = b .pre in
+    let b = b .before .before .before .before .before in let args = b .args in let pre = b .pre in
     (put-as (_then_ (_then_ (_then_ (put-listed .ensures .0) (put .ensures)) (put-quoted .ensures .0)) (put2 .ensures)) (renamed-text (markOf (args .mark)) (args .new .now) (args .old .now)), omega (arith, pre, put-listed .ensures .1, put .ensures .next, put-quoted .ensures .1, put2 .ensures .next))
 
 pub put-renamed-spec : {M : Type 1} → statement M

@@ -13,8 +13,7 @@ returns c = let a = c .before .before .args in (put-as (put-none _ _ _ (c .befor
 returns-2 : tie.Need-returns-2
 returns-2 c =
     let b = c .before .before in let put-count = b .put-count in
-    let b = b .before .before .before in let if1 = b .if1 in
-    let b = b .before .before in let a = b .args in
+    let b = b .before .before .before in let if1 = b .if1 in let b = b .before .before in let a = b .args in
     (put-as (put-count .ensures .0) (exists-some (a .has) (a .new) (if1 .left)), omega (arith, put-count .ensures .1))
 
 pub put-exists-spec : {M : Type 1} → statement M

@@ -11,18 +11,15 @@ use Rattle.line_message.specs.Whole.{news-bare, news-full}
 returns : tie.Need-returns
 returns c =
     let b = c .before .before .before .before in let put-exists = b .put-exists in
-    let b = b .before .before in let unseen = b .unseen in
-    let b = b .before in let staying = b .staying in
+    let b = b .before .before in let unseen = b .unseen in let b = b .before in let staying = b .staying in
     let b = b .before .before .before .before in let a = b .args in
     (put-as (put-exists .ensures .0) (news-bare (a .told .0) (a .w) _ _ _ (staying .ensures .0) (unseen .ensures .0) (not-true (a .w .any) (c .if1 .taken))), omega (arith, put-exists .ensures .1))
 
 returns-2 : tie.Need-returns-2
 returns-2 c =
-    let b = c .before .before in let put-part = b .put-part in
-    let b = b .before .before in let if1 = b .if1 in
+    let b = c .before .before in let put-part = b .put-part in let b = b .before .before in let if1 = b .if1 in
     let b = b .before .before .before .before in let put-exists = b .put-exists in
-    let b = b .before .before in let unseen = b .unseen in
-    let b = b .before in let staying = b .staying in
+    let b = b .before .before in let unseen = b .unseen in let b = b .before in let staying = b .staying in
     let b = b .before .before .before .before in let a = b .args in
     (put-as (_then_ (put-exists .ensures .0) (put-part .ensures .0)) (news-full (a .told .0) (a .w) _ _ _ (staying .ensures .0) (unseen .ensures .0) (not-false (a .w .any) (if1 .left))), omega (arith, put-exists .ensures .1, put-part .ensures .1))
 

@@ -12,8 +12,7 @@ unfolding owedText
 returns c =
     let b = c .before .before in let put-part2 = b .put-part2 in
     let b = b .before .before .before .before in let put-exists = b .put-exists in
-    let b = b .before .before in let unseen = b .unseen in
-    let b = b .before in let staying = b .staying in
+    let b = b .before .before in let unseen = b .unseen in let b = b .before in let staying = b .staying in
     let b = b .before .before .before in let put-part = b .put-part in
     (_then_ (_then_ (put-part .ensures .0) (put-as (put-exists .ensures .0) (exists-as _ _ _ _ (staying .ensures .0) (unseen .ensures .0)))) (put-part2 .ensures .0), omega (arith, put-part .ensures .1, put-exists .ensures .1, put-part2 .ensures .1))
 

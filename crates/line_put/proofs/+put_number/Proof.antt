@@ -44,8 +44,7 @@ put-number-returns-2 : (t : ℕ) → put-number-lts.Need-returns-2 (
 ) (put-number-at t) put-number.Post
 put-number-returns-2 t c =
     let b = c .before .before .before .before .before .before in let at-put-number = b .put-number in
-    let b = b .before .before in let if1 = b .if1 in
-    let b = b .before .before in let args = b .args in
+    let b = b .before .before in let if1 = b .if1 in let b = b .before .before in let args = b .args in
     let p = _then_ (at-put-number .ensures .0) (c .before .before .put-byte2 .ensures) in let w = rw (← decimal-more (args .n) (if1 .left)) at p in let l = decimal-short 19 (args .n) (omega arith) in let x = w .next in (w, omega arith)
 
 pub +put-number-spec : {M : Type 1} → statement M

@@ -21,8 +21,7 @@ loop-holds c = (search needs, search needs, refl, wrote-none _ _ (omega arith))
 
 loop-again : tie.Need-loop-again Inv-loop μ-loop
 loop-again c =
-    let b = c .before .before in let v = b .loop in
-    let b = b .before in let a = b .args in
+    let b = c .before .before in let v = b .loop in let b = b .before in let a = b .args in
     let h : v .i < length (a .text .now) = omega arith in
     let k : v .o < length (v .queue) = omega arith in (
       search needs,

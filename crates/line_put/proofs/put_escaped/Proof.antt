@@ -14,8 +14,7 @@ returns c =
 returns-2 : tie.Need-returns-2
 returns-2 c =
     let b = c .before .before .before .before .before .before in let put-byte3 = b .put-byte3 in
-    let b = b .before .before in let if2 = b .if2 in
-    let b = b .before in let if1 = b .if1 in
+    let b = b .before .before in let if2 = b .if2 in let b = b .before in let if1 = b .if1 in
     (simp (ne-eqb _ _ (if1 .left), eq-eqb _ _ (if2 .taken)) (_then_ (put-byte3 .ensures) (c .before .before .put-byte4 .ensures)), search needs)
 
 returns-3 : tie.Need-returns-3

@@ -22,10 +22,8 @@ loop-holds c = refl
 
 returns : tie.Need-returns Inv-loop μ-loop
 returns c =
-    let b = c .before .before .before .before in let loop = b .loop in
-    let b = b .before in let wide = b .wide in
-    let b = b .before in let reach = b .reach in
-    let b = b .before .before in let a = b .args in
+    let b = c .before .before .before .before in let loop = b .loop in let b = b .before in let wide = b .wide in
+    let b = b .before in let reach = b .reach in let b = b .before .before in let a = b .args in
     let long : length (a .t1 .names) ≡ 16 = search (needs, mapped-length) in
     let p = hitBy (a .deep) (a .name .now) in
     let end = reach .result in
@@ -36,16 +34,14 @@ returns c =
 loop-again : tie.Need-loop-again Inv-loop μ-loop
 loop-again c =
     let b = c .before .before .before .before in let loop = b .loop in
-    let b = b .before .before in let reach = b .reach in
-    let b = b .before .before in let a = b .args in
+    let b = b .before .before in let reach = b .reach in let b = b .before .before in let a = b .args in
     let long : length (a .t1 .names) ≡ 16 = search (needs, mapped-length) in
     loop .inv ∙ any-next (hitBy (a .deep) (a .name .now)) (a .t1 .names) (reach .result) (loop .i) (omega arith) vacantName (omega arith)
     (sym (c .before .hits .ensures) ∙ c .if1 .left)
 
 returns-2 : tie.Need-returns-2 Inv-loop μ-loop
 returns-2 c =
-    let b = c .before in let at-loop = b .loop in
-    let b = b .before .before in let at-reach = b .reach in
+    let b = c .before in let at-loop = b .loop in let b = b .before .before in let at-reach = b .reach in
     let b = b .before .before in let a = b .args in
     let long : length (a .t1 .names) ≡ 16 = search (needs, mapped-length) in
     let p = hitBy (a .deep) (a .name .now) in

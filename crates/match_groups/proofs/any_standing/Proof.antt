@@ -22,8 +22,7 @@ loop-holds c = refl
 returns : tie.Need-returns Inv-loop μ-loop
 returns c =
     let b = c .before .before .before .before .before in let loop = b .loop in
-    let b = b .before in let groups = b .groups in
-    let b = b .before in let a = b .args in
+    let b = b .before in let groups = b .groups in let b = b .before in let a = b .args in
     let long : length (a .t1 .groups) ≡ 8 = search (needs, mapped-length) in
     let n = groups .result in
     let here = ap (standing (a .delayed) (a .k)) (sym (c .before .before .group-of .ensures)) ∙ (sym (c .before .stands .ensures) ∙ c .if1 .taken) in
@@ -33,8 +32,7 @@ returns c =
 loop-again : tie.Need-loop-again Inv-loop μ-loop
 loop-again c =
     let b = c .before .before .before .before .before in let loop = b .loop in
-    let b = b .before in let groups = b .groups in
-    let b = b .before in let a = b .args in
+    let b = b .before in let groups = b .groups in let b = b .before in let a = b .args in
     let long : length (a .t1 .groups) ≡ 8 = search (needs, mapped-length) in
     let on = ap (standing (a .delayed) (a .k)) (sym (c .before .before .group-of .ensures)) ∙ (sym (c .before .stands .ensures) ∙ c .if1 .left) in
     loop .inv ∙ any-next (standsAs (a .delayed) (a .k)) (a .t1 .groups) (groups .result) (loop .i) (omega arith) vacantGroup (omega arith) on

@@ -21,8 +21,7 @@ loop-holds c = number-start _ _
 returns : tie.Need-returns Inv-loop μ-loop
 returns c =
     let b = c .before .before .before .before .before in let loop = b .loop in
-    let b = b .before in let groups = b .groups in
-    let b = b .before .before in let a = b .args in
+    let b = b .before in let groups = b .groups in let b = b .before .before in let a = b .args in
     let long : length (a .t1 .groups) ≡ 8 = search (needs, mapped-length) in
     let n = groups .result in
     let here = ap (asksIn (a .t1) (a .name .now) (a .a) (a .k)) (sym (c .before .before .group-of .ensures)) ∙ (sym (c .before .asks .ensures) ∙ c .if1 .taken) in
@@ -32,8 +31,7 @@ returns c =
 loop-again : tie.Need-loop-again Inv-loop μ-loop
 loop-again c =
     let b = c .before .before .before .before .before in let loop = b .loop in
-    let b = b .before in let groups = b .groups in
-    let b = b .before .before in let a = b .args in
+    let b = b .before in let groups = b .groups in let b = b .before .before in let a = b .args in
     let long : length (a .t1 .groups) ≡ 8 = search (needs, mapped-length) in
     let on = ap (asksIn (a .t1) (a .name .now) (a .a) (a .k)) (sym (c .before .before .group-of .ensures)) ∙ (sym (c .before .asks .ensures) ∙ c .if1 .left) in
     number-next (asksAs (a .t1) (a .name .now) (a .a) (a .k)) (a .t1 .groups) (groups .result) (loop .i) (omega arith) _ (loop .inv) vacantGroup (omega arith) on

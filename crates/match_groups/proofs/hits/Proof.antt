@@ -16,8 +16,7 @@ slice-aggregate-in-subtree c = let lx : length (c .before .before .before .befor
 
 returns : tie.Need-returns
 returns c =
-    let b = c .before .before .before in let clip = b .clip in
-    let b = b .before .before .before in let a = b .args in
+    let b = c .before .before .before in let clip = b .clip in let b = b .before .before .before in let a = b .args in
     let lx : length (a .x .octets) ≡ 64 = search needs in rw (c .before .before .if1 .taken, ← clip .ensures .1 (a .x .octets) lx)
     (c .in-subtree .ensures)
 
@@ -29,8 +28,7 @@ slice-aggregate-same c = let lx : length (c .before .before .before .before .bef
 
 returns-2 : tie.Need-returns-2
 returns-2 c =
-    let b = c .before .before .before in let clip = b .clip in
-    let b = b .before .before .before in let a = b .args in
+    let b = c .before .before .before in let clip = b .clip in let b = b .before .before .before in let a = b .args in
     let lx : length (a .x .octets) ≡ 64 = search needs in rw (c .before .before .if1 .left, ← clip .ensures .1 (a .x .octets) lx)
     (c .same .ensures)
 

@@ -68,10 +68,8 @@ key-at-returns-2 : (t : ℕ) → key-at-lts.Need-returns-2 (
   agree-reads.Learnt,
 ) (key-at-at t) key-at.Post
 key-at-returns-2 t c =
-    let b = c .before in let at-keys-hold = b .keys-hold in
-    let b = b .before in let behind = b .behind in
-    let b = b .before in let if1 = b .if1 in
-    let b = b .before in let cell = b .cell in
+    let b = c .before in let at-keys-hold = b .keys-hold in let b = b .before in let behind = b .behind in
+    let b = b .before in let if1 = b .if1 in let b = b .before in let cell = b .cell in
     let b = b .before .before in let args = b .args in
     answers-nest (args .cells .now) (args .at) (cell .result) (cell .ensures) (args .stop) (args .facts) (record { holds = c .agree .result; after = behind .result }) (if1 .left) (behind .ensures) (at-keys-hold .result) (at-keys-hold .ensures) (c .agree .ensures)
 
@@ -110,10 +108,8 @@ keys-hold-loop-again : (t : ℕ) → keys-hold-lts.Need-loop-again (
   negated-reads.Learnt,
 ) (keys-hold-at t) keys-hold.Post keys-hold-Inv-loop keys-hold-μ-loop
 keys-hold-loop-again t c =
-    let b = c .before in let cell = b .cell in
-    let b = b .before .before in let last-nest = b .last-nest in
-    let b = b .before in let loop-test = b .loop-test in
-    let b = b .before in let loop = b .loop in
+    let b = c .before in let cell = b .cell in let b = b .before .before in let last-nest = b .last-nest in
+    let b = b .before in let loop-test = b .loop-test in let b = b .before in let loop = b .loop in
     let b = b .before .before in let args = b .args in
     let n = last-nest .ensures (c .before .before .if1 .taken) in (omega arith, going-in (args .cells .now) (args .at) (args .stop) (args .any) (args .facts) (loop .i) (loop .some) (loop .on) (loop .inv .1) (loop-test .taken) (cell .result) (cell .ensures) (let q = cell .ensures in omega (arith, n .0)) (n .1) (c .agree .result) (c .agree .ensures))
 
@@ -145,8 +141,7 @@ keys-hold-returns : (t : ℕ) → keys-hold-lts.Need-returns (
 ) (keys-hold-at t) keys-hold.Post keys-hold-Inv-loop keys-hold-μ-loop
 keys-hold-returns t c =
     let b = c .before .before .before in let at-key-at = b .key-at in
-    let b = b .before .before .before in let loop-test = b .loop-test in
-    let b = b .before in let loop = b .loop in
+    let b = b .before .before .before in let loop-test = b .loop-test in let b = b .before in let loop = b .loop in
     let b = b .before .before in let args = b .args in
     going-decided (args .cells .now) (args .at) (args .stop) (args .any) (args .facts) (loop .i) (loop .some) (loop .on) (loop .inv .1) (loop-test .taken) (at-key-at .result) (at-key-at .ensures) (sym (c .before .before .agree2 .ensures) ∙ c .before .if2 .taken) (c .agree3 .result) (c .agree3 .ensures)
 
@@ -178,8 +173,7 @@ keys-hold-loop-again-2 : (t : ℕ) → keys-hold-lts.Need-loop-again-2 (
 ) (keys-hold-at t) keys-hold.Post keys-hold-Inv-loop keys-hold-μ-loop
 keys-hold-loop-again-2 t c =
     let b = c .before .before in let at-key-at = b .key-at in
-    let b = b .before .before .before in let loop-test = b .loop-test in
-    let b = b .before in let loop = b .loop in
+    let b = b .before .before .before in let loop-test = b .loop-test in let b = b .before in let loop = b .loop in
     let b = b .before .before in let args = b .args in
     let a = at-key-at .ensures .after in (omega arith, going-next (args .cells .now) (args .at) (args .stop) (args .any) (args .facts) (loop .i) (loop .some) (loop .on) (loop .inv .1) (loop-test .taken) (at-key-at .result) (at-key-at .ensures) (sym (c .before .agree2 .ensures) ∙ c .if2 .left))
 
@@ -196,8 +190,7 @@ keys-hold-returns-2 : (t : ℕ) → keys-hold-lts.Need-returns-2 (
   negated-reads.Learnt,
 ) (keys-hold-at t) keys-hold.Post keys-hold-Inv-loop keys-hold-μ-loop
 keys-hold-returns-2 t c =
-    let b = c .before .before .before in let loop = b .loop in
-    let b = b .before .before in let args = b .args in
+    let b = c .before .before .before in let loop = b .loop in let b = b .before .before in let args = b .args in
     going-end (args .cells .now) (args .at) (args .stop) (args .any) (args .facts) (loop .i) (loop .some) (loop .on) (loop .inv .1) (c .before .before .loop-test .left) (c .agree4 .result) (c .agree4 .ensures ∙ ap (agrees (loop .on)) (c .before .negated .ensures))
 
 pub +key-at+keys-hold-spec : {M : Type 1} → statement M

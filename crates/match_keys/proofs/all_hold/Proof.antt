@@ -6,8 +6,7 @@ use Rattle.match_keys.specs.Laws.{all-is}
 
 returns : tie.Need-returns
 returns c =
-    let b = c .before .before .before in let args = b .args in
-    let pre = b .pre in
+    let b = c .before .before .before in let args = b .args in let pre = b .pre in
     all-is (args .cells .now) (args .used) (args .p) (c .keys-hold .result) pre
     (rw (c .before .facts-of .ensures) at (c .keys-hold .ensures))
 

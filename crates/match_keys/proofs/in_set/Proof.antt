@@ -20,23 +20,20 @@ loop-holds c =
 returns : tie.Need-returns Inv-loop μ-loop
 returns c =
     let b = c .before in let in-part = b .in-part in
-    let b = b .before .before .before in let loop-test = b .loop-test in
-    let b = b .before in let loop = b .loop in
+    let b = b .before .before .before in let loop-test = b .loop-test in let b = b .before in let loop = b .loop in
     let b = b .before .before in let args = b .args in
     set-hit (args .cells .now) (args .at) (args .stop) (args .last) (args .n) (loop .i) (in-part .result) (in-part .ensures) (loop-test .taken) (loop .inv .1) (c .if1 .taken)
 
 loop-again : tie.Need-loop-again Inv-loop μ-loop
 loop-again c =
     let b = c .before in let in-part = b .in-part in
-    let b = b .before .before .before in let loop-test = b .loop-test in
-    let b = b .before in let loop = b .loop in
+    let b = b .before .before .before in let loop-test = b .loop-test in let b = b .before in let loop = b .loop in
     let b = b .before .before in let args = b .args in
     (omega arith, set-next (args .cells .now) (args .at) (args .stop) (args .last) (args .n) (loop .i) (in-part .result) (in-part .ensures) (loop-test .taken) (loop .inv .1) (c .if1 .left))
 
 returns-2 : tie.Need-returns-2 Inv-loop μ-loop
 returns-2 c =
-    let b = c .before in let loop = b .loop in
-    let b = b .before .before in let args = b .args in
+    let b = c .before in let loop = b .loop in let b = b .before .before in let args = b .args in
     set-end (args .cells .now) (args .at) (args .stop) (args .last) (args .n) (loop .i) (c .loop-test .left) (loop .inv .1)
 
 pub in-set-spec : {M : Type 1} → statement M

@@ -11,8 +11,7 @@ returns c =
 
 returns-2 : tie.Need-returns-2
 returns-2 c =
-    let b = c .before .before in let cell = b .cell in
-    let b = b .before .before in let args = b .args in
+    let b = c .before .before in let cell = b .cell in let b = b .before .before in let args = b .args in
     nest-by (args .cells .now) (args .at) (args .stop) (cell .result) (c .behind .result) (cell .ensures) (c .before .if1 .left) (c .behind .ensures)
 
 pub last-nest-spec : {M : Type 1} → statement M

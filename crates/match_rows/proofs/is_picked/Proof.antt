@@ -19,15 +19,13 @@ returns-2 c =
 
 returns-3 : tie.Need-returns-3
 returns-3 c =
-    let b = c .before .before .before in let has = b .has in
-    let b = b .before in let args = b .args in
+    let b = c .before .before .before in let has = b .has in let b = b .before in let args = b .args in
     let listed = sym (has .ensures) ∙ not-false _ (c .before .before .if1 .left) in
     λ s n any messages mailbox. picked-selected s n (args .a) _ (args .selected) listed (sym mailbox ∙ c .before .if2 .left) (c .if3 .taken) any
 
 returns-4 : tie.Need-returns-4
 returns-4 c =
-    let b = c .before .before .before in let has = b .has in
-    let b = b .before in let args = b .args in
+    let b = c .before .before .before in let has = b .has in let b = b .before in let args = b .args in
     let listed = sym (has .ensures) ∙ not-false _ (c .before .before .if1 .left) in
     λ s n any messages mailbox. picked-other s n (args .a) _ (args .selected) listed (sym mailbox ∙ c .before .if2 .left) (c .if3 .left) messages
 

@@ -8,10 +8,8 @@ use Rattle.match_rows.proofs.note.Tie as tie
 
 returns : tie.Need-returns
 returns c =
-    let b = c .before .before in let octet = b .octet in
-    let b = b .before in let is-picked = b .is-picked in
-    let b = b .before in let is-selected = b .is-selected in
-    let b = b .before in let args = b .args in
+    let b = c .before .before in let octet = b .octet in let b = b .before in let is-picked = b .is-picked in
+    let b = b .before in let is-selected = b .is-selected in let b = b .before in let args = b .args in
     λ s n is any messages mailbox. record {
       told = octet .ensures ∙ (is-picked .ensures s n any messages mailbox ∙ ap (pickedBy s n (args .a)) (is-selected .ensures s is));
       status = c .octet2 .ensures

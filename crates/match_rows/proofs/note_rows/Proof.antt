@@ -36,13 +36,11 @@ slice-write-asks c =
 
 loop-again : tie.Need-loop-again Inv-loop μ-loop
 loop-again c =
-    let b = c .before .before .before in let loop-test = b .loop-test in
-    let b = b .before in let l = b .loop in
+    let b = c .before .before .before in let loop-test = b .loop-test in let b = b .before in let l = b .loop in
     let b = b .before in let selected-asks-any = b .selected-asks-any in
     let b = b .before .before in let mark-asked2 = b .mark-asked2 in
     let b = b .before .before .before in let mark-asked = b .mark-asked in
-    let b = b .before .before .before .before in let a = b .args in
-    let pre = b .pre in
+    let b = b .before .before .before .before in let a = b .args in let pre = b .pre in
     let row = c .note in
     let p = l .inv .1 in
     let q = l .inv .2 in

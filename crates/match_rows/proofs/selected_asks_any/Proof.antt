@@ -18,8 +18,7 @@ returns-2 c =
 returns-3 : tie.Need-returns-3
 returns-3 c =
     let b = c .before .before .before in let selected-asks2 = b .selected-asks2 in
-    let b = b .before in let at-if1 = b .if1 in
-    let b = b .before in let selected-asks = b .selected-asks in
+    let b = b .before in let at-if1 = b .if1 in let b = b .before in let selected-asks = b .selected-asks in
     let b = b .before in let a = b .args in
     any-third (a .s) (sym (selected-asks .ensures) ∙ at-if1 .left) (sym (selected-asks2 .ensures) ∙ c .before .before .if2 .left)
     (sym (c .before .selected-asks3 .ensures) ∙ c .if3 .taken)
@@ -27,10 +26,8 @@ returns-3 c =
 returns-4 : tie.Need-returns-4
 returns-4 c =
     let b = c .before .before .before in let selected-asks3 = b .selected-asks3 in
-    let b = b .before in let at-if2 = b .if2 in
-    let b = b .before in let selected-asks2 = b .selected-asks2 in
-    let b = b .before in let if1 = b .if1 in
-    let b = b .before in let selected-asks = b .selected-asks in
+    let b = b .before in let at-if2 = b .if2 in let b = b .before in let selected-asks2 = b .selected-asks2 in
+    let b = b .before in let if1 = b .if1 in let b = b .before in let selected-asks = b .selected-asks in
     let b = b .before in let a = b .args in
     any-fourth (a .s) (sym (selected-asks .ensures) ∙ if1 .left) (sym (selected-asks2 .ensures) ∙ at-if2 .left)
     (sym (selected-asks3 .ensures) ∙ c .before .before .if3 .left) (sym (c .before .selected-asks4 .ensures) ∙ c .if4 .taken)
@@ -38,12 +35,9 @@ returns-4 c =
 returns-5 : tie.Need-returns-5
 returns-5 c =
     let b = c .before .before .before in let if3 = b .if3 in
-    let b = b .before in let selected-asks3 = b .selected-asks3 in
-    let b = b .before in let if2 = b .if2 in
-    let b = b .before in let selected-asks2 = b .selected-asks2 in
-    let b = b .before in let if1 = b .if1 in
-    let b = b .before in let selected-asks = b .selected-asks in
-    let b = b .before in let a = b .args in
+    let b = b .before in let selected-asks3 = b .selected-asks3 in let b = b .before in let if2 = b .if2 in
+    let b = b .before in let selected-asks2 = b .selected-asks2 in let b = b .before in let if1 = b .if1 in
+    let b = b .before in let selected-asks = b .selected-asks in let b = b .before in let a = b .args in
     any-fifth (a .s) _ (sym (selected-asks .ensures) ∙ if1 .left) (sym (selected-asks2 .ensures) ∙ if2 .left)
     (sym (selected-asks3 .ensures) ∙ if3 .left) (sym (c .before .before .selected-asks4 .ensures) ∙ c .before .if4 .left)
     (c .selected-asks5 .ensures)

@@ -16,12 +16,9 @@ returns-3 c = simp (ne-eqb _ _ (c .before .before .if1 .left), ne-eqb _ _ (c .be
 
 returns-4 : tie.Need-returns-4
 returns-4 c =
-    let b = c .before .before .before in let has3 = b .has3 in
-    let b = b .before in let has2 = b .has2 in
-    let b = b .before in let has = b .has in
-    let b = b .before in let if3 = b .if3 in
-    let b = b .before in let if2 = b .if2 in
-    let b = b .before in let if1 = b .if1 in
+    let b = c .before .before .before in let has3 = b .has3 in let b = b .before in let has2 = b .has2 in
+    let b = b .before in let has = b .has in let b = b .before in let if3 = b .if3 in
+    let b = b .before in let if2 = b .if2 in let b = b .before in let if1 = b .if1 in
     simp (ne-eqb _ _ (if1 .left), ne-eqb _ _ (if2 .left), ne-eqb _ _ (if3 .left))
     (c .by-rights .ensures ∙ rw (has .ensures, has2 .ensures, has3 .ensures, c .before .before .has4 .ensures, c .before .has5 .ensures))
 

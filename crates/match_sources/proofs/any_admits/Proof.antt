@@ -45,8 +45,7 @@ loop-again c =
 
 returns-2 : tie.Need-returns-2 Inv-loop μ-loop
 returns-2 c =
-    let b = c .before in let loop = b .loop in
-    let b = b .before in let listed-count = b .listed-count in
+    let b = c .before in let loop = b .loop in let b = b .before in let listed-count = b .listed-count in
     let b = b .before .before .before in let args = b .args in
     let long : length (args .t1 .sources) ≡ 8 = search (needs, mapped-length) in
     let p = admitsIn (args .t1 .kept .names) (args .attributes) (args .name .now) (args .selected) in

@@ -16,30 +16,24 @@ returns-3 c =
 
 returns-4 : tie.Need-returns-4
 returns-4 c =
-    let b = c .before .before .before in let if1 = b .if1 in
-    let b = b .before in let args = b .args in
+    let b = c .before .before .before in let if1 = b .if1 in let b = b .before in let args = b .args in
     simp (not-false (args .list) (if1 .left), ne-eqb _ _ (c .before .before .if2 .left), not-false (args .selectable) (c .before .if3 .left), eq-eqb _ _ (c .if4 .taken))
 
 returns-5 : tie.Need-returns-5
 returns-5 c =
-    let b = c .before .before .before in let if3 = b .if3 in
-    let b = b .before in let if2 = b .if2 in
-    let b = b .before in let if1 = b .if1 in
-    let b = b .before in let args = b .args in
+    let b = c .before .before .before in let if3 = b .if3 in let b = b .before in let if2 = b .if2 in
+    let b = b .before in let if1 = b .if1 in let b = b .before in let args = b .args in
     simp (not-false (args .list) (if1 .left), ne-eqb _ _ (if2 .left), not-false (args .selectable) (if3 .left), ne-eqb _ _ (c .before .before .if4 .left), eq-eqb _ _ (c .before .if5 .taken), c .if6 .taken)
 
 returns-6 : tie.Need-returns-6
 returns-6 c =
-    let b = c .before .before .before in let if3 = b .if3 in
-    let b = b .before in let if2 = b .if2 in
-    let b = b .before in let if1 = b .if1 in
-    let b = b .before in let args = b .args in
+    let b = c .before .before .before in let if3 = b .if3 in let b = b .before in let if2 = b .if2 in
+    let b = b .before in let if1 = b .if1 in let b = b .before in let args = b .args in
     simp (not-false (args .list) (if1 .left), ne-eqb _ _ (if2 .left), not-false (args .selectable) (if3 .left), ne-eqb _ _ (c .before .before .if4 .left), eq-eqb _ _ (c .before .if5 .taken), c .if6 .left)
 
 returns-7 : tie.Need-returns-7
 returns-7 c =
-    let b = c .before .before .before in let if2 = b .if2 in
-    let b = b .before in let if1 = b .if1 in
+    let b = c .before .before .before in let if2 = b .if2 in let b = b .before in let if1 = b .if1 in
     let b = b .before in let args = b .args in
     simp (not-false (args .list) (if1 .left), ne-eqb _ _ (if2 .left), not-false (args .selectable) (c .before .before .if3 .left), ne-eqb _ _ (c .before .if4 .left), ne-eqb _ _ (c .if5 .left))
 

@@ -28,8 +28,7 @@ slice-aggregate-in-one-level c = let lx : length (c .before .before .before .bef
 
 returns-2 : tie.Need-returns-2
 returns-2 c =
-    let b = c .before .before .before in let if1 = b .if1 in
-    let b = b .before in let clip = b .clip in
+    let b = c .before .before .before in let if1 = b .if1 in let b = b .before in let clip = b .clip in
     let b = b .before .before .before in let args = b .args in
     let lx : length (args .x .octets) ≡ 64 = search needs in c .in-one-level .ensures ∙ meant-level (args .scope) (args .name .now) (clip .ensures .1 (args .x .octets) lx) (if1 .left) (c .before .before .if2 .taken)
 
@@ -41,8 +40,7 @@ slice-aggregate-same c = let lx : length (c .before .before .before .before .bef
 
 returns-3 : tie.Need-returns-3
 returns-3 c =
-    let b = c .before .before .before in let if1 = b .if1 in
-    let b = b .before in let clip = b .clip in
+    let b = c .before .before .before in let if1 = b .if1 in let b = b .before in let clip = b .clip in
     let b = b .before .before .before in let args = b .args in
     let lx : length (args .x .octets) ≡ 64 = search needs in c .same .ensures ∙ meant-same (args .scope) (args .name .now) (clip .ensures .1 (args .x .octets) lx) (if1 .left) (c .before .before .if2 .left)
 

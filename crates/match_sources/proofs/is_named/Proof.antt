@@ -24,8 +24,7 @@ loop-holds c = refl
 returns : tie.Need-returns Inv-loop μ-loop
 returns c =
     let b = c .before .before .before .before in let loop = b .loop in
-    let b = b .before in let run-end = b .run-end in
-    let b = b .before .before in let args = b .args in
+    let b = b .before in let run-end = b .run-end in let b = b .before .before in let args = b .args in
     let long : length (args .t1 .names) ≡ 16 = search (needs, mapped-length) in
     sym (any-here (λ (x : LentName). meant (args .one .scope) (lentName x) (args .name .now)) (args .t1 .names) (run-end .result) (loop .i) (omega arith) vacantName (omega arith) (sym (c .before .is-meant .ensures) ∙ c .if1 .taken))
     ∙ (sym (loop .inv) ∙ named-run (args .t1 .names) (args .name .now) (args .one) (run-end .result) (run-end .ensures .1 (args .t1 .names) long))
@@ -33,15 +32,13 @@ returns c =
 loop-again : tie.Need-loop-again Inv-loop μ-loop
 loop-again c =
     let b = c .before .before .before .before in let loop = b .loop in
-    let b = b .before in let run-end = b .run-end in
-    let b = b .before .before in let args = b .args in
+    let b = b .before in let run-end = b .run-end in let b = b .before .before in let args = b .args in
     let long : length (args .t1 .names) ≡ 16 = search (needs, mapped-length) in
     loop .inv ∙ any-next (λ (x : LentName). meant (args .one .scope) (lentName x) (args .name .now)) (args .t1 .names) (run-end .result) (loop .i) (omega arith) vacantName (omega arith) (sym (c .before .is-meant .ensures) ∙ c .if1 .left)
 
 returns-2 : tie.Need-returns-2 Inv-loop μ-loop
 returns-2 c =
-    let b = c .before in let loop = b .loop in
-    let b = b .before in let run-end = b .run-end in
+    let b = c .before in let loop = b .loop in let b = b .before in let run-end = b .run-end in
     let b = b .before .before in let args = b .args in
     let long : length (args .t1 .names) ≡ 16 = search (needs, mapped-length) in
     sym (any-past (λ (x : LentName). meant (args .one .scope) (lentName x) (args .name .now)) (args .t1 .names) (run-end .result) (loop .i) (omega arith) (omega arith))

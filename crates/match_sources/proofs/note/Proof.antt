@@ -13,16 +13,14 @@ use Rattle.match_sources.specs.Picking.{name-part}
 
 returns : tie.Need-returns
 returns c =
-    let b = c .before .before .before in let clip = b .clip in
-    let b = b .before .before in let args = b .args in
+    let b = c .before .before .before in let clip = b .clip in let b = b .before .before in let args = b .args in
     let d = length-drop (64 * args .k) (args .names .now) in
     let l : length (take 64 (drop (64 * args .k) (args .names .now))) ≡ 64 = length-take-le 64 (drop (64 * args .k) (args .names .now)) (omega arith) in
     sym (c .if1 .taken) ∙ (c .before .is-searched .ensures ∙ ap (λ n. searchedBy (args .listed) (args .attributes) n (args .here)) (name-part (args .names .now) (args .k) (args .len) (clip .result) (clip .ensures .0) (clip .ensures .1 (take 64 (drop (64 * args .k) (args .names .now))) l)))
 
 returns-2 : tie.Need-returns-2
 returns-2 c =
-    let b = c .before .before .before in let clip = b .clip in
-    let b = b .before .before in let args = b .args in
+    let b = c .before .before .before in let clip = b .clip in let b = b .before .before in let args = b .args in
     let d = length-drop (64 * args .k) (args .names .now) in
     let l : length (take 64 (drop (64 * args .k) (args .names .now))) ≡ 64 = length-take-le 64 (drop (64 * args .k) (args .names .now)) (omega arith) in
     sym (c .if1 .left) ∙ (c .before .is-searched .ensures ∙ ap (λ n. searchedBy (args .listed) (args .attributes) n (args .here)) (name-part (args .names .now) (args .k) (args .len) (clip .result) (clip .ensures .0) (clip .ensures .1 (take 64 (drop (64 * args .k) (args .names .now))) l)))

@@ -22,8 +22,7 @@ loop-holds c = (search needs, (search needs, refl))
 
 loop-again : tie.Need-loop-again Inv-loop μ-loop
 loop-again c =
-    let b = c .before .before .before in let loop = b .loop in
-    let b = b .before .before in let args = b .args in
+    let b = c .before .before .before in let loop = b .loop in let b = b .before .before in let args = b .args in
     (search needs, (search needs, sum-next (args .s .now) (loop .i) (loop .sum) (c .wide .result) (omega arith) (c .wide .ensures .0) (loop .inv .1 .1)))
 
 returns : tie.Need-returns Inv-loop μ-loop

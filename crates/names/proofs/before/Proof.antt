@@ -20,8 +20,7 @@ loop-holds c = (search needs, refl)
 
 returns : tie.Need-returns Inv-loop μ-loop
 returns c =
-    let b = c .before .before in let loop = b .loop in
-    let b = b .before in let args = b .args in
+    let b = c .before .before in let loop = b .loop in let b = b .before in let args = b .args in
     sym (loop .inv .1 ∙ before-short (args .a .now) (args .b .now) (loop .i) (omega arith) (omega arith))
 
 returns-2 : tie.Need-returns-2 Inv-loop μ-loop
@@ -38,8 +37,7 @@ loop-again c =
 
 returns-3 : tie.Need-returns-3 Inv-loop μ-loop
 returns-3 c =
-    let b = c .before in let loop = b .loop in
-    let b = b .before in let args = b .args in
+    let b = c .before in let loop = b .loop in let b = b .before in let args = b .args in
     sym (loop .inv .1 ∙ before-past (args .a .now) (args .b .now) (loop .i) (omega arith))
 
 pub before-spec : {M : Type 1} → statement M

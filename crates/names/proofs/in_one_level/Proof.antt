@@ -13,8 +13,7 @@ returns c =
 
 returns-2 : tie.Need-returns-2
 returns-2 c =
-    let b = c .before .before .before in let if1 = b .if1 in
-    let b = b .before in let same = b .same in
+    let b = c .before .before .before in let if1 = b .if1 in let b = b .before in let same = b .same in
     let b = b .before .before .before in let args = b .args in
     ap not (c .slash-from .ensures) ∙ sym (level-beneath (args .top .now) (args .name .now) (sym (same .ensures) ∙ if1 .left) (sym (c .before .before .beneath .ensures) ∙ c .before .if2 .taken))
 

@@ -20,9 +20,7 @@ loop-holds c = (search needs, refl)
 
 loop-again : tie.Need-loop-again Inv-loop μ-loop
 loop-again c =
-    let b = c .before .before in let loop = b .loop in
-    let b = b .before in let args = b .args in
-    let pre = b .pre in
+    let b = c .before .before in let loop = b .loop in let b = b .before in let args = b .args in let pre = b .pre in
     (search needs, copied-next (args .name .now) (loop .octets) (loop .i) pre (omega arith) (loop .inv .1))
 
 returns : tie.Need-returns Inv-loop μ-loop

@@ -35,8 +35,7 @@ loop-again c =
 
 returns-3 : tie.Need-returns-3 Inv-loop μ-loop
 returns-3 c =
-    let b = c .before .before in let loop = b .loop in
-    let b = b .before .before in let args = b .args in
+    let b = c .before .before in let loop = b .loop in let b = b .before .before in let args = b .args in
     sym (loop .inv .2 ∙ leads-past (args .top .now) (args .name .now) (loop .i) (omega arith) (omega arith))
 
 pub leads-spec : {M : Type 1} → statement M

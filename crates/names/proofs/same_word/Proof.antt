@@ -39,8 +39,7 @@ loop-again c =
 
 returns-3 : tie.Need-returns-3 Inv-loop μ-loop
 returns-3 c =
-    let b = c .before in let loop = b .loop in
-    let b = b .before .before .before .before in let args = b .args in
+    let b = c .before in let loop = b .loop in let b = b .before .before .before .before in let args = b .args in
     sym (loop .inv .2 ∙ words-past (args .a .now) (args .b .now) (loop .i) (omega arith) (omega arith))
 
 pub same-word-spec : {M : Type 1} → statement M

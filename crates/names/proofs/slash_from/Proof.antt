@@ -21,14 +21,12 @@ loop-holds c = refl
 
 returns : tie.Need-returns Inv-loop μ-loop
 returns c =
-    let b = c .before .before .before in let loop = b .loop in
-    let b = b .before in let args = b .args in
+    let b = c .before .before .before in let loop = b .loop in let b = b .before in let args = b .args in
     sym (loop .inv ∙ slash-here (args .name .now) (loop .i) (omega arith) (c .if1 .taken))
 
 loop-again : tie.Need-loop-again Inv-loop μ-loop
 loop-again c =
-    let b = c .before .before .before in let loop = b .loop in
-    let b = b .before in let args = b .args in
+    let b = c .before .before .before in let loop = b .loop in let b = b .before in let args = b .args in
     loop .inv ∙ slash-next (args .name .now) (loop .i) (omega arith) (c .if1 .left)
 
 returns-2 : tie.Need-returns-2 Inv-loop μ-loop

@@ -19,8 +19,7 @@ loop-holds c = (search needs, refl)
 
 returns : tie.Need-returns Inv-loop μ-loop
 returns c =
-    let b = c .before .before .before in let loop = b .loop in
-    let b = b .before .before in let args = b .args in
+    let b = c .before .before .before in let loop = b .loop in let b = b .before .before in let args = b .args in
     sym (loop .inv .1 ∙ too-low (args .name .now) (loop .i) (loop .last) (omega arith) (c .if1 .taken))
 
 returns-2 : tie.Need-returns-2 Inv-loop μ-loop
@@ -38,8 +37,7 @@ returns-3 c =
 loop-again : tie.Need-loop-again Inv-loop μ-loop
 loop-again c =
     let b = c .before .before .before in let if1 = b .if1 in
-    let b = b .before .before .before in let loop = b .loop in
-    let b = b .before .before in let args = b .args in
+    let b = b .before .before .before in let loop = b .loop in let b = b .before .before in let args = b .args in
     (search needs, loop .inv .1 ∙ text-next (args .name .now) (loop .i) (loop .last) (omega arith) (if1 .left) (c .before .before .if2 .left) (sym (c .before .both-slashes .ensures) ∙ c .if3 .left))
 
 returns-4 : tie.Need-returns-4 Inv-loop μ-loop

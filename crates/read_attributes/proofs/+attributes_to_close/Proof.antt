@@ -84,15 +84,13 @@ attributes-to-close-no-attributes-requires t c κs = search needs
 attributes-to-close-add-t16 : (t : ℕ) → attributes-to-close-lts.Need-add-t16 (attributes-to-close-calls t) (attributes-to-close-at t) attributes-to-close.Post
 attributes-to-close-add-t16 t c =
     let b = c .before .before .before .before in let octet-at = b .octet-at in
-    let b = b .before .before in let k = b .k in
-    let b = b .before .before .before .before in let args = b .args in
+    let b = b .before .before in let k = b .k in let b = b .before .before .before .before in let args = b .args in
     let i = in-text (args .text .now) (k .given .0 .1 .0) (sym (octet-at .ensures) ∙ c .before .before .if2 .taken) (omega arith) in omega arith
 
 attributes-to-close-returns : (t : ℕ) → attributes-to-close-lts.Need-returns (attributes-to-close-calls t) (attributes-to-close-at t) attributes-to-close.Post
 attributes-to-close-returns t c =
     let b = c .before in let at-attributes-to-close = b .attributes-to-close in
-    let b = b .before .before in let octet-at = b .octet-at in
-    let b = b .before .before in let k = b .k in
+    let b = b .before .before in let octet-at = b .octet-at in let b = b .before .before in let k = b .k in
     let b = b .before .before in let attribute-at = b .attribute-at in
     let b = b .before .before in let args = b .args in
     let s = args .text .now in
@@ -109,10 +107,8 @@ attributes-to-close-returns t c =
 
 attributes-to-close-returns-2 : (t : ℕ) → attributes-to-close-lts.Need-returns-2 (attributes-to-close-calls t) (attributes-to-close-at t) attributes-to-close.Post
 attributes-to-close-returns-2 t c =
-    let b = c .before .before in let if2 = b .if2 in
-    let b = b .before .before in let octet-at = b .octet-at in
-    let b = b .before .before in let k = b .k in
-    let b = b .before .before in let attribute-at = b .attribute-at in
+    let b = c .before .before in let if2 = b .if2 in let b = b .before .before in let octet-at = b .octet-at in
+    let b = b .before .before in let k = b .k in let b = b .before .before in let attribute-at = b .attribute-at in
     let b = b .before .before in let args = b .args in
     let s = args .text .now in
     let w = rw (k .given .1) at (attribute-at .ensures .within) in
@@ -127,8 +123,7 @@ attributes-to-close-returns-2 t c =
 
 attributes-to-close-returns-3 : (t : ℕ) → attributes-to-close-lts.Need-returns-3 (attributes-to-close-calls t) (attributes-to-close-at t) attributes-to-close.Post
 attributes-to-close-returns-3 t c =
-    let b = c .before .before in let octet-at = b .octet-at in
-    let b = b .before .before in let k = b .k in
+    let b = c .before .before in let octet-at = b .octet-at in let b = b .before .before in let k = b .k in
     let b = b .before .before in let attribute-at = b .attribute-at in
     let b = b .before .before in let args = b .args in
     let w = rw (k .given .1) at (attribute-at .ensures .within) in

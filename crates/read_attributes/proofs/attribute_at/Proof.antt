@@ -10,8 +10,7 @@ use Rattle.read_attributes.proofs.Asking.{body-section, body-alone, pee
 returns : tie.Need-returns
 returns c =
     let b = c .before .before .before in let label-of = b .label-of in
-    let b = b .before .before in let end = b .end in
-    let b = b .before .before in let run-at = b .run-at in
+    let b = b .before .before in let end = b .end in let b = b .before .before in let run-at = b .run-at in
     let b = b .before .before in let args = b .args in
     record {
       exact = attribute-by (args .text .now) (args .at) (sym (end .given .1) ∙ run-at .ensures .exact) (c .before .k .given .1) (label-of .ensures);
@@ -20,12 +19,9 @@ returns c =
 
 returns-2 : tie.Need-returns-2
 returns-2 c =
-    let b = c .before in let section-at = b .section-at in
-    let b = b .before .before in let octet-at = b .octet-at in
-    let b = b .before in let enum-told = b .enum-told in
-    let b = b .before .before in let label-of = b .label-of in
-    let b = b .before .before in let end = b .end in
-    let b = b .before .before in let run-at = b .run-at in
+    let b = c .before in let section-at = b .section-at in let b = b .before .before in let octet-at = b .octet-at in
+    let b = b .before in let enum-told = b .enum-told in let b = b .before .before in let label-of = b .label-of in
+    let b = b .before .before in let end = b .end in let b = b .before .before in let run-at = b .run-at in
     let b = b .before .before in let args = b .args in
     let s = args .text .now in
     let w = rw (end .given .1) at (run-at .ensures .within) in
@@ -40,8 +36,7 @@ returns-2 c =
 returns-3 : tie.Need-returns-3
 returns-3 c =
     let b = c .before .before .before .before in let label-of = b .label-of in
-    let b = b .before .before in let end = b .end in
-    let b = b .before .before in let run-at = b .run-at in
+    let b = b .before .before in let end = b .end in let b = b .before .before in let run-at = b .run-at in
     let b = b .before .before in let args = b .args in
     let s = args .text .now in
     record {
@@ -55,8 +50,7 @@ returns-4 : tie.Need-returns-4
 returns-4 c =
     let b = c .before in let section-at2 = b .section-at2 in
     let b = b .before .before .before in let label-of = b .label-of in
-    let b = b .before .before in let end = b .end in
-    let b = b .before .before in let run-at = b .run-at in
+    let b = b .before .before in let end = b .end in let b = b .before .before in let run-at = b .run-at in
     let b = b .before .before in let args = b .args in
     let s = args .text .now in
     let w = rw (end .given .1) at (run-at .ensures .within) in
@@ -70,8 +64,7 @@ returns-4 c =
 returns-5 : tie.Need-returns-5
 returns-5 c =
     let b = c .before .before .before .before in let end = b .end in
-    let b = b .before .before in let run-at = b .run-at in
-    let b = b .before .before in let args = b .args in
+    let b = b .before .before in let run-at = b .run-at in let b = b .before .before in let args = b .args in
     record { exact = attribute-by (args .text .now) (args .at) (sym (end .given .1) ∙ run-at .ensures .exact) (c .enum-told3 .given .1) (c .before .before .label-of .ensures); within = tt }
 
 returns-6 : tie.Need-returns-6

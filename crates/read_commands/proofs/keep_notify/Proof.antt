@@ -19,10 +19,8 @@ add-keep-at c =
 
 returns-2 : tie.Need-returns-2
 returns-2 c =
-    let b = c .before .before .before in let keep-at = b .keep-at in
-    let b = b .before in let if1 = b .if1 in
-    let b = b .before in let octet-at = b .octet-at in
-    let b = b .before .before in let args = b .args in
+    let b = c .before .before .before in let keep-at = b .keep-at in let b = b .before in let if1 = b .if1 in
+    let b = b .before in let octet-at = b .octet-at in let b = b .before .before in let args = b .args in
     rw (c .notify-upto .ensures) (keeps-whole (args .text .now) (args .at) (sym (octet-at .ensures) ∙ if1 .left) (keep-at .result) (keep-at .ensures .is))
 
 pub keep-notify-spec : {M : Type 1} → statement M

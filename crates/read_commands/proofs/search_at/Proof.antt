@@ -20,8 +20,7 @@ add-search-at c =
 returns-2 : tie.Need-returns-2
 returns-2 c =
     let b = c .before .before .before in let search-at = b .search-at in
-    let b = b .before .before in let if1 = b .if1 in
-    let b = b .before in let octet-at = b .octet-at in
+    let b = b .before .before in let if1 = b .if1 in let b = b .before in let octet-at = b .octet-at in
     let b = b .before .before .before in let args = b .args in
     search-whole (args .text .now) (args .at) (sym (octet-at .ensures) ∙ if1 .left) (search-at .ensures .exact) (search-at .ensures .cells) (c .search-upto .ensures)
 

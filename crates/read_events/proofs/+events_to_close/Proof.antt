@@ -70,8 +70,7 @@ events-to-close-add-events-to-close t c =
 events-to-close-events-to-close-requires :
     (t : ℕ) → events-to-close-lts.Need-events-to-close-requires (events-to-close-calls t) (events-to-close-at t) events-to-close.Post
 events-to-close-events-to-close-requires t c κs =
-    let b = c .before .before .before in let at-e = b .e in
-    let b = b .before .before in let event-at = b .event-at in
+    let b = c .before .before .before in let at-e = b .e in let b = b .before .before in let event-at = b .event-at in
     let b = b .before .before in let args = b .args in
     let w = rw (at-e .given .1) at (event-at .ensures .within) in
     let i = in-text (args .text .now) (at-e .given .0 .1 .0) (sym (c .before .octet-at .ensures) ∙ c .if1 .taken) (omega arith) in
@@ -79,20 +78,16 @@ events-to-close-events-to-close-requires t c κs =
 
 events-to-close-add-t16 : (t : ℕ) → events-to-close-lts.Need-add-t16 (events-to-close-calls t) (events-to-close-at t) events-to-close.Post
 events-to-close-add-t16 t c =
-    let b = c .before .before in let if2 = b .if2 in
-    let b = b .before .before in let octet-at = b .octet-at in
-    let b = b .before .before in let at-e = b .e in
-    let b = b .before .before .before .before in let args = b .args in
+    let b = c .before .before in let if2 = b .if2 in let b = b .before .before in let octet-at = b .octet-at in
+    let b = b .before .before in let at-e = b .e in let b = b .before .before .before .before in let args = b .args in
     let i = in-text (args .text .now) (at-e .given .0 .1 .0) (sym (octet-at .ensures) ∙ if2 .taken) (omega arith) in
     omega arith
 
 events-to-close-returns : (t : ℕ) → events-to-close-lts.Need-returns (events-to-close-calls t) (events-to-close-at t) events-to-close.Post
 events-to-close-returns t c =
     let b = c .before in let at-events-to-close = b .events-to-close in
-    let b = b .before .before in let octet-at = b .octet-at in
-    let b = b .before .before in let at-e = b .e in
-    let b = b .before .before in let event-at = b .event-at in
-    let b = b .before .before in let args = b .args in
+    let b = b .before .before in let octet-at = b .octet-at in let b = b .before .before in let at-e = b .e in
+    let b = b .before .before in let event-at = b .event-at in let b = b .before .before in let args = b .args in
     let w = rw (at-e .given .1) at (event-at .ensures .within) in
     record {
       within = rw (c .joined .ensures)
@@ -106,10 +101,8 @@ events-to-close-returns t c =
 
 events-to-close-returns-2 : (t : ℕ) → events-to-close-lts.Need-returns-2 (events-to-close-calls t) (events-to-close-at t) events-to-close.Post
 events-to-close-returns-2 t c =
-    let b = c .before .before in let if2 = b .if2 in
-    let b = b .before .before in let octet-at = b .octet-at in
-    let b = b .before .before in let at-e = b .e in
-    let b = b .before .before in let event-at = b .event-at in
+    let b = c .before .before in let if2 = b .if2 in let b = b .before .before in let octet-at = b .octet-at in
+    let b = b .before .before in let at-e = b .e in let b = b .before .before in let event-at = b .event-at in
     let b = b .before .before in let args = b .args in
     let w = rw (at-e .given .1) at (event-at .ensures .within) in
     let i = in-text (args .text .now) (at-e .given .0 .1 .0) (sym (octet-at .ensures) ∙ if2 .taken) (omega arith) in
@@ -123,10 +116,8 @@ events-to-close-returns-2 t c =
 
 events-to-close-returns-3 : (t : ℕ) → events-to-close-lts.Need-returns-3 (events-to-close-calls t) (events-to-close-at t) events-to-close.Post
 events-to-close-returns-3 t c =
-    let b = c .before .before in let octet-at = b .octet-at in
-    let b = b .before .before in let at-e = b .e in
-    let b = b .before .before in let event-at = b .event-at in
-    let b = b .before .before in let args = b .args in
+    let b = c .before .before in let octet-at = b .octet-at in let b = b .before .before in let at-e = b .e in
+    let b = b .before .before in let event-at = b .event-at in let b = b .before .before in let args = b .args in
     let w = rw (at-e .given .1) at (event-at .ensures .within) in
     record {
       within = tt;

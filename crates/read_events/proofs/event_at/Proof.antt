@@ -11,17 +11,14 @@ use Rattle.read_events.proofs.Gathering.{event-plain, event-none, event
 returns : tie.Need-returns
 returns c =
     let b = c .before .before .before in let named-by = b .named-by in
-    let b = b .before .before in let end = b .end in
-    let b = b .before .before in let run-at = b .run-at in
+    let b = b .before .before in let end = b .end in let b = b .before .before in let run-at = b .run-at in
     let b = b .before .before in let args = b .args in
     let w = rw (end .given .1) at (run-at .ensures .within) in record { exact = c .new-at .ensures .exact ∙ event-by (args .text .now) (args .at) (sym (end .given .1) ∙ run-at .ensures .exact) (c .before .enum-told .given .1) (named-by .ensures); within = within-behind (args .text .now) (args .at) (end .given .0 .0) (c .new-at .result) (omega arith) (omega arith) (c .new-at .ensures .within) }
 
 returns-2 : tie.Need-returns-2
 returns-2 c =
-    let b = c .before .before in let k = b .k in
-    let b = b .before .before in let named-by = b .named-by in
-    let b = b .before .before in let end = b .end in
-    let b = b .before .before in let run-at = b .run-at in
+    let b = c .before .before in let k = b .k in let b = b .before .before in let named-by = b .named-by in
+    let b = b .before .before in let end = b .end in let b = b .before .before in let run-at = b .run-at in
     let b = b .before .before in let args = b .args in
     record { exact = ap (λ (e : Events). Is e (end .given .0 .0)) (c .plain-event .ensures) ∙ event-plain (k .given .0 .0) (args .text .now) (end .given .0 .0) ∙ event-by (args .text .now) (args .at) (sym (end .given .1) ∙ run-at .ensures .exact) (k .given .1) (named-by .ensures); within = rw (end .given .1) at (run-at .ensures .within) }
 

@@ -28,12 +28,9 @@ returns c =
 
 returns-2 : tie.Need-returns-2
 returns-2 c =
-    let b = c .before in let run-end = b .run-end in
-    let b = b .before in let if2 = b .if2 in
-    let b = b .before in let word-at = b .word-at in
-    let b = b .before .before in let if1 = b .if1 in
-    let b = b .before in let octet-at = b .octet-at in
-    let b = b .before .before in let args = b .args in
+    let b = c .before in let run-end = b .run-end in let b = b .before in let if2 = b .if2 in
+    let b = b .before in let word-at = b .word-at in let b = b .before .before in let if1 = b .if1 in
+    let b = b .before in let octet-at = b .octet-at in let b = b .before .before in let args = b .args in
     let i = none-inside (args .text .now) (args .at) (run-end .result)
     (rw (run-end .ensures .exact) (sym (word-at .ensures) ∙ if2 .taken)) in
     let f = run-end .ensures .from in
@@ -47,8 +44,7 @@ returns-2 c =
 
 returns-3 : tie.Need-returns-3
 returns-3 c =
-    let b = c .before .before .before in let if1 = b .if1 in
-    let b = b .before in let octet-at = b .octet-at in
+    let b = c .before .before .before in let if1 = b .if1 in let b = b .before in let octet-at = b .octet-at in
     let b = b .before .before in let args = b .args in
     record {
       exact = events-neither (args .text .now) (args .at) (λ e. if1 .left (octet-at .ensures ∙ e))

@@ -10,8 +10,7 @@ returns c =
     let b = b .before in let subscription = b .either6 .ensures in
     let b = b .before in let name = b .either5 .ensures in
     let b = b .before in let annotation = b .either4 .ensures in
-    let b = b .before in let flag = b .either3 .ensures in
-    let b = b .before in let expunge = b .either2 .ensures in
+    let b = b .before in let flag = b .either3 .ensures in let b = b .before in let expunge = b .either2 .ensures in
     let b = b .before in let new = b .either .ensures in
     rw (new, expunge, flag, annotation, name, subscription, other, listed, b .before .all-attributes .ensures)
 

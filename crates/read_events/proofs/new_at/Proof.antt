@@ -27,8 +27,7 @@ add-next c =
 
 returns-2 : tie.Need-returns-2
 returns-2 c =
-    let b = c .before .before .before in let if1 = b .if1 in
-    let b = b .before in let octet-at = b .octet-at in
+    let b = c .before .before .before in let if1 = b .if1 in let b = b .before in let octet-at = b .octet-at in
     let b = b .before .before in let args = b .args in
     record {
       exact = ap (λ (e : Events). Is e (args .at)) (c .bare-new2 .ensures)
@@ -40,10 +39,8 @@ returns-2 c =
 returns-3 : tie.Need-returns-3
 returns-3 c =
     let b = c .before in let attributes-at = b .attributes-at in
-    let b = b .before .before in let octet-at2 = b .octet-at2 in
-    let b = b .before in let if1 = b .if1 in
-    let b = b .before in let octet-at = b .octet-at in
-    let b = b .before .before in let args = b .args in
+    let b = b .before .before in let octet-at2 = b .octet-at2 in let b = b .before in let if1 = b .if1 in
+    let b = b .before in let octet-at = b .octet-at in let b = b .before .before in let args = b .args in
     record {
       exact = c .new-with .ensures
           ∙ ap withAttributes (attributes-at .ensures .exact)

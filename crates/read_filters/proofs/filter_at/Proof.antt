@@ -13,8 +13,7 @@ filter-by-requires c κs = let w = rw (c .before .before .p .given .1) at (c .be
 
 returns : tie.Need-returns
 returns c =
-    let b = c .before .before .before in let p = b .p in
-    let b = b .before .before in let run-at = b .run-at in
+    let b = c .before .before .before in let p = b .p in let b = b .before .before in let run-at = b .run-at in
     let b = b .before .before in let args = b .args in
     let text = args .text .now in
     let name = piece text (args .at) (p .given .0 .0) in

@@ -13,8 +13,7 @@ use Rattle.read_filters.proofs.keep_filter.Tie as tie
 
 returns : tie.Need-returns
 returns c =
-    let b = c .before .before .before in let run-at = b .run-at in
-    let b = b .before .before in let args = b .args in
+    let b = c .before .before .before in let run-at = b .run-at in let b = b .before .before in let args = b .args in
     record {
       exact = c .unread .ensures
           ∙ keeps-none (args .text .now) (args .at) (args .kept) (sym (c .before .enum-told .given .1) ∙ run-at .ensures .exact);
@@ -28,8 +27,7 @@ keep-by-requires c κs =
 
 returns-2 : tie.Need-returns-2
 returns-2 c =
-    let b = c .before .before .before in let p = b .p in
-    let b = b .before .before in let run-at = b .run-at in
+    let b = c .before .before .before in let p = b .p in let b = b .before .before in let run-at = b .run-at in
     let b = b .before .before in let args = b .args in
     let text = args .text .now in
     let name = piece text (args .at) (p .given .0 .0) in

@@ -11,8 +11,7 @@ use Rattle.octets.specs.Rows.{in-text}
 
 returns : tie.Need-returns
 returns c =
-    let b = c .before .before in let octet-at = b .octet-at in
-    let b = b .before .before in let args = b .args in
+    let b = c .before .before in let octet-at = b .octet-at in let b = b .before .before in let args = b .args in
     record {
       exact = λ o f b. c .unread .ensures
           ∙ keeps-unspaced (args .text .now) (args .at) (args .kept) o f b (λ e. c .before .if1 .taken (octet-at .ensures ∙ e));
@@ -26,8 +25,7 @@ add-keep-names c =
 
 returns-2 : tie.Need-returns-2
 returns-2 c =
-    let b = c .before .before in let octet-at = b .octet-at in
-    let b = b .before .before in let args = b .args in
+    let b = c .before .before in let octet-at = b .octet-at in let b = b .before .before in let args = b .args in
     let space = sym (octet-at .ensures) ∙ c .before .if1 .left in
     record {
       exact = λ o f b. c .keep-names .ensures .exact ∙ keeps-named (args .text .now) (args .at) (args .kept) o f b space;

@@ -23,10 +23,8 @@ add-names-at c =
 
 returns-2 : tie.Need-returns-2
 returns-2 c =
-    let b = c .before in let count = b .count in
-    let b = b .before .before in let names-at = b .names-at in
-    let b = b .before in let if1 = b .if1 in
-    let b = b .before in let octet-at = b .octet-at in
+    let b = c .before in let count = b .count in let b = b .before .before in let names-at = b .names-at in
+    let b = b .before in let if1 = b .if1 in let b = b .before in let octet-at = b .octet-at in
     let b = b .before .before in let args = b .args in
     let w = rw (count .given .1) at (names-at .ensures .within) in
     let space = sym (octet-at .ensures) ∙ if1 .left in
@@ -38,10 +36,8 @@ returns-2 c =
 
 returns-3 : tie.Need-returns-3
 returns-3 c =
-    let b = c .before .before in let names-at = b .names-at in
-    let b = b .before in let if1 = b .if1 in
-    let b = b .before in let octet-at = b .octet-at in
-    let b = b .before .before in let args = b .args in
+    let b = c .before .before in let names-at = b .names-at in let b = b .before in let if1 = b .if1 in
+    let b = b .before in let octet-at = b .octet-at in let b = b .before .before in let args = b .args in
     let space = sym (octet-at .ensures) ∙ if1 .left in
     let none = sym (c .enum-told .given .1) ∙ names-at .ensures .exact in
     record { exact = λ f b. named-bad (args .text .now) (args .at) (args .scope) f b space none; within = tt }

@@ -13,30 +13,24 @@ returns c =
 
 returns-2 : tie.Need-returns-2
 returns-2 c =
-    let b = c .before .before .before in let if1 = b .if1 in
-    let b = b .before in let is-word = b .is-word in
+    let b = c .before .before .before in let if1 = b .if1 in let b = b .before in let is-word = b .is-word in
     let b = b .before .before .before in let args = b .args in
     word-delayed (piece (args .text .now) (args .from) (args .upto)) (sym (is-word .ensures) ∙ if1 .left)
     (sym (c .before .is-word2 .ensures) ∙ c .if2 .taken)
 
 returns-3 : tie.Need-returns-3
 returns-3 c =
-    let b = c .before .before .before in let if2 = b .if2 in
-    let b = b .before in let is-word2 = b .is-word2 in
-    let b = b .before .before in let if1 = b .if1 in
-    let b = b .before in let is-word = b .is-word in
+    let b = c .before .before .before in let if2 = b .if2 in let b = b .before in let is-word2 = b .is-word2 in
+    let b = b .before .before in let if1 = b .if1 in let b = b .before in let is-word = b .is-word in
     let b = b .before .before .before in let args = b .args in
     word-inboxes (piece (args .text .now) (args .from) (args .upto)) (sym (is-word .ensures) ∙ if1 .left)
     (sym (is-word2 .ensures) ∙ if2 .left) (sym (c .before .is-word3 .ensures) ∙ c .if3 .taken)
 
 returns-4 : tie.Need-returns-4
 returns-4 c =
-    let b = c .before .before .before in let if3 = b .if3 in
-    let b = b .before in let is-word3 = b .is-word3 in
-    let b = b .before .before in let if2 = b .if2 in
-    let b = b .before in let is-word2 = b .is-word2 in
-    let b = b .before .before in let if1 = b .if1 in
-    let b = b .before in let is-word = b .is-word in
+    let b = c .before .before .before in let if3 = b .if3 in let b = b .before in let is-word3 = b .is-word3 in
+    let b = b .before .before in let if2 = b .if2 in let b = b .before in let is-word2 = b .is-word2 in
+    let b = b .before .before in let if1 = b .if1 in let b = b .before in let is-word = b .is-word in
     let b = b .before .before .before in let args = b .args in
     word-personal (piece (args .text .now) (args .from) (args .upto)) (sym (is-word .ensures) ∙ if1 .left)
     (sym (is-word2 .ensures) ∙ if2 .left) (sym (is-word3 .ensures) ∙ if3 .left)
@@ -44,14 +38,10 @@ returns-4 c =
 
 returns-5 : tie.Need-returns-5
 returns-5 c =
-    let b = c .before .before .before in let if4 = b .if4 in
-    let b = b .before in let is-word4 = b .is-word4 in
-    let b = b .before .before in let if3 = b .if3 in
-    let b = b .before in let is-word3 = b .is-word3 in
-    let b = b .before .before in let if2 = b .if2 in
-    let b = b .before in let is-word2 = b .is-word2 in
-    let b = b .before .before in let if1 = b .if1 in
-    let b = b .before in let is-word = b .is-word in
+    let b = c .before .before .before in let if4 = b .if4 in let b = b .before in let is-word4 = b .is-word4 in
+    let b = b .before .before in let if3 = b .if3 in let b = b .before in let is-word3 = b .is-word3 in
+    let b = b .before .before in let if2 = b .if2 in let b = b .before in let is-word2 = b .is-word2 in
+    let b = b .before .before in let if1 = b .if1 in let b = b .before in let is-word = b .is-word in
     let b = b .before .before .before in let args = b .args in
     word-subscribed (piece (args .text .now) (args .from) (args .upto)) (sym (is-word .ensures) ∙ if1 .left)
     (sym (is-word2 .ensures) ∙ if2 .left) (sym (is-word3 .ensures) ∙ if3 .left) (sym (is-word4 .ensures) ∙ if4 .left)
@@ -59,16 +49,11 @@ returns-5 c =
 
 returns-6 : tie.Need-returns-6
 returns-6 c =
-    let b = c .before .before .before in let if5 = b .if5 in
-    let b = b .before in let is-word5 = b .is-word5 in
-    let b = b .before .before in let if4 = b .if4 in
-    let b = b .before in let is-word4 = b .is-word4 in
-    let b = b .before .before in let if3 = b .if3 in
-    let b = b .before in let is-word3 = b .is-word3 in
-    let b = b .before .before in let if2 = b .if2 in
-    let b = b .before in let is-word2 = b .is-word2 in
-    let b = b .before .before in let if1 = b .if1 in
-    let b = b .before in let is-word = b .is-word in
+    let b = c .before .before .before in let if5 = b .if5 in let b = b .before in let is-word5 = b .is-word5 in
+    let b = b .before .before in let if4 = b .if4 in let b = b .before in let is-word4 = b .is-word4 in
+    let b = b .before .before in let if3 = b .if3 in let b = b .before in let is-word3 = b .is-word3 in
+    let b = b .before .before in let if2 = b .if2 in let b = b .before in let is-word2 = b .is-word2 in
+    let b = b .before .before in let if1 = b .if1 in let b = b .before in let is-word = b .is-word in
     let b = b .before .before .before in let args = b .args in
     word-subtree (piece (args .text .now) (args .from) (args .upto)) (sym (is-word .ensures) ∙ if1 .left)
     (sym (is-word2 .ensures) ∙ if2 .left) (sym (is-word3 .ensures) ∙ if3 .left) (sym (is-word4 .ensures) ∙ if4 .left)
@@ -76,18 +61,12 @@ returns-6 c =
 
 returns-7 : tie.Need-returns-7
 returns-7 c =
-    let b = c .before .before .before in let if6 = b .if6 in
-    let b = b .before in let is-word6 = b .is-word6 in
-    let b = b .before .before in let if5 = b .if5 in
-    let b = b .before in let is-word5 = b .is-word5 in
-    let b = b .before .before in let if4 = b .if4 in
-    let b = b .before in let is-word4 = b .is-word4 in
-    let b = b .before .before in let if3 = b .if3 in
-    let b = b .before in let is-word3 = b .is-word3 in
-    let b = b .before .before in let if2 = b .if2 in
-    let b = b .before in let is-word2 = b .is-word2 in
-    let b = b .before .before in let if1 = b .if1 in
-    let b = b .before in let is-word = b .is-word in
+    let b = c .before .before .before in let if6 = b .if6 in let b = b .before in let is-word6 = b .is-word6 in
+    let b = b .before .before in let if5 = b .if5 in let b = b .before in let is-word5 = b .is-word5 in
+    let b = b .before .before in let if4 = b .if4 in let b = b .before in let is-word4 = b .is-word4 in
+    let b = b .before .before in let if3 = b .if3 in let b = b .before in let is-word3 = b .is-word3 in
+    let b = b .before .before in let if2 = b .if2 in let b = b .before in let is-word2 = b .is-word2 in
+    let b = b .before .before in let if1 = b .if1 in let b = b .before in let is-word = b .is-word in
     let b = b .before .before .before in let args = b .args in
     word-one (piece (args .text .now) (args .from) (args .upto)) (sym (is-word .ensures) ∙ if1 .left)
     (sym (is-word2 .ensures) ∙ if2 .left) (sym (is-word3 .ensures) ∙ if3 .left) (sym (is-word4 .ensures) ∙ if4 .left)
@@ -96,20 +75,13 @@ returns-7 c =
 
 returns-8 : tie.Need-returns-8
 returns-8 c =
-    let b = c .before .before .before in let if7 = b .if7 in
-    let b = b .before in let is-word7 = b .is-word7 in
-    let b = b .before .before in let if6 = b .if6 in
-    let b = b .before in let is-word6 = b .is-word6 in
-    let b = b .before .before in let if5 = b .if5 in
-    let b = b .before in let is-word5 = b .is-word5 in
-    let b = b .before .before in let if4 = b .if4 in
-    let b = b .before in let is-word4 = b .is-word4 in
-    let b = b .before .before in let if3 = b .if3 in
-    let b = b .before in let is-word3 = b .is-word3 in
-    let b = b .before .before in let if2 = b .if2 in
-    let b = b .before in let is-word2 = b .is-word2 in
-    let b = b .before .before in let if1 = b .if1 in
-    let b = b .before in let is-word = b .is-word in
+    let b = c .before .before .before in let if7 = b .if7 in let b = b .before in let is-word7 = b .is-word7 in
+    let b = b .before .before in let if6 = b .if6 in let b = b .before in let is-word6 = b .is-word6 in
+    let b = b .before .before in let if5 = b .if5 in let b = b .before in let is-word5 = b .is-word5 in
+    let b = b .before .before in let if4 = b .if4 in let b = b .before in let is-word4 = b .is-word4 in
+    let b = b .before .before in let if3 = b .if3 in let b = b .before in let is-word3 = b .is-word3 in
+    let b = b .before .before in let if2 = b .if2 in let b = b .before in let is-word2 = b .is-word2 in
+    let b = b .before .before in let if1 = b .if1 in let b = b .before in let is-word = b .is-word in
     let b = b .before .before .before in let args = b .args in
     word-mailboxes (piece (args .text .now) (args .from) (args .upto)) (sym (is-word .ensures) ∙ if1 .left)
     (sym (is-word2 .ensures) ∙ if2 .left) (sym (is-word3 .ensures) ∙ if3 .left) (sym (is-word4 .ensures) ∙ if4 .left)
@@ -118,20 +90,13 @@ returns-8 c =
 
 returns-9 : tie.Need-returns-9
 returns-9 c =
-    let b = c .before .before .before in let if7 = b .if7 in
-    let b = b .before in let is-word7 = b .is-word7 in
-    let b = b .before .before in let if6 = b .if6 in
-    let b = b .before in let is-word6 = b .is-word6 in
-    let b = b .before .before in let if5 = b .if5 in
-    let b = b .before in let is-word5 = b .is-word5 in
-    let b = b .before .before in let if4 = b .if4 in
-    let b = b .before in let is-word4 = b .is-word4 in
-    let b = b .before .before in let if3 = b .if3 in
-    let b = b .before in let is-word3 = b .is-word3 in
-    let b = b .before .before in let if2 = b .if2 in
-    let b = b .before in let is-word2 = b .is-word2 in
-    let b = b .before .before in let if1 = b .if1 in
-    let b = b .before in let is-word = b .is-word in
+    let b = c .before .before .before in let if7 = b .if7 in let b = b .before in let is-word7 = b .is-word7 in
+    let b = b .before .before in let if6 = b .if6 in let b = b .before in let is-word6 = b .is-word6 in
+    let b = b .before .before in let if5 = b .if5 in let b = b .before in let is-word5 = b .is-word5 in
+    let b = b .before .before in let if4 = b .if4 in let b = b .before in let is-word4 = b .is-word4 in
+    let b = b .before .before in let if3 = b .if3 in let b = b .before in let is-word3 = b .is-word3 in
+    let b = b .before .before in let if2 = b .if2 in let b = b .before in let is-word2 = b .is-word2 in
+    let b = b .before .before in let if1 = b .if1 in let b = b .before in let is-word = b .is-word in
     let b = b .before .before .before in let args = b .args in
     word-unknown (piece (args .text .now) (args .from) (args .upto)) (sym (is-word .ensures) ∙ if1 .left)
     (sym (is-word2 .ensures) ∙ if2 .left) (sym (is-word3 .ensures) ∙ if3 .left) (sym (is-word4 .ensures) ∙ if4 .left)

@@ -139,8 +139,7 @@ key-at-closed-requires-3 t c κs =
 
 key-at-returns : (t : ℕ) → key-at-lts.Need-returns (key-at-calls t) (key-at-at t) key-at.Post
 key-at-returns t c =
-    let b = c .before in let next = b .next in
-    let b = b .before .before .before .before in let begin = b .begin in
+    let b = c .before in let next = b .next in let b = b .before .before .before .before in let begin = b .begin in
     let b = b .before .before .before .before in let args = b .args in
     let s = args .text .now in
     let w = rw (next .given .1) at (begin .ensures .within) in
@@ -171,11 +170,9 @@ key-at-returns-2 t c =
 
 key-at-returns-3 : (t : ℕ) → key-at-lts.Need-returns-3 (key-at-calls t) (key-at-at t) key-at.Post
 key-at-returns-3 t c =
-    let b = c .before .before in let closed2 = b .closed2 in
-    let b = b .before in let joined = b .joined in
+    let b = c .before .before in let closed2 = b .closed2 in let b = b .before in let joined = b .joined in
     let b = b .before .before .before .before in let key-at3 = b .key-at3 in
-    let b = b .before .before in let if1 = b .if1 in
-    let b = b .before in let octet-at = b .octet-at in
+    let b = b .before .before in let if1 = b .if1 in let b = b .before in let octet-at = b .octet-at in
     let b = b .before .before in let first = b .first in
     let b = b .before .before .before .before in let key-at2 = b .key-at2 in
     let b = b .before .before .before in let p2 = b .p2 in
@@ -273,12 +270,10 @@ keys-at-keys-at-requires t c κs =
 
 keys-at-joined-requires : (t : ℕ) → keys-at-lts.Need-joined-requires (keys-at-calls t) (keys-at-at t) keys-at.Post
 keys-at-joined-requires t c κs =
-    let b = c .before .before in let at-keys-at = b .keys-at in
-    let b = b .before .before .before in let p = b .p in
+    let b = c .before .before in let at-keys-at = b .keys-at in let b = b .before .before .before in let p = b .p in
     let b = b .before .before .before .before in let first = b .first in
     let b = b .before .before .before .before in let at-key-at = b .key-at in
-    let b = b .before .before .before .before in let args = b .args in
-    let pre = b .pre in
+    let b = b .before .before .before .before in let args = b .args in let pre = b .pre in
     let v = rw (first .given .1) at (at-key-at .ensures .within) in
     let l = (pre .1 .short) in
     (omega arith, within-small (args .text .now) (p .given .0 .0) (first .given .0 .1 .0) (at-keys-at .result) (pre .1 .short) (at-keys-at .ensures .within))
@@ -286,8 +281,7 @@ keys-at-joined-requires t c κs =
 keys-at-returns : (t : ℕ) → keys-at-lts.Need-returns (keys-at-calls t) (keys-at-at t) keys-at.Post
 keys-at-returns t c =
     let b = c .before .before .before in let at-keys-at = b .keys-at in
-    let b = b .before .before .before in let p = b .p in
-    let b = b .before .before in let next-at = b .next-at in
+    let b = b .before .before .before in let p = b .p in let b = b .before .before in let next-at = b .next-at in
     let b = b .before .before in let first = b .first in
     let b = b .before .before .before .before in let at-key-at = b .key-at in
     let b = b .before .before .before .before in let args = b .args in
@@ -309,8 +303,7 @@ keys-at-returns t c =
 
 keys-at-returns-2 : (t : ℕ) → keys-at-lts.Need-returns-2 (keys-at-calls t) (keys-at-at t) keys-at.Post
 keys-at-returns-2 t c =
-    let b = c .before .before in let p2 = b .p2 in
-    let b = b .before .before in let next-at = b .next-at in
+    let b = c .before .before in let p2 = b .p2 in let b = b .before .before in let next-at = b .next-at in
     let b = b .before .before in let first = b .first in
     let b = b .before .before .before .before in let at-key-at = b .key-at in
     let b = b .before .before .before .before in let args = b .args in

@@ -6,8 +6,7 @@ use Rattle.read_keys.proofs.joined.Tie as tie
 
 add-t15 : tie.Need-add-t15
 add-t15 c =
-    let b = c .before .before .before .before in let a = b .a in
-    let b = b .before .before in let pre = b .pre in
+    let b = c .before .before .before .before in let a = b .a in let b = b .before .before in let pre = b .pre in
     let s = rw (a .given .1) at (pre .0) in let u = rw (c .before .b .given .1) at (pre .1) in omega arith
 
 returns : tie.Need-returns

@@ -10,8 +10,7 @@ use Rattle.octets.specs.Rows.{in-text}
 
 returns : tie.Need-returns
 returns c =
-    let b = c .before in let octet-at = b .octet-at in
-    let b = b .before .before in let args = b .args in
+    let b = c .before in let octet-at = b .octet-at in let b = b .before .before in let args = b .args in
     let s = args .text .now in
     let i = in-text s (args .at) (sym (octet-at .ensures) ∙ c .if1 .taken) (omega arith) in
     record { exact = next-space s (args .at) (endingOf (args .e)) (sym (octet-at .ensures) ∙ c .if1 .taken); within = (omega arith, omega arith) }

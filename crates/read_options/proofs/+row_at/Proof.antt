@@ -58,10 +58,8 @@ row-at-row-at-requires t c κs =
 
 row-at-returns : (t : ℕ) → row-at-lts.Need-returns (row-at-calls t) (row-at-at t) row-at.Post
 row-at-returns t c =
-    let b = c .before in let at-row-at = b .row-at in
-    let b = b .before .before in let octet-at = b .octet-at in
-    let b = b .before .before in let o = b .o in
-    let b = b .before .before in let option-at = b .option-at in
+    let b = c .before in let at-row-at = b .row-at in let b = b .before .before in let octet-at = b .octet-at in
+    let b = b .before .before in let o = b .o in let b = b .before .before in let option-at = b .option-at in
     let b = b .before .before in let args = b .args in
     let w = rw (o .given .1) at (option-at .ensures .within) in
     record {
@@ -82,10 +80,8 @@ row-at-add-t13 t c =
 
 row-at-returns-2 : (t : ℕ) → row-at-lts.Need-returns-2 (row-at-calls t) (row-at-at t) row-at.Post
 row-at-returns-2 t c =
-    let b = c .before in let if2 = b .if2 in
-    let b = b .before .before in let octet-at = b .octet-at in
-    let b = b .before .before in let o = b .o in
-    let b = b .before .before in let option-at = b .option-at in
+    let b = c .before in let if2 = b .if2 in let b = b .before .before in let octet-at = b .octet-at in
+    let b = b .before .before in let o = b .o in let b = b .before .before in let option-at = b .option-at in
     let b = b .before .before in let args = b .args in
     let w = rw (o .given .1) at (option-at .ensures .within) in
     let i = in-text (args .text .now) (o .given .0 .1 .0) (sym (octet-at .ensures) ∙ if2 .taken) (omega arith) in
@@ -99,10 +95,8 @@ row-at-returns-2 t c =
 
 row-at-returns-3 : (t : ℕ) → row-at-lts.Need-returns-3 (row-at-calls t) (row-at-at t) row-at.Post
 row-at-returns-3 t c =
-    let b = c .before .before in let octet-at = b .octet-at in
-    let b = b .before .before in let o = b .o in
-    let b = b .before .before in let option-at = b .option-at in
-    let b = b .before .before in let args = b .args in
+    let b = c .before .before in let octet-at = b .octet-at in let b = b .before .before in let o = b .o in
+    let b = b .before .before in let option-at = b .option-at in let b = b .before .before in let args = b .args in
     record {
       exact = λ n h. row-neither (returnAt (args .text .now)) (nextAt closing (args .text .now)) (args .at) n (omega arith)
           (sym (o .given .1) ∙ option-at .ensures .exact)

@@ -7,8 +7,7 @@ use Rattle.read_options.proofs.charset_at.Tie as tie
 
 returns : tie.Need-returns
 returns c =
-    let b = c .before .before in let end = b .end in
-    let b = b .before .before in let text-at = b .text-at in
+    let b = c .before .before in let end = b .end in let b = b .before .before in let text-at = b .text-at in
     let b = b .before .before in let args = b .args in
     record { exact = charset-found (args .text .now) (args .at) (sym (end .given .1) ∙ text-at .ensures .exact) (c .is-known .ensures); within = rw (end .given .1) at (text-at .ensures .within) }
 

@@ -8,8 +8,7 @@ use Rattle.read_options.proofs.option_at.Tie as tie
 
 returns : tie.Need-returns
 returns c =
-    let b = c .before .before in let end = b .end in
-    let b = b .before .before in let run-at = b .run-at in
+    let b = c .before .before in let end = b .end in let b = b .before .before in let run-at = b .run-at in
     let b = b .before .before in let args = b .args in
     let w = rw (end .given .1) at (run-at .ensures .within) in record { exact = c .option-of .ensures ∙ option-found (args .text .now) (args .at) (end .given .0 .0) (sym (end .given .1) ∙ run-at .ensures .exact); within = option-within (args .text .now) (args .at) (piece (args .text .now) (args .at) (end .given .0 .0)) (end .given .0 .0) (c .option-of .ensures) (w .0) (w .1) }
 

@@ -27,8 +27,7 @@ add-t7 c =
 
 returns-2 : tie.Need-returns-2
 returns-2 c =
-    let b = c .before in let octet-at2 = b .octet-at2 in
-    let b = b .before .before in let octet-at = b .octet-at in
+    let b = c .before in let octet-at2 = b .octet-at2 in let b = b .before .before in let octet-at = b .octet-at in
     let b = b .before .before in let args = b .args in
     let i = in-text (args .text .now) (args .at + 1) (sym (octet-at2 .ensures) ∙ c .if2 .taken) (omega arith) in
     record {
@@ -45,10 +44,8 @@ add-row-at c =
 
 returns-3 : tie.Need-returns-3
 returns-3 c =
-    let b = c .before in let row-at = b .row-at in
-    let b = b .before .before in let octet-at2 = b .octet-at2 in
-    let b = b .before in let if1 = b .if1 in
-    let b = b .before in let octet-at = b .octet-at in
+    let b = c .before in let row-at = b .row-at in let b = b .before .before in let octet-at2 = b .octet-at2 in
+    let b = b .before in let if1 = b .if1 in let b = b .before in let octet-at = b .octet-at in
     let b = b .before .before in let args = b .args in
     let i = in-text (args .text .now) (args .at) (sym (octet-at .ensures) ∙ if1 .left) (omega arith) in
     record {

@@ -7,8 +7,7 @@ use Rattle.read_options.proofs.verb_at.Tie as tie
 
 returns : tie.Need-returns
 returns c =
-    let b = c .before .before in let end = b .end in
-    let b = b .before .before in let run-at = b .run-at in
+    let b = c .before .before in let end = b .end in let b = b .before .before in let run-at = b .run-at in
     let b = b .before .before in let args = b .args in
     record { exact = verb-read (args .text .now) (args .at) (end .given .0 .0) (sym (end .given .1) ∙ run-at .ensures .exact) (c .verb-of .ensures); within = rw (end .given .1) at (run-at .ensures .within) }
 

@@ -13,15 +13,13 @@ returns c =
 
 returns-2 : tie.Need-returns-2
 returns-2 c =
-    let b = c .before .before .before in let if1 = b .if1 in
-    let b = b .before in let is-word = b .is-word in
+    let b = c .before .before .before in let if1 = b .if1 in let b = b .before in let is-word = b .is-word in
     let b = b .before .before .before in let args = b .args in
     verb-esearch (piece (args .text .now) (args .from) (args .upto)) (sym (is-word .ensures) ∙ if1 .left) (sym (c .before .is-word2 .ensures) ∙ c .if2 .taken)
 
 returns-3 : tie.Need-returns-3
 returns-3 c =
-    let b = c .before .before .before in let if1 = b .if1 in
-    let b = b .before in let is-word = b .is-word in
+    let b = c .before .before .before in let if1 = b .if1 in let b = b .before in let is-word = b .is-word in
     let b = b .before .before .before in let args = b .args in
     verb-other (piece (args .text .now) (args .from) (args .upto)) (sym (is-word .ensures) ∙ if1 .left) (sym (c .before .is-word2 .ensures) ∙ c .if2 .left)
 

@@ -63,8 +63,7 @@ fields-to-close-add-t13 t c =
 fields-to-close-returns : (t : ℕ) → fields-to-close-lts.Need-returns (fields-to-close-calls t) (fields-to-close-at t) fields-to-close.Post
 fields-to-close-returns t c =
     let b = c .before .before .before .before in let next = b .next in
-    let b = b .before .before in let text-at = b .text-at in
-    let b = b .before .before in let args = b .args in
+    let b = b .before .before in let text-at = b .text-at in let b = b .before .before in let args = b .args in
     let s = args .text .now in
     let w = rw (next .given .1) at (text-at .ensures .within) in
     record {
@@ -79,10 +78,8 @@ fields-to-close-returns t c =
 
 fields-to-close-returns-2 : (t : ℕ) → fields-to-close-lts.Need-returns-2 (fields-to-close-calls t) (fields-to-close-at t) fields-to-close.Post
 fields-to-close-returns-2 t c =
-    let b = c .before .before in let octet-at = b .octet-at in
-    let b = b .before .before in let next = b .next in
-    let b = b .before .before in let text-at = b .text-at in
-    let b = b .before .before in let args = b .args in
+    let b = c .before .before in let octet-at = b .octet-at in let b = b .before .before in let next = b .next in
+    let b = b .before .before in let text-at = b .text-at in let b = b .before .before in let args = b .args in
     let s = args .text .now in
     let w = rw (next .given .1) at (text-at .ensures .within) in
     let i = in-text s (next .given .0 .0) (sym (octet-at .ensures) ∙ c .if2 .taken) (omega arith) in
@@ -97,10 +94,8 @@ fields-to-close-returns-2 t c =
 
 fields-to-close-returns-3 : (t : ℕ) → fields-to-close-lts.Need-returns-3 (fields-to-close-calls t) (fields-to-close-at t) fields-to-close.Post
 fields-to-close-returns-3 t c =
-    let b = c .before .before in let octet-at = b .octet-at in
-    let b = b .before .before in let next = b .next in
-    let b = b .before .before in let text-at = b .text-at in
-    let b = b .before .before in let args = b .args in
+    let b = c .before .before in let octet-at = b .octet-at in let b = b .before .before in let next = b .next in
+    let b = b .before .before in let text-at = b .text-at in let b = b .before .before in let args = b .args in
     let s = args .text .now in
     let w = rw (next .given .1) at (text-at .ensures .within) in
     record {

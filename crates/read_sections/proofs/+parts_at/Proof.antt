@@ -58,8 +58,7 @@ parts-at-add-part t c =
 
 parts-at-parts-at-requires : (t : ℕ) → parts-at-lts.Need-parts-at-requires (parts-at-calls t) (parts-at-at t) parts-at.Post
 parts-at-parts-at-requires t c κs =
-    let b = c .before .before .before in let if1 = b .if1 in
-    let b = b .before in let octet-at = b .octet-at in
+    let b = c .before .before .before in let if1 = b .if1 in let b = b .before in let octet-at = b .octet-at in
     let b = b .before .before in let next = b .next in
     let b = b .before .before in let positive-at = b .positive-at in
     let b = b .before .before in let args = b .args in
@@ -67,10 +66,8 @@ parts-at-parts-at-requires t c κs =
 
 parts-at-returns-2 : (t : ℕ) → parts-at-lts.Need-returns-2 (parts-at-calls t) (parts-at-at t) parts-at.Post
 parts-at-returns-2 t c =
-    let b = c .before .before .before in let octet-at2 = b .octet-at2 in
-    let b = b .before in let if1 = b .if1 in
-    let b = b .before in let octet-at = b .octet-at in
-    let b = b .before .before in let next = b .next in
+    let b = c .before .before .before in let octet-at2 = b .octet-at2 in let b = b .before in let if1 = b .if1 in
+    let b = b .before in let octet-at = b .octet-at in let b = b .before .before in let next = b .next in
     let b = b .before .before in let positive-at = b .positive-at in
     let b = b .before .before in let args = b .args in
     let s = args .text .now in
@@ -88,8 +85,7 @@ parts-at-returns-2 t c =
 
 parts-at-returns-3 : (t : ℕ) → parts-at-lts.Need-returns-3 (parts-at-calls t) (parts-at-at t) parts-at.Post
 parts-at-returns-3 t c =
-    let b = c .before .before .before in let if1 = b .if1 in
-    let b = b .before in let octet-at = b .octet-at in
+    let b = c .before .before .before in let if1 = b .if1 in let b = b .before in let octet-at = b .octet-at in
     let b = b .before .before in let next = b .next in
     let b = b .before .before in let positive-at = b .positive-at in
     let b = b .before .before in let args = b .args in

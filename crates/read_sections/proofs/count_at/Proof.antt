@@ -25,12 +25,9 @@ add-t12 c =
 
 returns-2 : tie.Need-returns-2
 returns-2 c =
-    let b = c .before in let octet-at2 = b .octet-at2 in
-    let b = b .before .before in let next = b .next in
-    let b = b .before .before in let positive-at = b .positive-at in
-    let b = b .before in let if1 = b .if1 in
-    let b = b .before in let octet-at = b .octet-at in
-    let b = b .before .before in let args = b .args in
+    let b = c .before in let octet-at2 = b .octet-at2 in let b = b .before .before in let next = b .next in
+    let b = b .before .before in let positive-at = b .positive-at in let b = b .before in let if1 = b .if1 in
+    let b = b .before in let octet-at = b .octet-at in let b = b .before .before in let args = b .args in
     let s = args .text .now in
     let w = rw (next .given .1) at (positive-at .ensures .within) in
     let i = in-text s (next .given .0 .1 .0) (sym (octet-at2 .ensures) ∙ c .if2 .taken) (omega arith) in
@@ -44,10 +41,8 @@ returns-2 c =
 returns-3 : tie.Need-returns-3
 returns-3 c =
     let b = c .before .before .before in let next = b .next in
-    let b = b .before .before in let positive-at = b .positive-at in
-    let b = b .before in let if1 = b .if1 in
-    let b = b .before in let octet-at = b .octet-at in
-    let b = b .before .before in let args = b .args in
+    let b = b .before .before in let positive-at = b .positive-at in let b = b .before in let if1 = b .if1 in
+    let b = b .before in let octet-at = b .octet-at in let b = b .before .before in let args = b .args in
     record {
       exact =
           count-open (args .text .now) (args .at) (sym (octet-at .ensures) ∙ if1 .left) (sym (next .given .1) ∙ positive-at .ensures .exact)
@@ -57,8 +52,7 @@ returns-3 c =
 
 returns-4 : tie.Need-returns-4
 returns-4 c =
-    let b = c .before .before .before in let if1 = b .if1 in
-    let b = b .before in let octet-at = b .octet-at in
+    let b = c .before .before .before in let if1 = b .if1 in let b = b .before in let octet-at = b .octet-at in
     let b = b .before .before in let args = b .args in
     record { exact = count-none (args .text .now) (args .at) (sym (octet-at .ensures) ∙ if1 .left) (sym (c .enum-told .given .1) ∙ c .before .before .positive-at .ensures .exact); within = tt }
 

@@ -20,10 +20,8 @@ add-number-at c =
 
 returns-2 : tie.Need-returns-2
 returns-2 c =
-    let b = c .before .before in let next = b .next in
-    let b = b .before .before in let number-at = b .number-at in
-    let b = b .before in let if1 = b .if1 in
-    let b = b .before in let octet-at = b .octet-at in
+    let b = c .before .before in let next = b .next in let b = b .before .before in let number-at = b .number-at in
+    let b = b .before in let if1 = b .if1 in let b = b .before in let octet-at = b .octet-at in
     let b = b .before .before in let args = b .args in
     let s = args .text .now in
     let w = rw (next .given .1) at (number-at .ensures .within) in
@@ -34,8 +32,7 @@ returns-2 c =
 
 returns-3 : tie.Need-returns-3
 returns-3 c =
-    let b = c .before .before .before in let if1 = b .if1 in
-    let b = b .before in let octet-at = b .octet-at in
+    let b = c .before .before .before in let if1 = b .if1 in let b = b .before in let octet-at = b .octet-at in
     let b = b .before .before in let args = b .args in
     record { exact = partial-none (args .text .now) (args .at) (sym (octet-at .ensures) ∙ if1 .left) (sym (c .enum-told .given .1) ∙ c .before .before .number-at .ensures .exact); within = tt }
 

@@ -21,10 +21,8 @@ add-section-spec-at c =
 returns-2 : tie.Need-returns-2
 returns-2 c =
     let b = c .before .before in let next = b .next in
-    let b = b .before .before in let section-spec-at = b .section-spec-at in
-    let b = b .before in let if1 = b .if1 in
-    let b = b .before in let octet-at = b .octet-at in
-    let b = b .before .before in let args = b .args in
+    let b = b .before .before in let section-spec-at = b .section-spec-at in let b = b .before in let if1 = b .if1 in
+    let b = b .before in let octet-at = b .octet-at in let b = b .before .before in let args = b .args in
     let s = args .text .now in
     let w = rw (next .given .1) at (section-spec-at .ensures .within) in
     record {
@@ -35,8 +33,7 @@ returns-2 c =
 
 returns-3 : tie.Need-returns-3
 returns-3 c =
-    let b = c .before .before .before in let if1 = b .if1 in
-    let b = b .before in let octet-at = b .octet-at in
+    let b = c .before .before .before in let if1 = b .if1 in let b = b .before in let octet-at = b .octet-at in
     let b = b .before .before in let args = b .args in
     record {
       exact =

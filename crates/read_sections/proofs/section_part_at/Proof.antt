@@ -19,8 +19,7 @@ add-section-text-at c =
 returns : tie.Need-returns
 returns c =
     let b = c .before .before .before .before in let next = b .next in
-    let b = b .before .before in let parts-at = b .parts-at in
-    let b = b .before .before in let args = b .args in
+    let b = b .before .before in let parts-at = b .parts-at in let b = b .before .before in let args = b .args in
     let s = args .text .now in
     let w = rw (next .given .1) at (parts-at .ensures .within) in
     record {
@@ -34,8 +33,7 @@ returns c =
 returns-2 : tie.Need-returns-2
 returns-2 c =
     let b = c .before .before .before in let next = b .next in
-    let b = b .before .before in let parts-at = b .parts-at in
-    let b = b .before .before in let args = b .args in
+    let b = b .before .before in let parts-at = b .parts-at in let b = b .before .before in let args = b .args in
     let s = args .text .now in
     record {
       exact =

@@ -9,16 +9,14 @@ use Rattle.octets.specs.Rows.{in-text}
 
 returns : tie.Need-returns
 returns c =
-    let b = c .before in let octet-at = b .octet-at in
-    let b = b .before .before in let args = b .args in
+    let b = c .before in let octet-at = b .octet-at in let b = b .before .before in let args = b .args in
     let s = args .text .now in
     let i = in-text s (args .at) (sym (octet-at .ensures) ∙ c .if1 .taken) (omega arith) in
     record { exact = spec-empty s (args .at) (sym (octet-at .ensures) ∙ c .if1 .taken); within = (omega arith, omega arith) }
 
 returns-2 : tie.Need-returns-2
 returns-2 c =
-    let b = c .before .before .before in let if1 = b .if1 in
-    let b = b .before in let octet-at = b .octet-at in
+    let b = c .before .before .before in let if1 = b .if1 in let b = b .before in let octet-at = b .octet-at in
     let b = b .before .before in let args = b .args in
     let s = args .text .now in
     record {
@@ -31,8 +29,7 @@ returns-2 c =
 
 returns-3 : tie.Need-returns-3
 returns-3 c =
-    let b = c .before .before .before in let if1 = b .if1 in
-    let b = b .before in let octet-at = b .octet-at in
+    let b = c .before .before .before in let if1 = b .if1 in let b = b .before in let octet-at = b .octet-at in
     let b = b .before .before in let args = b .args in
     let s = args .text .now in
     record {

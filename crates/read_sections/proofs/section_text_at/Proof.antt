@@ -12,8 +12,7 @@ use Rattle.read_sections.proofs.Sectioning.{wantedAt, text-none, text-b
 returns : tie.Need-returns
 returns c =
     let b = c .before .before .before .before in let end = b .end in
-    let b = b .before .before in let run-at = b .run-at in
-    let b = b .before .before in let args = b .args in
+    let b = b .before .before in let run-at = b .run-at in let b = b .before .before in let args = b .args in
     record {
       exact =
           text-by (args .part) (args .text .now) (args .at) (sym (end .given .1) ∙ run-at .ensures .exact) (c .enum-told .given .1)
@@ -24,8 +23,7 @@ returns c =
 returns-2 : tie.Need-returns-2
 returns-2 c =
     let b = c .before .before .before in let section-word = b .section-word in
-    let b = b .before .before in let end = b .end in
-    let b = b .before .before in let run-at = b .run-at in
+    let b = b .before .before in let end = b .end in let b = b .before .before in let run-at = b .run-at in
     let b = b .before .before in let args = b .args in
     let s = args .text .now in
     let w = rw (end .given .1) at (run-at .ensures .within) in
@@ -69,8 +67,7 @@ returns-4 c =
 returns-5 : tie.Need-returns-5
 returns-5 c =
     let b = c .before .before .before .before in let end = b .end in
-    let b = b .before .before in let run-at = b .run-at in
-    let b = b .before .before in let args = b .args in
+    let b = b .before .before in let run-at = b .run-at in let b = b .before .before in let args = b .args in
     record {
       exact =
           text-by (args .part) (args .text .now) (args .at) (sym (end .given .1) ∙ run-at .ensures .exact) (c .enum-told4 .given .1)

@@ -16,8 +16,7 @@ put-listed-requires c κs = rw (c .before .nothing-listed .ensures) (omega arith
 
 returns-2 : tie.Need-returns-2
 returns-2 c =
-    let b = c .before .before .before in let if1 = b .if1 in
-    let b = b .before in let word-at = b .word-at in
+    let b = c .before .before .before in let if1 = b .if1 in let b = b .before in let word-at = b .word-at in
     let b = b .before .before .before in let args = b .args in
     rw (c .put-listed .ensures, c .before .before .nothing-listed .ensures, c .before .keep-nothing .ensures) (sources-left (args .text .now) (args .at) (sym (word-at .ensures) ∙ if1 .left))
 

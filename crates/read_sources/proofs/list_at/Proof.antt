@@ -26,8 +26,7 @@ list-row-requires c κs = rw (c .nothing-listed .ensures) (omega arith, omega ar
 
 returns-2 : tie.Need-returns-2
 returns-2 c =
-    let b = c .before .before in let if1 = b .if1 in
-    let b = b .before in let octet-at = b .octet-at in
+    let b = c .before .before in let if1 = b .if1 in let b = b .before in let octet-at = b .octet-at in
     let b = b .before .before in let args = b .args in
     let text = args .text .now in
     let opens = sym (octet-at .ensures) ∙ if1 .left in

@@ -15,10 +15,8 @@ returns c =
 returns-2 : tie.Need-returns-2
 returns-2 c =
     let b = c .before .before .before in let behind-space = b .behind-space in
-    let b = b .before in let if1 = b .if1 in
-    let b = b .before in let list-at = b .list-at in
-    let b = b .before .before in let q = b .q in
-    let b = b .before .before in let behind-word = b .behind-word in
+    let b = b .before in let if1 = b .if1 in let b = b .before in let list-at = b .list-at in
+    let b = b .before .before in let q = b .q in let b = b .before .before in let behind-word = b .behind-word in
     let b = b .before .before in let args = b .args in
     c .unlisted2 .ensures
     ∙ listed-unspaced (args .text .now) (args .at) nothingListed (sym (q .given .1) ∙ behind-word .ensures) (list-at .ensures) (if1 .taken)
@@ -27,10 +25,8 @@ returns-2 c =
 returns-3 : tie.Need-returns-3
 returns-3 c =
     let b = c .before .before .before .before in let behind-space = b .behind-space in
-    let b = b .before in let if1 = b .if1 in
-    let b = b .before in let list-at = b .list-at in
-    let b = b .before .before in let q = b .q in
-    let b = b .before .before in let behind-word = b .behind-word in
+    let b = b .before in let if1 = b .if1 in let b = b .before in let list-at = b .list-at in
+    let b = b .before .before in let q = b .q in let b = b .before .before in let behind-word = b .behind-word in
     let b = b .before .before in let args = b .args in
     listed-whole (args .text .now) (args .at) nothingListed (sym (q .given .1) ∙ behind-word .ensures) (list-at .ensures) (if1 .taken)
     (sym (c .before .before .next .given .1) ∙ behind-space .ensures)

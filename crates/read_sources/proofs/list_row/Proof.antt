@@ -17,22 +17,19 @@ abbrev μ-loop : tie.MeasureT-loop
 
 loop-holds : tie.Need-loop-holds Inv-loop μ-loop
 loop-holds c =
-    let b = c .before in let args = b .args in
-    let pre = b .pre in
+    let b = c .before in let args = b .args in let pre = b .pre in
     goes-start (args .text .now) (args .at) (args .listed) (pre .0) (pre .1)
 
 returns : tie.Need-returns Inv-loop μ-loop
 returns c =
-    let b = c .before .before .before in let filter-at = b .filter-at in
-    let b = b .before in let loop = b .loop in
+    let b = c .before .before .before in let filter-at = b .filter-at in let b = b .before in let loop = b .loop in
     let b = b .before .before in let args = b .args in
     λ n h. c .unlisted .ensures
     ∙ goes-none (args .text .now) (args .at) (args .listed) (loop .more) (loop .p) (loop .inv) (sym (c .before .enum-told .given .1) ∙ filter-at .ensures .exact) n h
 
 list-one-requires : tie.Need-list-one-requires Inv-loop μ-loop
 list-one-requires c κs =
-    let b = c .before .before .before in let filter-at = b .filter-at in
-    let b = b .before in let loop = b .loop in
+    let b = c .before .before .before in let filter-at = b .filter-at in let b = b .before in let loop = b .loop in
     let w = rw (c .before .scope .given .1) at (filter-at .ensures .within) in record { sources = omega (arith, loop .inv .few); names = loop .inv .names }
 
 add-t12 : tie.Need-add-t12 Inv-loop μ-loop
@@ -46,10 +43,8 @@ add-t12 c =
 
 returns-2 : tie.Need-returns-2 Inv-loop μ-loop
 returns-2 c =
-    let b = c .before .before in let list-one = b .list-one in
-    let b = b .before .before in let scope = b .scope in
-    let b = b .before .before in let filter-at = b .filter-at in
-    let b = b .before in let loop = b .loop in
+    let b = c .before .before in let list-one = b .list-one in let b = b .before .before in let scope = b .scope in
+    let b = b .before .before in let filter-at = b .filter-at in let b = b .before in let loop = b .loop in
     let b = b .before .before in let args = b .args in
     λ n h. goes-last (args .text .now) (args .at) (args .listed) (loop .more) (loop .p) (loop .inv) (sym (scope .given .1) ∙ filter-at .ensures .exact)
     (list-one .result) (list-one .ensures) (sym (c .before .octet-at .ensures) ∙ c .if1 .taken) n h
@@ -58,8 +53,7 @@ returns-3 : tie.Need-returns-3 Inv-loop μ-loop
 returns-3 c =
     let b = c .before .before .before in let octet-at = b .octet-at in
     let b = b .before .before .before in let scope = b .scope in
-    let b = b .before .before in let filter-at = b .filter-at in
-    let b = b .before in let loop = b .loop in
+    let b = b .before .before in let filter-at = b .filter-at in let b = b .before in let loop = b .loop in
     let b = b .before .before in let args = b .args in
     λ n h. c .unlisted2 .ensures
     ∙ goes-wrong (args .text .now) (args .at) (args .listed) (loop .more) (loop .p) (loop .inv) (sym (scope .given .1) ∙ filter-at .ensures .exact)
@@ -86,10 +80,8 @@ loop-less c =
 loop-again : tie.Need-loop-again Inv-loop μ-loop
 loop-again c =
     let b = c .before .before .before in let list-one = b .list-one in
-    let b = b .before .before in let scope = b .scope in
-    let b = b .before .before in let filter-at = b .filter-at in
-    let b = b .before in let loop = b .loop in
-    let b = b .before .before in let args = b .args in
+    let b = b .before .before in let scope = b .scope in let b = b .before .before in let filter-at = b .filter-at in
+    let b = b .before in let loop = b .loop in let b = b .before .before in let args = b .args in
     let w = rw (scope .given .1) at (filter-at .ensures .within) in
     goes-on (args .text .now) (args .at) (args .listed) (loop .more) (loop .p) (loop .inv) (sym (scope .given .1) ∙ filter-at .ensures .exact)
     (list-one .result) (list-one .ensures) (omega arith) (sym (c .before .before .octet-at .ensures) ∙ c .if2 .left)

@@ -17,8 +17,7 @@ add-t9 c =
 
 returns : tie.Need-returns
 returns c =
-    let b = c .before in let octet-at = b .octet-at in
-    let b = b .before .before .before in let args = b .args in
+    let b = c .before in let octet-at = b .octet-at in let b = b .before .before .before in let args = b .args in
     let s = args .text .now in
     let cells = args .cells .now in
     let i = in-text s (args .at) (sym (octet-at .ensures) ∙ c .if1 .taken) (omega arith) in
@@ -29,10 +28,8 @@ returns c =
 
 returns-2 : tie.Need-returns-2
 returns-2 c =
-    let b = c .before .before in let put-set = b .put-set in
-    let b = b .before .before in let if2 = b .if2 in
-    let b = b .before in let if1 = b .if1 in
-    let b = b .before in let octet-at = b .octet-at in
+    let b = c .before .before in let put-set = b .put-set in let b = b .before .before in let if2 = b .if2 in
+    let b = b .before in let if1 = b .if1 in let b = b .before in let octet-at = b .octet-at in
     let b = b .before .before .before in let args = b .args in
     let s = args .text .now in
     record {
@@ -44,12 +41,9 @@ returns-2 c =
 
 returns-3 : tie.Need-returns-3
 returns-3 c =
-    let b = c .before .before in let put-set2 = b .put-set2 in
-    let b = b .before .before in let if3 = b .if3 in
-    let b = b .before in let in-class = b .in-class in
-    let b = b .before .before in let if1 = b .if1 in
-    let b = b .before in let octet-at = b .octet-at in
-    let b = b .before .before .before in let args = b .args in
+    let b = c .before .before in let put-set2 = b .put-set2 in let b = b .before .before in let if3 = b .if3 in
+    let b = b .before in let in-class = b .in-class in let b = b .before .before in let if1 = b .if1 in
+    let b = b .before in let octet-at = b .octet-at in let b = b .before .before .before in let args = b .args in
     let s = args .text .now in
     record {
       within = put-set2 .ensures .within;
@@ -65,14 +59,10 @@ begin-by-requires c κs = let w = rw (c .before .before .before .p .given .1) at
 returns-4 : tie.Need-returns-4
 returns-4 c =
     let b = c .before .before in let begin-by = b .begin-by in
-    let b = b .before .before in let key-word = b .key-word in
-    let b = b .before .before in let p = b .p in
-    let b = b .before .before in let run-at = b .run-at in
-    let b = b .before in let if3 = b .if3 in
-    let b = b .before in let in-class = b .in-class in
-    let b = b .before in let if2 = b .if2 in
-    let b = b .before in let if1 = b .if1 in
-    let b = b .before in let octet-at = b .octet-at in
+    let b = b .before .before in let key-word = b .key-word in let b = b .before .before in let p = b .p in
+    let b = b .before .before in let run-at = b .run-at in let b = b .before in let if3 = b .if3 in
+    let b = b .before in let in-class = b .in-class in let b = b .before in let if2 = b .if2 in
+    let b = b .before in let if1 = b .if1 in let b = b .before in let octet-at = b .octet-at in
     let b = b .before .before .before in let args = b .args in
     let s = args .text .now in
     let w = rw (p .given .1) at (run-at .ensures .within) in
@@ -88,12 +78,9 @@ returns-4 c =
 
 returns-5 : tie.Need-returns-5
 returns-5 c =
-    let b = c .before .before .before in let if3 = b .if3 in
-    let b = b .before in let in-class = b .in-class in
-    let b = b .before in let if2 = b .if2 in
-    let b = b .before in let if1 = b .if1 in
-    let b = b .before in let octet-at = b .octet-at in
-    let b = b .before .before .before in let args = b .args in
+    let b = c .before .before .before in let if3 = b .if3 in let b = b .before in let in-class = b .in-class in
+    let b = b .before in let if2 = b .if2 in let b = b .before in let if1 = b .if1 in
+    let b = b .before in let octet-at = b .octet-at in let b = b .before .before .before in let args = b .args in
     let s = args .text .now in
     let cells = args .cells .now in
     record {

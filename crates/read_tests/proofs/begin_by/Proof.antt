@@ -66,10 +66,8 @@ returns-4 c =
 
 returns-5 : tie.Need-returns-5
 returns-5 c =
-    let b = c .before .before in let put-set = b .put-set in
-    let b = b .before .before in let if1 = b .if1 in
-    let b = b .before in let octet-at = b .octet-at in
-    let b = b .before in let enum-told4 = b .enum-told4 in
+    let b = c .before .before in let put-set = b .put-set in let b = b .before .before in let if1 = b .if1 in
+    let b = b .before in let octet-at = b .octet-at in let b = b .before in let enum-told4 = b .enum-told4 in
     let b = b .before .before .before .before in let args = b .args in
     let s = args .text .now in
     let cells = args .cells .now in

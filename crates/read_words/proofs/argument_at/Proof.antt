@@ -42,10 +42,8 @@ returns-4 c =
 
 returns-5 : tie.Need-returns-5
 returns-5 c =
-    let b = c .before .before in let p = b .p in
-    let b = b .before .before in let text-behind2 = b .text-behind2 in
-    let b = b .before in let enum-told5 = b .enum-told5 in
-    let b = b .before .before .before in let args = b .args in
+    let b = c .before .before in let p = b .p in let b = b .before .before in let text-behind2 = b .text-behind2 in
+    let b = b .before in let enum-told5 = b .enum-told5 in let b = b .before .before .before in let args = b .args in
     let s = args .text .now in
     let w = rw (p .given .1) at (text-behind2 .ensures .within) in
     record {

@@ -10,29 +10,23 @@ returns c = hit _ _ (sym (c .before .is-word .ensures) ∙ c .if1 .taken)
 
 returns-2 : tie.Need-returns-2
 returns-2 c =
-    let b = c .before .before .before in let if1 = b .if1 in
-    let b = b .before in let is-word = b .is-word in
+    let b = c .before .before .before in let if1 = b .if1 in let b = b .before in let is-word = b .is-word in
     skip _ _ (sym (is-word .ensures) ∙ if1 .left)
     (hit _ _ (sym (c .before .is-word2 .ensures) ∙ c .if2 .taken))
 
 returns-3 : tie.Need-returns-3
 returns-3 c =
-    let b = c .before .before .before in let if2 = b .if2 in
-    let b = b .before in let is-word2 = b .is-word2 in
-    let b = b .before .before in let if1 = b .if1 in
-    let b = b .before in let is-word = b .is-word in
+    let b = c .before .before .before in let if2 = b .if2 in let b = b .before in let is-word2 = b .is-word2 in
+    let b = b .before .before in let if1 = b .if1 in let b = b .before in let is-word = b .is-word in
     skip _ _ (sym (is-word .ensures) ∙ if1 .left)
     (skip _ _ (sym (is-word2 .ensures) ∙ if2 .left)
     (hit _ _ (sym (c .before .is-word3 .ensures) ∙ c .if3 .taken)))
 
 returns-4 : tie.Need-returns-4
 returns-4 c =
-    let b = c .before .before .before in let if3 = b .if3 in
-    let b = b .before in let is-word3 = b .is-word3 in
-    let b = b .before .before in let if2 = b .if2 in
-    let b = b .before in let is-word2 = b .is-word2 in
-    let b = b .before .before in let if1 = b .if1 in
-    let b = b .before in let is-word = b .is-word in
+    let b = c .before .before .before in let if3 = b .if3 in let b = b .before in let is-word3 = b .is-word3 in
+    let b = b .before .before in let if2 = b .if2 in let b = b .before in let is-word2 = b .is-word2 in
+    let b = b .before .before in let if1 = b .if1 in let b = b .before in let is-word = b .is-word in
     skip _ _ (sym (is-word .ensures) ∙ if1 .left)
     (skip _ _ (sym (is-word2 .ensures) ∙ if2 .left)
     (skip _ _ (sym (is-word3 .ensures) ∙ if3 .left)
@@ -41,10 +35,8 @@ returns-4 c =
 returns-5 : tie.Need-returns-5
 returns-5 c =
     let b = c .before .before .before .before in let if3 = b .if3 in
-    let b = b .before in let is-word3 = b .is-word3 in
-    let b = b .before .before in let if2 = b .if2 in
-    let b = b .before in let is-word2 = b .is-word2 in
-    let b = b .before .before in let if1 = b .if1 in
+    let b = b .before in let is-word3 = b .is-word3 in let b = b .before .before in let if2 = b .if2 in
+    let b = b .before in let is-word2 = b .is-word2 in let b = b .before .before in let if1 = b .if1 in
     let b = b .before in let is-word = b .is-word in
     skip _ _ (sym (is-word .ensures) ∙ if1 .left)
     (skip _ _ (sym (is-word2 .ensures) ∙ if2 .left)

@@ -19,26 +19,19 @@ returns-3 c =
 
 returns-4 : tie.Need-returns-4
 returns-4 c =
-    let b = c .before .before .before in let if3 = b .if3 in
-    let b = b .before in let is-word3 = b .is-word3 in
-    let b = b .before .before in let if2 = b .if2 in
-    let b = b .before in let is-word2 = b .is-word2 in
-    let b = b .before .before in let if1 = b .if1 in
-    let b = b .before in let is-word = b .is-word in
+    let b = c .before .before .before in let if3 = b .if3 in let b = b .before in let is-word3 = b .is-word3 in
+    let b = b .before .before in let if2 = b .if2 in let b = b .before in let is-word2 = b .is-word2 in
+    let b = b .before .before in let if1 = b .if1 in let b = b .before in let is-word = b .is-word in
     or-skip _ (sym (is-word .ensures) ∙ if1 .left)
     (or-skip _ (sym (is-word2 .ensures) ∙ if2 .left)
     (or-skip _ (sym (is-word3 .ensures) ∙ if3 .left) (or-hit _ (sym (c .before .is-word4 .ensures) ∙ c .if4 .taken))))
 
 returns-5 : tie.Need-returns-5
 returns-5 c =
-    let b = c .before .before .before in let if4 = b .if4 in
-    let b = b .before in let is-word4 = b .is-word4 in
-    let b = b .before .before in let if3 = b .if3 in
-    let b = b .before in let is-word3 = b .is-word3 in
-    let b = b .before .before in let if2 = b .if2 in
-    let b = b .before in let is-word2 = b .is-word2 in
-    let b = b .before .before in let if1 = b .if1 in
-    let b = b .before in let is-word = b .is-word in
+    let b = c .before .before .before in let if4 = b .if4 in let b = b .before in let is-word4 = b .is-word4 in
+    let b = b .before .before in let if3 = b .if3 in let b = b .before in let is-word3 = b .is-word3 in
+    let b = b .before .before in let if2 = b .if2 in let b = b .before in let is-word2 = b .is-word2 in
+    let b = b .before .before in let if1 = b .if1 in let b = b .before in let is-word = b .is-word in
     or-skip _ (sym (is-word .ensures) ∙ if1 .left)
     (or-skip _ (sym (is-word2 .ensures) ∙ if2 .left)
     (or-skip _ (sym (is-word3 .ensures) ∙ if3 .left)
@@ -46,16 +39,11 @@ returns-5 c =
 
 returns-6 : tie.Need-returns-6
 returns-6 c =
-    let b = c .before .before .before in let if5 = b .if5 in
-    let b = b .before in let is-word5 = b .is-word5 in
-    let b = b .before .before in let if4 = b .if4 in
-    let b = b .before in let is-word4 = b .is-word4 in
-    let b = b .before .before in let if3 = b .if3 in
-    let b = b .before in let is-word3 = b .is-word3 in
-    let b = b .before .before in let if2 = b .if2 in
-    let b = b .before in let is-word2 = b .is-word2 in
-    let b = b .before .before in let if1 = b .if1 in
-    let b = b .before in let is-word = b .is-word in
+    let b = c .before .before .before in let if5 = b .if5 in let b = b .before in let is-word5 = b .is-word5 in
+    let b = b .before .before in let if4 = b .if4 in let b = b .before in let is-word4 = b .is-word4 in
+    let b = b .before .before in let if3 = b .if3 in let b = b .before in let is-word3 = b .is-word3 in
+    let b = b .before .before in let if2 = b .if2 in let b = b .before in let is-word2 = b .is-word2 in
+    let b = b .before .before in let if1 = b .if1 in let b = b .before in let is-word = b .is-word in
     or-skip _ (sym (is-word .ensures) ∙ if1 .left)
     (or-skip _ (sym (is-word2 .ensures) ∙ if2 .left)
     (or-skip _ (sym (is-word3 .ensures) ∙ if3 .left)
@@ -64,18 +52,12 @@ returns-6 c =
 
 returns-7 : tie.Need-returns-7
 returns-7 c =
-    let b = c .before .before .before in let if6 = b .if6 in
-    let b = b .before in let is-word6 = b .is-word6 in
-    let b = b .before .before in let if5 = b .if5 in
-    let b = b .before in let is-word5 = b .is-word5 in
-    let b = b .before .before in let if4 = b .if4 in
-    let b = b .before in let is-word4 = b .is-word4 in
-    let b = b .before .before in let if3 = b .if3 in
-    let b = b .before in let is-word3 = b .is-word3 in
-    let b = b .before .before in let if2 = b .if2 in
-    let b = b .before in let is-word2 = b .is-word2 in
-    let b = b .before .before in let if1 = b .if1 in
-    let b = b .before in let is-word = b .is-word in
+    let b = c .before .before .before in let if6 = b .if6 in let b = b .before in let is-word6 = b .is-word6 in
+    let b = b .before .before in let if5 = b .if5 in let b = b .before in let is-word5 = b .is-word5 in
+    let b = b .before .before in let if4 = b .if4 in let b = b .before in let is-word4 = b .is-word4 in
+    let b = b .before .before in let if3 = b .if3 in let b = b .before in let is-word3 = b .is-word3 in
+    let b = b .before .before in let if2 = b .if2 in let b = b .before in let is-word2 = b .is-word2 in
+    let b = b .before .before in let if1 = b .if1 in let b = b .before in let is-word = b .is-word in
     or-skip _ (sym (is-word .ensures) ∙ if1 .left)
     (or-skip _ (sym (is-word2 .ensures) ∙ if2 .left)
     (or-skip _ (sym (is-word3 .ensures) ∙ if3 .left)
@@ -85,18 +67,12 @@ returns-7 c =
 
 returns-8 : tie.Need-returns-8
 returns-8 c =
-    let b = c .before .before .before in let if6 = b .if6 in
-    let b = b .before in let is-word6 = b .is-word6 in
-    let b = b .before .before in let if5 = b .if5 in
-    let b = b .before in let is-word5 = b .is-word5 in
-    let b = b .before .before in let if4 = b .if4 in
-    let b = b .before in let is-word4 = b .is-word4 in
-    let b = b .before .before in let if3 = b .if3 in
-    let b = b .before in let is-word3 = b .is-word3 in
-    let b = b .before .before in let if2 = b .if2 in
-    let b = b .before in let is-word2 = b .is-word2 in
-    let b = b .before .before in let if1 = b .if1 in
-    let b = b .before in let is-word = b .is-word in
+    let b = c .before .before .before in let if6 = b .if6 in let b = b .before in let is-word6 = b .is-word6 in
+    let b = b .before .before in let if5 = b .if5 in let b = b .before in let is-word5 = b .is-word5 in
+    let b = b .before .before in let if4 = b .if4 in let b = b .before in let is-word4 = b .is-word4 in
+    let b = b .before .before in let if3 = b .if3 in let b = b .before in let is-word3 = b .is-word3 in
+    let b = b .before .before in let if2 = b .if2 in let b = b .before in let is-word2 = b .is-word2 in
+    let b = b .before .before in let if1 = b .if1 in let b = b .before in let is-word = b .is-word in
     or-skip _ (sym (is-word .ensures) ∙ if1 .left)
     (or-skip _ (sym (is-word2 .ensures) ∙ if2 .left)
     (or-skip _ (sym (is-word3 .ensures) ∙ if3 .left)

@@ -26,14 +26,10 @@ returns-4 c =
 
 returns-5 : tie.Need-returns-5
 returns-5 c =
-    let b = c .before .before .before in let if4 = b .if4 in
-    let b = b .before in let takes-date = b .takes-date in
-    let b = b .before in let if3 = b .if3 in
-    let b = b .before in let takes-keyword = b .takes-keyword in
-    let b = b .before in let if2 = b .if2 in
-    let b = b .before in let takes-text = b .takes-text in
-    let b = b .before in let if1 = b .if1 in
-    let b = b .before in let takes-nothing = b .takes-nothing in
+    let b = c .before .before .before in let if4 = b .if4 in let b = b .before in let takes-date = b .takes-date in
+    let b = b .before in let if3 = b .if3 in let b = b .before in let takes-keyword = b .takes-keyword in
+    let b = b .before in let if2 = b .if2 in let b = b .before in let takes-text = b .takes-text in
+    let b = b .before in let if1 = b .if1 in let b = b .before in let takes-nothing = b .takes-nothing in
     skip _ _ (sym (takes-nothing .ensures) ∙ if1 .left)
     (skip _ _ (sym (takes-text .ensures) ∙ if2 .left)
     (skip _ _ (sym (takes-keyword .ensures) ∙ if3 .left)
@@ -41,14 +37,10 @@ returns-5 c =
 
 returns-6 : tie.Need-returns-6
 returns-6 c =
-    let b = c .before .before .before in let if4 = b .if4 in
-    let b = b .before in let takes-date = b .takes-date in
-    let b = b .before in let if3 = b .if3 in
-    let b = b .before in let takes-keyword = b .takes-keyword in
-    let b = b .before in let if2 = b .if2 in
-    let b = b .before in let takes-text = b .takes-text in
-    let b = b .before in let if1 = b .if1 in
-    let b = b .before in let takes-nothing = b .takes-nothing in
+    let b = c .before .before .before in let if4 = b .if4 in let b = b .before in let takes-date = b .takes-date in
+    let b = b .before in let if3 = b .if3 in let b = b .before in let takes-keyword = b .takes-keyword in
+    let b = b .before in let if2 = b .if2 in let b = b .before in let takes-text = b .takes-text in
+    let b = b .before in let if1 = b .if1 in let b = b .before in let takes-nothing = b .takes-nothing in
     skip _ _ (sym (takes-nothing .ensures) ∙ if1 .left)
     (skip _ _ (sym (takes-text .ensures) ∙ if2 .left)
     (skip _ _ (sym (takes-keyword .ensures) ∙ if3 .left)

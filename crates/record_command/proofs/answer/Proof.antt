@@ -15,8 +15,7 @@ use Rattle.record_command.proofs.answer.Tie as tie
 
 refuse-requires : tie.Need-refuse-requires
 refuse-requires c κs =
-    let b = c .before .before .before .before .before .before .before in let args = b .args in
-    let pre = b .pre in
+    let b = c .before .before .before .before .before .before .before in let args = b .args in let pre = b .pre in
     let z = sizes _ _ (args .s) (pre .0 .room) in (omega arith, omega arith)
 
 returns : tie.Need-returns
@@ -29,8 +28,7 @@ returns c =
 returns-2 : tie.Need-returns-2
 returns-2 c =
     let b = c .before .before .before .before in let enum-told = b .enum-told in
-    let b = b .before .before in let head = b .head in
-    let b = b .before .before .before .before in let a = b .args in
+    let b = b .before .before in let head = b .head in let b = b .before .before .before .before in let a = b .args in
     λ m lent law laid sel.
     let e = ap (judgedOf limits (not (eqb (a .s .selected) 0))) (rw (enum-told .given .1) at (head .ensures)) in
     c .before .before .refuse .ensures m (a .words .now) lent

@@ -16,8 +16,7 @@ use Rattle.record_command.proofs.answer_by.Tie as tie
 
 refuse-requires : tie.Need-refuse-requires
 refuse-requires c κs =
-    let b = c .before .before .before .before .before .before in let args = b .args in
-    let pre = b .pre in
+    let b = c .before .before .before .before .before .before in let args = b .args in let pre = b .pre in
     let z = sizes _ _ (args .s) (pre .0 .room) in (omega arith, omega arith)
 
 returns : tie.Need-returns

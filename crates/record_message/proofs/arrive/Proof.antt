@@ -21,17 +21,14 @@ returns-2 c =
 
 returns-3 : tie.Need-returns-3
 returns-3 c =
-    let b = c .before .before .before in let if2 = b .if2 in
-    let b = b .before .before .before in let if1 = b .if1 in
+    let b = c .before .before .before in let if2 = b .if2 in let b = b .before .before .before in let if1 = b .if1 in
     let b = b .before .before .before in let a = b .args in
     λ m lent law w. arrive-stale m (a .words .now) (a .counts) (a .s) (a .queue .now) lent law (a .id) (a .k) (a .x) w (a .uid .0) (a .flags) (a .size) (a .counter) (c .refused3 .result) (omega (arith, if1 .left)) (omega (arith, if2 .left)) (sym (c .before .before .is-stale .ensures) ∙ c .before .if3 .taken) (c .refused3 .ensures)
 
 returns-4 : tie.Need-returns-4
 returns-4 c =
-    let b = c .before .before .before in let is-stale = b .is-stale in
-    let b = b .before in let if2 = b .if2 in
-    let b = b .before .before .before in let if1 = b .if1 in
-    let b = b .before .before .before in let a = b .args in
+    let b = c .before .before .before in let is-stale = b .is-stale in let b = b .before in let if2 = b .if2 in
+    let b = b .before .before .before in let if1 = b .if1 in let b = b .before .before .before in let a = b .args in
     λ m lent law w. arrive-full m (a .words .now) (a .counts) (a .s) (a .queue .now) lent law (a .id) (a .k) (a .x) w (a .uid .0) (a .flags) (a .size) (a .counter) (c .refused4 .result) (omega (arith, if1 .left)) (omega (arith, if2 .left)) (sym (is-stale .ensures) ∙ c .before .before .if3 .left) (omega (arith, c .before .if4 .taken)) (c .refused4 .ensures)
 
 receive-requires : tie.Need-receive-requires
@@ -49,12 +46,9 @@ returns-5 : tie.Need-returns-5
 returns-5 c =
     let b = c .before .before .before .before .before .before .before in let came = b .receive in
     let b = b .before in let with-counter = b .with-counter in
-    let b = b .before .before .before in let if4 = b .if4 in
-    let b = b .before in let if3 = b .if3 in
-    let b = b .before in let is-stale = b .is-stale in
-    let b = b .before in let if2 = b .if2 in
-    let b = b .before .before .before in let if1 = b .if1 in
-    let b = b .before .before .before in let a = b .args in
+    let b = b .before .before .before in let if4 = b .if4 in let b = b .before in let if3 = b .if3 in
+    let b = b .before in let is-stale = b .is-stale in let b = b .before in let if2 = b .if2 in
+    let b = b .before .before .before in let if1 = b .if1 in let b = b .before .before .before in let a = b .args in
     λ m lent law w. arrive-done m (a .words .now) (a .counts) (a .s) (a .queue .now) lent law (a .id) (a .k) (a .x) w (a .uid .0) (a .flags) (a .size) (a .counter) (c .put .result) (omega (arith, if1 .left)) (omega (arith, if2 .left))
     (sym (is-stale .ensures) ∙ if3 .left) _ (came .result .used) _ (came .result .session) (came .result .filled) (with-counter .result) (came .result .row) (omega (arith, if4 .left)) (with-counter .ensures) (came .ensures .0) (came .ensures .1) (c .put .ensures)
 

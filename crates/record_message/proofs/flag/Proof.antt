@@ -17,8 +17,7 @@ returns c = let a = c .before .before .before .before .args in
 
 returns-2 : tie.Need-returns-2
 returns-2 c =
-    let b = c .before .before .before in let if1 = b .if1 in
-    let b = b .before .before .before in let a = b .args in
+    let b = c .before .before .before in let if1 = b .if1 in let b = b .before .before .before in let a = b .args in
     λ m lent law w. not-above m (a .words .now) (a .counts) (a .s) (a .queue .now) lent law (a .id) (a .k) (a .x) w (a .uid .0) (a .counter) (c .refused2 .result) (omega (arith, if1 .left)) (accepted m (reflag (a .id) (a .uid .0) (a .flags) (a .counter))) (sym (c .before .before .is-stale .ensures) ∙ c .before .if2 .taken) (c .refused2 .ensures)
 
 find-requires : tie.Need-find-requires
@@ -46,12 +45,9 @@ returns-4 : tie.Need-returns-4
 returns-4 c =
     let b = c .before .before .before .before .before in let left = b .flag in
     let b = b .before .before .before in let with-counter = b .with-counter in
-    let b = b .before in let if3 = b .if3 in
-    let b = b .before in let find = b .find in
-    let b = b .before .before in let if2 = b .if2 in
-    let b = b .before in let is-stale = b .is-stale in
-    let b = b .before in let if1 = b .if1 in
-    let b = b .before .before .before in let a = b .args in
+    let b = b .before in let if3 = b .if3 in let b = b .before in let find = b .find in
+    let b = b .before .before in let if2 = b .if2 in let b = b .before in let is-stale = b .is-stale in
+    let b = b .before in let if1 = b .if1 in let b = b .before .before .before in let a = b .args in
     λ m lent law w. flag-done m (a .words .now) (a .counts) (a .s) (a .queue .now) lent law (a .id) (a .k) (a .x) w (a .uid .0) (a .counter) (c .put-left .result) (omega (arith, if1 .left)) (find .result) (find .ensures)
     (sym (is-stale .ensures) ∙ if2 .left) (with-counter .result) (with-counter .ensures) _ (left .result .used) _ (left .result .session) (left .result .filled) (omega (arith, if3 .left)) (c .put-left .ensures) (a .flags) (left .ensures)
 

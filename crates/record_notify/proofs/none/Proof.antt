@@ -12,17 +12,14 @@ use Rattle.record_notify.specs.NotifyNone.{none-fits, none-not}
 
 say-reply-requires : tie.Need-say-reply-requires
 say-reply-requires c κs =
-    let b = c .before .before .before in let args = b .args in
-    let pre = b .pre in
+    let b = c .before .before .before in let args = b .args in let pre = b .pre in
     let z = sizes _ _ (args .s) pre in (omega arith, omega arith)
 
 returns : tie.Need-returns
 returns c =
-    let b = c .before in let watched = b .watched in
-    let b = b .before .before in let if1 = b .if1 in
+    let b = c .before in let watched = b .watched in let b = b .before .before in let if1 = b .if1 in
     let b = b .before .before .before in let say-reply = b .say-reply in
-    let b = b .before .before .before .before in let a = b .args in
-    let pre = b .pre in
+    let b = b .before .before .before .before in let a = b .args in let pre = b .pre in
     let done = c .unmoved .ensures ∙ ap (λ (k : Counts). quiet Done k (watched .result)) (c .before .before .ending-at .ensures) in
     λ m ws lent p e.
     none-fits m ws (a .counts) (a .s) (a .queue .now) (a .text .now) lent pre p e
@@ -31,8 +28,7 @@ returns c =
 returns-2 : tie.Need-returns-2
 returns-2 c =
     let b = c .before .before .before .before in let say-reply = b .say-reply in
-    let b = b .before .before .before .before in let a = b .args in
-    let pre = b .pre in
+    let b = b .before .before .before .before in let a = b .args in let pre = b .pre in
     λ m ws lent p e.
     none-not m ws (a .counts) (a .s) (a .queue .now) (a .text .now) lent pre p e (say-reply .ensures) (c .before .if1 .left) _ (c .refused .ensures)
 

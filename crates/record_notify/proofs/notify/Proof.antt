@@ -31,10 +31,8 @@ returns : tie.Need-returns
 returns c =
     let b = c .before .before .before .before in let if1 = b .if1 in
     let b = b .before in let is-accepted = b .is-accepted in
-    let b = b .before in let notify-reply = b .notify-reply in
-    let b = b .before in let at-limits = b .limits in
-    let b = b .before in let k = b .keep-notify in
-    let b = b .before .before .before .before in let a = b .args in
+    let b = b .before in let notify-reply = b .notify-reply in let b = b .before in let at-limits = b .limits in
+    let b = b .before in let k = b .keep-notify in let b = b .before .before .before .before in let a = b .args in
     let e : wholeBy notify (a .text .now) (a .at) ≡ commandOf (a .text .now) → notify-reply .result ≡ judgedOf limits (not (eqb (a .s .selected) 0)) (commandOf (a .text .now)) = λ h.
     notify-reply .ensures ∙ (ap (λ (l : Limits). notified l (k .result .read)) (at-limits .ensures)
     ∙ (ap (notified limits) (k .ensures .exact) ∙ (notify-is limits (not (eqb (a .s .selected) 0)) (a .text .now) (a .at) ∙ ap (judgedOf limits (not (eqb (a .s .selected) 0))) h))) in
@@ -60,15 +58,11 @@ returns-2 c =
 
 returns-3 : tie.Need-returns-3
 returns-3 c =
-    let b = c .before .before .before .before in let set = b .set in
-    let b = b .before in let settled = b .settled in
+    let b = c .before .before .before .before in let set = b .set in let b = b .before in let settled = b .settled in
     let b = b .before .before .before .before .before .before in let read = b .read in
-    let b = b .before .before in let if1 = b .if1 in
-    let b = b .before in let is-accepted = b .is-accepted in
-    let b = b .before in let notify-reply = b .notify-reply in
-    let b = b .before in let at-limits = b .limits in
-    let b = b .before in let k = b .keep-notify in
-    let b = b .before .before .before .before in let a = b .args in
+    let b = b .before .before in let if1 = b .if1 in let b = b .before in let is-accepted = b .is-accepted in
+    let b = b .before in let notify-reply = b .notify-reply in let b = b .before in let at-limits = b .limits in
+    let b = b .before in let k = b .keep-notify in let b = b .before .before .before .before in let a = b .args in
     let e : wholeBy notify (a .text .now) (a .at) ≡ commandOf (a .text .now) → notify-reply .result ≡ judgedOf limits (not (eqb (a .s .selected) 0)) (commandOf (a .text .now)) = λ h.
     notify-reply .ensures ∙ (ap (λ (l : Limits). notified l (k .result .read)) (at-limits .ensures)
     ∙ (ap (notified limits) (k .ensures .exact) ∙ (notify-is limits (not (eqb (a .s .selected) 0)) (a .text .now) (a .at) ∙ ap (judgedOf limits (not (eqb (a .s .selected) 0))) h))) in
@@ -81,12 +75,9 @@ returns-3 c =
 
 returns-4 : tie.Need-returns-4
 returns-4 c =
-    let b = c .before .before .before in let if1 = b .if1 in
-    let b = b .before in let is-accepted = b .is-accepted in
-    let b = b .before in let notify-reply = b .notify-reply in
-    let b = b .before in let at-limits = b .limits in
-    let b = b .before in let k = b .keep-notify in
-    let b = b .before .before .before .before in let a = b .args in
+    let b = c .before .before .before in let if1 = b .if1 in let b = b .before in let is-accepted = b .is-accepted in
+    let b = b .before in let notify-reply = b .notify-reply in let b = b .before in let at-limits = b .limits in
+    let b = b .before in let k = b .keep-notify in let b = b .before .before .before .before in let a = b .args in
     let e : wholeBy notify (a .text .now) (a .at) ≡ commandOf (a .text .now) → notify-reply .result ≡ judgedOf limits (not (eqb (a .s .selected) 0)) (commandOf (a .text .now)) = λ h.
     notify-reply .ensures ∙ (ap (λ (l : Limits). notified l (k .result .read)) (at-limits .ensures)
     ∙ (ap (notified limits) (k .ensures .exact) ∙ (notify-is limits (not (eqb (a .s .selected) 0)) (a .text .now) (a .at) ∙ ap (judgedOf limits (not (eqb (a .s .selected) 0))) h))) in

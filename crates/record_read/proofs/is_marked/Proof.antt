@@ -16,8 +16,7 @@ returns-2 c =
 
 returns-3 : tie.Need-returns-3
 returns-3 c =
-    let b = c .before .before .before in let if1 = b .if1 in
-    let b = b .before in let args = b .args in
+    let b = c .before .before .before in let if1 = b .if1 in let b = b .before in let args = b .args in
     mark-second (args .a) (args .b) (args .o .now) (if1 .left) (c .before .if2 .left)
 
 pub is-marked-spec : {M : Type 1} → statement M

@@ -15,8 +15,7 @@ is-owed-requires c κs =
 returns : tie.Need-returns
 returns c =
     let b = c .before .before in let is-owed = b .is-owed in
-    let b = b .before .before .before .before .before .before in let args = b .args in
-    let pre = b .pre in
+    let b = b .before .before .before .before .before .before in let args = b .args in let pre = b .pre in
     λ m lent law is. let a = args in
     end-unowed m (a .words .now) (a .counts) (a .s) (a .queue .now) lent law (a .x) is (a .class) _ (pre .words) (is-owed .ensures (not-true (is-owed .result) (c .before .if1 .taken))) (c .unmoved .ensures)
 

@@ -17,10 +17,8 @@ returns-2 c = λ m q lent law w. let a = c .before .before .before .before .befo
 returns-3 : tie.Need-returns-3
 returns-3 c =
     let b = c .before .before .before .before in let select = b .select in
-    let b = b .before .before in let if2 = b .if2 in
-    let b = b .before in let is-barred = b .is-barred in
-    let b = b .before in let if1 = b .if1 in
-    let b = b .before in let is-unknown = b .is-unknown in
+    let b = b .before .before in let if2 = b .if2 in let b = b .before in let is-barred = b .is-barred in
+    let b = b .before in let if1 = b .if1 in let b = b .before in let is-unknown = b .is-unknown in
     let b = b .before .before in let args = b .args in
     λ m q lent law w. let a = args in
     select-comes m (a .words .now) (a .counts) (a .s) q lent law (a .id) (a .k) (a .x) w _ (sym (is-unknown .ensures) ∙ if1 .left)

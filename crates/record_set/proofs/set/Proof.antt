@@ -29,8 +29,7 @@ returns c =
     let b = b .before in let existing = b .existing in
     let b = b .before .before .before in let by-name = b .by-name in
     let b = b .before .before .before .before .before in let note-rows = b .note-rows in
-    let b = b .before .before .before .before .before .before in let a = b .args in
-    let pre = b .pre in
+    let b = b .before .before .before .before .before .before in let a = b .args in let pre = b .pre in
     λ m p gs lent law laid sel is first asks.
     set-noted .ensures m p (a .status) gs lent law is first asks
     (noted-set m (a .words .now) (a .counts) (a .s) (a .queue .now) lent (a .status) gs (a .asked) asks

@@ -9,8 +9,7 @@ use Rattle.search_answer.specs.Coming.{answer-comes}
 
 tell-requires : tie.Need-tell-requires
 tell-requires c κs =
-    let b = c .before .before .before .before .before .before in let a = b .args in
-    let pre = b .pre in
+    let b = c .before .before .before .before .before .before in let a = b .args in let pre = b .pre in
     let r = pre .0 in
     let z = sizes (length (a .queue .now)) (a .counts .filled) (a .s) (r .room) in
     let l = z .low in

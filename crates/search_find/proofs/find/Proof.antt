@@ -43,12 +43,9 @@ loop-less c = omega arith
 
 loop-again : tie.Need-loop-again Inv-loop μ-loop
 loop-again c =
-    let b = c .before .before in let push = b .push in
-    let b = b .before .before in let is-hit = b .is-hit in
-    let b = b .before in let entry2 = b .entry2 in
-    let b = b .before .before in let loop-test = b .loop-test in
-    let b = b .before in let loop = b .loop in
-    let b = b .before .before in let entry = b .entry in
+    let b = c .before .before in let push = b .push in let b = b .before .before in let is-hit = b .is-hit in
+    let b = b .before in let entry2 = b .entry2 in let b = b .before .before in let loop-test = b .loop-test in
+    let b = b .before in let loop = b .loop in let b = b .before .before in let entry = b .entry in
     let b = b .before .before .before .before .before .before .before in let args = b .args in
     let f = loop .inv .few in let g = loop .inv .long in sought-next (messages (args .words .now)) (args .order .now) (args .n) (args .cells .now) (args .used) (entry .result .uid) (args .uids .now) (loop .uids) (loop .k) (loop .r) (loop .inv) (loop-test .taken) (entry2 .result) (entry2 .ensures) (is-hit .result) (is-hit .ensures) (omega arith) _ (push .result) (push .ensures)
 
@@ -57,8 +54,7 @@ same-length c = c .before .loop .inv .long
 
 returns-2 : tie.Need-returns-2 Inv-loop μ-loop
 returns-2 c =
-    let b = c .before in let loop = b .loop in
-    let b = b .before .before in let entry = b .entry in
+    let b = c .before in let loop = b .loop in let b = b .before .before in let entry = b .entry in
     let b = b .before .before in let if1 = b .if1 in
     let b = b .before .before .before .before .before in let args = b .args in
     sought-end (messages (args .words .now)) (args .order .now) (args .n) (args .cells .now) (args .used) (entry .result .uid) (args .uids .now) (loop .uids) (loop .k) (loop .r) (loop .inv) (c .loop-test .left) (if1 .left) (ap (λ (e : Message). e .uid) (entry .ensures))

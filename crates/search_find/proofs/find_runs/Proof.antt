@@ -31,8 +31,7 @@ loop-holds c =
 search-row-requires : tie.Need-search-row-requires Inv-loop μ-loop
 search-row-requires c κs =
     let b = c .before .before .before .before .before in let within = b .within in
-    let b = b .before .before .before .before in let v = b .loop in
-    let b = b .before in let next2 = b .next2 in
+    let b = b .before .before .before .before in let v = b .loop in let b = b .before in let next2 = b .next2 in
     let b = b .before in let link = b .link in
     let b = b .before .before .before .before .before .before .before .before .before .before .before in let a = b .args in
     let q = b .pre in
@@ -98,8 +97,7 @@ loop-again c =
     let b = c .before in let at-uids = b .uids in
     let b = b .before .before .before .before .before in let s = b .search-row in
     let b = b .before .before .before .before .before .before in let z = b .within in
-    let b = b .before .before .before in let loop-test = b .loop-test in
-    let b = b .before in let v = b .loop in
+    let b = b .before .before .before in let loop-test = b .loop-test in let b = b .before in let v = b .loop in
     let b = b .before .before .before .before .before .before .before .before .before .before .before .before .before in let a = b .args in
     let q = b .pre in
     let es = take (a .used) (messages (a .words .now)) in

@@ -9,8 +9,7 @@ use native.Mathlib.Omega.{arith}
 find-requires : tie.Need-find-requires
 find-requires c κs =
     let b = c .before .before .before .before in let by-uid = b .by-uid in
-    let b = b .before .before .before .before .before .before .before in let a = b .args in
-    let pre = b .pre in
+    let b = b .before .before .before .before .before .before .before in let a = b .args in let pre = b .pre in
     let f = order-few (messages (a .words .now)) (a .used) (a .id) _ (by-uid .result) (by-uid .ensures) in
     (omega arith, omega arith, pre .1 .1)
 

@@ -17,8 +17,7 @@ returns c =
 returns-2 : tie.Need-returns-2
 returns-2 c =
     let b = c .before .before .before .before in let search-box = b .search-box in
-    let b = b .before .before .before in let if1 = b .if1 in
-    let b = b .before in let is-selected = b .is-selected in
+    let b = b .before .before .before in let if1 = b .if1 in let b = b .before in let is-selected = b .is-selected in
     let b = b .before .before .before .before .before .before .before in let a = b .args in
     (row-boxed (take (a .used) (messages (a .words .now))) (a .used) (a .id) (a .selected) (a .below .0) (a .cells .now) (a .filled) _ (search-box .result) (is-selected .result) (is-selected .ensures) (if1 .left) (search-box .ensures), search-box .ensures .few)
 

@@ -28,8 +28,7 @@ loop-again : tie.Need-loop-again Inv-loop μ-loop
 loop-again c =
     let b = c .before .before in let push-place = b .push-place in
     let b = b .before .before .before .before in let entry = b .entry in
-    let b = b .before .before in let loop-test = b .loop-test in
-    let b = b .before in let loop = b .loop in
+    let b = b .before .before in let loop-test = b .loop-test in let b = b .before in let loop = b .loop in
     let b = b .before .before .before .before in let args = b .args in
     let f = loop .inv .few in
     let g = loop .inv .long in
@@ -41,8 +40,7 @@ same-length c = c .before .loop .inv .long
 
 returns : tie.Need-returns Inv-loop μ-loop
 returns c =
-    let b = c .before in let loop = b .loop in
-    let b = b .before .before .before .before in let args = b .args in
+    let b = c .before in let loop = b .loop in let b = b .before .before .before .before in let args = b .args in
     keeping-end (messages (args .words .now)) (args .order .now) (args .n) (args .told .0) (args .view .now) (loop .view) (loop .i) (loop .r) (loop .inv) (c .loop-test .left)
 
 pub told-of-spec : {M : Type 1} → statement M

@@ -17,8 +17,7 @@ slice-aggregate-put-rows c = sym (length-take-le _ _ (c .before .before .before 
 put-rows-requires : tie.Need-put-rows-requires
 put-rows-requires c κs =
     let b = c .before .before .before in let tag-length = b .tag-length in
-    let b = b .before .before .before .before .before .before .before in let args = b .args in
-    let pre = b .pre in
+    let b = b .before .before .before .before .before .before .before in let args = b .args in let pre = b .pre in
     let t = tag-length .ensures in
     let s = t .short in
     let l = length-take-le (tag-length .result) (args .text .now) (t .within) in
@@ -30,8 +29,7 @@ returns : tie.Need-returns
 returns c =
     let b = c .before .before in let put-rows = b .put-rows in
     let b = b .before .before .before .before in let tag-length = b .tag-length in
-    let b = b .before .before .before .before .before .before .before in let a = b .args in
-    let pre = b .pre in
+    let b = b .before .before .before .before .before .before .before in let a = b .args in let pre = b .pre in
     let n = pre .1 .few in
     let w = put-rows .ensures .1 in
     let lines : List ℕ → List ℕ = λ t.

@@ -16,8 +16,7 @@ returns c =
 
 returns-2 : tie.Need-returns-2
 returns-2 c =
-    let b = c .before .before .before in let read = b .read in
-    let b = b .before in let if1 = b .if1 in
+    let b = c .before .before .before in let read = b .read in let b = b .before in let if1 = b .if1 in
     let b = b .before in let is-lawful = b .is-lawful in
     let b = b .before .before .before .before .before in let a = b .args in
     λ rows seen. steps-bad rows (a .lent) (a .words .now) (a .counts) (a .s) (a .queue .now) (a .octets .now) _
@@ -27,11 +26,9 @@ returns-2 c =
 
 serve-requires : tie.Need-serve-requires
 serve-requires c κs =
-    let b = c .before .before .before .before in let read = b .read in
-    let b = b .before in let if1 = b .if1 in
+    let b = c .before .before .before .before in let read = b .read in let b = b .before in let if1 = b .if1 in
     let b = b .before in let is-lawful = b .is-lawful in
-    let b = b .before .before .before .before .before in let a = b .args in
-    let p = b .pre in
+    let b = b .before .before .before .before .before in let a = b .args in let p = b .pre in
     let l = law-ready (p .0) (a .lent) (a .words .now) (a .counts) (a .s) (a .queue .now) (p .1 .long)
     (λ t w. sym (is-lawful .ensures t (p .0) (a .queue .now) w (p .1 .stands .laid) refl) ∙ not-false _ (if1 .left)) in
     (l .0, l .1, read .ensures, not-false _ (c .before .before .if2 .left))
@@ -39,10 +36,8 @@ serve-requires c κs =
 returns-3 : tie.Need-returns-3
 returns-3 c =
     let b = c .before .before .before .before in let serve = b .serve in
-    let b = b .before .before .before in let if2 = b .if2 in
-    let b = b .before .before in let read = b .read in
-    let b = b .before in let if1 = b .if1 in
-    let b = b .before in let is-lawful = b .is-lawful in
+    let b = b .before .before .before in let if2 = b .if2 in let b = b .before .before in let read = b .read in
+    let b = b .before in let if1 = b .if1 in let b = b .before in let is-lawful = b .is-lawful in
     let b = b .before .before .before .before .before in let a = b .args in
     λ rows seen. steps-served rows (a .lent) (a .words .now) (a .counts) (a .s) (a .queue .now) (a .octets .now) _ (seen .stands)
     (λ t w. sym (not-false _ (if1 .left)) ∙ is-lawful .ensures t rows (a .queue .now) w (seen .stands .laid) refl)

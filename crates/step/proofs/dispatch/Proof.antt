@@ -11,8 +11,7 @@ serve-requires : tie.Need-serve-requires
 serve-requires c κs =
     let b = c .before .before .before in let told = b .of-mailbox .given .1 in
     let b = b .before .before in let is = b .subject-of .ensures in
-    let b = b .before .before .before .before in let a = b .args in
-    let p = b .pre in
+    let b = b .before .before .before .before in let a = b .args in let p = b .pre in
     let says = says-of _ (by-subject _ is told) (p .2) in
     (p .0, in-range says, follows (rest (a .octets .now) (a .tail)) says)
 
@@ -34,8 +33,7 @@ answer-requires : tie.Need-answer-requires
 answer-requires c κs =
     let b = c .before .before .before in let told = b .enum-told .given .1 in
     let b = b .before .before in let is = b .subject-of .ensures in
-    let b = b .before .before .before .before in let a = b .args in
-    let p = b .pre in
+    let b = b .before .before .before .before in let a = b .args in let p = b .pre in
     (p .0, rw (rest (a .octets .now) (a .tail)) (command-bounds (says-of Command (by-subject S.Command is told) (p .2))))
 
 returns : tie.Need-returns
@@ -50,16 +48,14 @@ returns-2 : tie.Need-returns-2
 returns-2 c =
     let b = c .before .before .before .before in let serve = b .serve2 in
     let b = b .before .before .before in let told = b .of-message .given .1 in
-    let b = b .before .before in let is = b .subject-of .ensures in
-    let b = b .before .before .before .before in
+    let b = b .before .before in let is = b .subject-of .ensures in let b = b .before .before .before .before in
     served (b .pre .2) (by-subject _ is told) (serve .ensures)
 
 returns-3 : tie.Need-returns-3
 returns-3 c =
     let b = c .before .before .before .before in let serve = b .serve3 in
     let b = b .before .before .before in let told = b .of-session .given .1 in
-    let b = b .before .before in let is = b .subject-of .ensures in
-    let b = b .before .before .before .before in
+    let b = b .before .before in let is = b .subject-of .ensures in let b = b .before .before .before .before in
     served (b .pre .2) (by-subject _ is told) (serve .ensures)
 
 returns-4 : tie.Need-returns-4
@@ -73,8 +69,7 @@ returns-4 c =
 returns-5 : tie.Need-returns-5
 returns-5 c =
     let b = c .before in let told = b .enum-told2 .given .1 in
-    let b = b .before .before in let is = b .subject-of .ensures in
-    let b = b .before .before .before .before in
+    let b = b .before .before in let is = b .subject-of .ensures in let b = b .before .before .before .before in
     nothing (b .pre .2) (b .pre .3) (by-subject S.Nothing is told)
 
 pub dispatch-spec : {M : Type 1} → statement M

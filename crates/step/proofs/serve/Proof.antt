@@ -20,8 +20,7 @@ dispatch-requires c κs =
 returns : tie.Need-returns
 returns c =
     let b = c .before .before .before .before in let dispatch = b .dispatch in
-    let b = b .before .before .before in let x = b .row-at in
-    let b = b .before in let found = b .find in
+    let b = b .before .before .before in let x = b .row-at in let b = b .before in let found = b .find in
     let b = b .before in let id = b .sought-id in
     let b = b .before .before .before .before .before in let a = b .args in
     λ m lends law len stands.

@@ -15,16 +15,14 @@ returns c =
 
 returns-2 : tie.Need-returns-2
 returns-2 c =
-    let b = c .before .before .before .before in let a = b .args in
-    let pre = b .pre in
+    let b = c .before .before .before .before in let a = b .args in let pre = b .pre in
     let l = length-drop (a .at) (a .stream .now) in
     let f = field-at (a .stream .now) (a .at) (c .before .little .ensures) in
     cuts (a .stream .now) (a .at) _ (pre .0) (sym l ∙ size-torn (drop (a .at) (a .stream .now)) (omega arith) (omega arith))
 
 returns-3 : tie.Need-returns-3
 returns-3 c =
-    let b = c .before .before .before .before in let a = b .args in
-    let pre = b .pre in
+    let b = c .before .before .before .before in let a = b .args in let pre = b .pre in
     let l = length-drop (a .at) (a .stream .now) in
     let f = field-at (a .stream .now) (a .at) (c .before .little .ensures) in
     cuts (a .stream .now) (a .at) _ (pre .0) (f ∙ size-entire (drop (a .at) (a .stream .now)) (omega arith) (omega arith))

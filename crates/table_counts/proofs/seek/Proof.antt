@@ -18,20 +18,17 @@ loop-holds c = (search needs, others-none (c .args .ids .now) (c .args .id))
 
 returns : tie.Need-returns Inv-loop μ-loop
 returns c =
-    let b = c .before .before .before in let loop = b .loop in
-    let b = b .before in let args = b .args in
+    let b = c .before .before .before in let loop = b .loop in let b = b .before in let args = b .args in
     found (args .ids .now) (args .n) (args .id) (loop .i) (omega arith) (c .if1 .taken)
 
 loop-again : tie.Need-loop-again Inv-loop μ-loop
 loop-again c =
-    let b = c .before .before .before in let turn = b .loop in
-    let b = b .before in let args = b .args in
+    let b = c .before .before .before in let turn = b .loop in let b = b .before in let args = b .args in
     (search needs, others-next (args .ids .now) (turn .i) (args .id) (turn .inv .1) (c .if1 .left))
 
 returns-2 : tie.Need-returns-2 Inv-loop μ-loop
 returns-2 c =
-    let b = c .before in let turn = b .loop in
-    let b = b .before in let args = b .args in
+    let b = c .before in let turn = b .loop in let b = b .before in let args = b .args in
     let e : turn .i ≡ args .n = omega arith in not-found (args .ids .now) (args .n) (args .id) (rw e at (turn .inv .1))
 
 pub seek-spec : {M : Type 1} → statement M

@@ -8,17 +8,14 @@ use Rattle.table_counts.specs.Tally.{tally-gone, tally-none, tally-one}
 
 returns : tie.Need-returns
 returns c =
-    let b = c .before .before in let get = b .get in
-    let b = b .before .before .before in let args = b .args in
+    let b = c .before .before in let get = b .get in let b = b .before .before .before in let args = b .args in
     let pre = b .pre in
     rw (← get .ensures) (tally-gone (args .ids .now) (args .n) (get .result) (args .i) (args .counts .now) (pre .4) (c .if1 .taken))
 
 returns-2 : tie.Need-returns-2
 returns-2 c =
-    let b = c .before in let row-of = b .row-of in
-    let b = b .before .before .before in let get = b .get in
-    let b = b .before .before .before in let args = b .args in
-    let pre = b .pre in
+    let b = c .before in let row-of = b .row-of in let b = b .before .before .before in let get = b .get in
+    let b = b .before .before .before in let args = b .args in let pre = b .pre in
     rw (← get .ensures) (tally-none (args .ids .now) (args .n) (get .result) (args .i) (args .counts .now) (pre .4) (row-of .result) (row-of .ensures) (c .if2 .taken))
 
 add-counts : tie.Need-add-counts
@@ -28,10 +25,8 @@ add-counts c =
 
 returns-3 : tie.Need-returns-3
 returns-3 c =
-    let b = c .before .before in let row-of = b .row-of in
-    let b = b .before in let if1 = b .if1 in
-    let b = b .before .before in let get = b .get in
-    let b = b .before .before .before in let args = b .args in
+    let b = c .before .before in let row-of = b .row-of in let b = b .before in let if1 = b .if1 in
+    let b = b .before .before in let get = b .get in let b = b .before .before .before in let args = b .args in
     let pre = b .pre in
     rw (← get .ensures) (tally-one (args .ids .now) (args .n) (get .result) (args .i) (args .counts .now) (pre .4) (row-of .result) (if1 .left) (row-of .ensures) (omega arith) (omega arith))
 

@@ -27,16 +27,13 @@ tally-requires c κs =
 
 loop-again : tie.Need-loop-again Inv-loop μ-loop
 loop-again c =
-    let b = c .before .before in let tally = b .tally in
-    let b = b .before .before .before in let turn = b .loop in
-    let b = b .before .before .before in let args = b .args in
-    let pre = b .pre in
+    let b = c .before .before in let tally = b .tally in let b = b .before .before .before in let turn = b .loop in
+    let b = b .before .before .before in let args = b .args in let pre = b .pre in
     (search needs, tally .ensures .long ∙ turn .inv .1, tally .ensures .below, λ a. (let z = messages-length (args .used) (args .words .now) (pre .0) in counted-next (args .ids .now) (args .n) (messages (args .words .now)) (turn .i) (turn .counts) _ (omega arith) (tally .ensures) a (turn .inv .3 a)))
 
 returns : tie.Need-returns Inv-loop μ-loop
 returns c =
-    let b = c .before in let turn = b .loop in
-    let b = b .before .before .before in let args = b .args in
+    let b = c .before in let turn = b .loop in let b = b .before .before .before in let args = b .args in
     λ a k h. (let e : turn .i ≡ args .used = omega arith in (rw e at (turn .inv .3 a k h)) ∙ sym (existing-count (getD (args .ids .now) k 0) (take (args .used) (messages (args .words .now)))))
 
 pub tally-all-spec : {M : Type 1} → statement M

@@ -24,14 +24,12 @@ loop-holds c = let long : length (c .args .rows) ≡ 64 = search (needs, mapped-
 
 loop-again : tie.Need-loop-again Inv-loop μ-loop
 loop-again c =
-    let b = c .before .before in let turn = b .loop in
-    let b = b .before in let args = b .args in
+    let b = c .before .before in let turn = b .loop in let b = b .before in let args = b .args in
     let long : length (args .rows) ≡ 64 = search (needs, mapped-length) in (search needs, search needs, ap (λ (l : List Mailbox). set l (turn .i) (getD l (turn .i + 1) vacant)) (turn .inv .2) ∙ shift-step (args .k) (args .rows) (turn .i) vacant (omega arith) (omega arith))
 
 returns : tie.Need-returns Inv-loop μ-loop
 returns c =
-    let b = c .before .before in let turn = b .loop in
-    let b = b .before in let args = b .args in
+    let b = c .before .before in let turn = b .loop in let b = b .before in let args = b .args in
     let long : length (args .rows) ≡ 64 = search (needs, mapped-length) in rw (c .vacant .ensures, turn .inv .2) (shift-end (args .k) (args .n) (turn .i) (args .rows) (omega arith) (omega arith) (omega arith))
 
 pub close-up-spec : {M : Type 1} → statement M

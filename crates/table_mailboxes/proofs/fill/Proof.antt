@@ -24,11 +24,9 @@ loop-holds c =
 
 loop-again : tie.Need-loop-again Inv-loop μ-loop
 loop-again c =
-    let b = c .before .before in let named = b .keep-name in
-    let b = b .before .before in let joined = b .joined in
+    let b = c .before .before in let named = b .keep-name in let b = b .before .before in let joined = b .joined in
     let b = b .before in let wide-number2 = b .wide-number2 in
-    let b = b .before in let wide-number = b .wide-number in
-    let b = b .before in let wide-id = b .wide-id in
+    let b = b .before in let wide-number = b .wide-number in let b = b .before in let wide-id = b .wide-id in
     let b = b .before .before .before .before in let turn = b .loop in
     let b = b .before .before .before .before .before .before .before .before .before .before .before .before in let args = b .args in
     let long : length (args .t1) ≡ 64 = search (needs, mapped-length) in

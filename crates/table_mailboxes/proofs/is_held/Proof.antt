@@ -25,8 +25,7 @@ loop-holds c = (search needs, λ l h p q r. refl)
 
 returns : tie.Need-returns Inv-loop μ-loop
 returns c =
-    let b = c .before .before .before in let turn = b .loop in
-    let b = b .before .before in let args = b .args in
+    let b = c .before .before .before in let turn = b .loop in let b = b .before .before in let args = b .args in
     λ l h p q r.
     let at = holds-at l (args .ids .now) (args .lens .now) (args .names .now) (turn .i) (args .id) (args .name .now) p q r (omega arith) in
     sym (turn .inv .1 l h p q r ∙ any-found (holds (args .id) (args .name .now)) l (turn .i) noMailbox (omega arith) (sym (c .before .is-another .ensures ∙ at) ∙ c .if1 .taken))
@@ -43,8 +42,7 @@ loop-again c =
 
 returns-2 : tie.Need-returns-2 Inv-loop μ-loop
 returns-2 c =
-    let b = c .before in let turn = b .loop in
-    let b = b .before .before in let args = b .args in
+    let b = c .before in let turn = b .loop in let b = b .before .before in let args = b .args in
     λ l h p q r. sym (turn .inv .1 l h p q r ∙ any-over (holds (args .id) (args .name .now)) l (turn .i) (omega arith))
 
 pub is-held-spec : {M : Type 1} → statement M

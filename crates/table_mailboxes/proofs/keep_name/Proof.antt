@@ -20,8 +20,7 @@ loop-holds c = (search needs, search needs, refl, paste-zero (c .args .names .no
 
 loop-again : tie.Need-loop-again Inv-loop μ-loop
 loop-again c =
-    let b = c .before in let turn = b .loop in
-    let b = b .before in let args = b .args in
+    let b = c .before in let turn = b .loop in let b = b .before in let args = b .args in
     let long : length (args .names .now) ≡ 4096 = search needs in
     let wide : length (args .t3) ≡ 64 = search needs in (
       search needs,

@@ -7,8 +7,7 @@ use Rattle.table_messages.specs.Counted.{one-other, one-gone, one-here}
 
 returns : tie.Need-returns
 returns c =
-    let b = c .before .before in let get = b .get in
-    let b = b .before .before in let args = b .args in
+    let b = c .before .before in let get = b .get in let b = b .before .before in let args = b .args in
     (one-other (args .mailbox) (get .result) _ (get .ensures) (c .if1 .taken), omega arith)
 
 returns-2 : tie.Need-returns-2

@@ -22,8 +22,7 @@ loop-holds c = let a = c .before .args in (search needs, first-start (stands (a 
 
 returns : tie.Need-returns Inv-loop μ-loop
 returns c =
-    let b = c .before .before .before in let o = b .loop in
-    let b = b .before .before in let a = b .args in
+    let b = c .before .before .before in let o = b .loop in let b = b .before .before in let a = b .args in
     let pre = b .pre in
     let k = messages-length (a .used) (a .words .now) pre in
     let l = length-take-le (a .used) (messages (a .words .now)) k in
@@ -33,8 +32,7 @@ returns c =
 
 loop-again : tie.Need-loop-again Inv-loop μ-loop
 loop-again c =
-    let b = c .before .before .before in let o = b .loop in
-    let b = b .before .before in let a = b .args in
+    let b = c .before .before .before in let o = b .loop in let b = b .before .before in let a = b .args in
     let pre = b .pre in
     let k = messages-length (a .used) (a .words .now) pre in
     let l = length-take-le (a .used) (messages (a .words .now)) k in
@@ -45,9 +43,7 @@ loop-again c =
 
 returns-2 : tie.Need-returns-2 Inv-loop μ-loop
 returns-2 c =
-    let b = c .before in let o = b .loop in
-    let b = b .before .before in let a = b .args in
-    let pre = b .pre in
+    let b = c .before in let o = b .loop in let b = b .before .before in let a = b .args in let pre = b .pre in
     let k = messages-length (a .used) (a .words .now) pre in
     let l = length-take-le (a .used) (messages (a .words .now)) k in
     first-none (stands (a .mailbox) (a .uid .0)) (take (a .used) (messages (a .words .now))) (o .i) (omega arith) (omega arith) (o .inv .1)

@@ -20,14 +20,12 @@ loop-holds c = (search needs, search needs, down-start (c .args .words .now))
 
 loop-again : tie.Need-loop-again Inv-loop μ-loop
 loop-again c =
-    let b = c .before .before in let o = b .loop in
-    let b = b .before in let args = b .args in
+    let b = c .before .before in let o = b .loop in let b = b .before in let args = b .args in
     (search needs, search needs, rw (o .inv .2) (down-next (args .words .now) (o .i) (omega arith)))
 
 returns : tie.Need-returns Inv-loop μ-loop
 returns c =
-    let b = c .before in let o = b .loop in
-    let b = b .before in let args = b .args in
+    let b = c .before in let o = b .loop in let b = b .before in let args = b .args in
     let e : o .i ≡ args .n = omega arith in
     o .inv .2 ∙ ap (over (drop 6 (args .words .now)) (args .words .now)) e
 

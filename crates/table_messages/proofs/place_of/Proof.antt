@@ -24,8 +24,7 @@ add-n c = omega (arith, c .before-one .ensures .1)
 
 loop-again : tie.Need-loop-again Inv-loop μ-loop
 loop-again c =
-    let b = c .before .before in let loop = b .loop in
-    let b = b .before .before in let args = b .args in
+    let b = c .before .before in let loop = b .loop in let b = b .before .before in let args = b .args in
     let ws = args .words .now in
     let pre = b .pre in (
       search needs,
@@ -35,8 +34,7 @@ loop-again c =
 
 returns : tie.Need-returns Inv-loop μ-loop
 returns c =
-    let b = c .before in let loop = b .loop in
-    let b = b .before .before in let args = b .args in
+    let b = c .before in let loop = b .loop in let b = b .before .before in let args = b .args in
     place-end (before (args .mailbox) (args .told .0) (args .uid .0)) (messages (args .words .now)) (loop .i) (args .used) (loop .n) (omega arith) (loop .inv .2)
 
 pub place-of-spec : {M : Type 1} → statement M

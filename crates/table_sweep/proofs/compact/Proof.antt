@@ -26,15 +26,13 @@ move-one-requires c κs = (c .before .before .loop .inv .2 .most, search needs)
 loop-again : tie.Need-loop-again Inv-loop μ-loop
 loop-again c =
     let b = c .before .before .before .before .before in let loop = b .loop in
-    let b = b .before .before in let a = b .args in
-    let pre = b .pre in
+    let b = b .before .before in let a = b .args in let pre = b .pre in
     let k = messages-length (a .used) (a .words .now) pre in
     (search needs, search needs, c .before .before .move-one .ensures .moved (a .words .now) (omega arith) (loop .inv .2))
 
 returns : tie.Need-returns Inv-loop μ-loop
 returns c =
-    let b = c .before in let o = b .loop in
-    let b = b .before .before in let a = b .args in
+    let b = c .before in let o = b .loop in let b = b .before .before in let a = b .args in
     passed (a .sweep) (a .words .now) (o .words) (o .i) (o .o) (a .used) (omega arith) (o .inv .2)
 
 pub compact-spec : {M : Type 1} → statement M

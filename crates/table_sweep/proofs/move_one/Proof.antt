@@ -11,18 +11,14 @@ use Rattle.table_sweep.specs.Swept.{passing-go, passing-rest, passing-st
 
 returns : tie.Need-returns
 returns c =
-    let b = c .before .before in let get = b .get in
-    let b = b .before .before .before in let a = b .args in
+    let b = c .before .before in let get = b .get in let b = b .before .before .before in let a = b .args in
     record { moved = λ vs h p. passing-go (a .sweep) vs (a .words .now) (a .i) (a .o) p h (get .result) (get .ensures) (sym (c .before .is-gone .ensures) ∙ c .if1 .taken) }
 
 returns-2 : tie.Need-returns-2
 returns-2 c =
-    let b = c .before .before .before .before in let x = b .calmed in
-    let b = b .before in let if1 = b .if1 in
-    let b = b .before in let is-gone = b .is-gone in
-    let b = b .before in let e = b .get in
-    let b = b .before .before .before in let a = b .args in
-    let pre = b .pre in
+    let b = c .before .before .before .before in let x = b .calmed in let b = b .before in let if1 = b .if1 in
+    let b = b .before in let is-gone = b .is-gone in let b = b .before in let e = b .get in
+    let b = b .before .before .before in let a = b .args in let pre = b .pre in
     let t = sym (c .before .both .ensures) ∙ c .if2 .taken in
     record {
       moved = λ vs h p. passing-rest (a .sweep) vs (a .words .now) (a .i) (a .o) p h (e .result) (e .ensures) (x .result) (x .ensures) (sym (is-gone .ensures) ∙ if1 .left)
@@ -32,10 +28,8 @@ returns-2 c =
 returns-3 : tie.Need-returns-3
 returns-3 c =
     let b = c .before .before .before .before .before .before .before .before in let calmed = b .calmed in
-    let b = b .before in let if1 = b .if1 in
-    let b = b .before in let is-gone = b .is-gone in
-    let b = b .before in let get = b .get in
-    let b = b .before .before .before in let a = b .args in
+    let b = b .before in let if1 = b .if1 in let b = b .before in let is-gone = b .is-gone in
+    let b = b .before in let get = b .get in let b = b .before .before .before in let a = b .args in
     record {
       moved =
           λ vs h p.

@@ -9,8 +9,7 @@ use Rattle.table_sweep.specs.Swept.{kept, settled, unsettled}
 
 returns : tie.Need-returns
 returns c =
-    let b = c .before .before .before in let args = b .args in
-    let pre = b .pre in
+    let b = c .before .before .before in let args = b .args in let pre = b .pre in
     unsettled (args .sweep) (args .words .now) (args .used) pre (sym (c .before .is-idle .ensures) ∙ c .if1 .taken)
 
 returns-2 : tie.Need-returns-2

@@ -23,8 +23,7 @@ loop-holds c =
 loop-again : tie.Need-loop-again Inv-loop μ-loop
 loop-again c =
     let b = c .before .before .before in let nothing = b .nothing in
-    let b = b .before .before .before in let o = b .loop in
-    let b = b .before .before in let a = b .args in
+    let b = b .before .before .before in let o = b .loop in let b = b .before .before in let a = b .args in
     let pre = b .pre in
     let k = messages-length (a .upto) (a .words .now) (pre .1) in (
       search needs,
@@ -35,8 +34,7 @@ loop-again c =
 
 returns : tie.Need-returns Inv-loop μ-loop
 returns c =
-    let b = c .before in let o = b .loop in
-    let b = b .before .before in let a = b .args in
+    let b = c .before in let o = b .loop in let b = b .before .before in let a = b .args in
     wiping-end (a .words .now) (a .from) (o .words) (o .j) (a .upto) (omega arith) (o .inv .3)
 
 pub wipe-spec : {M : Type 1} → statement M

@@ -13,8 +13,7 @@ made i a v k n = record { id = i; attributes = a; namelen = n .len; uidvalidity 
 
 returns : tie.Need-returns
 returns c =
-    let b = c .before .before .before in let stored = b .stored in
-    let b = b .before .before in let a = b .args in
+    let b = c .before .before .before in let stored = b .stored in let b = b .before .before in let a = b .args in
     rw (c .before .low-half .ensures, c .high-half .ensures) (ap (made (a .id) (a .a) (a .validity) (a .counter)) (stored .ensures))
 
 pub new-box-spec : {M : Type 1} → statement M

@@ -9,8 +9,7 @@ use Rattle.event_mailbox.specs.Free.{create-free}
 
 tell-row-requires : tie.Need-tell-row-requires
 tell-row-requires c κs =
-    let b = c .before .before .before in let a = b .args in
-    let pre = b .pre in
+    let b = c .before .before .before in let a = b .args in let pre = b .pre in
     let z = sizes _ _ _ pre in
     (omega arith, omega arith, omega arith, λ e. create-free _ _ _ pre (a .x) (a .quiet) (sym (c .before .create-told .ensures) ∙ e))
 

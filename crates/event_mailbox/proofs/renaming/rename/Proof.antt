@@ -12,8 +12,7 @@ use Rattle.event_mailbox.specs.Renaming.{rename-leaves}
 tell-rows-requires : tie.Need-tell-rows-requires
 tell-rows-requires c κs =
     let b = c .before .before .before in let with-name = b .with-name in
-    let b = b .before .before .before in let a = b .args in
-    let pre = b .pre in
+    let b = b .before .before .before in let a = b .args in let pre = b .pre in
     let z = sizes _ _ _ pre in (
       omega arith,
       omega arith,
@@ -25,10 +24,8 @@ tell-rows-requires c κs =
 returns : tie.Need-returns
 returns c =
     let b = c .before .before .before in let tell-rows = b .tell-rows in
-    let b = b .before .before in let mark-of = b .mark-of in
-    let b = b .before in let rename-told = b .rename-told in
-    let b = b .before in let with-name = b .with-name in
-    let b = b .before .before .before in let a = b .args in
+    let b = b .before .before in let mark-of = b .mark-of in let b = b .before in let rename-told = b .rename-told in
+    let b = b .before in let with-name = b .with-name in let b = b .before .before .before in let a = b .args in
     rename-leaves (a .queue .now) (a .s) (a .filled) (a .x) (argument (a .name .now)) (a .quiet)
     (with-name .ensures) (rename-told .ensures)
     (mark-of .ensures) (tell-rows .ensures)

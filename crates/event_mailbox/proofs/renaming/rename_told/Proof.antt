@@ -20,8 +20,7 @@ returns-2 c = let a = c .before .before .before .args in
 
 returns-3 : tie.Need-returns-3
 returns-3 c =
-    let b = c .before .before .before in let has-rights = b .has-rights in
-    let b = b .before in let if1 = b .if1 in
+    let b = c .before .before .before in let has-rights = b .has-rights in let b = b .before in let if1 = b .if1 in
     let b = b .before in let a = b .args in
     told-old (eqb (a .quiet) 0) (bothRights (a .x)) (askedOf (a .s) (a .x) asksName) (askedOf (a .s) (a .y) asksName)
     (eq-eqb _ 0 (if1 .left))
@@ -30,10 +29,8 @@ returns-3 c =
 
 returns-4 : tie.Need-returns-4
 returns-4 c =
-    let b = c .before .before .before in let if2 = b .if2 in
-    let b = b .before in let has-rights = b .has-rights in
-    let b = b .before in let if1 = b .if1 in
-    let b = b .before in let a = b .args in
+    let b = c .before .before .before in let if2 = b .if2 in let b = b .before in let has-rights = b .has-rights in
+    let b = b .before in let if1 = b .if1 in let b = b .before in let a = b .args in
     told-new (eqb (a .quiet) 0) (bothRights (a .x)) (askedOf (a .s) (a .x) asksName) (askedOf (a .s) (a .y) asksName) _
     (eq-eqb _ 0 (if1 .left))
     (sym (has-rights .ensures) ∙ not-false _ (if2 .left))

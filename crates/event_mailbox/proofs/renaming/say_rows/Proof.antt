@@ -14,10 +14,8 @@ slice-aggregate-say-renamed-2 c = let lx = c .before .before .before .name-end2 
 
 say-renamed-requires : tie.Need-say-renamed-requires
 say-renamed-requires c κs =
-    let b = c .before .before .before in let x = b .name-end2 in
-    let b = b .before in let y = b .name-end in
-    let b = b .before .before .before .before in let a = b .args in
-    let pre = b .pre in
+    let b = c .before .before .before in let x = b .name-end2 in let b = b .before in let y = b .name-end in
+    let b = b .before .before .before .before in let a = b .args in let pre = b .pre in
     let p = length-take-le (y .result) (a .y .name) (omega (arith, y .ensures .0, y .ensures .1)) in
     let q = length-take-le (x .result) (a .x .name) (omega (arith, x .ensures .0, x .ensures .1)) in
     omega (arith, p, q, y .ensures .0, x .ensures .0, pre)

@@ -22,16 +22,14 @@ say-rows-requires c κs =
 returns-2 : tie.Need-returns-2
 returns-2 c =
     let b = c .before .before .before in let say-rows = b .say-rows in
-    let b = b .before .before in let if1 = b .if1 in
-    let b = b .before .before in let a = b .args in
+    let b = b .before .before in let if1 = b .if1 in let b = b .before .before in let a = b .args in
     hears-fits (a .queue .now) (a .s) (a .filled) (a .on) (render (renamed (markOf (a .mark)) (nameOf (a .y)) (nameOf (a .x)))) _ _
     (not-false _ (if1 .left)) (rw (c .if2 .taken) at (say-rows .ensures))
 
 returns-3 : tie.Need-returns-3
 returns-3 c =
     let b = c .before .before .before .before in let say-rows = b .say-rows in
-    let b = b .before .before in let if1 = b .if1 in
-    let b = b .before .before in let a = b .args in
+    let b = b .before .before in let if1 = b .if1 in let b = b .before .before in let a = b .args in
     rw (c .silence .ensures)
     (hears-over (a .queue .now) (a .s) (a .filled) (a .on) (render (renamed (markOf (a .mark)) (nameOf (a .y)) (nameOf (a .x)))) _ _
     (not-false _ (if1 .left)) (rw (c .before .if2 .left) at (say-rows .ensures)))

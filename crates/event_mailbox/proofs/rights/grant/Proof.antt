@@ -11,8 +11,7 @@ use Rattle.event_mailbox.specs.Rights.{grant-leaves}
 tell-row-requires : tie.Need-tell-row-requires
 tell-row-requires c κs =
     let b = c .before .before .before in let with-rights = b .with-rights in
-    let b = b .before .before in let a = b .args in
-    let pre = b .pre in
+    let b = b .before .before in let a = b .args in let pre = b .pre in
     let z = sizes _ _ _ (pre .0) in (
       omega arith,
       omega arith,
@@ -25,8 +24,7 @@ returns : tie.Need-returns
 returns c =
     let b = c .before .before .before in let tell-row = b .tell-row in
     let b = b .before .before in let grant-mark = b .grant-mark in
-    let b = b .before in let grant-told = b .grant-told in
-    let b = b .before in let with-rights = b .with-rights in
+    let b = b .before in let grant-told = b .grant-told in let b = b .before in let with-rights = b .with-rights in
     let b = b .before .before in let a = b .args in
     grant-leaves (a .queue .now) (a .s) (a .filled) (a .x) (a .rights)
     (with-rights .ensures) (grant-told .ensures)

@@ -7,15 +7,13 @@ use Rattle.event_mailbox.specs.Rights.{grant-kept, grant-lost, grant-gai
 
 returns : tie.Need-returns
 returns c =
-    let b = c .before .before .before in let has = b .has in
-    let b = b .before in let a = b .args in
+    let b = c .before .before .before in let has = b .has in let b = b .before in let a = b .args in
     grant-kept (a .s) (a .x) (a .y) (sym (has .ensures) ∙ c .before .before .if1 .taken)
     (sym (c .before .has2 .ensures) ∙ c .if2 .taken)
 
 returns-2 : tie.Need-returns-2
 returns-2 c =
-    let b = c .before .before .before in let if1 = b .if1 in
-    let b = b .before in let has = b .has in
+    let b = c .before .before .before in let if1 = b .if1 in let b = b .before in let has = b .has in
     let b = b .before in let a = b .args in
     c .noticed .ensures ∙ grant-lost (a .s) (a .x) (a .y)
     (sym (has .ensures) ∙ if1 .taken)
@@ -23,8 +21,7 @@ returns-2 c =
 
 returns-3 : tie.Need-returns-3
 returns-3 c =
-    let b = c .before .before .before in let if1 = b .if1 in
-    let b = b .before in let has = b .has in
+    let b = c .before .before .before in let if1 = b .if1 in let b = b .before in let has = b .has in
     let b = b .before in let a = b .args in
     c .noticed2 .ensures ∙ grant-gained (a .s) (a .x) (a .y)
     (sym (has .ensures) ∙ if1 .left)
@@ -32,8 +29,7 @@ returns-3 c =
 
 returns-4 : tie.Need-returns-4
 returns-4 c =
-    let b = c .before .before .before in let has = b .has in
-    let b = b .before in let a = b .args in
+    let b = c .before .before .before in let has = b .has in let b = b .before in let a = b .args in
     grant-none (a .s) (a .x) (a .y) (sym (has .ensures) ∙ c .before .before .if1 .left)
     (sym (c .before .has3 .ensures) ∙ c .if3 .left)
 

@@ -10,8 +10,7 @@ use Rattle.event_mailbox.specs.Subscriptions.{subscribe-leaves}
 
 tell-row-requires : tie.Need-tell-row-requires
 tell-row-requires c κs =
-    let b = c .before .before .before .before .before .before in let a = b .args in
-    let pre = b .pre in
+    let b = c .before .before .before .before .before .before in let a = b .args in let pre = b .pre in
     let z = sizes _ _ _ (pre .0) in (
       omega arith,
       omega arith,

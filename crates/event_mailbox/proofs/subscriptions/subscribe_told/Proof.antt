@@ -32,12 +32,9 @@ returns-3 c = let a = c .before .before .before .before .before .args in
 
 returns-4 : tie.Need-returns-4
 returns-4 c =
-    let b = c .before .before .before in let if3 = b .if3 in
-    let b = b .before in let has-rights = b .has-rights in
-    let b = b .before in let if2 = b .if2 in
-    let b = b .before in let does-differ = b .does-differ in
-    let b = b .before in let if1 = b .if1 in
-    let b = b .before in let a = b .args in
+    let b = c .before .before .before in let if3 = b .if3 in let b = b .before in let has-rights = b .has-rights in
+    let b = b .before in let if2 = b .if2 in let b = b .before in let does-differ = b .does-differ in
+    let b = b .before in let if1 = b .if1 in let b = b .before in let a = b .args in
     rung-four (eqb (a .quiet) 0) (differs (a .x .attributes) (a .b)) (bothRights (a .x))
     (asked (a .s) (nameOf (a .x)) (withSubscribed (a .x .attributes) 1) asksSubscription) _
     (eq-eqb _ 0 (if1 .left))

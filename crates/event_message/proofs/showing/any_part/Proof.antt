@@ -23,8 +23,7 @@ loop-holds c = refl
 returns : tie.Need-returns Inv-loop μ-loop
 returns c =
     let b = c .before .before .before .before in let loop = b .loop in
-    let b = b .before in let groups = b .standing in
-    let b = b .before in let a = b .args in
+    let b = b .before in let groups = b .standing in let b = b .before in let a = b .args in
     let long : length (a .t1 .groups) ≡ 8 = search (needs, mapped-length) in
     let n = groups .result in
     let here = sym (c .before .has-part .ensures) ∙ c .if1 .taken in
@@ -34,8 +33,7 @@ returns c =
 loop-again : tie.Need-loop-again Inv-loop μ-loop
 loop-again c =
     let b = c .before .before .before .before in let loop = b .loop in
-    let b = b .before in let groups = b .standing in
-    let b = b .before in let a = b .args in
+    let b = b .before in let groups = b .standing in let b = b .before in let a = b .args in
     let long : length (a .t1 .groups) ≡ 8 = search (needs, mapped-length) in
     let on = sym (c .before .has-part .ensures) ∙ c .if1 .left in
     loop .inv ∙ any-next (partAs (a .k)) (a .t1 .groups) (groups .result) (loop .i) (omega arith) vacantGroup (omega arith) on

@@ -41,8 +41,7 @@ returns-3 c =
     let b = c .before .before .before .before in let put-fetch2 = b .put-fetch2 in
     let b = b .before .before in let if2 = b .if2 in
     let b = b .before .before .before in let put-fetch = b .put-fetch in
-    let b = b .before .before in let if1 = b .if1 in
-    let b = b .before .before .before in let args = b .args in
+    let b = b .before .before in let if1 = b .if1 in let b = b .before .before .before in let args = b .args in
     let text = fetchText (args .n .0) (args .uid .0) (args .flags) (args .counter) in
     let state = stateOf (args .queue .now) (args .g) in (
       say-fits (args .queue .now) _ (args .limit) (args .uid .0) text state (put-fetch .result) refl (put-fetch .ensures .0) _ (put-fetch2 .result)

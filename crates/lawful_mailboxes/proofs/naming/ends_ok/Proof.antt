@@ -28,8 +28,7 @@ returns-6 c = λ z. tf false z refl
 
 returns-7 : tie.Need-returns-7
 returns-7 c =
-    let b = c .before .before .before .before in let if4 = b .if4 in
-    let b = b .before .before in let if3 = b .if3 in
+    let b = c .before .before .before .before in let if4 = b .if4 in let b = b .before .before in let if3 = b .if3 in
     λ z.
     record {
       some = omega arith;

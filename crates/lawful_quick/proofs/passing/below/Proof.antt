@@ -25,8 +25,7 @@ returns c = λ z. tf false z refl
 
 loop-again : tie.Need-loop-again Inv-loop μ-loop
 loop-again c =
-    let b = c .before .before .before .before in let loop = b .loop in
-    let b = b .before in let args = b .args in
+    let b = c .before .before .before .before in let loop = b .loop in let b = b .before in let args = b .args in
     (search needs, all-below (λ (k : ℕ). getD (args .last .now) k 0 < getD (args .nexts .now) k 0) (loop .i) (loop .inv .1) (omega arith))
 
 returns-2 : tie.Need-returns-2 Inv-loop μ-loop

@@ -22,8 +22,7 @@ loop-holds c = (search needs, refl)
 
 loop-again : tie.Need-loop-again Inv-loop μ-loop
 loop-again c =
-    let b = c .before .before in let turn = b .loop in
-    let b = b .before .before in let a = b .args in
+    let b = c .before .before in let turn = b .loop in let b = b .before .before in let a = b .args in
     let long : length (a .names .now) ≡ 4096 = search needs in
     let z : 0 + turn .j ≡ turn .j = omega arith in
     let some = length-drop (64 * a .k) (a .names .now) in
@@ -31,8 +30,7 @@ loop-again c =
 
 returns : tie.Need-returns Inv-loop μ-loop
 returns c =
-    let b = c .before in let loop = b .loop in
-    let b = b .before .before in let args = b .args in
+    let b = c .before in let loop = b .loop in let b = b .before .before in let args = b .args in
     let z : loop .j ≡ 64 = omega arith in
     rw z at (loop .inv .1) ∙ append-nil (block (args .names .now) (args .k))
 

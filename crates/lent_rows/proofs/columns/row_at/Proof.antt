@@ -11,12 +11,10 @@ returns c = λ l n w. c .vacant .ensures ∙ row-none l (c .before .before .args
 
 returns-2 : tie.Need-returns-2
 returns-2 c =
-    let b = c .before .before in let low = b .low-half in
-    let b = b .before .before in let next = b .narrow-number2 in
+    let b = c .before .before in let low = b .low-half in let b = b .before .before in let next = b .narrow-number2 in
     let b = b .before .before in let validity = b .narrow-number in
     let b = b .before .before .before .before in let id = b .narrow-id in
-    let b = b .before .before in let name = b .octets-of in
-    let b = b .before .before in let a = b .args in
+    let b = b .before .before in let name = b .octets-of in let b = b .before .before in let a = b .args in
     let high = c .high-half in
     λ l n w. row-stands w (a .k) (id .result) (validity .result) (next .result) (low .result) (high .result) (name .result) (omega arith) (id .ensures) (validity .ensures) (next .ensures) (low .ensures) (high .ensures) (name .ensures)
 

@@ -9,14 +9,12 @@ use Rattle.line_message.specs.Parts.{puts-none, puts-some, not-new, not-
 
 returns : tie.Need-returns
 returns c =
-    let b = c .before .before .before .before in let a = b .args in
-    let pre = b .pre in
+    let b = c .before .before .before .before in let a = b .args in let pre = b .pre in
     puts-none _ _ _ _ _ _ (pre .0) refl (not-new (a .told .0) (a .n .0) (a .e) (a .w) (c .if1 .taken)) (not-new-next (a .told .0) (a .n .0) (a .e) (a .w) (c .if1 .taken))
 
 returns-2 : tie.Need-returns-2
 returns-2 c =
-    let b = c .before .before in let put-new = b .put-new in
-    let b = b .before .before .before in let if1 = b .if1 in
+    let b = c .before .before in let put-new = b .put-new in let b = b .before .before .before in let if1 = b .if1 in
     let b = b .before .before .before .before in let a = b .args in
     puts-some _ _ _ _ _ _ _ _ (put-new .ensures .0) (omega (arith, put-new .ensures .1)) (is-new (a .told .0) (a .n .0) (a .e) (a .w) (if1 .left)) (is-new-next (a .told .0) (a .n .0) (a .e) (a .w) (if1 .left))
 

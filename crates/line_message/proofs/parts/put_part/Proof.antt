@@ -26,18 +26,15 @@ put-one-requires c κs = let o = c .before .before .before .before .loop in (ome
 loop-again : tie.Need-loop-again Inv-loop μ-loop
 loop-again c =
     let b = c .before .before .before in let put-one = b .put-one in
-    let b = b .before .before in let entry = b .entry in
-    let b = b .before .before in let loop-test = b .loop-test in
-    let b = b .before in let o = b .loop in
-    let b = b .before .before .before .before in let a = b .args in
+    let b = b .before .before in let entry = b .entry in let b = b .before .before in let loop-test = b .loop-test in
+    let b = b .before in let o = b .loop in let b = b .before .before .before .before in let a = b .args in
     let p = put-one .ensures in
     let m = next-most (a .told .0) (o .next .0) (entry .result) (a .part) in
     (omega arith, p .put .same ∙ o .inv .1, omega (arith, p .short), omega (arith, p .next), part-next (a .part) (a .told .0) (messages (a .words .now)) (a .order .now) (a .queue .now) (a .at) (a .limit) _ (o .queue) (o .end) (o .j) (o .next .0) (entry .result) _ _ _ (loop-test .taken) (o .inv .4) (entry .ensures) (p .put) (p .next))
 
 returns : tie.Need-returns Inv-loop μ-loop
 returns c =
-    let b = c .before in let o = b .loop in
-    let b = b .before .before .before .before in let a = b .args in
+    let b = c .before in let o = b .loop in let b = b .before .before .before .before in let a = b .args in
     (part-end (a .part) (a .told .0) (messages (a .words .now)) (a .order .now) (a .queue .now) (a .at) (a .limit) _ (o .queue) (o .end) (o .j) (o .next .0) (omega arith) (omega arith) (o .inv .4), omega arith)
 
 pub put-part-spec : {M : Type 1} → statement M

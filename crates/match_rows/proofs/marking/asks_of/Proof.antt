@@ -10,8 +10,7 @@ returns c = rw (not-true (c .before .before .before .args .messages) (c .before 
 
 returns-2 : tie.Need-returns-2
 returns-2 c =
-    let b = c .before .before in let has = b .has in
-    let b = b .before in let if1 = b .if1 in
+    let b = c .before .before in let has = b .has in let b = b .before in let if1 = b .if1 in
     rw (not-true (b .before .args .messages) (if1 .taken), sym (has .ensures) ∙ c .before .if2 .left) (c .has2 .ensures)
 
 returns-3 : tie.Need-returns-3
@@ -19,8 +18,7 @@ returns-3 c = rw (not-false (c .before .before .before .args .messages) (c .befo
 
 returns-4 : tie.Need-returns-4
 returns-4 c =
-    let b = c .before .before .before in let has3 = b .has3 in
-    let b = b .before in let if1 = b .if1 in
+    let b = c .before .before .before in let has3 = b .has3 in let b = b .before in let if1 = b .if1 in
     rw (
       not-false (b .before .args .messages) (if1 .left),
       sym (has3 .ensures) ∙ c .before .before .if3 .left,
@@ -29,10 +27,8 @@ returns-4 c =
 
 returns-5 : tie.Need-returns-5
 returns-5 c =
-    let b = c .before .before in let has4 = b .has4 in
-    let b = b .before in let if3 = b .if3 in
-    let b = b .before in let has3 = b .has3 in
-    let b = b .before in let if1 = b .if1 in
+    let b = c .before .before in let has4 = b .has4 in let b = b .before in let if3 = b .if3 in
+    let b = b .before in let has3 = b .has3 in let b = b .before in let if1 = b .if1 in
     rw (
       not-false (b .before .args .messages) (if1 .left),
       sym (has3 .ensures) ∙ if3 .left,

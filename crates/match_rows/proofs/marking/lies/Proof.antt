@@ -15,17 +15,14 @@ returns c =
 
 returns-2 : tie.Need-returns-2
 returns-2 c =
-    let b = c .before in let has = b .has in
-    let b = b .before .before in let if1 = b .if1 in
+    let b = c .before in let has = b .has in let b = b .before .before in let if1 = b .if1 in
     let args = b .before .before .before .before .args in
     rw (not-false (args .deep) (if1 .left), sym (has .ensures) ∙ not-true (has .result) (c .if2 .taken))
 
 returns-3 : tie.Need-returns-3
 returns-3 c =
-    let b = c .before .before .before in let has = b .has in
-    let b = b .before .before in let if1 = b .if1 in
-    let b = b .before in let name-end = b .name-end in
-    let b = b .before .before .before in let args = b .args in
+    let b = c .before .before .before in let has = b .has in let b = b .before .before in let if1 = b .if1 in
+    let b = b .before in let name-end = b .name-end in let b = b .before .before .before in let args = b .args in
     let long : length (args .names .now) ≡ 4096 = search needs in
     rw (
       not-false (args .deep) (if1 .left),

@@ -18,8 +18,7 @@ returns c =
 
 returns-2 : tie.Need-returns-2
 returns-2 c =
-    let b = c .before .before .before .before in let if1 = b .if1 in
-    let b = b .before in let asks-of = b .asks-of in
+    let b = c .before .before .before .before in let if1 = b .if1 in let b = b .before in let asks-of = b .asks-of in
     let a = b .before .before .args in
     let asking = sym (asks-of .ensures) ∙ not-false _ (if1 .left) in
     λ k h. c .before .before .mark-met .ensures k h

@@ -21,8 +21,7 @@ returns c =
 
 returns-2 : tie.Need-returns-2
 returns-2 c =
-    let b = c .before .before .before in let q = b .q in
-    let b = b .before .before in let digits-at = b .digits-at in
+    let b = c .before .before .before in let q = b .q in let b = b .before .before in let digits-at = b .digits-at in
     let b = b .before .before in let args = b .args in
     record {
       exact = date-no-dash (args .text .now) (args .at) _ (sym (q .given .1) ∙ digits-at .ensures .exact)
@@ -39,10 +38,8 @@ add-month-at c =
 
 returns-3 : tie.Need-returns-3
 returns-3 c =
-    let b = c .before .before .before in let if1 = b .if1 in
-    let b = b .before in let octet-at = b .octet-at in
-    let b = b .before .before in let q = b .q in
-    let b = b .before .before in let digits-at = b .digits-at in
+    let b = c .before .before .before in let if1 = b .if1 in let b = b .before in let octet-at = b .octet-at in
+    let b = b .before .before in let q = b .q in let b = b .before .before in let digits-at = b .digits-at in
     let b = b .before .before in let args = b .args in
     record {
       exact = date-no-month (args .text .now) (args .at) _ (sym (q .given .1) ∙ digits-at .ensures .exact)
@@ -52,12 +49,9 @@ returns-3 c =
 
 returns-4 : tie.Need-returns-4
 returns-4 c =
-    let b = c .before .before .before in let r = b .r in
-    let b = b .before .before in let month-at = b .month-at in
-    let b = b .before in let if1 = b .if1 in
-    let b = b .before in let octet-at = b .octet-at in
-    let b = b .before .before in let q = b .q in
-    let b = b .before .before in let digits-at = b .digits-at in
+    let b = c .before .before .before in let r = b .r in let b = b .before .before in let month-at = b .month-at in
+    let b = b .before in let if1 = b .if1 in let b = b .before in let octet-at = b .octet-at in
+    let b = b .before .before in let q = b .q in let b = b .before .before in let digits-at = b .digits-at in
     let b = b .before .before in let args = b .args in
     record {
       exact = date-no-second (args .text .now) (args .at) _ (sym (q .given .1) ∙ digits-at .ensures .exact)
@@ -76,12 +70,9 @@ add-digits-at c =
 returns-5 : tie.Need-returns-5
 returns-5 c =
     let b = c .before .before .before .before in let r = b .r in
-    let b = b .before .before in let month-at = b .month-at in
-    let b = b .before in let if1 = b .if1 in
-    let b = b .before in let octet-at = b .octet-at in
-    let b = b .before .before in let q = b .q in
-    let b = b .before .before in let digits-at = b .digits-at in
-    let b = b .before .before in let args = b .args in
+    let b = b .before .before in let month-at = b .month-at in let b = b .before in let if1 = b .if1 in
+    let b = b .before in let octet-at = b .octet-at in let b = b .before .before in let q = b .q in
+    let b = b .before .before in let digits-at = b .digits-at in let b = b .before .before in let args = b .args in
     let f = rw (q .given .1) at (digits-at .ensures .within) in
     let g = rw (r .given .1) at (month-at .ensures .within) in
     let day = sym (q .given .1) ∙ digits-at .ensures .exact in

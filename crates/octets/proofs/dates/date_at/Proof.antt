@@ -16,8 +16,7 @@ add-bare-date-at c =
 
 returns : tie.Need-returns
 returns c =
-    let b = c .before .before .before in let if1 = b .if1 in
-    let b = b .before in let octet-at = b .octet-at in
+    let b = c .before .before .before in let if1 = b .if1 in let b = b .before in let octet-at = b .octet-at in
     let b = b .before .before in let args = b .args in
     record {
       exact = date-no-date (args .text .now) (args .at) (sym (octet-at .ensures) ∙ if1 .taken)
@@ -28,10 +27,8 @@ returns c =
 returns-2 : tie.Need-returns-2
 returns-2 c =
     let b = c .before .before .before in let q = b .q in
-    let b = b .before .before in let bare-date-at = b .bare-date-at in
-    let b = b .before in let if1 = b .if1 in
-    let b = b .before in let octet-at = b .octet-at in
-    let b = b .before .before in let args = b .args in
+    let b = b .before .before in let bare-date-at = b .bare-date-at in let b = b .before in let if1 = b .if1 in
+    let b = b .before in let octet-at = b .octet-at in let b = b .before .before in let args = b .args in
     record {
       exact = date-no-quote (args .text .now) (args .at) (sym (octet-at .ensures) ∙ if1 .taken) _
           (sym (q .given .1) ∙ bare-date-at .ensures .exact) (λ e. c .if2 .taken (c .before .octet-at2 .ensures ∙ e));
@@ -48,10 +45,8 @@ add-t7 c =
 returns-3 : tie.Need-returns-3
 returns-3 c =
     let b = c .before .before .before in let q = b .q in
-    let b = b .before .before in let bare-date-at = b .bare-date-at in
-    let b = b .before in let if1 = b .if1 in
-    let b = b .before in let octet-at = b .octet-at in
-    let b = b .before .before in let args = b .args in
+    let b = b .before .before in let bare-date-at = b .bare-date-at in let b = b .before in let if1 = b .if1 in
+    let b = b .before in let octet-at = b .octet-at in let b = b .before .before in let args = b .args in
     let text = args .text .now in
     let f = rw (q .given .1) at (bare-date-at .ensures .within) in
     let open-quote = sym (octet-at .ensures) ∙ if1 .taken in

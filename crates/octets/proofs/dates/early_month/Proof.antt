@@ -15,52 +15,35 @@ returns-3 c = rw (sym (c .before .before .before .before .before .before .before
 
 returns-4 : tie.Need-returns-4
 returns-4 c =
-    let b = c .before .before .before in let if3 = b .if3 in
-    let b = b .before in let is-word3 = b .is-word3 in
-    let b = b .before .before in let if2 = b .if2 in
-    let b = b .before in let is-word2 = b .is-word2 in
-    let b = b .before .before in let if1 = b .if1 in
-    let b = b .before in let is-word = b .is-word in
+    let b = c .before .before .before in let if3 = b .if3 in let b = b .before in let is-word3 = b .is-word3 in
+    let b = b .before .before in let if2 = b .if2 in let b = b .before in let is-word2 = b .is-word2 in
+    let b = b .before .before in let if1 = b .if1 in let b = b .before in let is-word = b .is-word in
     rw (sym (is-word .ensures) ∙ if1 .left, sym (is-word2 .ensures) ∙ if2 .left, sym (is-word3 .ensures) ∙ if3 .left, sym (c .before .is-word4 .ensures) ∙ c .if4 .taken)
 
 returns-5 : tie.Need-returns-5
 returns-5 c =
-    let b = c .before .before .before in let if4 = b .if4 in
-    let b = b .before in let is-word4 = b .is-word4 in
-    let b = b .before .before in let if3 = b .if3 in
-    let b = b .before in let is-word3 = b .is-word3 in
-    let b = b .before .before in let if2 = b .if2 in
-    let b = b .before in let is-word2 = b .is-word2 in
-    let b = b .before .before in let if1 = b .if1 in
-    let b = b .before in let is-word = b .is-word in
+    let b = c .before .before .before in let if4 = b .if4 in let b = b .before in let is-word4 = b .is-word4 in
+    let b = b .before .before in let if3 = b .if3 in let b = b .before in let is-word3 = b .is-word3 in
+    let b = b .before .before in let if2 = b .if2 in let b = b .before in let is-word2 = b .is-word2 in
+    let b = b .before .before in let if1 = b .if1 in let b = b .before in let is-word = b .is-word in
     rw (sym (is-word .ensures) ∙ if1 .left, sym (is-word2 .ensures) ∙ if2 .left, sym (is-word3 .ensures) ∙ if3 .left, sym (is-word4 .ensures) ∙ if4 .left, sym (c .before .is-word5 .ensures) ∙ c .if5 .taken)
 
 returns-6 : tie.Need-returns-6
 returns-6 c =
-    let b = c .before .before .before in let if5 = b .if5 in
-    let b = b .before in let is-word5 = b .is-word5 in
-    let b = b .before .before in let if4 = b .if4 in
-    let b = b .before in let is-word4 = b .is-word4 in
-    let b = b .before .before in let if3 = b .if3 in
-    let b = b .before in let is-word3 = b .is-word3 in
-    let b = b .before .before in let if2 = b .if2 in
-    let b = b .before in let is-word2 = b .is-word2 in
-    let b = b .before .before in let if1 = b .if1 in
-    let b = b .before in let is-word = b .is-word in
+    let b = c .before .before .before in let if5 = b .if5 in let b = b .before in let is-word5 = b .is-word5 in
+    let b = b .before .before in let if4 = b .if4 in let b = b .before in let is-word4 = b .is-word4 in
+    let b = b .before .before in let if3 = b .if3 in let b = b .before in let is-word3 = b .is-word3 in
+    let b = b .before .before in let if2 = b .if2 in let b = b .before in let is-word2 = b .is-word2 in
+    let b = b .before .before in let if1 = b .if1 in let b = b .before in let is-word = b .is-word in
     rw (sym (is-word .ensures) ∙ if1 .left, sym (is-word2 .ensures) ∙ if2 .left, sym (is-word3 .ensures) ∙ if3 .left, sym (is-word4 .ensures) ∙ if4 .left, sym (is-word5 .ensures) ∙ if5 .left, sym (c .before .is-word6 .ensures) ∙ c .if6 .taken)
 
 returns-7 : tie.Need-returns-7
 returns-7 c =
-    let b = c .before .before .before in let if5 = b .if5 in
-    let b = b .before in let is-word5 = b .is-word5 in
-    let b = b .before .before in let if4 = b .if4 in
-    let b = b .before in let is-word4 = b .is-word4 in
-    let b = b .before .before in let if3 = b .if3 in
-    let b = b .before in let is-word3 = b .is-word3 in
-    let b = b .before .before in let if2 = b .if2 in
-    let b = b .before in let is-word2 = b .is-word2 in
-    let b = b .before .before in let if1 = b .if1 in
-    let b = b .before in let is-word = b .is-word in
+    let b = c .before .before .before in let if5 = b .if5 in let b = b .before in let is-word5 = b .is-word5 in
+    let b = b .before .before in let if4 = b .if4 in let b = b .before in let is-word4 = b .is-word4 in
+    let b = b .before .before in let if3 = b .if3 in let b = b .before in let is-word3 = b .is-word3 in
+    let b = b .before .before in let if2 = b .if2 in let b = b .before in let is-word2 = b .is-word2 in
+    let b = b .before .before in let if1 = b .if1 in let b = b .before in let is-word = b .is-word in
     rw (sym (is-word .ensures) ∙ if1 .left, sym (is-word2 .ensures) ∙ if2 .left, sym (is-word3 .ensures) ∙ if3 .left, sym (is-word4 .ensures) ∙ if4 .left, sym (is-word5 .ensures) ∙ if5 .left, sym (c .before .is-word6 .ensures) ∙ c .if6 .left)
 
 pub early-month-spec : {M : Type 1} → statement M

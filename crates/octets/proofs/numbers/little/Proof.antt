@@ -22,11 +22,9 @@ loop-holds c =
 
 loop-again : tie.Need-loop-again Inv-loop μ-loop
 loop-again c =
-    let b = c .before in let octet-from = b .octet-from in
-    let b = b .before .before in let l = b .loop in
+    let b = c .before in let octet-from = b .octet-from in let b = b .before .before in let l = b .loop in
     let b = b .before in let four-at-most = b .four-at-most in
-    let b = b .before in let shared-slice-known = b .shared-slice-known in
-    let b = b .before in let args = b .args in
+    let b = b .before in let shared-slice-known = b .shared-slice-known in let b = b .before in let args = b .args in
     let s = args .b .now in
     let w = four-at-most .result in
     let e = little-back s (args .at) w (l .i) (l .i - 1) (omega arith) (omega arith) in
@@ -38,8 +36,7 @@ loop-again c =
 
 returns : tie.Need-returns Inv-loop μ-loop
 returns c =
-    let b = c .before in let l = b .loop in
-    let b = b .before .before .before in let args = b .args in
+    let b = c .before in let l = b .loop in let b = b .before .before .before in let args = b .args in
     let z : c .before .before .four-at-most .result - l .i ≡ min (args .width) 4 = omega arith in
     let y : args .at + l .i ≡ args .at = omega arith in record { exact = rw (z, y) at (l .inv .2); below = omega arith }
 

@@ -25,15 +25,13 @@ loop-holds c = (omega arith, omega arith, omega arith, refl)
 returns-2 : tie.Need-returns-2 Inv-loop μ-loop
 returns-2 c =
     let b = c .before .before .before .before in let loop = b .loop in
-    let b = b .before .before in let run-end = b .run-end in
-    let b = b .before .before in let args = b .args in
+    let b = b .before .before in let run-end = b .run-end in let b = b .before .before in let args = b .args in
     let s = args .text .now in let l = loop in record { exact = number-large s (args .at) _ (run-end .ensures .exact) _ (piece s (l .i + 1) (run-end .result)) (omega arith) (rw (c .before .digit-value .ensures .0) (l .inv .3 ∙ value-step s (l .i) (run-end .result) (l .v) (omega arith) (omega arith))) (c .if2 .taken); within = tt }
 
 loop-again : tie.Need-loop-again Inv-loop μ-loop
 loop-again c =
     let b = c .before .before .before .before in let loop = b .loop in
-    let b = b .before .before in let run-end = b .run-end in
-    let b = b .before .before in let args = b .args in
+    let b = b .before .before in let run-end = b .run-end in let b = b .before .before in let args = b .args in
     let s = args .text .now in let l = loop in (omega arith, omega arith, omega arith, rw (c .before .digit-value .ensures .0) (l .inv .3 ∙ value-step s (l .i) (run-end .result) (l .v) (omega arith) (omega arith)))
 
 returns-3 : tie.Need-returns-3 Inv-loop μ-loop

@@ -33,8 +33,7 @@ returns c =
 
 returns-2 : tie.Need-returns-2 Inv-loop μ-loop
 returns-2 c =
-    let b = c .before in let loop = b .loop in
-    let b = b .before .before in let args = b .args in
+    let b = c .before in let loop = b .loop in let b = b .before .before in let args = b .args in
     record { exact = sym (loop .inv .2 ∙ run-past (inClass (args .c)) (args .text .now) (loop .p) (omega arith)); from = omega arith; within = omega arith }
 
 pub run-end-spec : {M : Type 1} → statement M

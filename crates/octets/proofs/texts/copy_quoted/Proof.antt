@@ -49,10 +49,8 @@ returns-2 c =
 
 loop-again : tie.Need-loop-again Inv-loop μ-loop
 loop-again c =
-    let b = c .before .before in let keep = b .keep in
-    let b = b .before .before in let if1 = b .if1 in
-    let b = b .before in let quote-step = b .quote-step in
-    let b = b .before .before .before in let l = b .loop in
+    let b = c .before .before in let keep = b .keep in let b = b .before .before in let if1 = b .if1 in
+    let b = b .before in let quote-step = b .quote-step in let b = b .before .before .before in let l = b .loop in
     let b = b .before .before .before .before .before .before in let args = b .args in
     let s = args .text .now in
     let short = kept-short (quote-step .result) (getD s (l .p) 0) in

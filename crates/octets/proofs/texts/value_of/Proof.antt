@@ -10,16 +10,13 @@ use Rattle.octets.proofs.Filling.{run-value}
 returns : tie.Need-returns
 returns c =
     let b = c .before .before .before .before in let if1 = b .if1 in
-    let b = b .before in let octet-at = b .octet-at in
-    let b = b .before .before .before in let args = b .args in
+    let b = b .before in let octet-at = b .octet-at in let b = b .before .before .before in let args = b .args in
     rw (text-quoted (inClass (args .c)) (args .text .now) (args .at) (sym (octet-at .ensures) ∙ if1 .taken)) (c .before .before .copy-quoted .ensures)
 
 returns-2 : tie.Need-returns-2
 returns-2 c =
-    let b = c .before .before .before .before in let run-end = b .run-end in
-    let b = b .before in let if1 = b .if1 in
-    let b = b .before in let octet-at = b .octet-at in
-    let b = b .before .before .before in let args = b .args in
+    let b = c .before .before .before .before in let run-end = b .run-end in let b = b .before in let if1 = b .if1 in
+    let b = b .before in let octet-at = b .octet-at in let b = b .before .before .before in let args = b .args in
     rw (text-run (inClass (args .c)) (args .text .now) (args .at) (λ e. if1 .left (octet-at .ensures ∙ e)), run-value (inClass (args .c)) (args .text .now) (args .at) _ (run-end .ensures .exact)) (c .before .before .copy-piece .ensures)
 
 pub value-of-spec : {M : Type 1} → statement M

@@ -42,8 +42,7 @@ names-row-calls t = (
 
 names-row-add-names-row : (t : ℕ) → names-row-lts.Need-add-names-row (names-row-calls t) (names-row-at t) names-row.Post
 names-row-add-names-row t c =
-    let b = c .before .before .before in let p = b .p in
-    let b = b .before .before in let text-at = b .text-at in
+    let b = c .before .before .before in let p = b .p in let b = b .before .before in let text-at = b .text-at in
     let b = b .before .before in let args = b .args in
     let w = rw (p .given .1) at (text-at .ensures .within) in
     let i = in-text (args .text .now) (p .given .0 .0) (sym (c .before .octet-at .ensures) ∙ c .if1 .taken) (omega arith) in
@@ -51,8 +50,7 @@ names-row-add-names-row t c =
 
 names-row-names-row-requires : (t : ℕ) → names-row-lts.Need-names-row-requires (names-row-calls t) (names-row-at t) names-row.Post
 names-row-names-row-requires t c κs =
-    let b = c .before .before .before in let p = b .p in
-    let b = b .before .before in let text-at = b .text-at in
+    let b = c .before .before .before in let p = b .p in let b = b .before .before in let text-at = b .text-at in
     let b = b .before .before in let args = b .args in
     let w = rw (p .given .1) at (text-at .ensures .within) in
     let i = in-text (args .text .now) (p .given .0 .0) (sym (c .before .octet-at .ensures) ∙ c .if1 .taken) (omega arith) in
@@ -61,16 +59,14 @@ names-row-names-row-requires t c κs =
 names-row-one-more-requires : (t : ℕ) → names-row-lts.Need-one-more-requires (names-row-calls t) (names-row-at t) names-row.Post
 names-row-one-more-requires t c κs =
     let b = c .before .before .before .before in let p = b .p in
-    let b = b .before .before in let text-at = b .text-at in
-    let b = b .before .before in let args = b .args in
+    let b = b .before .before in let text-at = b .text-at in let b = b .before .before in let args = b .args in
     let w = rw (p .given .1) at (text-at .ensures .within) in
     room (args .text .now) (p .given .0 .0 + 1) (c .names-row .result) (omega arith) (omega arith) (c .names-row .ensures .within)
 
 names-row-add-t14 : (t : ℕ) → names-row-lts.Need-add-t14 (names-row-calls t) (names-row-at t) names-row.Post
 names-row-add-t14 t c =
     let b = c .before .before .before .before in let p = b .p in
-    let b = b .before .before in let text-at = b .text-at in
-    let b = b .before .before in let args = b .args in
+    let b = b .before .before in let text-at = b .text-at in let b = b .before .before in let args = b .args in
     let w = rw (p .given .1) at (text-at .ensures .within) in
     let i = in-text (args .text .now) (p .given .0 .0) (sym (c .before .before .octet-at .ensures) ∙ c .if2 .taken)
     (omega arith) in
@@ -78,12 +74,9 @@ names-row-add-t14 t c =
 
 names-row-returns : (t : ℕ) → names-row-lts.Need-returns (names-row-calls t) (names-row-at t) names-row.Post
 names-row-returns t c =
-    let b = c .before in let at-names-row = b .names-row in
-    let b = b .before in let if1 = b .if1 in
-    let b = b .before in let octet-at = b .octet-at in
-    let b = b .before .before in let p = b .p in
-    let b = b .before .before in let text-at = b .text-at in
-    let b = b .before .before in let args = b .args in
+    let b = c .before in let at-names-row = b .names-row in let b = b .before in let if1 = b .if1 in
+    let b = b .before in let octet-at = b .octet-at in let b = b .before .before in let p = b .p in
+    let b = b .before .before in let text-at = b .text-at in let b = b .before .before in let args = b .args in
     let w = rw (p .given .1) at (text-at .ensures .within) in
     let i = in-text (args .text .now) (p .given .0 .0) (sym (octet-at .ensures) ∙ if1 .taken) (omega arith) in
     record {
@@ -98,10 +91,8 @@ names-row-returns t c =
 
 names-row-returns-2 : (t : ℕ) → names-row-lts.Need-returns-2 (names-row-calls t) (names-row-at t) names-row.Post
 names-row-returns-2 t c =
-    let b = c .before .before in let octet-at = b .octet-at in
-    let b = b .before .before in let p = b .p in
-    let b = b .before .before in let text-at = b .text-at in
-    let b = b .before .before in let args = b .args in
+    let b = c .before .before in let octet-at = b .octet-at in let b = b .before .before in let p = b .p in
+    let b = b .before .before in let text-at = b .text-at in let b = b .before .before in let args = b .args in
     let w = rw (p .given .1) at (text-at .ensures .within) in
     let i = in-text (args .text .now) (p .given .0 .0) (sym (octet-at .ensures) ∙ c .if2 .taken) (omega arith) in
     record {
@@ -112,10 +103,8 @@ names-row-returns-2 t c =
 
 names-row-returns-3 : (t : ℕ) → names-row-lts.Need-returns-3 (names-row-calls t) (names-row-at t) names-row.Post
 names-row-returns-3 t c =
-    let b = c .before .before in let octet-at = b .octet-at in
-    let b = b .before .before in let p = b .p in
-    let b = b .before .before in let text-at = b .text-at in
-    let b = b .before .before in let args = b .args in
+    let b = c .before .before in let octet-at = b .octet-at in let b = b .before .before in let p = b .p in
+    let b = b .before .before in let text-at = b .text-at in let b = b .before .before in let args = b .args in
     record {
       exact = λ n h. row-wrong (args .text .now) (args .at) n (omega arith) (sym (p .given .1) ∙ text-at .ensures .exact)
           (λ e. c .before .if1 .left (octet-at .ensures ∙ e)) (λ e. c .if2 .left (octet-at .ensures ∙ e));

@@ -18,8 +18,7 @@ add-keep-row c =
 
 returns : tie.Need-returns
 returns c =
-    let b = c .before in let if1 = b .if1 in
-    let b = b .before in let octet-at = b .octet-at in
+    let b = c .before in let if1 = b .if1 in let b = b .before in let octet-at = b .octet-at in
     let b = b .before .before in let args = b .args in
     let i = in-text (args .text .now) (args .at) (sym (octet-at .ensures) ∙ if1 .taken) (omega arith) in
     record {
@@ -31,10 +30,8 @@ returns c =
 
 returns-2 : tie.Need-returns-2
 returns-2 c =
-    let b = c .before .before .before in let text-at = b .text-at in
-    let b = b .before in let if1 = b .if1 in
-    let b = b .before in let octet-at = b .octet-at in
-    let b = b .before .before in let args = b .args in
+    let b = c .before .before .before in let text-at = b .text-at in let b = b .before in let if1 = b .if1 in
+    let b = b .before in let octet-at = b .octet-at in let b = b .before .before in let args = b .args in
     record {
       exact = c .unread .ensures
           ∙ kept-none (args .text .now) (args .at) (args .kept) (λ e. if1 .left (octet-at .ensures ∙ e))
@@ -47,10 +44,8 @@ keep-one-requires c κs = let w = rw (c .before .before .p .given .1) at (c .bef
 
 returns-3 : tie.Need-returns-3
 returns-3 c =
-    let b = c .before .before .before in let p = b .p in
-    let b = b .before .before in let text-at = b .text-at in
-    let b = b .before in let if1 = b .if1 in
-    let b = b .before in let octet-at = b .octet-at in
+    let b = c .before .before .before in let p = b .p in let b = b .before .before in let text-at = b .text-at in
+    let b = b .before in let if1 = b .if1 in let b = b .before in let octet-at = b .octet-at in
     let b = b .before .before in let args = b .args in
     let w = rw (p .given .1) at (text-at .ensures .within) in
     record {

@@ -24,8 +24,7 @@ loop-holds c =
 
 returns : tie.Need-returns Inv-loop μ-loop
 returns c =
-    let b = c .before .before .before in let text-at = b .text-at in
-    let b = b .before in let loop = b .loop in
+    let b = c .before .before .before in let text-at = b .text-at in let b = b .before in let loop = b .loop in
     let b = b .before .before in let args = b .args in
     record {
       exact = λ n h. c .unread .ensures
@@ -50,12 +49,9 @@ add-t12 c =
 
 returns-2 : tie.Need-returns-2 Inv-loop μ-loop
 returns-2 c =
-    let b = c .before in let octet-at = b .octet-at in
-    let b = b .before in let keep-one = b .keep-one in
-    let b = b .before in let name-at = b .name-at in
-    let b = b .before .before in let q = b .q in
-    let b = b .before .before in let text-at = b .text-at in
-    let b = b .before in let loop = b .loop in
+    let b = c .before in let octet-at = b .octet-at in let b = b .before in let keep-one = b .keep-one in
+    let b = b .before in let name-at = b .name-at in let b = b .before .before in let q = b .q in
+    let b = b .before .before in let text-at = b .text-at in let b = b .before in let loop = b .loop in
     let b = b .before .before in let args = b .args in
     let w = rw (q .given .1) at (text-at .ensures .within) in
     let i = in-text (args .text .now) (q .given .0 .0) (sym (octet-at .ensures) ∙ c .if1 .taken) (omega arith) in
@@ -74,8 +70,7 @@ returns-3 : tie.Need-returns-3 Inv-loop μ-loop
 returns-3 c =
     let b = c .before .before .before in let octet-at = b .octet-at in
     let b = b .before .before .before .before in let q = b .q in
-    let b = b .before .before in let text-at = b .text-at in
-    let b = b .before in let loop = b .loop in
+    let b = b .before .before in let text-at = b .text-at in let b = b .before in let loop = b .loop in
     let b = b .before .before in let args = b .args in
     record {
       exact = λ n h. c .unread2 .ensures
@@ -106,10 +101,8 @@ loop-less c =
 loop-again : tie.Need-loop-again Inv-loop μ-loop
 loop-again c =
     let b = c .before .before .before in let keep-one = b .keep-one in
-    let b = b .before in let name-at = b .name-at in
-    let b = b .before .before in let q = b .q in
-    let b = b .before .before in let text-at = b .text-at in
-    let b = b .before in let loop = b .loop in
+    let b = b .before in let name-at = b .name-at in let b = b .before .before in let q = b .q in
+    let b = b .before .before in let text-at = b .text-at in let b = b .before in let loop = b .loop in
     let b = b .before .before in let args = b .args in
     let w = rw (q .given .1) at (text-at .ensures .within) in
     goes-on (args .text .now) (args .at) (args .kept) (loop .more) (loop .p) (loop .inv)

@@ -21,10 +21,8 @@ add-filter-at c =
 returns-2 : tie.Need-returns-2
 returns-2 c =
     let b = c .before .before .before .before in let scope = b .scope in
-    let b = b .before .before in let filter-at = b .filter-at in
-    let b = b .before in let if1 = b .if1 in
-    let b = b .before in let octet-at = b .octet-at in
-    let b = b .before .before in let args = b .args in
+    let b = b .before .before in let filter-at = b .filter-at in let b = b .before in let if1 = b .if1 in
+    let b = b .before in let octet-at = b .octet-at in let b = b .before .before in let args = b .args in
     let w = rw (scope .given .1) at (filter-at .ensures .within) in
     record {
       exact = lent-by (args .text .now) (args .at) (args .first) (sym (octet-at .ensures) ∙ if1 .left)
@@ -37,10 +35,8 @@ returns-2 c =
 returns-3 : tie.Need-returns-3
 returns-3 c =
     let b = c .before .before .before in let scope = b .scope in
-    let b = b .before .before in let filter-at = b .filter-at in
-    let b = b .before in let if1 = b .if1 in
-    let b = b .before in let octet-at = b .octet-at in
-    let b = b .before .before in let args = b .args in
+    let b = b .before .before in let filter-at = b .filter-at in let b = b .before in let if1 = b .if1 in
+    let b = b .before in let octet-at = b .octet-at in let b = b .before .before in let args = b .args in
     record {
       exact = lent-odd (args .text .now) (args .at) (args .first) (sym (octet-at .ensures) ∙ if1 .left)
           (sym (scope .given .1) ∙ filter-at .ensures .exact) (c .before .is-groupable .ensures) (c .if2 .left);
@@ -49,8 +45,7 @@ returns-3 c =
 
 returns-4 : tie.Need-returns-4
 returns-4 c =
-    let b = c .before .before .before in let if1 = b .if1 in
-    let b = b .before in let octet-at = b .octet-at in
+    let b = c .before .before .before in let if1 = b .if1 in let b = b .before in let octet-at = b .octet-at in
     let b = b .before .before in let args = b .args in
     record {
       exact = lent-none (args .text .now) (args .at) (args .first) (sym (octet-at .ensures) ∙ if1 .left)

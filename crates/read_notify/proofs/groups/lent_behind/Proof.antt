@@ -26,10 +26,8 @@ add-events-at c =
 returns-2 : tie.Need-returns-2
 returns-2 c =
     let b = c .before .before .before in let at-e = b .e in
-    let b = b .before .before in let events-at = b .events-at in
-    let b = b .before in let if1 = b .if1 in
-    let b = b .before in let octet-at = b .octet-at in
-    let b = b .before .before in let args = b .args in
+    let b = b .before .before in let events-at = b .events-at in let b = b .before in let if1 = b .if1 in
+    let b = b .before in let octet-at = b .octet-at in let b = b .before .before in let args = b .args in
     let space = sym (octet-at .ensures) ∙ if1 .left in
     let events = sym (at-e .given .1) ∙ events-at .ensures .exact in
     record {
@@ -40,20 +38,16 @@ returns-2 c =
 
 add-t18 : tie.Need-add-t18
 add-t18 c =
-    let b = c .before .before .before in let if2 = b .if2 in
-    let b = b .before in let octet-at2 = b .octet-at2 in
+    let b = c .before .before .before in let if2 = b .if2 in let b = b .before in let octet-at2 = b .octet-at2 in
     let b = b .before .before in let at-e = b .e in
     let b = b .before .before .before .before .before .before in let args = b .args in
     let i = in-text (args .text .now) (at-e .given .0 .1 .0) (sym (octet-at2 .ensures) ∙ if2 .left) (omega arith) in omega arith
 
 returns-3 : tie.Need-returns-3
 returns-3 c =
-    let b = c .before .before .before in let if2 = b .if2 in
-    let b = b .before in let octet-at2 = b .octet-at2 in
-    let b = b .before .before in let at-e = b .e in
-    let b = b .before .before in let events-at = b .events-at in
-    let b = b .before in let if1 = b .if1 in
-    let b = b .before in let octet-at = b .octet-at in
+    let b = c .before .before .before in let if2 = b .if2 in let b = b .before in let octet-at2 = b .octet-at2 in
+    let b = b .before .before in let at-e = b .e in let b = b .before .before in let events-at = b .events-at in
+    let b = b .before in let if1 = b .if1 in let b = b .before in let octet-at = b .octet-at in
     let b = b .before .before in let args = b .args in
     let w = rw (at-e .given .1) at (events-at .ensures .within) in
     let shut = sym (octet-at2 .ensures) ∙ if2 .left in
@@ -72,10 +66,8 @@ returns-3 c =
 
 returns-4 : tie.Need-returns-4
 returns-4 c =
-    let b = c .before .before in let events-at = b .events-at in
-    let b = b .before in let if1 = b .if1 in
-    let b = b .before in let octet-at = b .octet-at in
-    let b = b .before .before in let args = b .args in
+    let b = c .before .before in let events-at = b .events-at in let b = b .before in let if1 = b .if1 in
+    let b = b .before in let octet-at = b .octet-at in let b = b .before .before in let args = b .args in
     let space = sym (octet-at .ensures) ∙ if1 .left in
     let none = sym (c .enum-told .given .1) ∙ events-at .ensures .exact in
     record { exact = λ f a b. behind-none (args .text .now) (args .at) (args .first) f space none; within = tt }

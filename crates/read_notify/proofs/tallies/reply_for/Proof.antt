@@ -22,19 +22,15 @@ returns-5 c = simp (le-ltb _ _ (c .before .before .before .before .before .befor
 
 returns-6 : tie.Need-returns-6
 returns-6 c =
-    let b = c .before .before .before in let if5 = b .if5 in
-    let b = b .before .before .before in let if4 = b .if4 in
-    let b = b .before in let if3 = b .if3 in
-    let b = b .before in let if2 = b .if2 in
+    let b = c .before .before .before in let if5 = b .if5 in let b = b .before .before .before in let if4 = b .if4 in
+    let b = b .before in let if3 = b .if3 in let b = b .before in let if2 = b .if2 in
     let b = b .before in let if1 = b .if1 in
     simp (le-ltb _ _ (if1 .left), if2 .left, if3 .left, if4 .left, le-ltb _ _ (if5 .left), lt-ltb _ _ (c .if6 .taken))
 
 returns-7 : tie.Need-returns-7
 returns-7 c =
-    let b = c .before .before .before in let if5 = b .if5 in
-    let b = b .before .before .before in let if4 = b .if4 in
-    let b = b .before in let if3 = b .if3 in
-    let b = b .before in let if2 = b .if2 in
+    let b = c .before .before .before in let if5 = b .if5 in let b = b .before .before .before in let if4 = b .if4 in
+    let b = b .before in let if3 = b .if3 in let b = b .before in let if2 = b .if2 in
     let b = b .before in let if1 = b .if1 in
     simp (le-ltb _ _ (if1 .left), if2 .left, if3 .left, if4 .left, le-ltb _ _ (if5 .left), le-ltb _ _ (c .if6 .left))
 

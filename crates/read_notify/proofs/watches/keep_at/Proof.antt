@@ -18,22 +18,17 @@ returns c =
 
 returns-2 : tie.Need-returns-2
 returns-2 c =
-    let b = c .before .before in let is-word2 = b .is-word2 in
-    let b = b .before .before in let if1 = b .if1 in
-    let b = b .before in let is-word = b .is-word in
-    let b = b .before .before in let run-end = b .run-end in
+    let b = c .before .before in let is-word2 = b .is-word2 in let b = b .before .before in let if1 = b .if1 in
+    let b = b .before in let is-word = b .is-word in let b = b .before .before in let run-end = b .run-end in
     let b = b .before .before in let args = b .args in
     keeps-as (notify-unknown (args .text .now) (args .at) (run-end .ensures .exact) (sym (is-word .ensures) ∙ if1 .left) (sym (is-word2 .ensures) ∙ not-true (is-word2 .result) (c .before .if2 .taken)))
     (keeps-bad (args .text .now) (args .at) (c .unkept .ensures))
 
 returns-3 : tie.Need-returns-3
 returns-3 c =
-    let b = c .before .before .before in let if2 = b .if2 in
-    let b = b .before in let is-word2 = b .is-word2 in
-    let b = b .before .before in let if1 = b .if1 in
-    let b = b .before in let is-word = b .is-word in
-    let b = b .before .before in let run-end = b .run-end in
-    let b = b .before .before in let args = b .args in
+    let b = c .before .before .before in let if2 = b .if2 in let b = b .before in let is-word2 = b .is-word2 in
+    let b = b .before .before in let if1 = b .if1 in let b = b .before in let is-word = b .is-word in
+    let b = b .before .before in let run-end = b .run-end in let b = b .before .before in let args = b .args in
     keeps-as (notify-blank (args .text .now) (args .at) (run-end .ensures .exact) (sym (is-word .ensures) ∙ if1 .left) (sym (is-word2 .ensures) ∙ not-false (is-word2 .result) (if2 .left)) (λ e. c .before .if3 .taken (c .before .before .octet-at .ensures ∙ e)))
     (keeps-bad (args .text .now) (args .at) (c .unkept2 .ensures))
 
@@ -45,14 +40,10 @@ add-set-at c =
 
 returns-4 : tie.Need-returns-4
 returns-4 c =
-    let b = c .before in let if3 = b .if3 in
-    let b = b .before in let octet-at = b .octet-at in
-    let b = b .before in let if2 = b .if2 in
-    let b = b .before in let is-word2 = b .is-word2 in
-    let b = b .before .before in let if1 = b .if1 in
-    let b = b .before in let is-word = b .is-word in
-    let b = b .before .before in let run-end = b .run-end in
-    let b = b .before .before in let args = b .args in
+    let b = c .before in let if3 = b .if3 in let b = b .before in let octet-at = b .octet-at in
+    let b = b .before in let if2 = b .if2 in let b = b .before in let is-word2 = b .is-word2 in
+    let b = b .before .before in let if1 = b .if1 in let b = b .before in let is-word = b .is-word in
+    let b = b .before .before in let run-end = b .run-end in let b = b .before .before in let args = b .args in
     let i = in-text (args .text .now) (run-end .result) (sym (octet-at .ensures) ∙ if3 .left) (omega arith) in
     let f = run-end .ensures .from in
     keeps-as (notify-set (args .text .now) (args .at) (run-end .ensures .exact) (sym (is-word .ensures) ∙ if1 .left) (sym (is-word2 .ensures) ∙ not-false (is-word2 .result) (if2 .left)) (sym (octet-at .ensures) ∙ if3 .left))

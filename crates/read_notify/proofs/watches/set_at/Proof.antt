@@ -10,10 +10,8 @@ use Rattle.read_notify.proofs.watches.set_at.Tie as tie
 
 returns : tie.Need-returns
 returns c =
-    let b = c .before .before .before in let if1 = b .if1 in
-    let b = b .before in let is-word = b .is-word in
-    let b = b .before .before in let run-end = b .run-end in
-    let b = b .before .before in let args = b .args in
+    let b = c .before .before .before in let if1 = b .if1 in let b = b .before in let is-word = b .is-word in
+    let b = b .before .before in let run-end = b .run-end in let b = b .before .before in let args = b .args in
     keeps-as (set-blank (args .text .now) (args .at) (run-end .ensures .exact) (sym (is-word .ensures) ∙ if1 .taken) (λ e. c .before .if2 .taken (c .before .before .octet-at .ensures ∙ e))) (keeps-bad (args .text .now) (args .at) (c .unkept .ensures))
 
 add-gather : tie.Need-add-gather
@@ -24,22 +22,17 @@ add-gather c =
 
 returns-2 : tie.Need-returns-2
 returns-2 c =
-    let b = c .before in let gather = b .gather in
-    let b = b .before .before in let octet-at = b .octet-at in
-    let b = b .before in let if1 = b .if1 in
-    let b = b .before in let is-word = b .is-word in
-    let b = b .before .before in let run-end = b .run-end in
-    let b = b .before .before in let args = b .args in
+    let b = c .before in let gather = b .gather in let b = b .before .before in let octet-at = b .octet-at in
+    let b = b .before in let if1 = b .if1 in let b = b .before in let is-word = b .is-word in
+    let b = b .before .before in let run-end = b .run-end in let b = b .before .before in let args = b .args in
     let f = run-end .ensures .from in
     keeps-as (set-status (args .text .now) (args .at) (run-end .ensures .exact) (sym (is-word .ensures) ∙ if1 .taken) (sym (octet-at .ensures) ∙ c .before .before .if2 .left))
     (keeps-set (args .text .now) (args .at) (run-end .result + 1) _ (gather .result) (omega arith) (gather .ensures) (c .noted .ensures))
 
 returns-3 : tie.Need-returns-3
 returns-3 c =
-    let b = c .before in let gather2 = b .gather2 in
-    let b = b .before .before in let is-word = b .is-word in
-    let b = b .before .before in let run-end = b .run-end in
-    let b = b .before .before in let args = b .args in
+    let b = c .before in let gather2 = b .gather2 in let b = b .before .before in let is-word = b .is-word in
+    let b = b .before .before in let run-end = b .run-end in let b = b .before .before in let args = b .args in
     keeps-as (set-plain (args .text .now) (args .at) (run-end .ensures .exact) (sym (is-word .ensures) ∙ c .before .before .if1 .left))
     (keeps-set (args .text .now) (args .at) (args .at) _ (gather2 .result) (omega arith) (gather2 .ensures) (c .noted2 .ensures))
 

@@ -19,10 +19,8 @@ returns-3 c = λ x k. c .silence .ensures ∙ watched-silent x (c .before .befor
 
 returns-4 : tie.Need-returns-4
 returns-4 c =
-    let b = c .before .before .before in let if2 = b .if2 in
-    let b = b .before .before in let if1 = b .if1 in
-    let b = b .before .before .before in let read = b .read in
-    let b = b .before .before in let args = b .args in
+    let b = c .before .before .before in let if2 = b .if2 in let b = b .before .before in let if1 = b .if1 in
+    let b = b .before .before .before in let read = b .read in let b = b .before .before in let args = b .args in
     λ x k. c .settled .ensures ∙ watched-few x (args .session) (sym (read .given .1) ∙ k .exact) (if1 .left) (if2 .left) (args .r .watch) (args .r .kept) (k .keeps)
 
 returns-5 : tie.Need-returns-5

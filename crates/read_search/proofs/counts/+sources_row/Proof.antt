@@ -37,64 +37,52 @@ sources-row-calls t = (filter-at-reads.Asked, filter-at-reads.Learnt, octet-at-r
 sources-row-add-sources-row : (t : ℕ) → sources-row-lts.Need-add-sources-row (sources-row-calls t) (sources-row-at t) sources-row.Post
 sources-row-add-sources-row t c =
     let b = c .before .before .before in let scope = b .scope in
-    let b = b .before .before in let filter-at = b .filter-at in
-    let b = b .before .before in let args = b .args in
+    let b = b .before .before in let filter-at = b .filter-at in let b = b .before .before in let args = b .args in
     let w = rw (scope .given .1) at (filter-at .ensures .within) in let i = in-text (args .text .now) (scope .given .0 .1 .1 .0) (sym (c .before .octet-at .ensures) ∙ c .if1 .taken) (omega arith) in omega arith
 
 sources-row-sources-row-requires : (t : ℕ) → sources-row-lts.Need-sources-row-requires (sources-row-calls t) (sources-row-at t) sources-row.Post
 sources-row-sources-row-requires t c κs =
     let b = c .before .before .before in let scope = b .scope in
-    let b = b .before .before in let filter-at = b .filter-at in
-    let b = b .before .before in let args = b .args in
+    let b = b .before .before in let filter-at = b .filter-at in let b = b .before .before in let args = b .args in
     let w = rw (scope .given .1) at (filter-at .ensures .within) in let i = in-text (args .text .now) (scope .given .0 .1 .1 .0) (sym (c .before .octet-at .ensures) ∙ c .if1 .taken) (omega arith) in omega arith
 
 sources-row-put-source-requires : (t : ℕ) → sources-row-lts.Need-put-source-requires (sources-row-calls t) (sources-row-at t) sources-row.Post
 sources-row-put-source-requires t c κs =
     let b = c .before .before .before .before in let scope = b .scope in
-    let b = b .before .before in let filter-at = b .filter-at in
-    let b = b .before .before in let args = b .args in
+    let b = b .before .before in let filter-at = b .filter-at in let b = b .before .before in let args = b .args in
     let w = rw (scope .given .1) at (filter-at .ensures .within) in room (args .text .now) (scope .given .0 .1 .0) (args .at) (scope .given .0 .1 .1 .0) (c .sources-row .result) (omega arith) (omega arith) (c .sources-row .ensures .within)
 
 sources-row-with-source-requires : (t : ℕ) → sources-row-lts.Need-with-source-requires (sources-row-calls t) (sources-row-at t) sources-row.Post
 sources-row-with-source-requires t c κs =
     let b = c .before .before .before .before .before in let scope = b .scope in
-    let b = b .before .before in let filter-at = b .filter-at in
-    let b = b .before .before in let args = b .args in
+    let b = b .before .before in let filter-at = b .filter-at in let b = b .before .before in let args = b .args in
     let w = rw (scope .given .1) at (filter-at .ensures .within) in rw (c .no-sources .ensures) (room-none (args .text .now) (scope .given .0 .1 .0) (args .at) (scope .given .0 .1 .1 .0) (omega arith) (omega arith) (omega arith))
 
 sources-row-add-t17 : (t : ℕ) → sources-row-lts.Need-add-t17 (sources-row-calls t) (sources-row-at t) sources-row.Post
 sources-row-add-t17 t c =
     let b = c .before .before .before .before in let octet-at = b .octet-at in
-    let b = b .before .before in let scope = b .scope in
-    let b = b .before .before in let filter-at = b .filter-at in
+    let b = b .before .before in let scope = b .scope in let b = b .before .before in let filter-at = b .filter-at in
     let b = b .before .before in let args = b .args in
     let w = rw (scope .given .1) at (filter-at .ensures .within) in let i = in-text (args .text .now) (scope .given .0 .1 .1 .0) (sym (octet-at .ensures) ∙ c .before .before .if2 .taken) (omega arith) in omega arith
 
 sources-row-returns : (t : ℕ) → sources-row-lts.Need-returns (sources-row-calls t) (sources-row-at t) sources-row.Post
 sources-row-returns t c =
-    let b = c .before in let at-sources-row = b .sources-row in
-    let b = b .before in let if1 = b .if1 in
-    let b = b .before in let octet-at = b .octet-at in
-    let b = b .before .before in let scope = b .scope in
-    let b = b .before .before in let filter-at = b .filter-at in
-    let b = b .before .before in let args = b .args in
+    let b = c .before in let at-sources-row = b .sources-row in let b = b .before in let if1 = b .if1 in
+    let b = b .before in let octet-at = b .octet-at in let b = b .before .before in let scope = b .scope in
+    let b = b .before .before in let filter-at = b .filter-at in let b = b .before .before in let args = b .args in
     let w = rw (scope .given .1) at (filter-at .ensures .within) in let i = in-text (args .text .now) (scope .given .0 .1 .1 .0) (sym (octet-at .ensures) ∙ if1 .taken) (omega arith) in record { exact = λ n h. c .put-source .ensures ∙ ap (putAhead (scope .given .0 .0) (scope .given .0 .1 .0)) (at-sources-row .ensures .exact (n - 1) (omega arith)) ∙ row-more (args .text .now) (args .at) n (omega arith) (sym (scope .given .1) ∙ filter-at .ensures .exact) (sym (octet-at .ensures) ∙ if1 .taken); within = rw (c .put-source .ensures) (within-more (args .text .now) (scope .given .0 .0) (scope .given .0 .1 .0) (args .at) (scope .given .0 .1 .1 .0) (at-sources-row .result) (omega arith) (at-sources-row .ensures .within)) }
 
 sources-row-returns-2 : (t : ℕ) → sources-row-lts.Need-returns-2 (sources-row-calls t) (sources-row-at t) sources-row.Post
 sources-row-returns-2 t c =
-    let b = c .before .before in let if2 = b .if2 in
-    let b = b .before .before in let octet-at = b .octet-at in
-    let b = b .before .before in let scope = b .scope in
-    let b = b .before .before in let filter-at = b .filter-at in
+    let b = c .before .before in let if2 = b .if2 in let b = b .before .before in let octet-at = b .octet-at in
+    let b = b .before .before in let scope = b .scope in let b = b .before .before in let filter-at = b .filter-at in
     let b = b .before .before in let args = b .args in
     let w = rw (scope .given .1) at (filter-at .ensures .within) in let i = in-text (args .text .now) (scope .given .0 .1 .1 .0) (sym (octet-at .ensures) ∙ if2 .taken) (omega arith) in rw (c .with-source .ensures, c .before .no-sources .ensures) record { exact = λ n h. row-last (args .text .now) (args .at) n (omega arith) (sym (scope .given .1) ∙ filter-at .ensures .exact) (sym (octet-at .ensures) ∙ if2 .taken); within = within-last (args .text .now) (scope .given .0 .0) (scope .given .0 .1 .0) (args .at) (scope .given .0 .1 .1 .0) (omega arith) (omega arith) }
 
 sources-row-returns-3 : (t : ℕ) → sources-row-lts.Need-returns-3 (sources-row-calls t) (sources-row-at t) sources-row.Post
 sources-row-returns-3 t c =
-    let b = c .before .before in let octet-at = b .octet-at in
-    let b = b .before .before in let scope = b .scope in
-    let b = b .before .before in let filter-at = b .filter-at in
-    let b = b .before .before in let args = b .args in
+    let b = c .before .before in let octet-at = b .octet-at in let b = b .before .before in let scope = b .scope in
+    let b = b .before .before in let filter-at = b .filter-at in let b = b .before .before in let args = b .args in
     record { exact = λ n h. row-wrong (args .text .now) (args .at) n (omega arith) (sym (scope .given .1) ∙ filter-at .ensures .exact) (λ e. c .before .if1 .left (octet-at .ensures ∙ e)) (λ e. c .if2 .left (octet-at .ensures ∙ e)); within = tt }
 
 sources-row-returns-4 : (t : ℕ) → sources-row-lts.Need-returns-4 (sources-row-calls t) (sources-row-at t) sources-row.Post

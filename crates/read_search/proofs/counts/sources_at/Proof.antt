@@ -20,8 +20,7 @@ add-sources-row c =
 
 returns-2 : tie.Need-returns-2
 returns-2 c =
-    let b = c .before in let if1 = b .if1 in
-    let b = b .before in let octet-at = b .octet-at in
+    let b = c .before in let if1 = b .if1 in let b = b .before in let octet-at = b .octet-at in
     let b = b .before .before in let args = b .args in
     let i = in-text (args .text .now) (args .at) (sym (octet-at .ensures) ∙ if1 .left) (omega arith) in record { exact = c .sources-row .ensures .exact (length (args .text .now)) (omega arith) ∙ sources-row (args .text .now) (args .at) (sym (octet-at .ensures) ∙ if1 .left); within = within-from (args .text .now) (args .at) (c .sources-row .result) (c .sources-row .ensures .within) }
 

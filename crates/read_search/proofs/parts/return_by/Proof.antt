@@ -20,8 +20,7 @@ returns-2 c =
 returns-3 : tie.Need-returns-3
 returns-3 c =
     let b = c .before .before .before .before in let at-returns = b .returns in
-    let b = b .before .before in let returns-at = b .returns-at in
-    let b = b .before .before in let q = b .q in
+    let b = b .before .before in let returns-at = b .returns-at in let b = b .before .before in let q = b .q in
     let b = b .before .before in let behind-word = b .behind-word in
     let b = b .before .before in let args = b .args in
     return-unspaced (args .text .now) (args .at) (sym (q .given .1) ∙ behind-word .ensures) (sym (at-returns .given .1) ∙ returns-at .ensures .exact) (sym (c .enum-told3 .given .1) ∙ c .before .before .behind-space .ensures)
@@ -30,8 +29,7 @@ returns-4 : tie.Need-returns-4
 returns-4 c =
     let b = c .before .before .before in let behind-space = b .behind-space in
     let b = b .before .before in let at-returns = b .returns in
-    let b = b .before .before in let returns-at = b .returns-at in
-    let b = b .before .before in let q = b .q in
+    let b = b .before .before in let returns-at = b .returns-at in let b = b .before .before in let q = b .q in
     let b = b .before .before in let behind-word = b .behind-word in
     let b = b .before .before in let args = b .args in
     return-whole (args .text .now) (args .at) (sym (q .given .1) ∙ behind-word .ensures) (sym (at-returns .given .1) ∙ returns-at .ensures .exact) (sym (c .before .next .given .1) ∙ behind-space .ensures)

@@ -6,14 +6,12 @@ use Rattle.read_search.proofs.whole.is_refused.Tie as tie
 
 returns-3 : tie.Need-returns-3
 returns-3 c =
-    let b = c .before .before .before in let if1 = b .if1 in
-    let b = b .before in let args = b .args in
+    let b = c .before .before .before in let if1 = b .if1 in let b = b .before in let args = b .args in
     refused-none (args .selected) (args .sources) (if1 .left) (c .before .before .if2 .left) (c .if3 .taken)
 
 returns-4 : tie.Need-returns-4
 returns-4 c =
-    let b = c .before .before .before in let if1 = b .if1 in
-    let b = b .before in let args = b .args in
+    let b = c .before .before .before in let if1 = b .if1 in let b = b .before in let args = b .args in
     refused-some (args .selected) (args .sources) (if1 .left) (c .before .before .if2 .left) (c .if3 .left)
 
 pub is-refused-spec : {M : Type 1} → statement M

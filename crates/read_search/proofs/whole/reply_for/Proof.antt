@@ -23,18 +23,14 @@ returns-3 c =
 
 returns-4 : tie.Need-returns-4
 returns-4 c =
-    let b = c .before .before .before in let if2 = b .if2 in
-    let b = b .before in let if1 = b .if1 in
-    let b = b .before in let is-refused = b .is-refused in
-    let b = b .before .before in let args = b .args in
+    let b = c .before .before .before in let if2 = b .if2 in let b = b .before in let if1 = b .if1 in
+    let b = b .before in let is-refused = b .is-refused in let b = b .before .before in let args = b .args in
     reply-large (args .l) (args .selected) (args .a) (sym (is-refused .ensures) ∙ if1 .left) (if2 .left) (c .before .before .if3 .left) (sym (c .before .is-too-large .ensures) ∙ c .if4 .taken)
 
 returns-5 : tie.Need-returns-5
 returns-5 c =
-    let b = c .before .before .before in let if2 = b .if2 in
-    let b = b .before in let if1 = b .if1 in
-    let b = b .before in let is-refused = b .is-refused in
-    let b = b .before .before in let args = b .args in
+    let b = c .before .before .before in let if2 = b .if2 in let b = b .before in let if1 = b .if1 in
+    let b = b .before in let is-refused = b .is-refused in let b = b .before .before in let args = b .args in
     reply-accepted (args .l) (args .selected) (args .a) (sym (is-refused .ensures) ∙ if1 .left) (if2 .left) (c .before .before .if3 .left) (sym (c .before .is-too-large .ensures) ∙ c .if4 .left)
 
 pub reply-for-spec : {M : Type 1} → statement M

@@ -13,16 +13,14 @@ returns c =
 returns-2 : tie.Need-returns-2
 returns-2 c =
     let b = c .before .before .before .before in let sources = b .sources in
-    let b = b .before .before in let in-at = b .in-at in
-    let b = b .before .before .before in let args = b .args in
+    let b = b .before .before in let in-at = b .in-at in let b = b .before .before .before in let args = b .args in
     unsearched (no-return (args .text .now) (args .at) (sym (sources .given .1) ∙ in-at .ensures) (sym (c .enum-told2 .given .1) ∙ c .before .before .return-at .ensures))
 
 returns-3 : tie.Need-returns-3
 returns-3 c =
     let b = c .before .before .before .before in let at-returns = b .returns in
     let b = b .before .before in let return-at = b .return-at in
-    let b = b .before .before in let sources = b .sources in
-    let b = b .before .before in let in-at = b .in-at in
+    let b = b .before .before in let sources = b .sources in let b = b .before .before in let in-at = b .in-at in
     let b = b .before .before .before in let args = b .args in
     unsearched (no-charset (args .text .now) (args .at) (sym (sources .given .1) ∙ in-at .ensures) (sym (at-returns .given .1) ∙ return-at .ensures) (sym (c .enum-told3 .given .1) ∙ c .before .before .charset-part-at .ensures))
 
@@ -33,8 +31,7 @@ returns-4 c =
     let b = b .before .before in let charset-part-at = b .charset-part-at in
     let b = b .before .before in let at-returns = b .returns in
     let b = b .before .before in let return-at = b .return-at in
-    let b = b .before .before in let sources = b .sources in
-    let b = b .before .before in let in-at = b .in-at in
+    let b = b .before .before in let sources = b .sources in let b = b .before .before in let in-at = b .in-at in
     let b = b .before .before .before in let args = b .args in
     let t = searched (args .text .now) (args .at) (sym (sources .given .1) ∙ in-at .ensures) (sym (at-returns .given .1) ∙ return-at .ensures) (sym (unknown .given .1) ∙ charset-part-at .ensures) (args .cells .now) (with-keys .last .1 .1 .0) (with-keys .ensures .exact) in record { exact = t .0; cells = t .1; within = with-keys .ensures .within }
 

@@ -64,8 +64,7 @@ set-at-one-more-requires t c κs =
 
 set-at-returns : (t : ℕ) → set-at-lts.Need-returns (set-at-calls t) (set-at-at t) set-at.Post
 set-at-returns t c =
-    let b = c .before .before .before in let at-set-at = b .set-at in
-    let b = b .before .before in let if1 = b .if1 in
+    let b = c .before .before .before in let at-set-at = b .set-at in let b = b .before .before in let if1 = b .if1 in
     let b = b .before in let octet-at = b .octet-at in
     let b = b .before .before .before in let store-two = b .store-two in
     let b = b .before .before .before in let from = b .from in

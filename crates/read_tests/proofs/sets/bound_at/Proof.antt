@@ -14,8 +14,7 @@ add-t5 c =
 
 returns : tie.Need-returns
 returns c =
-    let b = c .before in let octet-at = b .octet-at in
-    let b = b .before .before in let args = b .args in
+    let b = c .before in let octet-at = b .octet-at in let b = b .before .before in let args = b .args in
     let s = args .text .now in
     let i = in-text s (args .at) (sym (octet-at .ensures) ∙ c .if1 .taken) (omega arith) in
     record { exact = bound-star s (args .at) (sym (octet-at .ensures) ∙ c .if1 .taken); within = (omega arith, omega arith, omega arith) }

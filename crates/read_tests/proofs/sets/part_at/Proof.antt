@@ -11,12 +11,9 @@ add-bound-at c = let w = rw (c .before .before .before .from .given .1) at (c .b
 
 returns : tie.Need-returns
 returns c =
-    let b = c .before in let upto = b .upto in
-    let b = b .before .before in let bound-at2 = b .bound-at2 in
-    let b = b .before in let if1 = b .if1 in
-    let b = b .before in let octet-at = b .octet-at in
-    let b = b .before .before in let from = b .from in
-    let b = b .before .before in let bound-at = b .bound-at in
+    let b = c .before in let upto = b .upto in let b = b .before .before in let bound-at2 = b .bound-at2 in
+    let b = b .before in let if1 = b .if1 in let b = b .before in let octet-at = b .octet-at in
+    let b = b .before .before in let from = b .from in let b = b .before .before in let bound-at = b .bound-at in
     let b = b .before .before in let args = b .args in
     let w = rw (from .given .1) at (bound-at .ensures .within) in
     let v = rw (upto .given .1) at (bound-at2 .ensures .within) in
@@ -29,10 +26,8 @@ returns c =
 
 returns-2 : tie.Need-returns-2
 returns-2 c =
-    let b = c .before .before .before in let if1 = b .if1 in
-    let b = b .before in let octet-at = b .octet-at in
-    let b = b .before .before in let from = b .from in
-    let b = b .before .before in let bound-at = b .bound-at in
+    let b = c .before .before .before in let if1 = b .if1 in let b = b .before in let octet-at = b .octet-at in
+    let b = b .before .before in let from = b .from in let b = b .before .before in let bound-at = b .bound-at in
     let b = b .before .before in let args = b .args in
     record {
       exact =
@@ -44,8 +39,7 @@ returns-2 c =
 returns-3 : tie.Need-returns-3
 returns-3 c =
     let b = c .before .before .before in let from = b .from in
-    let b = b .before .before in let bound-at = b .bound-at in
-    let b = b .before .before in let args = b .args in
+    let b = b .before .before in let bound-at = b .bound-at in let b = b .before .before in let args = b .args in
     let w = rw (from .given .1) at (bound-at .ensures .within) in
     record {
       exact = part-one (args .text .now) (args .at) (sym (from .given .1) ∙ bound-at .ensures .exact) (λ e. c .if1 .left (c .before .octet-at .ensures ∙ e));

@@ -25,10 +25,8 @@ returns-3 c = λ m ws x lent l law w p d e v. let a = c .before .before .before 
 
 returns-4 : tie.Need-returns-4
 returns-4 c =
-    let b = c .before .before .before .before in let if3 = b .if3 in
-    let b = b .before .before in let if2 = b .if2 in
-    let b = b .before in let is-taken = b .is-taken in
-    let b = b .before in let if1 = b .if1 in
+    let b = c .before .before .before .before in let if3 = b .if3 in let b = b .before .before in let if2 = b .if2 in
+    let b = b .before in let is-taken = b .is-taken in let b = b .before in let if1 = b .if1 in
     let b = b .before .before .before .before in let args = b .args in
     λ m ws x lent l law w p d e v. let a = args in
     let held = is-taken .ensures (boxes m) (counted m ws (a .counts) (a .s) (a .queue .now) lent law) p d e v in

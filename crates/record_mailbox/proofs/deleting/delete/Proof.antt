@@ -17,10 +17,8 @@ returns-2 c = λ m lent law w. let a = c .before .before .before .before .before
 returns-3 : tie.Need-returns-3
 returns-3 c =
     let b = c .before .before .before .before in let take-out = b .take-out in
-    let b = b .before .before .before in let if2 = b .if2 in
-    let b = b .before in let is-selected = b .is-selected in
-    let b = b .before in let if1 = b .if1 in
-    let b = b .before .before .before .before in let args = b .args in
+    let b = b .before .before .before in let if2 = b .if2 in let b = b .before in let is-selected = b .is-selected in
+    let b = b .before in let if1 = b .if1 in let b = b .before .before .before .before in let args = b .args in
     λ m lent law w. let a = args in
     delete-comes m (a .words .now) (a .counts) (a .s) (a .queue .now) lent law (a .id) (a .k) (a .x) w (a .quiet) _ (if1 .left)
     (sym (is-selected .ensures) ∙ if2 .left) (take-out .ensures)

@@ -19,10 +19,8 @@ returns-2 c = λ m ws lent law w p d e v. let a = c .before .before .before .bef
 
 returns-3 : tie.Need-returns-3
 returns-3 c =
-    let b = c .before .before .before in let rename = b .rename in
-    let b = b .before .before in let if2 = b .if2 in
-    let b = b .before in let is-taken = b .is-taken in
-    let b = b .before in let if1 = b .if1 in
+    let b = c .before .before .before in let rename = b .rename in let b = b .before .before in let if2 = b .if2 in
+    let b = b .before in let is-taken = b .is-taken in let b = b .before in let if1 = b .if1 in
     let b = b .before .before .before .before in let args = b .args in
     λ m ws lent law w p d e v. let a = args in
     let held = is-taken .ensures (boxes m) (counted m ws (a .counts) (a .s) (a .queue .now) lent law) p d e v in

@@ -38,9 +38,7 @@ loop-again c =
 
 returns : tie.Need-returns Inv-loop μ-loop
 returns c =
-    let b = c .before in let l = b .loop in
-    let b = b .before .before in let args = b .args in
-    let pre = b .pre in
+    let b = c .before in let l = b .loop in let b = b .before .before in let args = b .args in let pre = b .pre in
     let five : length (args .t2) ≡ 5 = omega arith in
     row-read (args .o .now) (args .t2) (args .count) five pre (l .inv .0) (l .inv .1) (omega arith)
 

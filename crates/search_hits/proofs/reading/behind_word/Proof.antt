@@ -6,8 +6,7 @@ use Rattle.search_hits.specs.Headed.{behind-found, behind-none}
 
 returns : tie.Need-returns
 returns c =
-    let b = c .before .before .before in let verb-at = b .verb-at in
-    let b = b .before in let tag-end = b .tag-end in
+    let b = c .before .before .before in let verb-at = b .verb-at in let b = b .before in let tag-end = b .tag-end in
     let b = b .before .before in let args = b .args in
     behind-found (args .text .now) (tag-end .result) (tag-end .ensures .exact) (verb-at .ensures) (c .before .at .given .1)
 

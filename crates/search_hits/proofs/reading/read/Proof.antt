@@ -9,8 +9,7 @@ returns c =
     let b = c .before .before .before .before .before .before in let search-at = b .search-at in
     let b = b .before .before .before in let keep-sources = b .keep-sources in
     let b = b .before in let behind-word = b .behind-word in
-    let b = b .before .before .before in let args = b .args in
-    let pre = b .pre in
+    let b = b .before .before .before in let args = b .args in let pre = b .pre in
     asks-is (args .text .now) (behind-word .result) (behind-word .ensures) (keep-sources .result) (keep-sources .ensures)
     (args .cells .now) _ (search-at .result) (search-at .ensures) _ _ (c .before .before .asked .given .1)
     (pre .0) (pre .1) (search-at .kept .1 .1 .0) _ (c .wanted-of .ensures)

@@ -62,6 +62,20 @@ fn the_linked_library_has_this_layout() {
     assert_eq!((check_layout(), LAYOUT), (Ok(()), 2));
 }
 
+/// What a `#define` of the header says.
+fn defined(name: &str) -> String {
+    let header = include_str!("../include/borjavid.h");
+    let start = format!("#define {name} ");
+    let said = header.lines().find_map(|line| line.strip_prefix(&start));
+    said.expect(name).trim_matches('"').to_string()
+}
+
+#[test]
+fn the_header_says_the_same() {
+    assert_eq!(defined("BORJAVID_LAYOUT"), LAYOUT.to_string());
+    assert_eq!(defined("BORJAVID_VERSION"), env!("CARGO_PKG_VERSION"));
+}
+
 #[test]
 fn a_library_with_another_layout_is_refused() {
     let folder = other_library();

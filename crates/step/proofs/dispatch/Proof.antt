@@ -9,7 +9,7 @@ use Rattle.step.proofs.dispatch.Tie as tie
 
 serve-requires : tie.Need-serve-requires
 serve-requires c κs =
-    let b = c .before .before .before in let told = b .of-mailbox .given .1 in
+    let b = c .before .before .before .before in let told = b .of-mailbox .given .1 in
     let b = b .before .before in let is = b .subject-of .ensures in
     let b = b .before .before .before .before in let a = b .args in let p = b .pre in
     let says = says-of _ (by-subject _ is told) (p .2) in
@@ -17,14 +17,14 @@ serve-requires c κs =
 
 serve-requires-2 : tie.Need-serve-requires-2
 serve-requires-2 c κs =
-    let b = c .before .before in let told = b .of-message .given .1 in
+    let b = c .before .before .before in let told = b .of-message .given .1 in
     let b = b .before .before in let is = b .subject-of .ensures in
     let b = b .before .before .before .before in let p = b .pre in
     (p .0, p .1, in-range (says-of _ (by-subject _ is told) (p .2)))
 
 serve-requires-3 : tie.Need-serve-requires-3
 serve-requires-3 c κs =
-    let b = c .before .before in let told = b .of-session .given .1 in
+    let b = c .before .before .before in let told = b .of-session .given .1 in
     let b = b .before .before in let is = b .subject-of .ensures in
     let b = b .before .before .before .before in let p = b .pre in
     (p .0, in-range (says-of _ (by-subject _ is told) (p .2)))
@@ -39,7 +39,7 @@ answer-requires c κs =
 returns : tie.Need-returns
 returns c =
     let b = c .before .before .before .before in let serve = b .serve in
-    let b = b .before .before .before .before in let told = b .of-mailbox .given .1 in
+    let b = b .before .before .before .before .before in let told = b .of-mailbox .given .1 in
     let b = b .before .before in let is = b .subject-of .ensures in
     let b = b .before .before .before .before in let a = b .args in
     placed-by (b .pre .2) (rest (a .octets .now) (a .tail)) (by-subject _ is told) (serve .ensures)
@@ -47,14 +47,14 @@ returns c =
 returns-2 : tie.Need-returns-2
 returns-2 c =
     let b = c .before .before .before .before in let serve = b .serve2 in
-    let b = b .before .before .before in let told = b .of-message .given .1 in
+    let b = b .before .before .before .before in let told = b .of-message .given .1 in
     let b = b .before .before in let is = b .subject-of .ensures in let b = b .before .before .before .before in
     served (b .pre .2) (by-subject _ is told) (serve .ensures)
 
 returns-3 : tie.Need-returns-3
 returns-3 c =
     let b = c .before .before .before .before in let serve = b .serve3 in
-    let b = b .before .before .before in let told = b .of-session .given .1 in
+    let b = b .before .before .before .before in let told = b .of-session .given .1 in
     let b = b .before .before in let is = b .subject-of .ensures in let b = b .before .before .before .before in
     served (b .pre .2) (by-subject _ is told) (serve .ensures)
 

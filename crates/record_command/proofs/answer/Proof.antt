@@ -1,4 +1,4 @@
--- `answer`: by the verb, if the line has one. Assumes nothing.
+-- `answer`: the head of the line gives its verb and where the command goes on; a line without a verb is BAD by the rules. Assumes nothing.
 use borrow.Author.Needs.{needs}
 use mathlib.Core.Path.{refl, ap}
 use mathlib.Core.Bool.{not}
@@ -9,7 +9,7 @@ use Rattle.model.specs.declared.Reply.the-variants.{Bad}
 use Rattle.read_options.specs.declared.Verb.the-variants.{Other}
 use Rattle.laws.specs.Room.{sizes}
 use Rattle.read_commands.specs.Judging.{answerOf, judgedOf}
-use Rattle.record_command.specs.Verbs.{verb-judged, reply-judged}
+use Rattle.record_reply.specs.Judged.{verb-judged, reply-judged}
 use Rattle.record_command.proofs.answer.Statement.{statement}
 use Rattle.record_command.proofs.answer.Tie as tie
 
@@ -33,7 +33,9 @@ returns-2 c =
     let b = b .before .before .before .before in let a = b .args in
     λ m lent law laid sel.
     let e = ap (judgedOf limits (not (eqb (a .s .selected) 0))) (rw (enum-told .given .1) at (head .ensures)) in
-    c .before .before .refuse .ensures m (a .words .now) lent (verb-judged m (a .words .now) (a .counts) (a .s) (a .queue .now) (a .text .now) lent (answerOf Other Bad) e) (reply-judged m (a .words .now) (a .counts) (a .s) (a .queue .now) (a .text .now) lent (answerOf Other Bad) e refl) refl
+    c .before .before .refuse .ensures m (a .words .now) lent
+    (verb-judged m (a .words .now) (a .counts) (a .s) (a .queue .now) (a .text .now) lent (answerOf Other Bad) e)
+    (reply-judged m (a .words .now) (a .counts) (a .s) (a .queue .now) (a .text .now) lent (answerOf Other Bad) e refl) refl
 
 pub answer-spec : {M : Type 1} → statement M
 answer-spec =

@@ -1,4 +1,4 @@
--- `answer_by`: by the verb. Assumes nothing.
+-- `answer_by`: behind each verb stands the command that the rules read there; one of no verb that is served is BAD. Assumes nothing.
 use borrow.Author.Needs.{needs}
 use mathlib.Core.Path.{refl, ap, sym, _∙_}
 use mathlib.Core.Bool.{not}
@@ -10,7 +10,7 @@ use Rattle.read_options.specs.declared.Verb.{Verb}
 use Rattle.read_options.specs.declared.Verb.the-variants.{Other}
 use Rattle.laws.specs.Room.{sizes}
 use Rattle.read_commands.specs.Judging.{answerOf, judgedOf, judgedBy}
-use Rattle.record_command.specs.Verbs.{verb-judged, reply-judged}
+use Rattle.record_reply.specs.Judged.{verb-judged, reply-judged}
 use Rattle.record_command.proofs.answer_by.Statement.{statement}
 use Rattle.record_command.proofs.answer_by.Tie as tie
 
@@ -31,15 +31,19 @@ returns-2 : tie.Need-returns-2
 returns-2 c =
     let b = c .before .before .before .before .before in let enum-told2 = b .enum-told2 in
     let b = b .before .before .before .before .before in let a = b .args in
-    λ m lent law laid sel head. c .before .before .search .ensures m (a .nexts .now) (a .counters .now) lent law laid (rw (enum-told2 .given .1) at head)
+    λ m lent law laid sel head.
+    c .before .before .search .ensures m (a .nexts .now) (a .counters .now) lent law laid (rw (enum-told2 .given .1) at head)
 
 returns-3 : tie.Need-returns-3
 returns-3 c =
     let b = c .before .before .before .before in let enum-told3 = b .enum-told3 in
     let b = b .before .before .before .before .before in let a = b .args in
     λ m lent law laid sel head.
-    let e = ap (judgedOf limits (not (eqb (a .s .selected) 0))) (ap (λ (v : Verb). judgedBy v (a .text .now) (a .at)) (sym (enum-told3 .given .1)) ∙ head) in
-    c .before .before .refuse .ensures m (a .words .now) lent (verb-judged m (a .words .now) (a .counts) (a .s) (a .queue .now) (a .text .now) lent (answerOf Other Bad) e) (reply-judged m (a .words .now) (a .counts) (a .s) (a .queue .now) (a .text .now) lent (answerOf Other Bad) e refl) refl
+    let told = ap (λ (v : Verb). judgedBy v (a .text .now) (a .at)) (sym (enum-told3 .given .1)) in
+    let e = ap (judgedOf limits (not (eqb (a .s .selected) 0))) (told ∙ head) in
+    c .before .before .refuse .ensures m (a .words .now) lent
+    (verb-judged m (a .words .now) (a .counts) (a .s) (a .queue .now) (a .text .now) lent (answerOf Other Bad) e)
+    (reply-judged m (a .words .now) (a .counts) (a .s) (a .queue .now) (a .text .now) lent (answerOf Other Bad) e refl) refl
 
 pub answer-by-spec : {M : Type 1} → statement M
 answer-by-spec =

@@ -1,4 +1,4 @@
--- `search`: by the reply. Assumes nothing.
+-- `search`: the reply that was judged is the rules', and a line whose word is ESEARCH and that is accepted is a search. Assumes nothing.
 use borrow.Author.Needs.{needs}
 use mathlib.Core.Path.{_≡_, ap, sym, _∙_}
 use mathlib.Core.Bool.{not}
@@ -11,7 +11,8 @@ use Rattle.model.specs.Limits.{limits}
 use Rattle.model.specs.declared.Limits.{Limits}
 use Rattle.laws.specs.Room.{sizes}
 use Rattle.read_commands.specs.Judging.{judgedOf, wholeBy}
-use Rattle.record_command.specs.Verbs.{verb-judged, reply-judged, accepted-judged, search-are}
+use Rattle.record_reply.specs.Judged.{verb-judged, reply-judged, accepted-judged}
+use Rattle.record_command.specs.Verbs.{search-are}
 use Rattle.record_command.proofs.search.Statement.{statement}
 use Rattle.record_command.proofs.search.Tie as tie
 
@@ -29,9 +30,14 @@ returns c =
     let b = b .before .before in let at-limits = b .limits in
     let b = b .before .before .before .before .before in let a = b .args in
     let e : wholeBy esearch (a .text .now) (a .at) ≡ commandOf (a .text .now) → judge-search .result ≡ judgedOf limits (not (eqb (a .s .selected) 0)) (commandOf (a .text .now)) = λ h.
-    judge-search .ensures .exact ∙ (ap (λ (l : Limits). judgedOf l (not (eqb (a .s .selected) 0)) (wholeBy esearch (a .text .now) (a .at))) (at-limits .ensures) ∙ ap (judgedOf limits (not (eqb (a .s .selected) 0))) h) in
+    judge-search .ensures .exact
+    ∙ (ap (λ (l : Limits). judgedOf l (not (eqb (a .s .selected) 0)) (wholeBy esearch (a .text .now) (a .at))) (at-limits .ensures)
+    ∙ ap (judgedOf limits (not (eqb (a .s .selected) 0))) h) in
     let no = sym (is-accepted .ensures) ∙ not-true _ (if1 .taken) in
-    λ m nexts counters lent law laid head. c .before .before .refuse .ensures m (a .words .now) lent (verb-judged m (a .words .now) (a .counts) (a .s) (a .queue .now) (a .text .now) lent (judge-search .result) (e head)) (reply-judged m (a .words .now) (a .counts) (a .s) (a .queue .now) (a .text .now) lent (judge-search .result) (e head) no) no
+    λ m nexts counters lent law laid head.
+    c .before .before .refuse .ensures m (a .words .now) lent
+    (verb-judged m (a .words .now) (a .counts) (a .s) (a .queue .now) (a .text .now) lent (judge-search .result) (e head))
+    (reply-judged m (a .words .now) (a .counts) (a .s) (a .queue .now) (a .text .now) lent (judge-search .result) (e head) no) no
 
 returns-2 : tie.Need-returns-2
 returns-2 c =
@@ -41,9 +47,12 @@ returns-2 c =
     let b = b .before .before in let at-limits = b .limits in
     let b = b .before .before .before .before .before in let a = b .args in
     let e : wholeBy esearch (a .text .now) (a .at) ≡ commandOf (a .text .now) → judge-search .result ≡ judgedOf limits (not (eqb (a .s .selected) 0)) (commandOf (a .text .now)) = λ h.
-    judge-search .ensures .exact ∙ (ap (λ (l : Limits). judgedOf l (not (eqb (a .s .selected) 0)) (wholeBy esearch (a .text .now) (a .at))) (at-limits .ensures) ∙ ap (judgedOf limits (not (eqb (a .s .selected) 0))) h) in
+    judge-search .ensures .exact
+    ∙ (ap (λ (l : Limits). judgedOf l (not (eqb (a .s .selected) 0)) (wholeBy esearch (a .text .now) (a .at))) (at-limits .ensures)
+    ∙ ap (judgedOf limits (not (eqb (a .s .selected) 0))) h) in
     let yes = sym (is-accepted .ensures) ∙ not-false _ (if1 .left) in
-    λ m nexts counters lent law laid head. let first = accepted-judged m (a .words .now) (a .counts) (a .s) (a .queue .now) (a .text .now) lent (judge-search .result) (e head) yes in
+    λ m nexts counters lent law laid head.
+    let first = accepted-judged m (a .words .now) (a .counts) (a .s) (a .queue .now) (a .text .now) lent (judge-search .result) (e head) yes in
     search-are m (a .text .now) (a .at) head first _ (λ p q is. c .before .before .answer .ensures m nexts counters p q lent law laid is first)
 
 pub search-spec : {M : Type 1} → statement M

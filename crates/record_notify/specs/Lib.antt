@@ -1,0 +1,2 @@
+pub mod NotifyNone
+pub mod Read

@@ -23,27 +23,11 @@ use Rattle.lawful.specs.Lent.{Lent as Rows, memory}
 use Rattle.lent_rows.specs.Standing.{Stands}
 use Rattle.laws.specs.Room.{law-room}
 use Rattle.record_read.specs.declared.Kind.{Kind}
-use Rattle.record_read.specs.declared.Kind.the-variants.{Create, Delete, Rename, Subscribe, Grant, Arrive, Expunge, Reflag, Select, Ended, Command, Drained, Unknown}
+use Rattle.record_kind.specs.Subjects.{sought}
 use Rattle.record_outcome.specs.Coming.{Lends, Ready, Placed, Comes, changed, refusal, ladder}
 use Rattle.record_outcome.specs.Laws.{call-unlawful, call-bad, call-ladder, comes-refused}
 use Rattle.record_outcome.specs.declared.Outcome.{Outcome as Came}
 use Rattle.step.specs.Steps.{Lent, Steps}
-
--- whose mailbox a record needs: that of its id, or the selected one
-abbrev pub sought : Kind → ℕ → ℕ → ℕ
-sought Create i sel = i
-sought Delete i sel = i
-sought Rename i sel = i
-sought Subscribe i sel = i
-sought Grant i sel = i
-sought Arrive i sel = i
-sought Expunge i sel = i
-sought Reflag i sel = i
-sought Select i sel = i
-sought Ended i sel = sel
-sought Command i sel = sel
-sought Drained i sel = sel
-sought Unknown i sel = i
 
 -- what a kind's function leaves, for every lawful memory whose words, counts, session, queue and used rows those are: v are the record's numbers, and what
 -- follows them stands from `tail` on; mailbox x at place k is the one that the record needs

@@ -1,9 +1,9 @@
-// The step: one record on lent memory. Refusal 1 and 2 are judged here; then each kind of record has its own function.
+// The step: one record on lent memory. Refusal 1 and 2 are judged here; then a record is served by what it is about.
 use model::Counts;
 use model::Mailbox;
 use model::Refusal;
 use model::Session;
-use model::Uid;
+use record_kind::Subject;
 use record_outcome::Outcome;
 use record_read::Kind;
 use record_read::Received;
@@ -21,34 +21,11 @@ ghost use Rattle.record_read.specs.Reading.{Reads};
 ghost use Rattle.record_read.specs.Laws.{Says};
 ghost use Rattle.record_outcome.specs.Coming.{Lends, Ready, Comes, ladder};
 ghost use Rattle.lent_rows.specs.Standing.{Stands};
-ghost use Rattle.step.specs.Served.{Seen, Stepped, Serves, sought};
-
-// ---- the mailbox that a record is about
-
-// Its id; the selected mailbox's, where the record is of the client and not of a mailbox.
-fn sought_id(kind: Kind, id: u64, selected: u16) -> u64
-    ensures { λ r. ⌜ r ≡ sought kind id selected ⌝ }
-{
-    match kind {
-        Kind::Create => id,
-        Kind::Delete => id,
-        Kind::Rename => id,
-        Kind::Subscribe => id,
-        Kind::Grant => id,
-        Kind::Arrive => id,
-        Kind::Expunge => id,
-        Kind::Reflag => id,
-        Kind::Select => id,
-        Kind::Ended => table_mailboxes::wide_id(selected),
-        Kind::Command => table_mailboxes::wide_id(selected),
-        Kind::Drained => table_mailboxes::wide_id(selected),
-        Kind::Unknown => id,
-    }
-}
+ghost use Rattle.step.specs.Served.{Seen, Stepped, Serves};
 
 // ---- a record in lawful memory
 
-// By its kind. x is the mailbox that the record needs, and k its place.
+// By what it is about. x is the mailbox that the record needs, and k its place.
 fn dispatch(
     kind: Kind,
     v: [u64; 5],
@@ -72,59 +49,43 @@ fn dispatch(
     requires { ⌜ Ready (now words) counts s (now queue) × (length (now words) / 6 ≤ 1024) × Says kind (now octets) v tail × (kindFor kind ≡ kindOf (now octets)) ⌝ }
     ensures { λ z. ⌜ Serves kind v tail k x lent (now (ids .entry)) (now (attributes .entry)) (now (lens .entry)) (now (validities .entry)) (now (nexts .entry)) (now (counters .entry)) (now (names .entry)) (now (words .entry)) counts s (now (queue .entry)) (now (octets .entry)) z (now (words .exit)) (now (queue .exit)) ⌝ }
 {
-    let a = v[0];
-    let b = v[1];
-    let c = v[2];
-    let d = v[3];
-    let e = v[4];
-    match kind {
-        Kind::Create => record_mailbox::creating::create(
-            queue,
-            counts,
-            s,
+    match record_kind::subject_of(kind) {
+        Subject::Mailbox(of_mailbox) => step_mailbox::serve(
+            of_mailbox,
+            v,
+            k,
+            x,
             lent,
             ids,
             lens,
             names,
-            k,
-            a,
-            b,
-            c,
-            d,
-            e,
-            &octets[tail..],
-        ),
-        Kind::Delete => record_mailbox::deleting::delete(words, queue, counts, s, k, x, a, b),
-        Kind::Rename => record_mailbox::renaming::rename(
-            queue,
+            words,
             counts,
             s,
-            ids,
-            lens,
-            names,
-            k,
-            x,
-            a,
-            b,
+            queue,
             &octets[tail..],
         ),
-        Kind::Subscribe => record_mailbox::subscriptions::subscribe(
-            queue,
-            counts,
-            s,
+        Subject::Message(of_message) => step_message::serve(
+            of_message,
+            v,
             k,
             x,
-            a,
-            b,
-            c,
+            words,
+            counts,
+            s,
+            queue,
         ),
-        Kind::Grant => record_mailbox::rights::grant(queue, counts, s, k, x, a, b),
-        Kind::Arrive => record_message::arrive(words, queue, counts, s, k, x, a, Uid(b), c, d, e),
-        Kind::Expunge => record_message::expunge(words, queue, counts, s, k, x, a, Uid(b), c),
-        Kind::Reflag => record_message::flag(words, queue, counts, s, k, x, a, Uid(b), c, d),
-        Kind::Select => record_session::select(words, counts, s, k, x, a),
-        Kind::Ended => record_session::end_command(words, queue, counts, s, x, a),
-        Kind::Command => record_command::answer(
+        Subject::Session(of_session) => step_session::serve(
+            of_session,
+            v,
+            k,
+            x,
+            words,
+            counts,
+            s,
+            queue,
+        ),
+        Subject::Command => record_command::answer(
             words,
             queue,
             counts,
@@ -139,8 +100,7 @@ fn dispatch(
             x,
             &octets[tail..],
         ),
-        Kind::Drained => record_session::drain(queue, counts, s, a),
-        Kind::Unknown => record_outcome::refused(Refusal::BadRecord, counts, s),
+        Subject::Nothing => record_outcome::refused(Refusal::BadRecord, counts, s),
     }
 }
 
@@ -168,7 +128,7 @@ fn serve(
     let values = r.values;
     let tail = r.tail;
     let kind = r.kind;
-    let id = sought_id(kind, values[0], s.selected);
+    let id = record_kind::sought_id(kind, values[0], s.selected);
     let k = table_mailboxes::find(ids, n, id);
     let x = lent_rows::columns::row_at(
         ids,

@@ -1,4 +1,4 @@
--- `decide`: a record on memory whose used rows come by columns. Assumes nothing.
+-- `decide`: the exact test is refusal 1 and the reader's verdict is refusal 2; behind both the memory is lawful, and `serve` says the rest of the ladder. Assumes nothing.
 use borrow.Author.Needs.{needs}
 use borrow.Author.Tests.{not-true, not-false}
 use mathlib.Core.Path.{refl, sym, _∙_}

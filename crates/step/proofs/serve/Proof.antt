@@ -1,4 +1,4 @@
--- `serve`: the mailbox is found, and the record is served. Assumes nothing.
+-- `serve`: the row that was found is at the place of the id that the record's kind needs, in every memory with these columns. Assumes nothing.
 use borrow.Author.Needs.{needs}
 use borrow.Author.Tests.{leb-true}
 use mathlib.Core.Path.{_≡_, refl, ap, _∙_}
@@ -13,7 +13,9 @@ use Rattle.step.proofs.serve.Statement.{statement}
 use Rattle.step.proofs.serve.Tie as tie
 
 dispatch-requires : tie.Need-dispatch-requires
-dispatch-requires c κs = let p = c .before .before .before .before .before .before .before .before .before .pre in (p .0, p .1, read-says (p .2) (p .3) _ refl, p .2 .kind)
+dispatch-requires c κs =
+    let p = c .before .before .before .before .before .before .before .before .before .pre in
+    (p .0, p .1, read-says (p .2) (p .3) _ refl, p .2 .kind)
 
 returns : tie.Need-returns
 returns c =
@@ -24,7 +26,8 @@ returns c =
     let b = b .before .before .before .before .before in let a = b .args in
     λ m lends law len stands.
     let long : length (boxes m) ≡ a .counts .mailboxes = boxes-long m (leb-true _ _ (law .used)) ∙ ap (λ (j : Counts). j .mailboxes) (lends .counts) in
-    let w : Placed m (id .result) (found .result) (x .result) = placed m (id .result) (found .result) (x .result) (found .ensures .0 (boxes m) long (stands .laid .id)) (x .ensures (boxes m) long stands) in
+    let w : Placed m (id .result) (found .result) (x .result) =
+    placed m (id .result) (found .result) (x .result) (found .ensures .0 (boxes m) long (stands .laid .id)) (x .ensures (boxes m) long stands) in
     dispatch .ensures m lends law len (rw (← id .ensures) w) (stands .laid)
 
 pub serve-spec : {M : Type 1} → statement M

@@ -1,4 +1,4 @@
--- `step`: one record on lent memory. The table is an array of rows, so that every number in it is within its type. Assumes nothing.
+-- `step`: the columns are laid out of the array's rows, whose numbers are within their types, so `decide` speaks of these very rows. Assumes nothing.
 use borrow.Author.Needs.{needs}
 use mathlib.Core.List.{List, [], _∷_}
 use Prim.Native.Nat.{ℕ, zero, suc, _<_}
@@ -18,7 +18,10 @@ use Rattle.step.proofs.step.Statement.{statement}
 use Rattle.step.proofs.step.Tie as tie
 
 narrow-row : (x : Mailbox) (vs : List Val) → Is T.the-row x vs → Narrow x
-narrow-row x vs is = let o = LL.owed T.the-type T′.the-laws x vs is in record { id = o .0 .1; validity = o .1 .1 .1 .0 .1; next = o .1 .1 .1 .1 .0 .1; low = o .1 .1 .1 .1 .1 .0 .1; high = o .1 .1 .1 .1 .1 .1 .0 .1 }
+narrow-row x vs is =
+    let o = LL.owed T.the-type T′.the-laws x vs is in
+    let n = o .1 .1 .1 in
+    record { id = o .0 .1; validity = n .0 .1; next = n .1 .0 .1; low = n .1 .1 .0 .1; high = n .1 .1 .1 .0 .1 }
 
 narrow-rows : (l : List Mailbox) (us : List Val) → shadow (each Mailbox (T.the-row .own) l us) → (k : ℕ) → k < length l → Narrow (getD l k noMailbox)
 narrow-rows [] us s k h = absurd (let z : ⊥ = omega arith in z)
@@ -29,14 +32,19 @@ narrow-rows (x ∷ l) (u ∷ us) s (suc k) h = narrow-rows l us (s .1) k (omega 
 decide-requires : tie.Need-decide-requires
 decide-requires c κs =
     let b = c .before .before .before .before .before .before .before .before .before in let lay = b .lay in
-    let s = c .before .before .before .before .before .before .before .before .before .before .before .before .before .before .before .before .before .before .before .before in
-    (s .args .table, record { long = s .good .0 .1 .0 .1; stands = record { laid = lay .ensures; narrow = narrow-take (s .args .table) (s .args .counts .mailboxes) (narrow-rows (s .args .table) _ (s .good .0 .1 .1)) } })
+    let s = b .before .before .before .before .before .before .before .before .before .before .before in
+    let rows = s .good .0 .1 in
+    let narrow = narrow-take (s .args .table) (s .args .counts .mailboxes) (narrow-rows (s .args .table) _ (rows .1)) in
+    (s .args .table, record { long = rows .0 .1; stands = record { laid = lay .ensures; narrow = narrow } })
 
 returns : tie.Need-returns
 returns c =
-    let s = c .before .before .before .before .before .before .before .before .before .before .before .before .before .before .before .before .before .before .before .before .before .before .before .before .before in
-    c .before .before .before .before .decide .ensures (s .args .table)
-    (record { long = s .good .0 .1 .0 .1; stands = record { laid = c .before .before .before .before .before .before .before .before .before .before .before .before .before .before .lay .ensures; narrow = narrow-take (s .args .table) (s .args .counts .mailboxes) (narrow-rows (s .args .table) _ (s .good .0 .1 .1)) } })
+    let b = c .before .before .before .before in let decide = b .decide in
+    let b = b .before .before .before .before .before .before .before .before .before .before in let lay = b .lay in
+    let s = b .before .before .before .before .before .before .before .before .before .before .before in
+    let rows = s .good .0 .1 in
+    let narrow = narrow-take (s .args .table) (s .args .counts .mailboxes) (narrow-rows (s .args .table) _ (rows .1)) in
+    decide .ensures (s .args .table) (record { long = rows .0 .1; stands = record { laid = lay .ensures; narrow = narrow } })
 
 pub step-spec : {M : Type 1} → statement M
 step-spec =

@@ -1,0 +1,2 @@
+pub mod Subjects
+pub mod Serving

@@ -4,3 +4,4 @@ pub mod Called
 pub mod Hosts
 pub mod Accounted
 pub mod Isolated
+pub mod Layout

@@ -10,6 +10,17 @@ ghost use Rattle.model.specs.Memory.{place};
 ghost use Rattle.lent_rows.specs.Rows.{placeNamed};
 ghost use Rattle.step.specs.Served.{lentAs};
 ghost use Rattle.exported.specs.Called.{Calls};
+ghost use Rattle.exported.specs.Layout.{lentLayout};
+
+// ---- what a host was built for
+
+// The number of the layout of lent memory. A host compares it with the one that it was built for before it lends anything.
+#[no_mangle]
+pub extern "C" fn borjavid_layout() -> u32
+    ensures { λ r. ⌜ r ≡ lentLayout ⌝ }
+{
+    2
+}
 
 // ---- the step
 

@@ -17,7 +17,8 @@ use Rattle.model.specs.Text.{bit}
 use Rattle.model.specs.Rendered.{render-append}
 use Rattle.table_mailboxes.specs.Columns.{Column, Names, nameAt, name-at}
 use Rattle.line_put.specs.Put.{Put, put-none, put-as, _then_}
-use Rattle.order_mailboxes.specs.Named.{chosen, rowAt, noted, Below}
+use Rattle.order_mailboxes.specs.Named.{chosen, rowAt, Below}
+use Rattle.table_mailboxes.specs.Columns.{noted}
 
 -- the line of a row by its attributes, name, UIDNEXT, UIDVALIDITY and counter
 abbrev pub lineBy : ℕ → List ℕ → ℕ → ℕ → ℕ → ℕ → Bool → List ℕ

@@ -18,7 +18,7 @@ use Rattle.model.specs.declared.Selector.{Selector}
 use Rattle.model.specs.declared.Selector.the-variants.{Selected, Delayed, Inboxes, Personal, Subscribed, Subtree, Mailboxes}
 use Rattle.model.specs.declared.Session.{Session}
 use Rattle.model.specs.Laws.{or-false, and-false, or-assoc}
-use Rattle.match_rows.specs.Notes.{noted}
+use Rattle.table_mailboxes.specs.Columns.{noted}
 
 -- whom a selector takes by attributes alone
 abbrev pub takenBy : Selector → ℕ → Bool

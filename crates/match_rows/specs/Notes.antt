@@ -1,10 +1,9 @@
 -- Notes beside the rows of the mailbox table: an octet for each row that is not 0 where a test says yes. Assumes nothing.
 use mathlib.Core.Path.{_≡_, ap, ap₂, _∙_}
-use mathlib.Core.Bool.{Bool, not}
+use mathlib.Core.Bool.{Bool}
 use mathlib.Core.List.{List}
 use Prim.Native.Nat.{ℕ, _+_, _-_, _<_}
 use native.Mathlib.Omega.{arith}
-use lib.Dec.{eqb}
 use lib.ListN.{length, getD, set}
 use lib.Seq.{getD-set-same, getD-set-other}
 use borrow.Author.Count.{below-more}
@@ -12,12 +11,8 @@ use Rattle.model.specs.Names.{Name}
 use Rattle.model.specs.Memory.{noMailbox}
 use Rattle.model.specs.declared.Mailbox.{Mailbox}
 use Rattle.model.specs.declared.Session.{Session}
-use Rattle.table_mailboxes.specs.Columns.{Column, Names, nameAt, name-at}
+use Rattle.table_mailboxes.specs.Columns.{Column, Names, nameAt, name-at, noted}
 use Rattle.match_rows.specs.Picked.{selects, pickedBy, statusBy, isPicked, isStatus}
-
--- an octet that says yes
-abbrev pub noted : ℕ → Bool
-noted b = not (eqb b 0)
 
 -- the notes of the rows are the answers of a test
 abbrev pub Noting : (Mailbox → Bool) → List Mailbox → List ℕ → Type 0

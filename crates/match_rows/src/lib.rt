@@ -14,7 +14,8 @@ ghost use Rattle.model.specs.declared.Mailbox.{Mailbox};
 ghost use Rattle.model.specs.declared.Session.{Session};
 ghost use Rattle.table_mailboxes.specs.Columns.{Column, Names};
 ghost use Rattle.match_rows.specs.Picked.{selects, pickedBy, statusBy};
-ghost use Rattle.match_rows.specs.Notes.{noted, Notes, NotesAll};
+ghost use Rattle.match_rows.specs.Notes.{Notes, NotesAll};
+ghost use Rattle.table_mailboxes.specs.Columns.{noted};
 
 // The selected group asks for an event.
 pub fn selected_asks_any(s: Session) -> bool

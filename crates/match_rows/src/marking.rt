@@ -12,7 +12,7 @@ ghost use lib.ListN.{length, getD};
 ghost use Rattle.model.specs.Lists.{anyb};
 ghost use Rattle.model.specs.Groups.{lentName, namesIn, meets, asked};
 ghost use Rattle.table_mailboxes.specs.Columns.{nameAt};
-ghost use Rattle.match_rows.specs.Notes.{noted};
+ghost use Rattle.table_mailboxes.specs.Columns.{noted};
 ghost use Rattle.match_rows.specs.Marks.{takenBy, takenByName, asksOf, Marks};
 
 // A mark, where there was one or a test says yes.

@@ -17,7 +17,7 @@ use Rattle.model.specs.declared.Mailbox.{Mailbox}
 use Rattle.read_sources.specs.Listing.{nothingListed, addAll}
 use Rattle.read_sources.specs.declared.Listed.{Listed}
 use Rattle.match_sources.specs.Admitting.{searchedBy, Few, searched-is}
-use Rattle.table_mailboxes.specs.Columns.{Column, Names}
+use Rattle.table_mailboxes.specs.Columns.{Column, Names, noted}
 
 -- the mailbox with this id is the selected one
 abbrev pub selectedBy : ℕ → ℕ → Bool
@@ -42,10 +42,6 @@ name-part names k len c h e =
     let z : k * 64 + c - k * 64 ≡ c = omega arith in
     let y : k * 64 ≡ 64 * k = omega arith in
     ap₂ (λ (n p : ℕ). take n (drop p names)) z y ∙ (sym (take-take c 64 (drop (64 * k) names) h) ∙ e)
-
--- picked, as code notes it
-abbrev pub noted : ℕ → Bool
-noted b = not (eqb b 0)
 
 -- the first n notes
 abbrev pub Noted : Listed → ℕ → List ℕ → List ℕ → List ℕ → List ℕ → ℕ → List ℕ → Type 0

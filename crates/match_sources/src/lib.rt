@@ -12,7 +12,8 @@ ghost use Rattle.model.specs.Groups.{lentName};
 ghost use Rattle.model.specs.declared.LentName.{LentName};
 ghost use Rattle.read_sources.specs.declared.Source.{Source};
 ghost use Rattle.match_sources.specs.Admitting.{rightsBy, admitsBy, meant, namedIn, admitsIn, searchedBy};
-ghost use Rattle.match_sources.specs.Picking.{selectedBy, nameAt, noted, Noted};
+ghost use Rattle.match_sources.specs.Picking.{selectedBy, nameAt, Noted};
+ghost use Rattle.table_mailboxes.specs.Columns.{noted};
 
 // The scopes that ask for the right to list.
 fn by_rights(

@@ -144,7 +144,7 @@ fn gather(text: &[u8], at: usize) -> Gathered
 // ---- the command
 
 // NOTIFY SET with these groups, with STATUS or without.
-fn noted(status: bool, g: Gathered) -> NotifyKept
+fn kept_with(status: bool, g: Gathered) -> NotifyKept
     ensures { λ r. ⌜ r ≡ noteKept status g ⌝ }
 {
     let watch = g.watch;
@@ -192,9 +192,9 @@ fn set_at(text: &[u8], at: usize) -> NotifyKept
         if octets::octet_at(text, end) != b' ' {
             return unkept();
         }
-        return noted(true, gather(text, end + 1));
+        return kept_with(true, gather(text, end + 1));
     }
-    noted(false, gather(text, at))
+    kept_with(false, gather(text, at))
 }
 
 // NOTIFY behind its verb and a space.

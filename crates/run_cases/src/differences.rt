@@ -170,7 +170,7 @@ pub fn print_call(i: u64, d: Difference) {
 }
 
 // What is known of a case behind call i: its first difference is written, and any that ends the input.
-pub fn noted(known: u64, i: u64, d: Difference) -> u64
+pub fn known_after(known: u64, i: u64, d: Difference) -> u64
     requires { ⌜ known ≤ 2 ⌝ }
     ensures { λ r. ⌜ r ≤ 2 ⌝ }
 {

@@ -7,7 +7,7 @@ mod differences;
 mod reading;
 mod turns;
 
-use differences::noted;
+use differences::known_after;
 use reading::little;
 use reading::little_size;
 use turns::next_turn;
@@ -46,7 +46,7 @@ fn run_calls(
         i += 1;
         let t = next_turn(m, lent, words, queue, octets, wanted);
         let difference = t.difference;
-        verdict = noted(verdict, i, difference);
+        verdict = known_after(verdict, i, difference);
         if verdict == 2 {
             return 2;
         }

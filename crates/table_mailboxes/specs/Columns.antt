@@ -1,6 +1,6 @@
 -- The mailbox table by columns: a field of every row side by side, and the names in one run, 64 octets a row. Assumes nothing.
 use mathlib.Core.Path.{_≡_, refl, ap, ap₂, sym, _∙_}
-use mathlib.Core.Bool.{Bool, true, false}
+use mathlib.Core.Bool.{Bool, true, false, not}
 use mathlib.Core.List.{List, [], _∷_, _++_, append-assoc}
 use Prim.Native.Nat.{ℕ, zero, suc, _+_, _-_, _*_, _<_, _≤_}
 use native.Mathlib.Omega.{arith}
@@ -10,6 +10,10 @@ use lib.Seq.{getD-set-same, getD-set-other, length-take-le, take-take, take-at, 
 use borrow.Author.Tests.{eqb-true, eqb-false, ltb-true, ltb-false}
 use Rattle.model.specs.Memory.{noMailbox, nameOf, counterOf}
 use Rattle.model.specs.declared.Mailbox.{Mailbox}
+
+-- a row that is picked, as code notes it beside the rows
+abbrev pub noted : ℕ → Bool
+noted b = not (eqb b 0)
 
 -- one field of the rows, side by side
 abbrev pub Column : (Mailbox → ℕ) → List Mailbox → List ℕ → Type 0

@@ -22,7 +22,7 @@ run-calls-spec =
     Inv-loop
     μ-loop
     (λ c κs. search needs) (λ c. search needs) (λ c. search needs)  -- start-requires, loop-holds, add-i
-    (λ c κs. search needs) (λ c κs. search needs)  -- next-turn-requires, noted-requires
+    (λ c κs. search needs) (λ c κs. search needs)  -- next-turn-requires, known-after-requires
     (λ c. search needs) (λ c. search needs) (λ c. search needs)  -- same-length, same-length-2, same-length-3
     (λ c. search needs) (λ c. search needs) (λ c. search needs)  -- same-length-4, returns, loop-less
     (λ c. search needs) (λ c. search needs) (λ c. search needs)  -- loop-again, same-length-5, same-length-6

@@ -14,7 +14,7 @@ use Rattle.model.specs.declared.Session.{Session}
 use Rattle.table_mailboxes.specs.Columns.{nameAt}
 use Rattle.table_mailboxes.specs.Walks.{front, any-past, mapped-length}
 use Rattle.match_groups.specs.Asking.{vacantGroup, any-groups}
-use Rattle.match_rows.specs.Notes.{noted}
+use Rattle.table_mailboxes.specs.Columns.{noted}
 use Rattle.match_rows.specs.Marks.{asksOf, Left, left-next, left-past}
 use Rattle.match_rows.proofs.marking.mark_asked.Statement.{statement}
 use Rattle.match_rows.proofs.marking.mark_asked.Tie as tie

@@ -5,7 +5,7 @@ use mathlib.Core.Bool.{Bool, _||_}
 use lib.ListN.{getD}
 use borrow.Author.Tests.{not-true, not-false}
 use Rattle.table_mailboxes.specs.Columns.{nameAt}
-use Rattle.match_rows.specs.Notes.{noted}
+use Rattle.table_mailboxes.specs.Columns.{noted}
 use Rattle.match_rows.specs.Marks.{marks-none, met-asking, met-silent}
 use Rattle.match_rows.proofs.marking.mark_group.Statement.{statement}
 use Rattle.match_rows.proofs.marking.mark_group.Tie as tie

@@ -5,7 +5,7 @@ use mathlib.Core.Bool.{Bool, _||_}
 use lib.ListN.{getD}
 use Rattle.model.specs.Groups.{namesIn, meets}
 use Rattle.table_mailboxes.specs.Columns.{nameAt}
-use Rattle.match_rows.specs.Notes.{noted}
+use Rattle.table_mailboxes.specs.Columns.{noted}
 use Rattle.match_rows.specs.Marks.{marks-none, met-taken, taken-deep}
 use Rattle.match_rows.proofs.marking.mark_met.Statement.{statement}
 use Rattle.match_rows.proofs.marking.mark_met.Tie as tie

@@ -7,7 +7,7 @@ use lib.ListN.{length, getD}
 use lib.Seq.{length-take-le}
 use Rattle.model.specs.Names.{Name}
 use Rattle.table_mailboxes.specs.Columns.{nameAt}
-use Rattle.match_rows.specs.Notes.{noted}
+use Rattle.table_mailboxes.specs.Columns.{noted}
 use Rattle.match_rows.specs.Marks.{takenByName}
 use Rattle.match_rows.proofs.marking.mark_name.Statement.{statement}
 use Rattle.match_rows.proofs.marking.mark_name.Tie as tie

@@ -12,7 +12,7 @@ use Rattle.model.specs.declared.LentName.{LentName}
 use Rattle.table_mailboxes.specs.Columns.{nameAt}
 use Rattle.table_mailboxes.specs.Walks.{front, any-past, mapped-length}
 use Rattle.match_groups.specs.Asking.{vacantName, names-run}
-use Rattle.match_rows.specs.Notes.{noted}
+use Rattle.table_mailboxes.specs.Columns.{noted}
 use Rattle.match_rows.specs.Marks.{takenByName, Left, left-next, left-past}
 use Rattle.match_rows.proofs.marking.mark_range.Statement.{statement}
 use Rattle.match_rows.proofs.marking.mark_range.Tie as tie

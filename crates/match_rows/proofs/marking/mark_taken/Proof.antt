@@ -5,7 +5,7 @@ use mathlib.Core.Bool.{Bool, _||_}
 use Prim.Native.Nat.{ℕ, _≤_, _-_}
 use native.Mathlib.Omega.{arith}
 use lib.ListN.{length, getD, length-set}
-use Rattle.match_rows.specs.Notes.{noted}
+use Rattle.table_mailboxes.specs.Columns.{noted}
 use Rattle.match_rows.specs.Marks.{takenBy, Marking, marking-start, marking-next}
 use Rattle.match_rows.proofs.marking.mark_taken.Statement.{statement}
 use Rattle.match_rows.proofs.marking.mark_taken.Tie as tie

@@ -6,7 +6,7 @@ use Prim.Native.Nat.{ℕ, _≤_, _-_}
 use native.Mathlib.Omega.{arith}
 use lib.ListN.{length, getD, length-set}
 use Rattle.table_mailboxes.specs.Columns.{nameAt}
-use Rattle.match_rows.specs.Notes.{noted}
+use Rattle.table_mailboxes.specs.Columns.{noted}
 use Rattle.match_rows.specs.Marks.{takenByName, Marking, marking-start, marking-next}
 use Rattle.match_rows.proofs.marking.mark_top.Statement.{statement}
 use Rattle.match_rows.proofs.marking.mark_top.Tie as tie

@@ -1,7 +1,7 @@
 -- `marked`: a mark that is set stays, and a test that says yes sets it. Assumes nothing.
 use mathlib.Core.Path.{sym, ap, _∙_}
 use mathlib.Core.Bool.{Bool, _||_}
-use Rattle.match_rows.specs.Notes.{noted}
+use Rattle.table_mailboxes.specs.Columns.{noted}
 use Rattle.match_rows.proofs.marking.marked.Statement.{statement}
 use Rattle.match_rows.proofs.marking.marked.Tie as tie
 use Rattle.model.specs.Laws.{or-true, or-false}

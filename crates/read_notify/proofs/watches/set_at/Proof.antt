@@ -27,14 +27,14 @@ returns-2 c =
     let b = b .before .before in let run-end = b .run-end in let b = b .before .before in let args = b .args in
     let f = run-end .ensures .from in
     keeps-as (set-status (args .text .now) (args .at) (run-end .ensures .exact) (sym (is-word .ensures) ∙ if1 .taken) (sym (octet-at .ensures) ∙ c .before .before .if2 .left))
-    (keeps-set (args .text .now) (args .at) (run-end .result + 1) _ (gather .result) (omega arith) (gather .ensures) (c .noted .ensures))
+    (keeps-set (args .text .now) (args .at) (run-end .result + 1) _ (gather .result) (omega arith) (gather .ensures) (c .kept-with .ensures))
 
 returns-3 : tie.Need-returns-3
 returns-3 c =
     let b = c .before in let gather2 = b .gather2 in let b = b .before .before in let is-word = b .is-word in
     let b = b .before .before in let run-end = b .run-end in let b = b .before .before in let args = b .args in
     keeps-as (set-plain (args .text .now) (args .at) (run-end .ensures .exact) (sym (is-word .ensures) ∙ c .before .before .if1 .left))
-    (keeps-set (args .text .now) (args .at) (args .at) _ (gather2 .result) (omega arith) (gather2 .ensures) (c .noted2 .ensures))
+    (keeps-set (args .text .now) (args .at) (args .at) _ (gather2 .result) (omega arith) (gather2 .ensures) (c .kept-with2 .ensures))
 
 pub set-at-spec : {M : Type 1} → statement M
 set-at-spec =
@@ -45,7 +45,7 @@ set-at-spec =
     (λ c κs. search needs)  -- unkept-requires
     returns
     add-gather
-    (λ c κs. search needs) (λ c κs. search needs)  -- gather-requires, noted-requires
+    (λ c κs. search needs) (λ c κs. search needs)  -- gather-requires, kept-with-requires
     returns-2
-    (λ c κs. search needs) (λ c κs. search needs)  -- gather-requires-2, noted-requires-2
+    (λ c κs. search needs) (λ c κs. search needs)  -- gather-requires-2, kept-with-requires-2
     returns-3)

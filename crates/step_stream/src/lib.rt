@@ -249,8 +249,9 @@ fn walk(stream: &[u8], words: &mut [u64], queue: &mut [u8], out: &mut [u8]) -> u
 }
 
 // What the program `pushrun` prints for a stream, on tables of the run's own; where it is too long for `out`, only its length is told.
+// A stream of 2^32 octets or more is not read: 0, and nothing is written.
 pub fn run(stream: &[u8], out: &mut [u8]) -> usize
-    ensures { λ r. ⌜ (length (now (stream .entry)) < 4294967296 → Put (now (out .entry)) 0 (length (now (out .entry))) (pushrun (now (stream .entry))) (now (out .exit)) r) ⌝ }
+    ensures { λ r. ⌜ (length (now (stream .entry)) < 4294967296 → Put (now (out .entry)) 0 (length (now (out .entry))) (pushrun (now (stream .entry))) (now (out .exit)) r) × (4294967296 ≤ length (now (stream .entry)) → (r ≡ 0) × (now (out .exit) ≡ now (out .entry))) ⌝ }
 {
     if 4294967296 <= stream.len() {
         return 0;

@@ -1,4 +1,5 @@
--- `run`: a whole stream on tables of the run's own. Assumes nothing.
+-- `run`: on empty tables the walk of the stream puts what `pushrun` prints; a stream that is too long is left unread at once. Assumes nothing.
+use mathlib.Core.Path.{refl}
 use native.Mathlib.Omega.{arith}
 use Rattle.line_put.specs.Put.{put-as}
 use Rattle.step_stream.specs.Printing.{start-is}
@@ -7,10 +8,14 @@ use Rattle.step_stream.proofs.run.Statement.{statement}
 use Rattle.step_stream.proofs.run.Tie as tie
 
 returns : tie.Need-returns
-returns c = λ h. absurd (let z : ⊥ = omega arith in z)
+returns c = (λ h. absurd (let z : ⊥ = omega arith in z), λ h. (refl, refl))
 
 returns-2 : tie.Need-returns-2
-returns-2 c = λ h. put-as (c .before .before .before .before .walk .ensures) (start-is (c .before .before .before .before .before .before .before .before .before .before .before .args .stream .now))
+returns-2 c = (
+      λ h. put-as (c .before .before .before .before .walk .ensures)
+          (start-is (c .before .before .before .before .before .before .before .before .before .before .before .args .stream .now)),
+      λ h. absurd (let z : ⊥ = omega arith in z),
+    )
 
 pub run-spec : {M : Type 1} → statement M
 run-spec =

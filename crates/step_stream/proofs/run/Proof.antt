@@ -12,10 +12,10 @@ returns c = (λ h. absurd (let z : ⊥ = omega arith in z), λ h. (refl, refl))
 
 returns-2 : tie.Need-returns-2
 returns-2 c = (
-      λ h. put-as (c .before .before .before .before .walk .ensures)
-          (start-is (c .before .before .before .before .before .before .before .before .before .before .before .args .stream .now)),
-      λ h. absurd (let z : ⊥ = omega arith in z),
-    )
+  λ h. put-as (c .before .before .before .before .walk .ensures)
+      (start-is (c .before .before .before .before .before .before .before .before .before .before .before .args .stream .now)),
+  λ h. absurd (let z : ⊥ = omega arith in z),
+)
 
 pub run-spec : {M : Type 1} → statement M
 run-spec =

@@ -60,6 +60,7 @@ fn main() -> ExitCode {
 }
 
 fn serve(options: Options) -> io::Result<()> {
+    push::check_library()?;
     for folder in [&options.log, &options.record].into_iter().flatten() {
         prepare(folder).map_err(|fault| about(folder, &fault))?;
     }

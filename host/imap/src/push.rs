@@ -4,6 +4,7 @@
 use crate::recording::Recording;
 use borjavid::memory::{MAILBOXES, MESSAGES};
 use borjavid::Memory;
+use std::io;
 
 pub use borjavid::records::{self, Class, Notice};
 pub use borjavid::{Answer, Refusal};
@@ -12,6 +13,11 @@ pub use borjavid::{Answer, Refusal};
 const ENTRY: usize = 6;
 /// Among the states: a change of flags waits to be told.
 const MARKED: u64 = 2;
+
+/// A library that lays memory out in another way is found out at the start, and not by a connection.
+pub fn check_library() -> io::Result<()> {
+    borjavid::check_layout().map_err(io::Error::other)
+}
 
 /// The memory that one connection lends.
 pub struct Push {

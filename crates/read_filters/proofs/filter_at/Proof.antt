@@ -1,4 +1,4 @@
--- An atom is the filter's word, and what stands behind it is read by the word.
+-- `filter_at`: an atom is the filter's word, and what stands behind it is read by the word. Assumes nothing.
 use borrow.Author.Needs.{needs}
 use mathlib.Core.Path.{sym, _∙_}
 use native.Mathlib.Omega.{arith}
@@ -16,12 +16,24 @@ returns c =
     let b = c .before .before .before in let p = b .p in
     let b = b .before .before in let run-at = b .run-at in
     let b = b .before .before in let args = b .args in
-    let w = rw (p .given .1) at (run-at .ensures .within) in record { exact = filter-some (args .text .now) (args .at) (sym (p .given .1) ∙ run-at .ensures .exact) (c .filter-by .ensures .exact (scopeOf (piece (args .text .now) (args .at) (p .given .0 .0))) (plain (piece (args .text .now) (args .at) (p .given .0 .0))) (c .before .word-of .ensures)); within = within-behind (args .text .now) (args .at) (p .given .0 .0) (c .filter-by .result) (omega arith) (c .filter-by .ensures .within) }
+    let text = args .text .now in
+    let name = piece text (args .at) (p .given .0 .0) in
+    let by = c .filter-by in
+    let w = rw (p .given .1) at (run-at .ensures .within) in
+    record {
+      exact = filter-some text (args .at) (sym (p .given .1) ∙ run-at .ensures .exact)
+          (by .ensures .exact (scopeOf name) (plain name) (c .before .word-of .ensures));
+      within = within-behind text (args .at) (p .given .0 .0) (by .result) (omega arith) (by .ensures .within);
+    }
 
 returns-2 : tie.Need-returns-2
 returns-2 c =
     let b = c .before .before .before .before in let args = b .args in
-    record { exact = filter-none (args .text .now) (args .at) (sym (c .enum-told .given .1) ∙ c .before .before .run-at .ensures .exact); within = tt }
+    record {
+      exact = filter-none (args .text .now) (args .at)
+          (sym (c .enum-told .given .1) ∙ c .before .before .run-at .ensures .exact);
+      within = tt;
+    }
 
 pub filter-at-spec : {M : Type 1} → statement M
 filter-at-spec =

@@ -1,4 +1,4 @@
--- An atom is the filter's word, and what stands behind it is kept by the word.
+-- `keep_filter`: an atom is the filter's word, and what stands behind it is kept by the word. Assumes nothing.
 use borrow.Author.Needs.{needs}
 use mathlib.Core.Path.{sym, _∙_}
 use native.Mathlib.Omega.{arith}
@@ -15,17 +15,31 @@ returns : tie.Need-returns
 returns c =
     let b = c .before .before .before in let run-at = b .run-at in
     let b = b .before .before in let args = b .args in
-    record { exact = c .unread .ensures ∙ keeps-none (args .text .now) (args .at) (args .kept) (sym (c .before .enum-told .given .1) ∙ run-at .ensures .exact); within = rw (c .unread .ensures) tt }
+    record {
+      exact = c .unread .ensures
+          ∙ keeps-none (args .text .now) (args .at) (args .kept) (sym (c .before .enum-told .given .1) ∙ run-at .ensures .exact);
+      within = rw (c .unread .ensures) tt;
+    }
 
 keep-by-requires : tie.Need-keep-by-requires
-keep-by-requires c κs = let w = rw (c .before .before .p .given .1) at (c .before .before .before .before .run-at .ensures .within) in (omega arith, omega arith)
+keep-by-requires c κs =
+    let w = rw (c .before .before .p .given .1) at (c .before .before .before .before .run-at .ensures .within) in
+    (omega arith, omega arith)
 
 returns-2 : tie.Need-returns-2
 returns-2 c =
     let b = c .before .before .before in let p = b .p in
     let b = b .before .before in let run-at = b .run-at in
     let b = b .before .before in let args = b .args in
-    let w = rw (p .given .1) at (run-at .ensures .within) in record { exact = keeps-some (args .text .now) (args .at) (args .kept) (sym (p .given .1) ∙ run-at .ensures .exact) (c .keep-by .ensures .exact (scopeOf (piece (args .text .now) (args .at) (p .given .0 .0))) (plain (piece (args .text .now) (args .at) (p .given .0 .0))) (c .before .word-of .ensures)); within = fits-behind (c .keep-by .result .ok) (args .text .now) (args .at) (p .given .0 .0) (c .keep-by .result) (omega arith) (c .keep-by .ensures .within) }
+    let text = args .text .now in
+    let name = piece text (args .at) (p .given .0 .0) in
+    let kept = c .keep-by in
+    let w = rw (p .given .1) at (run-at .ensures .within) in
+    record {
+      exact = keeps-some text (args .at) (args .kept) (sym (p .given .1) ∙ run-at .ensures .exact)
+          (kept .ensures .exact (scopeOf name) (plain name) (c .before .word-of .ensures));
+      within = fits-behind (kept .result .ok) text (args .at) (p .given .0 .0) (kept .result) (omega arith) (kept .ensures .within);
+    }
 
 pub keep-filter-spec : {M : Type 1} → statement M
 keep-filter-spec =

@@ -1,4 +1,4 @@
--- Behind a space stand the names; there is at least one.
+-- `keep_named`: behind a space the names are kept as `keep_names` has it; without one nothing is. Assumes nothing.
 use borrow.Author.Needs.{needs}
 use mathlib.Core.Path.{sym, _∙_}
 use native.Mathlib.Omega.{arith}
@@ -10,7 +10,14 @@ use Rattle.read_filters.proofs.keep_named.Tie as tie
 use Rattle.octets.specs.Rows.{in-text}
 
 returns : tie.Need-returns
-returns c = record { exact = λ o f b. c .unread .ensures ∙ keeps-unspaced (c .before .before .before .before .args .text .now) (c .before .before .before .before .args .at) (c .before .before .before .before .args .kept) o f b (λ e. c .before .if1 .taken (c .before .before .octet-at .ensures ∙ e)); within = rw (c .unread .ensures) tt }
+returns c =
+    let b = c .before .before in let octet-at = b .octet-at in
+    let b = b .before .before in let args = b .args in
+    record {
+      exact = λ o f b. c .unread .ensures
+          ∙ keeps-unspaced (args .text .now) (args .at) (args .kept) o f b (λ e. c .before .if1 .taken (octet-at .ensures ∙ e));
+      within = rw (c .unread .ensures) tt;
+    }
 
 add-keep-names : tie.Need-add-keep-names
 add-keep-names c =
@@ -18,7 +25,14 @@ add-keep-names c =
     let i = in-text (args .text .now) (args .at) (sym (c .before .octet-at .ensures) ∙ c .if1 .left) (omega arith) in omega arith
 
 returns-2 : tie.Need-returns-2
-returns-2 c = record { exact = λ o f b. c .keep-names .ensures .exact ∙ keeps-named (c .before .before .before .before .args .text .now) (c .before .before .before .before .args .at) (c .before .before .before .before .args .kept) o f b (sym (c .before .before .octet-at .ensures) ∙ c .before .if1 .left); within = fits-named (c .keep-names .result .ok) (c .before .before .before .before .args .text .now) (c .before .before .before .before .args .at) (c .keep-names .result) (c .keep-names .ensures .within) }
+returns-2 c =
+    let b = c .before .before in let octet-at = b .octet-at in
+    let b = b .before .before in let args = b .args in
+    let space = sym (octet-at .ensures) ∙ c .before .if1 .left in
+    record {
+      exact = λ o f b. c .keep-names .ensures .exact ∙ keeps-named (args .text .now) (args .at) (args .kept) o f b space;
+      within = fits-named (c .keep-names .result .ok) (args .text .now) (args .at) (c .keep-names .result) (c .keep-names .ensures .within);
+    }
 
 pub keep-named-spec : {M : Type 1} → statement M
 keep-named-spec =

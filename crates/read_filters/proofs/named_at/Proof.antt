@@ -1,4 +1,4 @@
--- Behind a space stand the names; there is at least one.
+-- `named_at`: behind a space stand the names, of which there is at least one; without either the definition is bad too. Assumes nothing.
 use borrow.Author.Needs.{needs}
 use mathlib.Core.Path.{sym, _∙_}
 use native.Mathlib.Omega.{arith}
@@ -9,7 +9,12 @@ use Rattle.read_filters.proofs.named_at.Tie as tie
 use Rattle.octets.specs.Rows.{in-text}
 
 returns : tie.Need-returns
-returns c = record { exact = λ f b. named-unspaced (c .before .before .before .args .text .now) (c .before .before .before .args .at) (c .before .before .before .args .scope) f b (λ e. c .if1 .taken (c .before .octet-at .ensures ∙ e)); within = tt }
+returns c =
+    let b = c .before .before .before in let args = b .args in
+    record {
+      exact = λ f b. named-unspaced (args .text .now) (args .at) (args .scope) f b (λ e. c .if1 .taken (c .before .octet-at .ensures ∙ e));
+      within = tt;
+    }
 
 add-names-at : tie.Need-add-names-at
 add-names-at c =
@@ -17,10 +22,29 @@ add-names-at c =
     let i = in-text (args .text .now) (args .at) (sym (c .before .octet-at .ensures) ∙ c .if1 .left) (omega arith) in omega arith
 
 returns-2 : tie.Need-returns-2
-returns-2 c = let w = rw (c .before .count .given .1) at (c .before .before .before .names-at .ensures .within) in record { exact = λ f b. named-is (c .before .before .before .before .before .before .before .args .text .now) (c .before .before .before .before .before .before .before .args .at) (c .before .before .before .before .before .before .before .args .scope) f b (sym (c .before .before .before .before .before .octet-at .ensures) ∙ c .before .before .before .before .if1 .left) (sym (c .before .count .given .1) ∙ c .before .before .before .names-at .ensures .exact) (omega arith); within = omega arith }
+returns-2 c =
+    let b = c .before in let count = b .count in
+    let b = b .before .before in let names-at = b .names-at in
+    let b = b .before in let if1 = b .if1 in
+    let b = b .before in let octet-at = b .octet-at in
+    let b = b .before .before in let args = b .args in
+    let w = rw (count .given .1) at (names-at .ensures .within) in
+    let space = sym (octet-at .ensures) ∙ if1 .left in
+    let names = sym (count .given .1) ∙ names-at .ensures .exact in
+    record {
+      exact = λ f b. named-is (args .text .now) (args .at) (args .scope) f b space names (omega arith);
+      within = omega arith;
+    }
 
 returns-3 : tie.Need-returns-3
-returns-3 c = record { exact = λ f b. named-bad (c .before .before .before .before .before .before .args .text .now) (c .before .before .before .before .before .before .args .at) (c .before .before .before .before .before .before .args .scope) f b (sym (c .before .before .before .before .octet-at .ensures) ∙ c .before .before .before .if1 .left) (sym (c .enum-told .given .1) ∙ c .before .before .names-at .ensures .exact); within = tt }
+returns-3 c =
+    let b = c .before .before in let names-at = b .names-at in
+    let b = b .before in let if1 = b .if1 in
+    let b = b .before in let octet-at = b .octet-at in
+    let b = b .before .before in let args = b .args in
+    let space = sym (octet-at .ensures) ∙ if1 .left in
+    let none = sym (c .enum-told .given .1) ∙ names-at .ensures .exact in
+    record { exact = λ f b. named-bad (args .text .now) (args .at) (args .scope) f b space none; within = tt }
 
 pub named-at-spec : {M : Type 1} → statement M
 named-at-spec =

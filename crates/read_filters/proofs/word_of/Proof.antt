@@ -1,4 +1,4 @@
--- The word is the first of the eight that fits, as in the definition.
+-- `word_of`: the word is the first of the eight that fits, as in the definition. Assumes nothing.
 use borrow.Author.Needs.{needs}
 use mathlib.Core.Path.{sym, _∙_}
 use Rattle.model.specs.Reading.{piece}
@@ -16,7 +16,8 @@ returns-2 c =
     let b = c .before .before .before in let if1 = b .if1 in
     let b = b .before in let is-word = b .is-word in
     let b = b .before .before .before in let args = b .args in
-    word-delayed (piece (args .text .now) (args .from) (args .upto)) (sym (is-word .ensures) ∙ if1 .left) (sym (c .before .is-word2 .ensures) ∙ c .if2 .taken)
+    word-delayed (piece (args .text .now) (args .from) (args .upto)) (sym (is-word .ensures) ∙ if1 .left)
+    (sym (c .before .is-word2 .ensures) ∙ c .if2 .taken)
 
 returns-3 : tie.Need-returns-3
 returns-3 c =
@@ -25,7 +26,8 @@ returns-3 c =
     let b = b .before .before in let if1 = b .if1 in
     let b = b .before in let is-word = b .is-word in
     let b = b .before .before .before in let args = b .args in
-    word-inboxes (piece (args .text .now) (args .from) (args .upto)) (sym (is-word .ensures) ∙ if1 .left) (sym (is-word2 .ensures) ∙ if2 .left) (sym (c .before .is-word3 .ensures) ∙ c .if3 .taken)
+    word-inboxes (piece (args .text .now) (args .from) (args .upto)) (sym (is-word .ensures) ∙ if1 .left)
+    (sym (is-word2 .ensures) ∙ if2 .left) (sym (c .before .is-word3 .ensures) ∙ c .if3 .taken)
 
 returns-4 : tie.Need-returns-4
 returns-4 c =
@@ -36,7 +38,9 @@ returns-4 c =
     let b = b .before .before in let if1 = b .if1 in
     let b = b .before in let is-word = b .is-word in
     let b = b .before .before .before in let args = b .args in
-    word-personal (piece (args .text .now) (args .from) (args .upto)) (sym (is-word .ensures) ∙ if1 .left) (sym (is-word2 .ensures) ∙ if2 .left) (sym (is-word3 .ensures) ∙ if3 .left) (sym (c .before .is-word4 .ensures) ∙ c .if4 .taken)
+    word-personal (piece (args .text .now) (args .from) (args .upto)) (sym (is-word .ensures) ∙ if1 .left)
+    (sym (is-word2 .ensures) ∙ if2 .left) (sym (is-word3 .ensures) ∙ if3 .left)
+    (sym (c .before .is-word4 .ensures) ∙ c .if4 .taken)
 
 returns-5 : tie.Need-returns-5
 returns-5 c =
@@ -49,7 +53,9 @@ returns-5 c =
     let b = b .before .before in let if1 = b .if1 in
     let b = b .before in let is-word = b .is-word in
     let b = b .before .before .before in let args = b .args in
-    word-subscribed (piece (args .text .now) (args .from) (args .upto)) (sym (is-word .ensures) ∙ if1 .left) (sym (is-word2 .ensures) ∙ if2 .left) (sym (is-word3 .ensures) ∙ if3 .left) (sym (is-word4 .ensures) ∙ if4 .left) (sym (c .before .is-word5 .ensures) ∙ c .if5 .taken)
+    word-subscribed (piece (args .text .now) (args .from) (args .upto)) (sym (is-word .ensures) ∙ if1 .left)
+    (sym (is-word2 .ensures) ∙ if2 .left) (sym (is-word3 .ensures) ∙ if3 .left) (sym (is-word4 .ensures) ∙ if4 .left)
+    (sym (c .before .is-word5 .ensures) ∙ c .if5 .taken)
 
 returns-6 : tie.Need-returns-6
 returns-6 c =
@@ -64,7 +70,9 @@ returns-6 c =
     let b = b .before .before in let if1 = b .if1 in
     let b = b .before in let is-word = b .is-word in
     let b = b .before .before .before in let args = b .args in
-    word-subtree (piece (args .text .now) (args .from) (args .upto)) (sym (is-word .ensures) ∙ if1 .left) (sym (is-word2 .ensures) ∙ if2 .left) (sym (is-word3 .ensures) ∙ if3 .left) (sym (is-word4 .ensures) ∙ if4 .left) (sym (is-word5 .ensures) ∙ if5 .left) (sym (c .before .is-word6 .ensures) ∙ c .if6 .taken)
+    word-subtree (piece (args .text .now) (args .from) (args .upto)) (sym (is-word .ensures) ∙ if1 .left)
+    (sym (is-word2 .ensures) ∙ if2 .left) (sym (is-word3 .ensures) ∙ if3 .left) (sym (is-word4 .ensures) ∙ if4 .left)
+    (sym (is-word5 .ensures) ∙ if5 .left) (sym (c .before .is-word6 .ensures) ∙ c .if6 .taken)
 
 returns-7 : tie.Need-returns-7
 returns-7 c =
@@ -81,7 +89,10 @@ returns-7 c =
     let b = b .before .before in let if1 = b .if1 in
     let b = b .before in let is-word = b .is-word in
     let b = b .before .before .before in let args = b .args in
-    word-one (piece (args .text .now) (args .from) (args .upto)) (sym (is-word .ensures) ∙ if1 .left) (sym (is-word2 .ensures) ∙ if2 .left) (sym (is-word3 .ensures) ∙ if3 .left) (sym (is-word4 .ensures) ∙ if4 .left) (sym (is-word5 .ensures) ∙ if5 .left) (sym (is-word6 .ensures) ∙ if6 .left) (sym (c .before .is-word7 .ensures) ∙ c .if7 .taken)
+    word-one (piece (args .text .now) (args .from) (args .upto)) (sym (is-word .ensures) ∙ if1 .left)
+    (sym (is-word2 .ensures) ∙ if2 .left) (sym (is-word3 .ensures) ∙ if3 .left) (sym (is-word4 .ensures) ∙ if4 .left)
+    (sym (is-word5 .ensures) ∙ if5 .left) (sym (is-word6 .ensures) ∙ if6 .left)
+    (sym (c .before .is-word7 .ensures) ∙ c .if7 .taken)
 
 returns-8 : tie.Need-returns-8
 returns-8 c =
@@ -100,7 +111,10 @@ returns-8 c =
     let b = b .before .before in let if1 = b .if1 in
     let b = b .before in let is-word = b .is-word in
     let b = b .before .before .before in let args = b .args in
-    word-mailboxes (piece (args .text .now) (args .from) (args .upto)) (sym (is-word .ensures) ∙ if1 .left) (sym (is-word2 .ensures) ∙ if2 .left) (sym (is-word3 .ensures) ∙ if3 .left) (sym (is-word4 .ensures) ∙ if4 .left) (sym (is-word5 .ensures) ∙ if5 .left) (sym (is-word6 .ensures) ∙ if6 .left) (sym (is-word7 .ensures) ∙ if7 .left) (sym (c .before .is-word8 .ensures) ∙ c .if8 .taken)
+    word-mailboxes (piece (args .text .now) (args .from) (args .upto)) (sym (is-word .ensures) ∙ if1 .left)
+    (sym (is-word2 .ensures) ∙ if2 .left) (sym (is-word3 .ensures) ∙ if3 .left) (sym (is-word4 .ensures) ∙ if4 .left)
+    (sym (is-word5 .ensures) ∙ if5 .left) (sym (is-word6 .ensures) ∙ if6 .left) (sym (is-word7 .ensures) ∙ if7 .left)
+    (sym (c .before .is-word8 .ensures) ∙ c .if8 .taken)
 
 returns-9 : tie.Need-returns-9
 returns-9 c =
@@ -119,7 +133,10 @@ returns-9 c =
     let b = b .before .before in let if1 = b .if1 in
     let b = b .before in let is-word = b .is-word in
     let b = b .before .before .before in let args = b .args in
-    word-unknown (piece (args .text .now) (args .from) (args .upto)) (sym (is-word .ensures) ∙ if1 .left) (sym (is-word2 .ensures) ∙ if2 .left) (sym (is-word3 .ensures) ∙ if3 .left) (sym (is-word4 .ensures) ∙ if4 .left) (sym (is-word5 .ensures) ∙ if5 .left) (sym (is-word6 .ensures) ∙ if6 .left) (sym (is-word7 .ensures) ∙ if7 .left) (sym (c .before .is-word8 .ensures) ∙ c .if8 .left)
+    word-unknown (piece (args .text .now) (args .from) (args .upto)) (sym (is-word .ensures) ∙ if1 .left)
+    (sym (is-word2 .ensures) ∙ if2 .left) (sym (is-word3 .ensures) ∙ if3 .left) (sym (is-word4 .ensures) ∙ if4 .left)
+    (sym (is-word5 .ensures) ∙ if5 .left) (sym (is-word6 .ensures) ∙ if6 .left) (sym (is-word7 .ensures) ∙ if7 .left)
+    (sym (c .before .is-word8 .ensures) ∙ c .if8 .left)
 
 pub word-of-spec : {M : Type 1} → statement M
 word-of-spec =

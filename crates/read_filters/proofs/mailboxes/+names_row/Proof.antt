@@ -1,4 +1,4 @@
--- A row of names is read up to its parenthesis. The measure is the octets that are left.
+-- `names_row`: what it reads of a row is right for every fuel above the octets left, which fall at each call. Assumes nothing.
 use borrow.Author.Needs.{needs}
 use native.Mathlib.Omega.{arith}
 use mathlib.Core.Path.{sym, ap, _∙_}
@@ -29,35 +29,52 @@ names-row-below t =
     and 1 names-row-kinds.ps (falls 1 names-row-kinds.ps _<_ μ-names-row t) names-row.Pre
 
 abbrev names-row-calls : ℕ → names-row-lts.Claims
-names-row-calls t = (text-at-reads.Asked, text-at-reads.Learnt, octet-at-reads.Asked, octet-at-reads.Learnt, names-row-below t, names-row.Post, one-more-reads.Asked, one-more-reads.Learnt)
+names-row-calls t = (
+  text-at-reads.Asked,
+  text-at-reads.Learnt,
+  octet-at-reads.Asked,
+  octet-at-reads.Learnt,
+  names-row-below t,
+  names-row.Post,
+  one-more-reads.Asked,
+  one-more-reads.Learnt,
+)
 
 names-row-add-names-row : (t : ℕ) → names-row-lts.Need-add-names-row (names-row-calls t) (names-row-at t) names-row.Post
 names-row-add-names-row t c =
     let b = c .before .before .before in let p = b .p in
     let b = b .before .before in let text-at = b .text-at in
     let b = b .before .before in let args = b .args in
-    let w = rw (p .given .1) at (text-at .ensures .within) in let i = in-text (args .text .now) (p .given .0 .0) (sym (c .before .octet-at .ensures) ∙ c .if1 .taken) (omega arith) in omega arith
+    let w = rw (p .given .1) at (text-at .ensures .within) in
+    let i = in-text (args .text .now) (p .given .0 .0) (sym (c .before .octet-at .ensures) ∙ c .if1 .taken) (omega arith) in
+    omega arith
 
 names-row-names-row-requires : (t : ℕ) → names-row-lts.Need-names-row-requires (names-row-calls t) (names-row-at t) names-row.Post
 names-row-names-row-requires t c κs =
     let b = c .before .before .before in let p = b .p in
     let b = b .before .before in let text-at = b .text-at in
     let b = b .before .before in let args = b .args in
-    let w = rw (p .given .1) at (text-at .ensures .within) in let i = in-text (args .text .now) (p .given .0 .0) (sym (c .before .octet-at .ensures) ∙ c .if1 .taken) (omega arith) in omega arith
+    let w = rw (p .given .1) at (text-at .ensures .within) in
+    let i = in-text (args .text .now) (p .given .0 .0) (sym (c .before .octet-at .ensures) ∙ c .if1 .taken) (omega arith) in
+    omega arith
 
 names-row-one-more-requires : (t : ℕ) → names-row-lts.Need-one-more-requires (names-row-calls t) (names-row-at t) names-row.Post
 names-row-one-more-requires t c κs =
     let b = c .before .before .before .before in let p = b .p in
     let b = b .before .before in let text-at = b .text-at in
     let b = b .before .before in let args = b .args in
-    let w = rw (p .given .1) at (text-at .ensures .within) in room (args .text .now) (p .given .0 .0 + 1) (c .names-row .result) (omega arith) (omega arith) (c .names-row .ensures .within)
+    let w = rw (p .given .1) at (text-at .ensures .within) in
+    room (args .text .now) (p .given .0 .0 + 1) (c .names-row .result) (omega arith) (omega arith) (c .names-row .ensures .within)
 
 names-row-add-t14 : (t : ℕ) → names-row-lts.Need-add-t14 (names-row-calls t) (names-row-at t) names-row.Post
 names-row-add-t14 t c =
     let b = c .before .before .before .before in let p = b .p in
     let b = b .before .before in let text-at = b .text-at in
     let b = b .before .before in let args = b .args in
-    let w = rw (p .given .1) at (text-at .ensures .within) in let i = in-text (args .text .now) (p .given .0 .0) (sym (c .before .before .octet-at .ensures) ∙ c .if2 .taken) (omega arith) in omega arith
+    let w = rw (p .given .1) at (text-at .ensures .within) in
+    let i = in-text (args .text .now) (p .given .0 .0) (sym (c .before .before .octet-at .ensures) ∙ c .if2 .taken)
+    (omega arith) in
+    omega arith
 
 names-row-returns : (t : ℕ) → names-row-lts.Need-returns (names-row-calls t) (names-row-at t) names-row.Post
 names-row-returns t c =
@@ -67,7 +84,17 @@ names-row-returns t c =
     let b = b .before .before in let p = b .p in
     let b = b .before .before in let text-at = b .text-at in
     let b = b .before .before in let args = b .args in
-    let w = rw (p .given .1) at (text-at .ensures .within) in let i = in-text (args .text .now) (p .given .0 .0) (sym (octet-at .ensures) ∙ if1 .taken) (omega arith) in record { exact = λ n h. c .one-more .ensures ∙ ap oneMore (at-names-row .ensures .exact (n - 1) (omega arith)) ∙ row-more (args .text .now) (args .at) n (omega arith) (sym (p .given .1) ∙ text-at .ensures .exact) (sym (octet-at .ensures) ∙ if1 .taken); within = rw (c .one-more .ensures) (within-more (args .text .now) (args .at) (p .given .0 .0) (at-names-row .result) (omega arith) (at-names-row .ensures .within)) }
+    let w = rw (p .given .1) at (text-at .ensures .within) in
+    let i = in-text (args .text .now) (p .given .0 .0) (sym (octet-at .ensures) ∙ if1 .taken) (omega arith) in
+    record {
+      exact = λ n h. c .one-more .ensures
+          ∙ ap oneMore (at-names-row .ensures .exact (n - 1) (omega arith))
+          ∙ row-more (args .text .now) (args .at) n (omega arith) (sym (p .given .1) ∙ text-at .ensures .exact)
+          (sym (octet-at .ensures) ∙ if1 .taken);
+      within = rw (c .one-more .ensures)
+          (within-more (args .text .now) (args .at) (p .given .0 .0) (at-names-row .result) (omega arith)
+          (at-names-row .ensures .within));
+    }
 
 names-row-returns-2 : (t : ℕ) → names-row-lts.Need-returns-2 (names-row-calls t) (names-row-at t) names-row.Post
 names-row-returns-2 t c =
@@ -75,7 +102,13 @@ names-row-returns-2 t c =
     let b = b .before .before in let p = b .p in
     let b = b .before .before in let text-at = b .text-at in
     let b = b .before .before in let args = b .args in
-    let w = rw (p .given .1) at (text-at .ensures .within) in let i = in-text (args .text .now) (p .given .0 .0) (sym (octet-at .ensures) ∙ c .if2 .taken) (omega arith) in record { exact = λ n h. row-last (args .text .now) (args .at) n (omega arith) (sym (p .given .1) ∙ text-at .ensures .exact) (sym (octet-at .ensures) ∙ c .if2 .taken); within = omega arith }
+    let w = rw (p .given .1) at (text-at .ensures .within) in
+    let i = in-text (args .text .now) (p .given .0 .0) (sym (octet-at .ensures) ∙ c .if2 .taken) (omega arith) in
+    record {
+      exact = λ n h. row-last (args .text .now) (args .at) n (omega arith) (sym (p .given .1) ∙ text-at .ensures .exact)
+          (sym (octet-at .ensures) ∙ c .if2 .taken);
+      within = omega arith;
+    }
 
 names-row-returns-3 : (t : ℕ) → names-row-lts.Need-returns-3 (names-row-calls t) (names-row-at t) names-row.Post
 names-row-returns-3 t c =
@@ -83,12 +116,20 @@ names-row-returns-3 t c =
     let b = b .before .before in let p = b .p in
     let b = b .before .before in let text-at = b .text-at in
     let b = b .before .before in let args = b .args in
-    record { exact = λ n h. row-wrong (args .text .now) (args .at) n (omega arith) (sym (p .given .1) ∙ text-at .ensures .exact) (λ e. c .before .if1 .left (octet-at .ensures ∙ e)) (λ e. c .if2 .left (octet-at .ensures ∙ e)); within = tt }
+    record {
+      exact = λ n h. row-wrong (args .text .now) (args .at) n (omega arith) (sym (p .given .1) ∙ text-at .ensures .exact)
+          (λ e. c .before .if1 .left (octet-at .ensures ∙ e)) (λ e. c .if2 .left (octet-at .ensures ∙ e));
+      within = tt;
+    }
 
 names-row-returns-4 : (t : ℕ) → names-row-lts.Need-returns-4 (names-row-calls t) (names-row-at t) names-row.Post
 names-row-returns-4 t c =
     let b = c .before .before .before .before in let args = b .args in
-    record { exact = λ n h. row-none (args .text .now) (args .at) n (omega arith) (sym (c .enum-told .given .1) ∙ c .before .before .text-at .ensures .exact); within = tt }
+    record {
+      exact = λ n h. row-none (args .text .now) (args .at) n (omega arith)
+          (sym (c .enum-told .given .1) ∙ c .before .before .text-at .ensures .exact);
+      within = tt;
+    }
 
 pub +names-row-spec : {M : Type 1} → statement M
 +names-row-spec = close μ-names-row λ t. names-row-lts.spec (names-row-calls t)

@@ -1,4 +1,4 @@
--- One name is kept, or the row behind a parenthesis.
+-- `keep_names`: behind a parenthesis a row is kept, and else the one name that stands there. Assumes nothing.
 use borrow.Author.Needs.{needs}
 use mathlib.Core.Path.{sym, ap, _∙_}
 use native.Mathlib.Omega.{arith}
@@ -21,7 +21,13 @@ returns c =
     let b = c .before in let if1 = b .if1 in
     let b = b .before in let octet-at = b .octet-at in
     let b = b .before .before in let args = b .args in
-    let i = in-text (args .text .now) (args .at) (sym (octet-at .ensures) ∙ if1 .taken) (omega arith) in record { exact = c .keep-row .ensures .exact (length (args .text .now)) (omega arith) ∙ kept-row (args .text .now) (args .at) (args .kept) (sym (octet-at .ensures) ∙ if1 .taken); within = fits-from (c .keep-row .result .ok) (args .text .now) (args .at) (c .keep-row .result) (c .keep-row .ensures .within) }
+    let i = in-text (args .text .now) (args .at) (sym (octet-at .ensures) ∙ if1 .taken) (omega arith) in
+    record {
+      exact = c .keep-row .ensures .exact (length (args .text .now)) (omega arith)
+          ∙ kept-row (args .text .now) (args .at) (args .kept) (sym (octet-at .ensures) ∙ if1 .taken);
+      within = fits-from (c .keep-row .result .ok) (args .text .now) (args .at) (c .keep-row .result)
+          (c .keep-row .ensures .within);
+    }
 
 returns-2 : tie.Need-returns-2
 returns-2 c =
@@ -29,7 +35,12 @@ returns-2 c =
     let b = b .before in let if1 = b .if1 in
     let b = b .before in let octet-at = b .octet-at in
     let b = b .before .before in let args = b .args in
-    record { exact = c .unread .ensures ∙ kept-none (args .text .now) (args .at) (args .kept) (λ e. if1 .left (octet-at .ensures ∙ e)) (sym (c .before .enum-told .given .1) ∙ text-at .ensures .exact); within = rw (c .unread .ensures) tt }
+    record {
+      exact = c .unread .ensures
+          ∙ kept-none (args .text .now) (args .at) (args .kept) (λ e. if1 .left (octet-at .ensures ∙ e))
+          (sym (c .before .enum-told .given .1) ∙ text-at .ensures .exact);
+      within = rw (c .unread .ensures) tt;
+    }
 
 keep-one-requires : tie.Need-keep-one-requires
 keep-one-requires c κs = let w = rw (c .before .before .p .given .1) at (c .before .before .before .before .text-at .ensures .within) in omega arith
@@ -41,7 +52,13 @@ returns-3 c =
     let b = b .before in let if1 = b .if1 in
     let b = b .before in let octet-at = b .octet-at in
     let b = b .before .before in let args = b .args in
-    let w = rw (p .given .1) at (text-at .ensures .within) in record { exact = kept-one (args .text .now) (args .at) (args .kept) (λ e. if1 .left (octet-at .ensures ∙ e)) (sym (p .given .1) ∙ text-at .ensures .exact) (c .keep-one .result) (c .keep-one .ensures ∙ ap (withOne (args .kept)) (c .before .name-at .ensures)); within = (omega arith, omega arith, omega (arith, ap (λ (m : Kept). m .count) (c .keep-one .ensures))) }
+    let w = rw (p .given .1) at (text-at .ensures .within) in
+    record {
+      exact = kept-one (args .text .now) (args .at) (args .kept) (λ e. if1 .left (octet-at .ensures ∙ e))
+          (sym (p .given .1) ∙ text-at .ensures .exact) (c .keep-one .result)
+          (c .keep-one .ensures ∙ ap (withOne (args .kept)) (c .before .name-at .ensures));
+      within = (omega arith, omega arith, omega (arith, ap (λ (m : Kept). m .count) (c .keep-one .ensures)));
+    }
 
 pub keep-names-spec : {M : Type 1} → statement M
 keep-names-spec =

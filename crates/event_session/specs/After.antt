@@ -77,7 +77,20 @@ select-accepted m law i =
     ap (λ (l : List Message). withMails (dropMails m expunged) (map rested l)) (mails-with m (filterb (λ (e : Message). not (expunged e)) (mails m)))
     ∙ with-shorter m (filterb (λ (e : Message). not (expunged e)) (mails m)) (map rested (filterb (λ (e : Message). not (expunged e)) (mails m))) (filter-length (λ (e : Message). not (expunged e)) (mails m)) (let n = length-map (filterb (λ (e : Message). not (expunged e)) (mails m)) rested in omega arith) in
     ap (λ (k : Memory). withSession k (withView (m .session) i (theMailbox i (boxes m) .uidnext))) a
-    ∙ ap (λ (n : ℕ). record { rows = m .rows; entries = refill noMessage (m .entries) n (map rested (filterb (λ (e : Message). not (expunged e)) (mails m))); counts = record { mailboxes = m .counts .mailboxes; messages = length (map rested (filterb (λ (e : Message). not (expunged e)) (mails m))); filled = filled m }; session = withView (m .session) i (theMailbox i (boxes m) .uidnext); queue = m .queue }) (used-long m law)
+    ∙ ap (λ (n : ℕ). record {
+      rows = m .rows;
+      entries = refill noMessage (m .entries) n
+          (map rested (filterb (λ (e : Message). not (expunged e)) (mails m)));
+      counts = record {
+        mailboxes = m .counts .mailboxes;
+        messages = length
+            (map rested (filterb (λ (e : Message). not (expunged e)) (mails m)));
+        filled = filled m;
+      };
+      session = withView (m .session) i
+          (theMailbox i (boxes m) .uidnext);
+      queue = m .queue;
+    }) (used-long m law)
 
 pub select-answer : (m : Memory) (i : ℕ) → accepted m (select i) .answer ≡ Done
 unfolding accepted

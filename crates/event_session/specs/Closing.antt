@@ -52,7 +52,9 @@ module _ (k : Memory) (n : length (mails k) ≡ k .counts .messages) (v f w : Li
   first-end false zero = refl
   first-end false (suc N) = refl
 
-  last-end : (M : ℕ) (l : List Message) → length l ≤ length (mails k) → (b : Bool) → effects (over k l (cond b (withView (k .session) (k .session .selected) next) (k .session))) (take M (markedLines 1 w)) ≡ over k (clearAll (k .session .selected) (take M (uids (filterb marked w))) l) (cond b (withView (k .session) (k .session .selected) next) (k .session))
+  last-end : (M : ℕ) (l : List Message) → length l ≤ length (mails k) → (b : Bool)
+      → effects (over k l (cond b (withView (k .session) (k .session .selected) next) (k .session))) (take M (markedLines 1 w)) ≡ over k
+      (clearAll (k .session .selected) (take M (uids (filterb marked w))) l) (cond b (withView (k .session) (k .session .selected) next) (k .session))
   last-end M l h true = eff-M k M 1 w l (withView (k .session) (k .session .selected) next) h
   last-end M l h false = eff-M k M 1 w l (k .session) h
 
@@ -123,10 +125,18 @@ module _ (m : Memory) (law : Law m) where
   vw = viewOf (m .session .told) (messagesOf (m .session .selected) (mails m))
 
   marked-same : (c : Bool) → filterb marked (stayers c vw) ≡ filterb marked vw
-  marked-same true = filter-within marked (λ (e : Message). not (expunged e)) vw (all-filtered (λ (x : Message). not (marked x) || not (expunged x)) (seen (m .session .told)) (messagesOf id (mails m)) (all-sorted (λ (x : Message). not (marked x) || not (expunged x)) byUid (filterb (inMailbox id) (mails m)) (all-filtered (λ (x : Message). not (marked x) || not (expunged x)) (inMailbox id) (mails m) (all-imply messageOk (λ (x : Message). not (marked x) || not (expunged x)) not-both (mails m) (law .mail)))))
+  marked-same true = filter-within marked (λ (e : Message). not (expunged e)) vw
+      (all-filtered (λ (x : Message). not (marked x) || not (expunged x)) (seen (m .session .told)) (messagesOf id (mails m))
+      (all-sorted (λ (x : Message). not (marked x) || not (expunged x)) byUid (filterb (inMailbox id) (mails m))
+      (all-filtered (λ (x : Message). not (marked x) || not (expunged x)) (inMailbox id) (mails m)
+      (all-imply messageOk (λ (x : Message). not (marked x) || not (expunged x)) not-both (mails m) (law .mail)))))
   marked-same false = refl
 
-  gone-is : (c : Bool) (N i : ℕ) → i < length (mails m) → anyb (λ (u : ℕ). isMessage id u (getD (mails m) i noMessage)) (take N (cond c (uids (filterb expunged vw)) [])) ≡ (expunged (getD (mails m) i noMessage) && (inMailbox id (getD (mails m) i noMessage) && ltb (uidOf (getD (mails m) i noMessage)) (topOf 0 (take N (cond c (uids (filterb expunged vw)) [])))))
+  gone-is : (c : Bool) (N i : ℕ) → i < length (mails m)
+      → anyb (λ (u : ℕ). isMessage id u (getD (mails m) i noMessage))
+      (take N (cond c (uids (filterb expunged vw)) [])) ≡ (expunged
+      (getD (mails m) i noMessage) && (inMailbox id (getD (mails m) i noMessage) && ltb (uidOf (getD (mails m) i noMessage))
+      (topOf 0 (take N (cond c (uids (filterb expunged vw)) [])))))
   gone-is true N i h = stands id (m .session .told) expunged (mails m) i N (law .twins) h (waits (m .session) expunged (getD (mails m) i noMessage) (all-at (stateOk (m .session)) (mails m) i (law .states) h) (λ e. ap (bit 0) e))
   gone-is false N i h = nobody (λ (u : ℕ). isMessage id u (getD (mails m) i noMessage)) (expunged (getD (mails m) i noMessage)) (inMailbox id (getD (mails m) i noMessage)) (uidOf (getD (mails m) i noMessage)) N
 
@@ -139,7 +149,9 @@ module _ (m : Memory) (law : Law m) where
       rw (marked-same c)
       (ap (clearAll id (take M (uids (filterb marked vw)))) (drop-all id (take N (cond c (uids (filterb expunged vw)) [])) (mails m))
       ∙ (clear-all id (take M (uids (filterb marked vw))) (filterb (λ (e : Message). not (anyb (λ (u : ℕ). isMessage id u e) (take N (cond c (uids (filterb expunged vw)) [])))) (mails m))
-      ∙ both-ext (λ (e : Message). not (anyb (λ (u : ℕ). isMessage id u e) (take N (cond c (uids (filterb expunged vw)) [])))) (λ (e : Message). not (goes (toldTo id (topOf 0 (take N (cond c (uids (filterb expunged vw)) []))) 0) e)) (calm id (take M (uids (filterb marked vw)))) (calmTo (toldTo id 0 (topOf 0 (take M (uids (filterb marked vw)))))) (mails m)
+      ∙ both-ext (λ (e : Message). not (anyb (λ (u : ℕ). isMessage id u e) (take N (cond c (uids (filterb expunged vw)) []))))
+      (λ (e : Message). not (goes (toldTo id (topOf 0 (take N (cond c (uids (filterb expunged vw)) []))) 0) e)) (calm id (take M (uids (filterb marked vw))))
+      (calmTo (toldTo id 0 (topOf 0 (take M (uids (filterb marked vw)))))) (mails m)
       (λ i h. (ap not (gone-is c N i h), ap (λ (b : Bool). cond b (withStates (getD (mails m) i noMessage) 0) (getD (mails m) i noMessage)) (shown-is M i h)))))
 
 -- ---- the rule
@@ -217,7 +229,10 @@ module _ (m : Memory) (law : Law m) (c : ℕ) where
       let x = sunkC told (eqb c 1) lim all (m .queue) (filled m) (fits-in m c) in
       ap (effects k) (fitting-take free ((A ++ B) ++ C))
       ∙ (parts-end k (used-long m law) (viewOf told all) new (stayers (eqb c 1) (viewOf told all)) (length (filterb (stays told (eqb c 1)) all)) (eqb c 1) N
-      ∙ (ap (λ (l : List Message). made l (length (mails m)) (cond (eqb (topOf 0 (take (N - length A) (zeros new))) 1) (withView (m .session) (m .session .selected) after-all) (m .session)) (written (m .queue) (filled m) (renderAll (fitting free ((A ++ B) ++ C)))) (filled m + size (fitting free ((A ++ B) ++ C)))) (kept-is m law (eqb c 1) N (N - length (A ++ B)) ∙ ap₂ (λ (i j : ℕ). kept (toldTo (m .session .selected) i j) (mails m)) (sym boundA) (sym (x .bound)))
+      ∙ (ap (λ (l : List Message). made l (length (mails m))
+      (cond (eqb (topOf 0 (take (N - length A) (zeros new))) 1) (withView (m .session) (m .session .selected) after-all) (m .session))
+      (written (m .queue) (filled m) (renderAll (fitting free ((A ++ B) ++ C)))) (filled m + size (fitting free ((A ++ B) ++ C))))
+      (kept-is m law (eqb c 1) N (N - length (A ++ B)) ∙ ap₂ (λ (i j : ℕ). kept (toldTo (m .session .selected) i j) (mails m)) (sym boundA) (sym (x .bound)))
       ∙ (ap₂ (λ (n b : ℕ). made (kept (toldTo (m .session .selected) (sA .bound) (sC .bound)) (mails m)) n (cond (eqb b 1) (withView (m .session) (m .session .selected) after-all) (m .session)) (written (m .queue) (filled m) (renderAll (fitting free ((A ++ B) ++ C)))) (filled m + size (fitting free ((A ++ B) ++ C)))) (used-long m law) (sym boundB)
       ∙ ap₂ (λ (q : List ℕ) (f : ℕ). made (kept (toldTo (m .session .selected) (sA .bound) (sC .bound)) (mails m)) (m .counts .messages) (cond (eqb (sB .bound) 1) (withView (m .session) (m .session .selected) after-all) (m .session)) q f) (sym (x .queue)) (sym (x .ends)))))
 

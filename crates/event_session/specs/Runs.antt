@@ -71,7 +71,10 @@ module _ (q : List ℕ) (at lim : ℕ) (wide : lim ≤ length q) (told skip : �
   runE-sunk [] ls us s n k x = rw (append-nil ls, append-nil us) x
   runE-sunk (e ∷ l) ls us s n k x = rw (linesE-is e l n (ltb (uidOf e) told), usE-is e l n (ltb (uidOf e) told)) (here (λ ls us s n k x. runE-sunk l ls us s n k x) (ltb (uidOf e) told) (expunged e))
     where
-      here : ((ls : List Line) (us : List ℕ) (s : State) (n : ℕ) → s .next ≡ n → Sunk q at lim skip ls us s → Sunk q at lim skip (ls ++ expungeLines n (viewOf told l)) (us ++ uids (filterb expunged (viewOf told l))) (runE told lim l s)) → (a b : Bool) → Sunk q at lim skip (ls ++ linesE e l n a b) (us ++ usE e l n a b) (runE told lim l (cond a (cond b (say lim (countText (s .next) expungeWord) (uidOf e) s) (more s)) s))
+      here : ((ls : List Line) (us : List ℕ) (s : State) (n : ℕ) → s .next ≡ n → Sunk q at lim skip ls us s
+          → Sunk q at lim skip (ls ++ expungeLines n (viewOf told l)) (us ++ uids (filterb expunged (viewOf told l))) (runE told lim l s)) → (a b : Bool)
+          → Sunk q at lim skip (ls ++ linesE e l n a b) (us ++ usE e l n a b)
+          (runE told lim l (cond a (cond b (say lim (countText (s .next) expungeWord) (uidOf e) s) (more s)) s))
       here again true true =
           let y = sunk-say q at lim wide skip ls us s x (expunge (record { 0 = n }) (e .uid)) (uidOf e) in
           let z = as-text q at lim skip (ls ++ (expunge (record { 0 = n }) (e .uid) ∷ [])) (us ++ (uidOf e ∷ [])) (countText (s .next) expungeWord) (render (expunge (record { 0 = n }) (e .uid))) (uidOf e) s (ap (λ (i : ℕ). countText i expungeWord) k ∙ expunge-text n (e .uid)) y in
@@ -113,13 +116,19 @@ module _ (q : List ℕ) (at lim : ℕ) (wide : lim ≤ length q) (told skip : �
   runM-sunk false [] ls us s n k x = rw (append-nil ls, append-nil us) x
   runM-sunk skips (e ∷ l) ls us s n k x = rw (linesM-is skips e l n (ltb (uidOf e) told) (expunged e) refl, usM-is skips e l n (ltb (uidOf e) told) (expunged e) refl) (here (λ ls us s n k x. runM-sunk skips l ls us s n k x) (ltb (uidOf e) told) (skips && expunged e) (marked e))
     where
-      here : ((ls : List Line) (us : List ℕ) (s : State) (n : ℕ) → s .next ≡ n → Sunk q at lim skip ls us s → Sunk q at lim skip (ls ++ markedLines n (stayers skips (viewOf told l))) (us ++ uids (filterb marked (stayers skips (viewOf told l)))) (runM told skips lim l s)) → (a b c : Bool) → Sunk q at lim skip (ls ++ linesM skips e l n a b c) (us ++ usM skips e l n a b c) (runM told skips lim l (cond a (cond b s (more (cond c (say lim (fetchText (s .next) (uidOf e) (e .flags) (e .counter)) (uidOf e) s) s))) s))
+      here : ((ls : List Line) (us : List ℕ) (s : State) (n : ℕ) → s .next ≡ n → Sunk q at lim skip ls us s
+          → Sunk q at lim skip (ls ++ markedLines n (stayers skips (viewOf told l))) (us ++ uids (filterb marked (stayers skips (viewOf told l))))
+          (runM told skips lim l s)) → (a b c : Bool)
+          → Sunk q at lim skip (ls ++ linesM skips e l n a b c) (us ++ usM skips e l n a b c)
+          (runM told skips lim l (cond a (cond b s (more (cond c (say lim (fetchText (s .next) (uidOf e) (e .flags) (e .counter)) (uidOf e) s) s))) s))
       here again true true c = again ls us s n k x
       here again true false true =
           let y = sunk-say q at lim wide skip ls us s x (flagsLine n e) (uidOf e) in
           let z = as-text q at lim skip (ls ++ (flagsLine n e ∷ [])) (us ++ (uidOf e ∷ [])) (fetchText (s .next) (uidOf e) (e .flags) (e .counter)) (render (flagsLine n e)) (uidOf e) s (ap (λ (i : ℕ). fetchText i (uidOf e) (e .flags) (e .counter)) k ∙ fetch-line n e) y in
           let v = sunk-more q at lim skip (ls ++ (flagsLine n e ∷ [])) (us ++ (uidOf e ∷ [])) (say lim (fetchText (s .next) (uidOf e) (e .flags) (e .counter)) (uidOf e) s) z in
-          let w = again (ls ++ (flagsLine n e ∷ [])) (us ++ (uidOf e ∷ [])) (more (say lim (fetchText (s .next) (uidOf e) (e .flags) (e .counter)) (uidOf e) s)) (n + 1) (more-next (say lim (fetchText (s .next) (uidOf e) (e .flags) (e .counter)) (uidOf e) s) ∙ ap (λ (i : ℕ). i + 1) (say-next lim (fetchText (s .next) (uidOf e) (e .flags) (e .counter)) (uidOf e) s ∙ k)) v in
+          let w = again (ls ++ (flagsLine n e ∷ [])) (us ++ (uidOf e ∷ [])) (more (say lim (fetchText (s .next) (uidOf e) (e .flags) (e .counter)) (uidOf e) s))
+          (n + 1) (more-next (say lim (fetchText (s .next) (uidOf e) (e .flags) (e .counter)) (uidOf e) s)
+          ∙ ap (λ (i : ℕ). i + 1) (say-next lim (fetchText (s .next) (uidOf e) (e .flags) (e .counter)) (uidOf e) s ∙ k)) v in
           rw (append-assoc ls (flagsLine n e ∷ []) (markedLines (n + 1) (stayers skips (viewOf told l))), append-assoc us (uidOf e ∷ []) (uids (filterb marked (stayers skips (viewOf told l))))) at w
       here again true false false = again ls us (more s) (n + 1) (more-next s ∙ ap (λ (i : ℕ). i + 1) k) (sunk-more q at lim skip ls us s x)
       here again false b c = again ls us s n k x

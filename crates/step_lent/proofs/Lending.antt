@@ -301,7 +301,10 @@ module _ {M : Type 1} (𝓤 : URA M) (H : Heap 𝓤) (A : Atoms 𝓤) (W : Given
   unfolding Lie Toks Muts Lent
   lend c Q P =
       qed W (‵ (Lie l c) ∷ ‵ Q ∷ ‵ P ∷ []) ∵ updating ! $
-      into8 W (‵ (mem W64 .lies (c .0) (l .0) 0)) (‵ (mem O64 .lies (c .1 .0) (l .1 .0) 0)) (‵ (mem O64 .lies (c .1 .1 .0) (l .1 .1 .0) 0)) (‵ (mem W64 .lies (c .1 .1 .1 .0) (l .1 .1 .1 .0) 0)) (‵ (mem W64 .lies (c .1 .1 .1 .1 .0) (l .1 .1 .1 .1 .0) 0)) (‵ (mem W64 .lies (c .1 .1 .1 .1 .1 .0) (l .1 .1 .1 .1 .1 .0) 0)) (‵ (mem O4096 .lies (c .1 .1 .1 .1 .1 .1) (l .1 .1 .1 .1 .1 .1) 0)) (‵ ftrue) (id⊢ 𝓤 _) $
+      into8 W (‵ (mem W64 .lies (c .0) (l .0) 0)) (‵ (mem O64 .lies (c .1 .0) (l .1 .0) 0)) (‵ (mem O64 .lies (c .1 .1 .0) (l .1 .1 .0) 0))
+      (‵ (mem W64 .lies (c .1 .1 .1 .0) (l .1 .1 .1 .0) 0)) (‵ (mem W64 .lies (c .1 .1 .1 .1 .0) (l .1 .1 .1 .1 .0) 0))
+      (‵ (mem W64 .lies (c .1 .1 .1 .1 .1 .0) (l .1 .1 .1 .1 .1 .0) 0)) (‵ (mem O4096 .lies (c .1 .1 .1 .1 .1 .1) (l .1 .1 .1 .1 .1 .1) 0)) (‵ ftrue)
+      (id⊢ 𝓤 _) $
       lft-new ! tt (λ ν₁.
       move ! (1 ∷ []) $
       use1 W (later (some (λ (δ : GName). ‵ (MutRef (named 1) (ν₁ ∷ []) W64 .own (ref (l .0) δ (c .0)) (vptr (l .0) 0 ∷ [])) ⊛ ‵ (flent (ν₁ ∷ []) (Body (mem W64) (l .0) 0 δ)))))
@@ -354,9 +357,17 @@ module _ {M : Type 1} (𝓤 : URA M) (H : Heap 𝓤) (A : Atoms 𝓤) (W : Given
       qed W (‵ (Toks ν Q) ∷ ‵ (Lent l ν δ) ∷ ‵ (Ends δ c) ∷ []) ∵ updating ! $
       into8 W (‵ (flft ((ν .0) ∷ []) fullShare)) (‵ (flft ((ν .1 .0) ∷ []) fullShare)) (‵ (flft ((ν .1 .1 .0) ∷ []) fullShare)) (‵ (flft ((ν .1 .1 .1 .0) ∷ []) fullShare)) (‵ (flft ((ν .1 .1 .1 .1 .0) ∷ []) fullShare)) (‵ (flft ((ν .1 .1 .1 .1 .1 .0) ∷ []) fullShare)) (‵ (flft ((ν .1 .1 .1 .1 .1 .1) ∷ []) fullShare)) (‵ Q) (id⊢ 𝓤 _) $
       move ! (8 ∷ []) $
-      into8 W (‵ (flent ((ν .0) ∷ []) (Body (mem W64) (l .0) 0 (δ .0)))) (‵ (flent ((ν .1 .0) ∷ []) (Body (mem O64) (l .1 .0) 0 (δ .1 .0)))) (‵ (flent ((ν .1 .1 .0) ∷ []) (Body (mem O64) (l .1 .1 .0) 0 (δ .1 .1 .0)))) (‵ (flent ((ν .1 .1 .1 .0) ∷ []) (Body (mem W64) (l .1 .1 .1 .0) 0 (δ .1 .1 .1 .0)))) (‵ (flent ((ν .1 .1 .1 .1 .0) ∷ []) (Body (mem W64) (l .1 .1 .1 .1 .0) 0 (δ .1 .1 .1 .1 .0)))) (‵ (flent ((ν .1 .1 .1 .1 .1 .0) ∷ []) (Body (mem W64) (l .1 .1 .1 .1 .1 .0) 0 (δ .1 .1 .1 .1 .1 .0)))) (‵ (flent ((ν .1 .1 .1 .1 .1 .1) ∷ []) (Body (mem O4096) (l .1 .1 .1 .1 .1 .1) 0 (δ .1 .1 .1 .1 .1 .1)))) (‵ ftrue) (id⊢ 𝓤 _) $
+      into8 W (‵ (flent ((ν .0) ∷ []) (Body (mem W64) (l .0) 0 (δ .0)))) (‵ (flent ((ν .1 .0) ∷ []) (Body (mem O64) (l .1 .0) 0 (δ .1 .0))))
+      (‵ (flent ((ν .1 .1 .0) ∷ []) (Body (mem O64) (l .1 .1 .0) 0 (δ .1 .1 .0))))
+      (‵ (flent ((ν .1 .1 .1 .0) ∷ []) (Body (mem W64) (l .1 .1 .1 .0) 0 (δ .1 .1 .1 .0))))
+      (‵ (flent ((ν .1 .1 .1 .1 .0) ∷ []) (Body (mem W64) (l .1 .1 .1 .1 .0) 0 (δ .1 .1 .1 .1 .0))))
+      (‵ (flent ((ν .1 .1 .1 .1 .1 .0) ∷ []) (Body (mem W64) (l .1 .1 .1 .1 .1 .0) 0 (δ .1 .1 .1 .1 .1 .0))))
+      (‵ (flent ((ν .1 .1 .1 .1 .1 .1) ∷ []) (Body (mem O4096) (l .1 .1 .1 .1 .1 .1) 0 (δ .1 .1 .1 .1 .1 .1)))) (‵ ftrue) (id⊢ 𝓤 _) $
       move ! (16 ∷ []) $
-      into8 W (‵ (fres (δ .0) (W64 .coded .code (c .0)))) (‵ (fres (δ .1 .0) (O64 .coded .code (c .1 .0)))) (‵ (fres (δ .1 .1 .0) (O64 .coded .code (c .1 .1 .0)))) (‵ (fres (δ .1 .1 .1 .0) (W64 .coded .code (c .1 .1 .1 .0)))) (‵ (fres (δ .1 .1 .1 .1 .0) (W64 .coded .code (c .1 .1 .1 .1 .0)))) (‵ (fres (δ .1 .1 .1 .1 .1 .0) (W64 .coded .code (c .1 .1 .1 .1 .1 .0)))) (‵ (fres (δ .1 .1 .1 .1 .1 .1) (O4096 .coded .code (c .1 .1 .1 .1 .1 .1)))) (‵ ftrue) (id⊢ 𝓤 _) $
+      into8 W (‵ (fres (δ .0) (W64 .coded .code (c .0)))) (‵ (fres (δ .1 .0) (O64 .coded .code (c .1 .0))))
+      (‵ (fres (δ .1 .1 .0) (O64 .coded .code (c .1 .1 .0)))) (‵ (fres (δ .1 .1 .1 .0) (W64 .coded .code (c .1 .1 .1 .0))))
+      (‵ (fres (δ .1 .1 .1 .1 .0) (W64 .coded .code (c .1 .1 .1 .1 .0)))) (‵ (fres (δ .1 .1 .1 .1 .1 .0) (W64 .coded .code (c .1 .1 .1 .1 .1 .0))))
+      (‵ (fres (δ .1 .1 .1 .1 .1 .1) (O4096 .coded .code (c .1 .1 .1 .1 .1 .1)))) (‵ ftrue) (id⊢ 𝓤 _) $
       move ! (16 ∷ []) $
       lft-end ! tt $
       move ! (0 ∷ 9 ∷ 1 ∷ []) $
@@ -396,7 +407,10 @@ module _ {M : Type 1} (𝓤 : URA M) (H : Heap 𝓤) (A : Atoms 𝓤) (W : Given
   unfolding Lie Toks Shrs Kept
   lend-read c Q P =
       qed W (‵ (Lie l c) ∷ ‵ Q ∷ ‵ P ∷ []) ∵ updating ! $
-      into8 W (‵ (mem W64 .lies (c .0) (l .0) 0)) (‵ (mem O64 .lies (c .1 .0) (l .1 .0) 0)) (‵ (mem O64 .lies (c .1 .1 .0) (l .1 .1 .0) 0)) (‵ (mem W64 .lies (c .1 .1 .1 .0) (l .1 .1 .1 .0) 0)) (‵ (mem W64 .lies (c .1 .1 .1 .1 .0) (l .1 .1 .1 .1 .0) 0)) (‵ (mem W64 .lies (c .1 .1 .1 .1 .1 .0) (l .1 .1 .1 .1 .1 .0) 0)) (‵ (mem O4096 .lies (c .1 .1 .1 .1 .1 .1) (l .1 .1 .1 .1 .1 .1) 0)) (‵ ftrue) (id⊢ 𝓤 _) $
+      into8 W (‵ (mem W64 .lies (c .0) (l .0) 0)) (‵ (mem O64 .lies (c .1 .0) (l .1 .0) 0)) (‵ (mem O64 .lies (c .1 .1 .0) (l .1 .1 .0) 0))
+      (‵ (mem W64 .lies (c .1 .1 .1 .0) (l .1 .1 .1 .0) 0)) (‵ (mem W64 .lies (c .1 .1 .1 .1 .0) (l .1 .1 .1 .1 .0) 0))
+      (‵ (mem W64 .lies (c .1 .1 .1 .1 .1 .0) (l .1 .1 .1 .1 .1 .0) 0)) (‵ (mem O4096 .lies (c .1 .1 .1 .1 .1 .1) (l .1 .1 .1 .1 .1 .1) 0)) (‵ ftrue)
+      (id⊢ 𝓤 _) $
       lft-new ! tt (λ ν₁.
       move ! (1 ∷ []) $
       use1 W (later (some (λ (δ : GName). ‵ (ShrRef (named 0) (ν₁ ∷ []) W64 .own (ref (l .0) δ (c .0)) (vptr (l .0) 0 ∷ [])) ⊛ ‵ (flent (ν₁ ∷ []) (partAt W64 fullShare (c .0) (l .0) 0)))))
@@ -449,7 +463,12 @@ module _ {M : Type 1} (𝓤 : URA M) (H : Heap 𝓤) (A : Atoms 𝓤) (W : Given
       qed W (‵ (Toks ν Q) ∷ ‵ (Kept l ν c) ∷ []) ∵ updating ! $
       into8 W (‵ (flft ((ν .0) ∷ []) fullShare)) (‵ (flft ((ν .1 .0) ∷ []) fullShare)) (‵ (flft ((ν .1 .1 .0) ∷ []) fullShare)) (‵ (flft ((ν .1 .1 .1 .0) ∷ []) fullShare)) (‵ (flft ((ν .1 .1 .1 .1 .0) ∷ []) fullShare)) (‵ (flft ((ν .1 .1 .1 .1 .1 .0) ∷ []) fullShare)) (‵ (flft ((ν .1 .1 .1 .1 .1 .1) ∷ []) fullShare)) (‵ Q) (id⊢ 𝓤 _) $
       move ! (8 ∷ []) $
-      into8 W (‵ (flent ((ν .0) ∷ []) (partAt W64 fullShare (c .0) (l .0) 0))) (‵ (flent ((ν .1 .0) ∷ []) (partAt O64 fullShare (c .1 .0) (l .1 .0) 0))) (‵ (flent ((ν .1 .1 .0) ∷ []) (partAt O64 fullShare (c .1 .1 .0) (l .1 .1 .0) 0))) (‵ (flent ((ν .1 .1 .1 .0) ∷ []) (partAt W64 fullShare (c .1 .1 .1 .0) (l .1 .1 .1 .0) 0))) (‵ (flent ((ν .1 .1 .1 .1 .0) ∷ []) (partAt W64 fullShare (c .1 .1 .1 .1 .0) (l .1 .1 .1 .1 .0) 0))) (‵ (flent ((ν .1 .1 .1 .1 .1 .0) ∷ []) (partAt W64 fullShare (c .1 .1 .1 .1 .1 .0) (l .1 .1 .1 .1 .1 .0) 0))) (‵ (flent ((ν .1 .1 .1 .1 .1 .1) ∷ []) (partAt O4096 fullShare (c .1 .1 .1 .1 .1 .1) (l .1 .1 .1 .1 .1 .1) 0))) (‵ ftrue) (id⊢ 𝓤 _) $
+      into8 W (‵ (flent ((ν .0) ∷ []) (partAt W64 fullShare (c .0) (l .0) 0))) (‵ (flent ((ν .1 .0) ∷ []) (partAt O64 fullShare (c .1 .0) (l .1 .0) 0)))
+      (‵ (flent ((ν .1 .1 .0) ∷ []) (partAt O64 fullShare (c .1 .1 .0) (l .1 .1 .0) 0)))
+      (‵ (flent ((ν .1 .1 .1 .0) ∷ []) (partAt W64 fullShare (c .1 .1 .1 .0) (l .1 .1 .1 .0) 0)))
+      (‵ (flent ((ν .1 .1 .1 .1 .0) ∷ []) (partAt W64 fullShare (c .1 .1 .1 .1 .0) (l .1 .1 .1 .1 .0) 0)))
+      (‵ (flent ((ν .1 .1 .1 .1 .1 .0) ∷ []) (partAt W64 fullShare (c .1 .1 .1 .1 .1 .0) (l .1 .1 .1 .1 .1 .0) 0)))
+      (‵ (flent ((ν .1 .1 .1 .1 .1 .1) ∷ []) (partAt O4096 fullShare (c .1 .1 .1 .1 .1 .1) (l .1 .1 .1 .1 .1 .1) 0))) (‵ ftrue) (id⊢ 𝓤 _) $
       move ! (8 ∷ []) $
       lft-end ! tt $
       move ! (0 ∷ 1 ∷ []) $

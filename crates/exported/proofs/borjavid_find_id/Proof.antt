@@ -143,7 +143,9 @@ module _ {M : Type 1} (𝓤 : URA M) (H : Heap 𝓤) (A : Atoms 𝓤) (W : Given
   to-find t m = ((tt, tt, tt, (t, (m, (j, tt))), (valA t ∷ [], (vint w64 m ∷ [], (vint w16 j ∷ [], tt)))), tt)
 
   goes-find : (t : List Mailbox) (m : ℕ) → Is (Array T.the-row 64) t (valA t ∷ []) → m < 2 ^ 64 → m ≤ 64 → ent 𝓤 (emp 𝓤) (Find 𝓤 H A at-mem run .pre (to-find t m))
-  goes-find t m is-t m-fits small = qed W [] ∵ says ! small $ nothing ! $ owned ! u16 (Is u16) (uint-makes 𝓤 H A W w16) j _ (refl, j-fits) $ fjoin ! $ owned ! usize (Is usize) (uint-makes 𝓤 H A W w64) m _ (refl, m-fits) $ fjoin ! $ owned ! (Array T.the-row 64) (Is (Array T.the-row 64)) (array-makes 𝓤 H A W T.the-row (LL.makes T.the-type T′.the-plain 𝓤 H A) 64) t _ is-t $ fjoin ! $ nothing ! $ join ! $ done !
+  goes-find t m is-t m-fits small = qed W [] ∵ says ! small $ nothing ! $ owned ! u16 (Is u16) (uint-makes 𝓤 H A W w16) j _ (refl, j-fits) $ fjoin ! $ owned ! usize
+      (Is usize) (uint-makes 𝓤 H A W w64) m _ (refl, m-fits) $ fjoin ! $ owned ! (Array T.the-row 64) (Is (Array T.the-row 64))
+      (array-makes 𝓤 H A W T.the-row (LL.makes T.the-type T′.the-plain 𝓤 H A) 64) t _ is-t $ fjoin ! $ nothing ! $ join ! $ done !
 
   find-of : (t : List Mailbox) (m r : ℕ) → ent 𝓤 (ensured 𝓤 H A find-id-fn.ended (find-id-fn.clauses 𝓤 H A at-mem run) tt (t, (m, (j, tt))) tt r) (fact 𝓤 (r ≡ place j (take m t)))
   find-of t m r = exE 𝓤 _ (λ ls. snd∗ 𝓤 (sem 𝓤 H A (lasts find-id-fn.ended tt (t, (m, (j, tt))) ls)) (fact 𝓤 (r ≡ place j (take m t))))

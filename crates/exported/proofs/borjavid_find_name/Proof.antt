@@ -88,7 +88,9 @@ module _ {M : Type 1} (𝓤 : URA M) (H : Heap 𝓤) (A : Atoms 𝓤) (at-mem : 
   abbrev Find : Contract 𝓤
   Find = tripleOf 𝓤 H A find-name-fn.signature (find-name-fn.spec 𝓤 H A at-mem run)
 
-module _ {M : Type 1} (𝓤 : URA M) (H : Heap 𝓤) (A : Atoms 𝓤) (W : Given 𝓤 H A) (at-mem : Memory → SProp 𝓤) (run : Routine → Fun 𝓤) (κ κ₁ : Lft) (bounds : AllOutlive 2 (f.signature .outlives) (κ, (κ₁, tt))) (q q₁ : Share) (b o : ℕ) (γ : GName) (ys : List Mailbox) (room : Room T.the-row (length ys)) (k : ℕ) (k-fits : k < 2 ^ 64) (b₁ o₁ : ℕ) (γ₁ : GName) (us : List ℕ) (room₁ : Room u8 (length us)) where
+module _ {M : Type 1} (𝓤 : URA M) (H : Heap 𝓤) (A : Atoms 𝓤) (W : Given 𝓤 H A) (at-mem : Memory → SProp 𝓤) (run : Routine → Fun 𝓤) (κ κ₁ : Lft)
+    (bounds : AllOutlive 2 (f.signature .outlives) (κ, (κ₁, tt))) (q q₁ : Share) (b o : ℕ) (γ : GName) (ys : List Mailbox) (room : Room T.the-row (length ys))
+    (k : ℕ) (k-fits : k < 2 ^ 64) (b₁ o₁ : ℕ) (γ₁ : GName) (us : List ℕ) (room₁ : Room u8 (length us)) where
   abbrev n : ℕ
   n = length ys
 
@@ -152,7 +154,10 @@ module _ {M : Type 1} (𝓤 : URA M) (H : Heap 𝓤) (A : Atoms 𝓤) (W : Given
   to-find t m = (((κ₁, tt), (q₁, tt), tt, (t, (m, (xr, tt))), (valA t ∷ [], (vint w64 m ∷ [], (sr ∷ [], tt)))), tt)
 
   goes-find : (t : List Mailbox) (m : ℕ) → Is (Array T.the-row 64) t (valA t ∷ []) → m < 2 ^ 64 → m ≤ 64 → ent 𝓤 (sep 𝓤 (A .lft κ₁ q₁) (sem 𝓤 H A (ShrSlice (named 0) κ₁ u8 .own xr (sr ∷ [])))) (Find 𝓤 H A at-mem run .pre (to-find t m))
-  goes-find t m is-t m-fits small = qed W (‵ (flft κ₁ q₁) ∷ ‵ (ShrSlice (named 0) κ₁ u8 .own xr (sr ∷ [])) ∷ []) ∵ says ! small $ nothing ! $ move ! (1 ∷ 0 ∷ []) $ join ! $ nothing ! $ move ! (2 ∷ 0 ∷ []) $ fjoin ! $ owned ! usize (Is usize) (uint-makes 𝓤 H A W w64) m _ (refl, m-fits) $ fjoin ! $ owned ! (Array T.the-row 64) (Is (Array T.the-row 64)) (array-makes 𝓤 H A W T.the-row (LL.makes T.the-type T′.the-plain 𝓤 H A) 64) t _ is-t $ fjoin ! $ move ! (1 ∷ 0 ∷ []) $ join ! $ done !
+  goes-find t m is-t m-fits small = qed W (‵ (flft κ₁ q₁) ∷ ‵ (ShrSlice (named 0) κ₁ u8 .own xr (sr ∷ [])) ∷ []) ∵ says ! small $ nothing ! $ move !
+      (1 ∷ 0 ∷ []) $ join ! $ nothing ! $ move ! (2 ∷ 0 ∷ []) $ fjoin ! $ owned ! usize (Is usize) (uint-makes 𝓤 H A W w64) m _
+      (refl, m-fits) $ fjoin ! $ owned ! (Array T.the-row 64) (Is (Array T.the-row 64))
+      (array-makes 𝓤 H A W T.the-row (LL.makes T.the-type T′.the-plain 𝓤 H A) 64) t _ is-t $ fjoin ! $ move ! (1 ∷ 0 ∷ []) $ join ! $ done !
 
   find-of : (t : List Mailbox) (m r : ℕ) → ent 𝓤 (ensured 𝓤 H A find-name-fn.ended (find-name-fn.clauses 𝓤 H A at-mem run) (κ₁, tt) (t, (m, (xr, tt))) tt r) (fact 𝓤 (r ≡ placeNamed us (take m t)))
   find-of t m r = exE 𝓤 _ (λ ls. snd∗ 𝓤 (sem 𝓤 H A (lasts find-name-fn.ended (κ₁, tt) (t, (m, (xr, tt))) ls)) (fact 𝓤 (r ≡ placeNamed us (take m t))))

@@ -145,7 +145,11 @@ module _ {M : Type 1} (𝓤 : URA M) (H : Heap 𝓤) (A : Atoms 𝓤) (at-mem : 
   abbrev Numbers : Contract 𝓤
   Numbers = tripleOf 𝓤 H A numbers-fn.signature (numbers-fn.spec 𝓤 H A at-mem run)
 
-module _ {M : Type 1} (𝓤 : URA M) (H : Heap 𝓤) (A : Atoms 𝓤) (W : Given 𝓤 H A) (at-mem : Memory → SProp 𝓤) (run : Routine → Fun 𝓤) (κ κ₁ κ₂ κ₃ κ₄ κ₅ : Lft) (bounds : AllOutlive 6 (f.signature .outlives) (κ, (κ₁, (κ₂, (κ₃, (κ₄, (κ₅, tt))))))) (q q₁ q₂ q₃ q₄ q₅ : Share) (b o : ℕ) (γ : GName) (ys : List Mailbox) (room : Room T.the-row (length ys)) (b₁ o₁ : ℕ) (γ₁ : GName) (ws : List ℕ) (room₁ : Room u64 (length ws)) (b₂ o₂ : ℕ) (γ₂ : GName) (cs : Counts) (b₃ o₃ : ℕ) (γ₃ : GName) (h : Session) (b₄ o₄ : ℕ) (γ₄ : GName) (xs : List ℕ) (room₄ : Room u8 (length xs)) (b₅ o₅ : ℕ) (γ₅ : GName) (us : List ℕ) (room₅ : Room u8 (length us)) where
+module _ {M : Type 1} (𝓤 : URA M) (H : Heap 𝓤) (A : Atoms 𝓤) (W : Given 𝓤 H A) (at-mem : Memory → SProp 𝓤) (run : Routine → Fun 𝓤)
+    (κ κ₁ κ₂ κ₃ κ₄ κ₅ : Lft) (bounds : AllOutlive 6 (f.signature .outlives) (κ, (κ₁, (κ₂, (κ₃, (κ₄, (κ₅, tt)))))))
+    (q q₁ q₂ q₃ q₄ q₅ : Share) (b o : ℕ) (γ : GName) (ys : List Mailbox) (room : Room T.the-row (length ys)) (b₁ o₁ : ℕ) (γ₁ : GName)
+    (ws : List ℕ) (room₁ : Room u64 (length ws)) (b₂ o₂ : ℕ) (γ₂ : GName) (cs : Counts) (b₃ o₃ : ℕ) (γ₃ : GName) (h : Session) (b₄ o₄ : ℕ)
+    (γ₄ : GName) (xs : List ℕ) (room₄ : Room u8 (length xs)) (b₅ o₅ : ℕ) (γ₅ : GName) (us : List ℕ) (room₅ : Room u8 (length us)) where
   abbrev n : ℕ
   n = length ys
 
@@ -190,11 +194,18 @@ module _ {M : Type 1} (𝓤 : URA M) (H : Heap 𝓤) (A : Atoms 𝓤) (W : Given
   abbrev to-served : ℕ → GName → Served 𝓤 H A at-mem run .Ghost
   to-served ν δ = (((ν ∷ [], (κ₁, (κ₄, (κ₅, tt)))), (fullShare, (q₁, (q₄, (q₅, tt)))), tt, (x δ, (xw, (cs, (h, (xq, (xr, tt)))))), (s ∷ [], (sw ∷ [], (valN cs ∷ [], (valS h ∷ [], (sq ∷ [], (sr ∷ [], tt))))))), tt)
 
-  goes-served : (ν : ℕ) (δ : GName) → Is N.the-row cs (valN cs ∷ []) → Is S.the-row h (valS h ∷ []) → ent 𝓤 (⋆ 𝓤 H A (‵ (flft (ν ∷ []) fullShare) ∷ ‵ (flft κ₁ q₁) ∷ ‵ (flft κ₄ q₄) ∷ ‵ (flft κ₅ q₅) ∷ ‵ (ShrSlice (named 0) (ν ∷ []) T.the-row .own (x δ) (s ∷ [])) ∷ ‵ (MutSlice (named 1) κ₁ u64 .own xw (sw ∷ [])) ∷ ‵ (MutSlice (named 2) κ₄ u8 .own xq (sq ∷ [])) ∷ ‵ (ShrSlice (named 3) κ₅ u8 .own xr (sr ∷ [])) ∷ [])) (Served 𝓤 H A at-mem run .pre (to-served ν δ))
+  goes-served : (ν : ℕ) (δ : GName) → Is N.the-row cs (valN cs ∷ []) → Is S.the-row h (valS h ∷ [])
+      → ent 𝓤 (⋆ 𝓤 H A (‵ (flft (ν ∷ []) fullShare) ∷ ‵ (flft κ₁ q₁) ∷ ‵ (flft κ₄ q₄) ∷ ‵ (flft κ₅ q₅) ∷ ‵
+      (ShrSlice (named 0) (ν ∷ []) T.the-row .own (x δ) (s ∷ [])) ∷ ‵ (MutSlice (named 1) κ₁ u64 .own xw (sw ∷ [])) ∷ ‵
+      (MutSlice (named 2) κ₄ u8 .own xq (sq ∷ [])) ∷ ‵ (ShrSlice (named 3) κ₅ u8 .own xr (sr ∷ [])) ∷ []))
+      (Served 𝓤 H A at-mem run .pre (to-served ν δ))
   goes-served ν δ is-c is-h =
       qed W (‵ (flft (ν ∷ []) fullShare) ∷ ‵ (flft κ₁ q₁) ∷ ‵ (flft κ₄ q₄) ∷ ‵ (flft κ₅ q₅) ∷ ‵ (ShrSlice (named 0) (ν ∷ []) T.the-row .own (x δ) (s ∷ [])) ∷ ‵ (MutSlice (named 1) κ₁ u64 .own xw (sw ∷ [])) ∷ ‵ (MutSlice (named 2) κ₄ u8 .own xq (sq ∷ [])) ∷ ‵ (ShrSlice (named 3) κ₅ u8 .own xr (sr ∷ [])) ∷ []) ∵
       nothing ! $ move ! (4 ∷ 0 ∷ []) $ join ! $ move ! (3 ∷ 0 ∷ []) $ join ! $ move ! (2 ∷ 0 ∷ []) $ join ! $ move ! (1 ∷ 0 ∷ []) $ join ! $
-      nothing ! $ move ! (5 ∷ 0 ∷ []) $ fjoin ! $ move ! (4 ∷ 0 ∷ []) $ fjoin ! $ owned ! S.the-row (Is S.the-row) (LL.makes S.the-type S′.the-plain 𝓤 H A) h _ is-h $ fjoin ! $ owned ! N.the-row (Is N.the-row) (LL.makes N.the-type N′.the-plain 𝓤 H A) cs _ is-c $ fjoin ! $ move ! (3 ∷ 0 ∷ []) $ fjoin ! $ move ! (2 ∷ 0 ∷ []) $ fjoin ! $ move ! (1 ∷ 0 ∷ []) $ join ! $ frame ! $ done !
+      nothing ! $ move ! (5 ∷ 0 ∷ []) $ fjoin ! $ move ! (4 ∷ 0 ∷ []) $ fjoin ! $ owned ! S.the-row (Is S.the-row)
+      (LL.makes S.the-type S′.the-plain 𝓤 H A) h _ is-h $ fjoin ! $ owned ! N.the-row (Is N.the-row)
+      (LL.makes N.the-type N′.the-plain 𝓤 H A) cs _ is-c $ fjoin ! $ move ! (3 ∷ 0 ∷ []) $ fjoin ! $ move ! (2 ∷ 0 ∷ []) $ fjoin ! $ move !
+      (1 ∷ 0 ∷ []) $ join ! $ frame ! $ done !
 
   -- what `served` ensures of its result and of the last lists of words and queue
   abbrev ServedSays : Came → List ℕ → List ℕ → Type 0
@@ -208,7 +219,9 @@ module _ {M : Type 1} (𝓤 : URA M) (H : Heap 𝓤) (A : Atoms 𝓤) (W : Given
   to-put r = ((tt, tt, tt, (r, (cs .mailboxes, (n, tt))), (valO r ∷ [], (vint w64 (cs .mailboxes) ∷ [], (vint w64 n ∷ [], tt)))), tt)
 
   goes-put : (r : Came) → Is N.the-row cs (valN cs ∷ []) → Is O.the-row r (valO r ∷ []) → ent 𝓤 (emp 𝓤) (PutAt 𝓤 H A at-mem run .pre (to-put r))
-  goes-put r is-c is-r = let used-fits = fits-used is-c in qed W [] ∵ nothing ! $ owned ! usize (Is usize) (uint-makes 𝓤 H A W w64) n _ (refl, room .0) $ fjoin ! $ owned ! u64 (Is u64) (uint-makes 𝓤 H A W w64) (cs .mailboxes) _ (refl, used-fits) $ fjoin ! $ owned ! O.the-row (Is O.the-row) (LL.makes O.the-type O′.the-plain 𝓤 H A) r _ is-r $ fjoin ! $ nothing ! $ join ! $ frame ! $ done !
+  goes-put r is-c is-r = let used-fits = fits-used is-c in qed W [] ∵ nothing ! $ owned ! usize (Is usize) (uint-makes 𝓤 H A W w64) n _
+      (refl, room .0) $ fjoin ! $ owned ! u64 (Is u64) (uint-makes 𝓤 H A W w64) (cs .mailboxes) _ (refl, used-fits) $ fjoin ! $ owned ! O.the-row (Is O.the-row)
+      (LL.makes O.the-type O′.the-plain 𝓤 H A) r _ is-r $ fjoin ! $ nothing ! $ join ! $ frame ! $ done !
 
   put-of : (r : Came) (k : ℕ) → ent 𝓤 (ensured 𝓤 H A put-at-fn.ended (put-at-fn.clauses 𝓤 H A at-mem run) tt (r, (cs .mailboxes, (n, tt))) tt k) (fact 𝓤 (k ≡ putAt r (cs .mailboxes) n))
   put-of r k = exE 𝓤 _ (λ ls. snd∗ 𝓤 (sem 𝓤 H A (lasts put-at-fn.ended tt (r, (cs .mailboxes, (n, tt))) ls)) (fact 𝓤 (k ≡ putAt r (cs .mailboxes) n)))
@@ -242,7 +255,10 @@ module _ {M : Type 1} (𝓤 : URA M) (H : Heap 𝓤) (A : Atoms 𝓤) (W : Given
       → ent 𝓤 (sep 𝓤 (A .lft κ q) (sem 𝓤 H A (MutSlice (named 0) κ T.the-row .own (x γ) (s ∷ [])))) (WriteBack 𝓤 H A at-mem run .pre (to-back j k d))
   goes-back j k d j-fits k-fits is-d asked =
       qed W (‵ (flft κ q) ∷ ‵ (MutSlice (named 0) κ T.the-row .own (x γ) (s ∷ [])) ∷ []) ∵ says ! asked $
-      nothing ! $ move ! (1 ∷ 0 ∷ []) $ join ! $ nothing ! $ owned ! T.the-row (Is T.the-row) (LL.makes T.the-type T′.the-plain 𝓤 H A) d _ is-d $ fjoin ! $ owned ! usize (Is usize) (uint-makes 𝓤 H A W w64) k _ (refl, k-fits) $ fjoin ! $ owned ! usize (Is usize) (uint-makes 𝓤 H A W w64) j _ (refl, j-fits) $ fjoin ! $ move ! (2 ∷ 0 ∷ []) $ fjoin ! $ move ! (1 ∷ 0 ∷ []) $ join ! $ done !
+      nothing ! $ move ! (1 ∷ 0 ∷ []) $ join ! $ nothing ! $ owned ! T.the-row (Is T.the-row)
+      (LL.makes T.the-type T′.the-plain 𝓤 H A) d _ is-d $ fjoin ! $ owned ! usize (Is usize) (uint-makes 𝓤 H A W w64) k _
+      (refl, k-fits) $ fjoin ! $ owned ! usize (Is usize) (uint-makes 𝓤 H A W w64) j _ (refl, j-fits) $ fjoin ! $ move ! (2 ∷ 0 ∷ []) $ fjoin ! $ move !
+      (1 ∷ 0 ∷ []) $ join ! $ done !
 
   abbrev to-numbers : Came → Numbers 𝓤 H A at-mem run .Ghost
   to-numbers r = ((tt, tt, tt, (r, tt), (valO r ∷ [], tt)), tt)
@@ -261,13 +277,30 @@ module _ {M : Type 1} (𝓤 : URA M) (H : Heap 𝓤) (A : Atoms 𝓤) (W : Given
       qed W (‵ (flft κ q) ∷ ‵ (flft κ₁ q₁) ∷ ‵ (flft κ₂ q₂) ∷ ‵ (flft κ₃ q₃) ∷ ‵ (flft κ₄ q₄) ∷ ‵ (flft κ₅ q₅) ∷ ‵ (finally T.the-row γ zs) ∷ ‵ (finally u64 γ₁ vs)
       ∷ ‵ (fobs γ₂ (N.the-row .coded .code (r .counts))) ∷ ‵ (fbor κ₂ (Body (mem N.the-row) b₂ o₂ γ₂)) ∷ ‵ (fobs γ₃ (S.the-row .coded .code (r .session))) ∷ ‵ (fbor κ₃ (Body (mem S.the-row) b₃ o₃ γ₃)) ∷ ‵ (finally u8 γ₄ vq) ∷ ‵ OwnR ∷ []) ∵
       suffices ! _ (ends-at 𝓤 H A f.ended stayed (f.clauses 𝓤 H A at-mem run) W (((κ, (κ₁, (κ₂, (κ₃, (κ₄, (κ₅, tt)))))), (q, (q₁, (q₂, (q₃, (q₄, (q₅, tt)))))), bounds, a, at), tt) (valD d) d (zs, (vs, (r .counts, (r .session, (vq, (tt, tt)))))) (lz, (lw, (tt, (tt, (lq, (tt, tt))))))) $ says ! called $
-      nothing ! $ move ! (6 ∷ 0 ∷ []) $ join ! $ move ! (5 ∷ 0 ∷ []) $ join ! $ move ! (4 ∷ 0 ∷ []) $ join ! $ move ! (3 ∷ 0 ∷ []) $ join ! $ move ! (2 ∷ 0 ∷ []) $ join ! $ move ! (1 ∷ 0 ∷ []) $ join ! $ frame ! $ nothing ! $ move ! (8 ∷ 0 ∷ []) $ fjoin ! $ move ! (7 ∷ 0 ∷ []) $ fjoin ! $ move ! (5 ∷ 6 ∷ []) $ feqI ! (List Val) (vptr b₃ o₃ ∷ []) (vptr b₃ o₃ ∷ []) refl $ fjoin3 ! $ move ! (0 ∷ 1 ∷ []) $ fjoin ! $ move ! (3 ∷ 4 ∷ []) $ feqI ! (List Val) (vptr b₂ o₂ ∷ []) (vptr b₂ o₂ ∷ []) refl $ fjoin3 ! $ move ! (0 ∷ 1 ∷ []) $ fjoin ! $ move ! (2 ∷ 0 ∷ []) $ fjoin ! $ move ! (1 ∷ 0 ∷ []) $ fjoin ! $ frame ! $ owned ! D.the-row (Is D.the-row) (LL.makes D.the-type D′.the-plain 𝓤 H A) d _ is $ done !
+      nothing ! $ move ! (6 ∷ 0 ∷ []) $ join ! $ move ! (5 ∷ 0 ∷ []) $ join ! $ move ! (4 ∷ 0 ∷ []) $ join ! $ move ! (3 ∷ 0 ∷ []) $ join ! $ move !
+      (2 ∷ 0 ∷ []) $ join ! $ move ! (1 ∷ 0 ∷ []) $ join ! $ frame ! $ nothing ! $ move ! (8 ∷ 0 ∷ []) $ fjoin ! $ move !
+      (7 ∷ 0 ∷ []) $ fjoin ! $ move ! (5 ∷ 6 ∷ []) $ feqI ! (List Val) (vptr b₃ o₃ ∷ []) (vptr b₃ o₃ ∷ []) refl $ fjoin3 ! $ move !
+      (0 ∷ 1 ∷ []) $ fjoin ! $ move ! (3 ∷ 4 ∷ []) $ feqI ! (List Val) (vptr b₂ o₂ ∷ []) (vptr b₂ o₂ ∷ []) refl $ fjoin3 ! $ move !
+      (0 ∷ 1 ∷ []) $ fjoin ! $ move ! (2 ∷ 0 ∷ []) $ fjoin ! $ move ! (1 ∷ 0 ∷ []) $ fjoin ! $ frame ! $ owned ! D.the-row (Is D.the-row)
+      (LL.makes D.the-type D′.the-plain 𝓤 H A) d _ is $ done !
 
-  module _ (C : Calls 𝓤 H) (Λ : Loops 𝓤 H) (fm : FmC 𝓤 H (W .laws) C) (k₁ : Triple 𝓤 (C #step-lent·served) (Served 𝓤 H A at-mem run)) (k₂ : Triple 𝓤 (C #lent-answer·put-at) (PutAt 𝓤 H A at-mem run)) (k₃ : Triple 𝓤 (C #lent-answer·moved-from) (MovedFrom 𝓤 H A at-mem run)) (k₄ : Triple 𝓤 (C #lent-answer·left-row) (LeftRow 𝓤 H A at-mem run)) (k₅ : Triple 𝓤 (C #lent-rows·write-back) (WriteBack 𝓤 H A at-mem run)) (k₆ : Triple 𝓤 (C #lent-answer·numbers) (Numbers 𝓤 H A at-mem run)) where
+  module _ (C : Calls 𝓤 H) (Λ : Loops 𝓤 H) (fm : FmC 𝓤 H (W .laws) C) (k₁ : Triple 𝓤 (C #step-lent·served) (Served 𝓤 H A at-mem run))
+      (k₂ : Triple 𝓤 (C #lent-answer·put-at) (PutAt 𝓤 H A at-mem run)) (k₃ : Triple 𝓤 (C #lent-answer·moved-from) (MovedFrom 𝓤 H A at-mem run))
+      (k₄ : Triple 𝓤 (C #lent-answer·left-row) (LeftRow 𝓤 H A at-mem run)) (k₅ : Triple 𝓤 (C #lent-rows·write-back) (WriteBack 𝓤 H A at-mem run))
+      (k₆ : Triple 𝓤 (C #lent-answer·numbers) (Numbers 𝓤 H A at-mem run)) where
     walk : ent 𝓤 (onEntry 𝓤 H A f.signature (κ, (κ₁, (κ₂, (κ₃, (κ₄, (κ₅, tt)))))) (q, (q₁, (q₂, (q₃, (q₄, (q₅, tt)))))) a at) (WpFn 𝓤 H C Λ code.function (s ∷ sw ∷ vptr b₂ o₂ ∷ vptr b₃ o₃ ∷ sq ∷ sr ∷ []) Post)
     walk =
-        qed W ((‵ (flft κ q) ⊛ ‵ (flft κ₁ q₁) ⊛ ‵ (flft κ₂ q₂) ⊛ ‵ (flft κ₃ q₃) ⊛ ‵ (flft κ₄ q₄) ⊛ ‵ (flft κ₅ q₅) ⊛ ‵ ftrue) ∷ ‵ (owns (MutSlice (named 0) κ T.the-row ∷ MutSlice (named 1) κ₁ u64 ∷ MutRef (named 2) κ₂ N.the-row ∷ MutRef (named 3) κ₃ S.the-row ∷ MutSlice (named 4) κ₄ u8 ∷ ShrSlice (named 5) κ₅ u8 ∷ []) a at) ∷ []) ∵ enter ! C Λ code.function (s ∷ sw ∷ vptr b₂ o₂ ∷ vptr b₃ o₃ ∷ sq ∷ sr ∷ []) _ $
-        alloc1 ! (λ l₀. alloc1 ! (λ l₁. alloc1 ! (λ l₂. alloc1 ! (λ l₃. alloc1 ! (λ l₄. alloc1 ! (λ l₅. alloc1 ! (λ l₆. alloc1 ! (λ l₇. alloc1 ! (λ l₈. alloc1 ! (λ l₉. alloc1 ! (λ l₁₀. alloc1 ! (λ l₁₁. alloc1 ! (λ l₁₂. alloc1 ! (λ l₁₃. alloc1 ! (λ l₁₄. alloc1 ! (λ l₁₅. alloc1 ! (λ l₁₆. alloc1 ! (λ l₁₇. alloc1 ! (λ l₁₈. alloc1 ! (λ l₁₉. alloc1 ! (λ l₂₀. alloc1 ! (λ l₂₁. alloc1 ! (λ l₂₂. alloc0 ! $ params1 ! $
+        qed W ((‵ (flft κ q) ⊛ ‵ (flft κ₁ q₁) ⊛ ‵ (flft κ₂ q₂) ⊛ ‵ (flft κ₃ q₃) ⊛ ‵ (flft κ₄ q₄) ⊛ ‵
+        (flft κ₅ q₅) ⊛ ‵ ftrue) ∷ ‵ (owns (MutSlice (named 0) κ T.the-row ∷ MutSlice (named 1) κ₁ u64 ∷ MutRef
+        (named 2) κ₂ N.the-row ∷ MutRef (named 3) κ₃ S.the-row ∷ MutSlice (named 4) κ₄ u8 ∷ ShrSlice
+        (named 5) κ₅ u8 ∷ []) a at) ∷ []) ∵ enter ! C Λ code.function (s ∷ sw ∷ vptr b₂ o₂ ∷ vptr b₃ o₃ ∷ sq ∷ sr ∷ []) _ $
+        alloc1 ! (λ l₀. alloc1 ! (λ l₁. alloc1 ! (λ l₂. alloc1 !
+        (λ l₃. alloc1 ! (λ l₄. alloc1 ! (λ l₅. alloc1 !
+        (λ l₆. alloc1 ! (λ l₇. alloc1 ! (λ l₈. alloc1 !
+        (λ l₉. alloc1 ! (λ l₁₀. alloc1 ! (λ l₁₁. alloc1 !
+        (λ l₁₂. alloc1 ! (λ l₁₃. alloc1 ! (λ l₁₄. alloc1 !
+        (λ l₁₅. alloc1 ! (λ l₁₆. alloc1 ! (λ l₁₇. alloc1 !
+        (λ l₁₈. alloc1 ! (λ l₁₉. alloc1 ! (λ l₂₀. alloc1 ! (λ l₂₁. alloc1 ! (λ l₂₂. alloc0 ! $ params1 ! $
         pass1 ! (init ! 42 refl (tt, (tt, (record { fits = room .0 }, tt)))) $
         pass1 ! (init ! 40 refl (tt, (tt, (record { fits = room₁ .0 }, tt)))) $
         pass1 ! (init ! 38 refl (tt, tt)) $
@@ -352,8 +385,16 @@ module _ {M : Type 1} (𝓤 : URA M) (H : Heap 𝓤) (A : Atoms 𝓤) (W : Given
         move ! (2 ∷ 0 ∷ []) $
         join ! $
         use1 W (raw (Served 𝓤 H A at-mem run .pre (to-served ν δ))) (goes-served ν δ is-c is-h) $
-        calls-at ! fm (Served 𝓤 H A at-mem run) k₁ (to-served ν δ) (and-then ! (load ! (from ! (stop !)) (look ! 35 refl)) (and-then ! (load ! (from ! (stop !)) (look ! 31 refl)) (and-then ! (load ! (from ! (stop !)) (look ! 47 refl)) (and-then ! (load ! (from ! (stop !)) (look ! 29 refl)) (and-then ! (load ! (from ! (stop !)) (look ! 25 refl)) (and-then ! (load ! (from ! (stop !)) (look ! 51 refl)) (no-more !))))))) (λ w₁.
-        use1 W (later (some (λ (r : Came). ((‵ (flft (ν ∷ []) fullShare) ⊛ ‵ (flft κ₁ q₁) ⊛ ‵ (flft κ₄ q₄) ⊛ ‵ (flft κ₅ q₅) ⊛ ‵ ftrue) ⊛ ‵ (O.the-row .own r (w₁ ∷ []))) ⊛ raw (ensured 𝓤 H A served-fn.ended (served-fn.clauses 𝓤 H A at-mem run) (ν ∷ [], (κ₁, (κ₄, (κ₅, tt)))) (x δ, (xw, (cs, (h, (xq, (xr, tt)))))) tt r)))) (id⊢ 𝓤 _) $ await ! tt $ pick ! (λ r.
+        calls-at ! fm (Served 𝓤 H A at-mem run) k₁ (to-served ν δ)
+        (and-then ! (load ! (from ! (stop !)) (look ! 35 refl))
+        (and-then ! (load ! (from ! (stop !)) (look ! 31 refl))
+        (and-then ! (load ! (from ! (stop !)) (look ! 47 refl))
+        (and-then ! (load ! (from ! (stop !)) (look ! 29 refl))
+        (and-then ! (load ! (from ! (stop !)) (look ! 25 refl)) (and-then ! (load ! (from ! (stop !)) (look ! 51 refl)) (no-more !))))))) (λ w₁.
+        use1 W (later (some (λ (r : Came). ((‵ (flft (ν ∷ []) fullShare) ⊛ ‵ (flft κ₁ q₁) ⊛ ‵ (flft κ₄ q₄) ⊛ ‵
+        (flft κ₅ q₅) ⊛ ‵ ftrue) ⊛ ‵ (O.the-row .own r (w₁ ∷ []))) ⊛ raw
+        (ensured 𝓤 H A served-fn.ended (served-fn.clauses 𝓤 H A at-mem run) (ν ∷ [], (κ₁, (κ₄, (κ₅, tt))))
+        (x δ, (xw, (cs, (h, (xq, (xr, tt)))))) tt r)))) (id⊢ 𝓤 _) $ await ! tt $ pick ! (λ r.
         split ! $
         move ! (1 ∷ []) $
         use1 W (some (λ (ls : Unit {0} × (List ℕ × (Unit {0} × (Unit {0} × (List ℕ × (Unit {0} × Unit {0})))))). ‵ (lasts served-fn.ended (ν ∷ [], (κ₁, (κ₄, (κ₅, tt)))) (x δ, (xw, (cs, (h, (xq, (xr, tt)))))) ls) ⊛ raw (fact 𝓤 (ServedSays r (ls .1 .0) (ls .1 .1 .1 .1 .0))))) (id⊢ 𝓤 _) $ pick ! (λ ls.
@@ -505,12 +546,20 @@ module _ {M : Type 1} (𝓤 : URA M) (H : Heap 𝓤) (A : Atoms 𝓤) (W : Given
         drop ! $
         returns ! (look ! 63 refl) $
         forget ! 19 refl $ forget ! 21 refl $ forget ! 23 refl $ forget ! 25 refl $ forget ! 27 refl $ forget ! 29 refl $ forget ! 31 refl $ forget ! 33 refl $ forget ! 35 refl $ forget ! 37 refl $ forget ! 39 refl $ forget ! 41 refl $ forget ! 43 refl $ forget ! 45 refl $ forget ! 47 refl $ forget ! 49 refl $ forget ! 51 refl $ forget ! 53 refl $ forget ! 55 refl $ forget ! 57 refl $ forget ! 59 refl $ forget ! 61 refl $ forget ! 63 refl $
-        move ! (63 ∷ 64 ∷ []) $ free1 ! $ move ! (61 ∷ 62 ∷ []) $ free1 ! $ move ! (59 ∷ 60 ∷ []) $ free1 ! $ move ! (57 ∷ 58 ∷ []) $ free1 ! $ move ! (55 ∷ 56 ∷ []) $ free1 ! $ move ! (53 ∷ 54 ∷ []) $ free1 ! $ move ! (51 ∷ 52 ∷ []) $ free1 ! $ move ! (49 ∷ 50 ∷ []) $ free1 ! $ move ! (47 ∷ 48 ∷ []) $ free1 ! $ move ! (45 ∷ 46 ∷ []) $ free1 ! $ move ! (43 ∷ 44 ∷ []) $ free1 ! $ move ! (41 ∷ 42 ∷ []) $ free1 ! $ move ! (39 ∷ 40 ∷ []) $ free1 ! $ move ! (37 ∷ 38 ∷ []) $ free1 ! $ move ! (35 ∷ 36 ∷ []) $ free1 ! $ move ! (33 ∷ 34 ∷ []) $ free1 ! $ move ! (31 ∷ 32 ∷ []) $ free1 ! $ move ! (29 ∷ 30 ∷ []) $ free1 ! $ move ! (27 ∷ 28 ∷ []) $ free1 ! $ move ! (25 ∷ 26 ∷ []) $ free1 ! $ move ! (23 ∷ 24 ∷ []) $ free1 ! $ move ! (21 ∷ 22 ∷ []) $ free1 ! $ move ! (19 ∷ 20 ∷ []) $ free1 ! $ free0 ! $
+        move ! (63 ∷ 64 ∷ []) $ free1 ! $ move ! (61 ∷ 62 ∷ []) $ free1 ! $ move ! (59 ∷ 60 ∷ []) $ free1 ! $ move ! (57 ∷ 58 ∷ []) $ free1 ! $ move !
+        (55 ∷ 56 ∷ []) $ free1 ! $ move ! (53 ∷ 54 ∷ []) $ free1 ! $ move ! (51 ∷ 52 ∷ []) $ free1 ! $ move ! (49 ∷ 50 ∷ []) $ free1 ! $ move !
+        (47 ∷ 48 ∷ []) $ free1 ! $ move ! (45 ∷ 46 ∷ []) $ free1 ! $ move ! (43 ∷ 44 ∷ []) $ free1 ! $ move ! (41 ∷ 42 ∷ []) $ free1 ! $ move !
+        (39 ∷ 40 ∷ []) $ free1 ! $ move ! (37 ∷ 38 ∷ []) $ free1 ! $ move ! (35 ∷ 36 ∷ []) $ free1 ! $ move ! (33 ∷ 34 ∷ []) $ free1 ! $ move !
+        (31 ∷ 32 ∷ []) $ free1 ! $ move ! (29 ∷ 30 ∷ []) $ free1 ! $ move ! (27 ∷ 28 ∷ []) $ free1 ! $ move ! (25 ∷ 26 ∷ []) $ free1 ! $ move !
+        (23 ∷ 24 ∷ []) $ free1 ! $ move ! (21 ∷ 22 ∷ []) $ free1 ! $ move ! (19 ∷ 20 ∷ []) $ free1 ! $ free0 ! $
         keep ! (0 ∷ 10 ∷ 7 ∷ 4 ∷ 9 ∷ 8 ∷ 1 ∷ 12 ∷ 5 ∷ 6 ∷ 2 ∷ 3 ∷ 11 ∷ 14 ∷ []) $
         by ! (exits r (zs .0) (ls .1 .0) (ls .1 .1 .1 .1 .0) e (calls-of ys ws cs h xs us r (ls .1 .0) (ls .1 .1 .1 .1 .0) (zs .0) k j d e e₁ e₂ e₃ e₄ e₅ e₆) lz lw lq (of-answered e w₆ is₆))))))))))))))))))))))))))))))))))))))))))))))))))))))))))))
 
 module _ {M : Type 1} (𝓤 : URA M) (H : Heap 𝓤) (A : Atoms 𝓤) (W : Given 𝓤 H A) where
-  walks : (at-mem : Memory → SProp 𝓤) (run : Routine → Fun 𝓤) (𝓣 : Tables 𝓤 H) → Triple 𝓤 (𝓣 .C #step-lent·served) (Served 𝓤 H A at-mem run) → Triple 𝓤 (𝓣 .C #lent-answer·put-at) (PutAt 𝓤 H A at-mem run) → Triple 𝓤 (𝓣 .C #lent-answer·moved-from) (MovedFrom 𝓤 H A at-mem run) → Triple 𝓤 (𝓣 .C #lent-answer·left-row) (LeftRow 𝓤 H A at-mem run) → Triple 𝓤 (𝓣 .C #lent-rows·write-back) (WriteBack 𝓤 H A at-mem run) → Triple 𝓤 (𝓣 .C #lent-answer·numbers) (Numbers 𝓤 H A at-mem run)
+  walks : (at-mem : Memory → SProp 𝓤) (run : Routine → Fun 𝓤) (𝓣 : Tables 𝓤 H) → Triple 𝓤 (𝓣 .C #step-lent·served) (Served 𝓤 H A at-mem run)
+      → Triple 𝓤 (𝓣 .C #lent-answer·put-at) (PutAt 𝓤 H A at-mem run) → Triple 𝓤 (𝓣 .C #lent-answer·moved-from) (MovedFrom 𝓤 H A at-mem run)
+      → Triple 𝓤 (𝓣 .C #lent-answer·left-row) (LeftRow 𝓤 H A at-mem run) → Triple 𝓤 (𝓣 .C #lent-rows·write-back) (WriteBack 𝓤 H A at-mem run)
+      → Triple 𝓤 (𝓣 .C #lent-answer·numbers) (Numbers 𝓤 H A at-mem run)
       → Walks 𝓤 H A f.ended stayed (WpFn 𝓤 H (𝓣 .C) (𝓣 .Λ) code.function) (f.clauses 𝓤 H A at-mem run)
   walks at-mem run 𝓣 k₁ k₂ k₃ k₄ k₅ k₆ = walked 𝓤 H A f.ended stayed (f.clauses 𝓤 H A at-mem run) (WpFn 𝓤 H (𝓣 .C) (𝓣 .Λ) code.function)
       (λ κs. (slice-vals, (slice-vals, (ptr-vals, (ptr-vals, (slice-vals, (slice-vals, tt)))))))
@@ -524,7 +573,11 @@ module _ {M : Type 1} (𝓤 : URA M) (H : Heap 𝓤) (A : Atoms 𝓤) (W : Given
   goes : AllGo 𝓤 H A W 6 (f.signature .params) (f.ended .kept) stayed
   goes = (goes-gave-slice 𝓤 H A W 6 0 tt (plain (λ _. T.the-row)), (goes-gave-slice 𝓤 H A W 6 1 tt (plain (λ _. u64)), (goes-ref 𝓤 H A W 6 2 tt (plain (λ _. N.the-row)), (goes-ref 𝓤 H A W 6 3 tt (plain (λ _. S.the-row)), (goes-gave-slice 𝓤 H A W 6 4 tt (plain (λ _. u8)), (goes-none-slice 𝓤 H A W 6 (5 ∷ []) tt (plain (λ _. u8)) yes, tt))))))
 
-meets : {M : Type 1} (𝓤 : URA M) (H : Heap 𝓤) (A : Atoms 𝓤) (W : Given 𝓤 H A) (at-mem : Memory → SProp 𝓤) (run : Routine → Fun 𝓤) (𝓣 : Tables 𝓤 H) → Triple 𝓤 (𝓣 .C #step-lent·served) (Served 𝓤 H A at-mem run) → Triple 𝓤 (𝓣 .C #lent-answer·put-at) (PutAt 𝓤 H A at-mem run) → Triple 𝓤 (𝓣 .C #lent-answer·moved-from) (MovedFrom 𝓤 H A at-mem run) → Triple 𝓤 (𝓣 .C #lent-answer·left-row) (LeftRow 𝓤 H A at-mem run) → Triple 𝓤 (𝓣 .C #lent-rows·write-back) (WriteBack 𝓤 H A at-mem run) → Triple 𝓤 (𝓣 .C #lent-answer·numbers) (Numbers 𝓤 H A at-mem run)
+meets : {M : Type 1} (𝓤 : URA M) (H : Heap 𝓤) (A : Atoms 𝓤) (W : Given 𝓤 H A) (at-mem : Memory → SProp 𝓤) (run : Routine → Fun 𝓤)
+    (𝓣 : Tables 𝓤 H) → Triple 𝓤 (𝓣 .C #step-lent·served) (Served 𝓤 H A at-mem run)
+    → Triple 𝓤 (𝓣 .C #lent-answer·put-at) (PutAt 𝓤 H A at-mem run) → Triple 𝓤 (𝓣 .C #lent-answer·moved-from) (MovedFrom 𝓤 H A at-mem run)
+    → Triple 𝓤 (𝓣 .C #lent-answer·left-row) (LeftRow 𝓤 H A at-mem run) → Triple 𝓤 (𝓣 .C #lent-rows·write-back) (WriteBack 𝓤 H A at-mem run)
+    → Triple 𝓤 (𝓣 .C #lent-answer·numbers) (Numbers 𝓤 H A at-mem run)
     → Meets 𝓤 H A f.signature (WpFn 𝓤 H (𝓣 .C) (𝓣 .Λ) code.function) (f.spec 𝓤 H A at-mem run)
 meets 𝓤 H A W at-mem run 𝓣 k₁ k₂ k₃ k₄ k₅ k₆ = walk-meets 𝓤 H A f.ended stayed W (goes 𝓤 H A W) (f.clauses 𝓤 H A at-mem run) (WpFn 𝓤 H (𝓣 .C) (𝓣 .Λ) code.function) (WpFn-mono 𝓤 H (W .laws) 𝓣 code.function) (walks 𝓤 H A W at-mem run 𝓣 k₁ k₂ k₃ k₄ k₅ k₆)
 

@@ -220,7 +220,28 @@ module _ {M : Type 1} (𝓤 : URA M) (H : Heap 𝓤) (A : Atoms 𝓤) (W : Given
   module _ (l ν : Seven) (δ : Names) where
     module _ (m : ℕ) where
       abbrev to-lay-args : RefT (List Mailbox) × (ℕ × (RefT (List ℕ) × (RefT (List ℕ) × (RefT (List ℕ) × (RefT (List ℕ) × (RefT (List ℕ) × (RefT (List ℕ) × (RefT (List ℕ) × (Unit {0})))))))))
-      to-lay-args = let c = nothing-laid in (xt, (m, (ref (l .0) (δ .0) (c .0), (ref (l .1 .0) (δ .1 .0) (c .1 .0), (ref (l .1 .1 .0) (δ .1 .1 .0) (c .1 .1 .0), (ref (l .1 .1 .1 .0) (δ .1 .1 .1 .0) (c .1 .1 .1 .0), (ref (l .1 .1 .1 .1 .0) (δ .1 .1 .1 .1 .0) (c .1 .1 .1 .1 .0), (ref (l .1 .1 .1 .1 .1 .0) (δ .1 .1 .1 .1 .1 .0) (c .1 .1 .1 .1 .1 .0), (ref (l .1 .1 .1 .1 .1 .1) (δ .1 .1 .1 .1 .1 .1) (c .1 .1 .1 .1 .1 .1), tt)))))))))
+      to-lay-args = let c = nothing-laid in (
+        xt,
+        (
+          m,
+          (
+            ref (l .0) (δ .0) (c .0),
+            (
+              ref (l .1 .0) (δ .1 .0) (c .1 .0),
+              (
+                ref (l .1 .1 .0) (δ .1 .1 .0) (c .1 .1 .0),
+                (
+                  ref (l .1 .1 .1 .0) (δ .1 .1 .1 .0) (c .1 .1 .1 .0),
+                  (
+                    ref (l .1 .1 .1 .1 .0) (δ .1 .1 .1 .1 .0) (c .1 .1 .1 .1 .0),
+                    (ref (l .1 .1 .1 .1 .1 .0) (δ .1 .1 .1 .1 .1 .0) (c .1 .1 .1 .1 .1 .0), (ref (l .1 .1 .1 .1 .1 .1) (δ .1 .1 .1 .1 .1 .1) (c .1 .1 .1 .1 .1 .1), tt)),
+                  ),
+                ),
+              ),
+            ),
+          ),
+        ),
+      )
 
       abbrev to-lay : Lay 𝓤 H A at-mem run .Ghost
       to-lay = (
@@ -247,13 +268,48 @@ module _ {M : Type 1} (𝓤 : URA M) (H : Heap 𝓤) (A : Atoms 𝓤) (W : Given
       unfolding Toks
       lay-gives w = id⊢ 𝓤 _
 
-      lay-ends : (ls : Unit {0} × (Unit {0} × (List ℕ × (List ℕ × (List ℕ × (List ℕ × (List ℕ × (List ℕ × (List ℕ × (Unit {0})))))))))) → ent 𝓤 (sem 𝓤 H A (lasts lay-fn.ended (κ, ((ν .0) ∷ [], ((ν .1 .0) ∷ [], ((ν .1 .1 .0) ∷ [], ((ν .1 .1 .1 .0) ∷ [], ((ν .1 .1 .1 .1 .0) ∷ [], ((ν .1 .1 .1 .1 .1 .0) ∷ [], ((ν .1 .1 .1 .1 .1 .1) ∷ [], tt)))))))) to-lay-args ls)) (sem 𝓤 H A (Ends δ (laid ls)))
+      lay-ends : (ls : Unit {0} × (Unit {0} × (List ℕ × (List ℕ × (List ℕ × (List ℕ × (List ℕ × (List ℕ × (List ℕ × (Unit {0}))))))))))
+          → ent 𝓤 (sem 𝓤 H A (lasts lay-fn.ended (
+            κ,
+            (
+              (ν .0) ∷ [],
+              (
+                (ν .1 .0) ∷ [],
+                (
+                  (ν .1 .1 .0) ∷ [],
+                  ((ν .1 .1 .1 .0) ∷ [], ((ν .1 .1 .1 .1 .0) ∷ [], ((ν .1 .1 .1 .1 .1 .0) ∷ [], ((ν .1 .1 .1 .1 .1 .1) ∷ [], tt)))),
+                ),
+              ),
+            ),
+          ) to-lay-args ls))
+          (sem 𝓤 H A (Ends δ (laid ls)))
       unfolding Ends
       lay-ends ls = qed W (‵ (lasts lay-fn.ended (κ, ((ν .0) ∷ [], ((ν .1 .0) ∷ [], ((ν .1 .1 .0) ∷ [], ((ν .1 .1 .1 .0) ∷ [], ((ν .1 .1 .1 .1 .0) ∷ [], ((ν .1 .1 .1 .1 .1 .0) ∷ [], ((ν .1 .1 .1 .1 .1 .1) ∷ [], tt)))))))) to-lay-args ls) ∷ []) ∵ fsplit ! $ drop ! $ fsplit ! $ drop ! $ done !
 
     module _ (c : Columns) where
       abbrev to-decide-args : ℕ × (RefT (List ℕ) × (RefT (List ℕ) × (RefT (List ℕ) × (RefT (List ℕ) × (RefT (List ℕ) × (RefT (List ℕ) × (RefT (List ℕ) × (RefT (List ℕ) × (Counts × (Session × (RefT (List ℕ) × (RefT (List ℕ) × (Unit {0})))))))))))))
-      to-decide-args = (n, (ref (l .0) (δ .0) (c .0), (ref (l .1 .0) (δ .1 .0) (c .1 .0), (ref (l .1 .1 .0) (δ .1 .1 .0) (c .1 .1 .0), (ref (l .1 .1 .1 .0) (δ .1 .1 .1 .0) (c .1 .1 .1 .0), (ref (l .1 .1 .1 .1 .0) (δ .1 .1 .1 .1 .0) (c .1 .1 .1 .1 .0), (ref (l .1 .1 .1 .1 .1 .0) (δ .1 .1 .1 .1 .1 .0) (c .1 .1 .1 .1 .1 .0), (ref (l .1 .1 .1 .1 .1 .1) (δ .1 .1 .1 .1 .1 .1) (c .1 .1 .1 .1 .1 .1), (xw, (cs, (h, (xq, (xr, tt)))))))))))))
+      to-decide-args = (
+        n,
+        (
+          ref (l .0) (δ .0) (c .0),
+          (
+            ref (l .1 .0) (δ .1 .0) (c .1 .0),
+            (
+              ref (l .1 .1 .0) (δ .1 .1 .0) (c .1 .1 .0),
+              (
+                ref (l .1 .1 .1 .0) (δ .1 .1 .1 .0) (c .1 .1 .1 .0),
+                (
+                  ref (l .1 .1 .1 .1 .0) (δ .1 .1 .1 .1 .0) (c .1 .1 .1 .1 .0),
+                  (
+                    ref (l .1 .1 .1 .1 .1 .0) (δ .1 .1 .1 .1 .1 .0) (c .1 .1 .1 .1 .1 .0),
+                    (ref (l .1 .1 .1 .1 .1 .1) (δ .1 .1 .1 .1 .1 .1) (c .1 .1 .1 .1 .1 .1), (xw, (cs, (h, (xq, (xr, tt)))))),
+                  ),
+                ),
+              ),
+            ),
+          ),
+        ),
+      )
 
       abbrev to-decide : Decide 𝓤 H A at-mem run .Ghost
       to-decide = (
@@ -301,7 +357,17 @@ module _ {M : Type 1} (𝓤 : URA M) (H : Heap 𝓤) (A : Atoms 𝓤) (W : Given
         qed W ((‵ (flft κ q) ⊛ ‵ (flft κ₁ q₁) ⊛ ‵ (flft κ₂ q₂) ⊛ ‵ (flft κ₃ q₃) ⊛ ‵ ftrue)
         ∷ ‵ (owns (ShrSlice (named 0) κ T.the-row ∷ MutSlice (named 1) κ₁ u64 ∷ N.the-row ∷ S.the-row ∷ MutSlice (named 2) κ₂ u8 ∷ ShrSlice (named 3) κ₃ u8 ∷ []) a at) ∷ [])
         ∵ enter ! C Λ code.function (s ∷ sw ∷ valN cs ∷ valS h ∷ sq ∷ sr ∷ []) _ $
-        alloc1 ! (λ l₀. alloc1 ! (λ l₁. alloc1 ! (λ l₂. alloc1 ! (λ l₃. alloc1 ! (λ l₄. alloc1 ! (λ l₅. alloc1 ! (λ l₆. alloc1 ! (λ l₇. alloc1 ! (λ l₈. alloc1 ! (λ l₉. alloc1 ! (λ l₁₀. alloc1 ! (λ l₁₁. alloc1 ! (λ l₁₂. alloc1 ! (λ l₁₃. alloc1 ! (λ l₁₄. alloc1 ! (λ l₁₅. alloc1 ! (λ l₁₆. alloc1 ! (λ l₁₇. alloc1 ! (λ l₁₈. alloc1 ! (λ l₁₉. alloc1 ! (λ l₂₀. alloc1 ! (λ l₂₁. alloc1 ! (λ l₂₂. alloc1 ! (λ l₂₃. alloc1 ! (λ l₂₄. alloc1 ! (λ l₂₅. alloc1 ! (λ l₂₆. alloc1 ! (λ l₂₇. alloc1 ! (λ l₂₈. alloc1 ! (λ l₂₉. alloc1 ! (λ l₃₀. alloc1 ! (λ l₃₁. alloc1 ! (λ l₃₂. alloc1 ! (λ l₃₃. alloc1 ! (λ l₃₄. alloc0 ! $ params1 ! $
+        alloc1 ! (λ l₀. alloc1 ! (λ l₁. alloc1 ! (λ l₂. alloc1 !
+        (λ l₃. alloc1 ! (λ l₄. alloc1 ! (λ l₅. alloc1 !
+        (λ l₆. alloc1 ! (λ l₇. alloc1 ! (λ l₈. alloc1 !
+        (λ l₉. alloc1 ! (λ l₁₀. alloc1 ! (λ l₁₁. alloc1 !
+        (λ l₁₂. alloc1 ! (λ l₁₃. alloc1 ! (λ l₁₄. alloc1 !
+        (λ l₁₅. alloc1 ! (λ l₁₆. alloc1 ! (λ l₁₇. alloc1 !
+        (λ l₁₈. alloc1 ! (λ l₁₉. alloc1 ! (λ l₂₀. alloc1 !
+        (λ l₂₁. alloc1 ! (λ l₂₂. alloc1 ! (λ l₂₃. alloc1 !
+        (λ l₂₄. alloc1 ! (λ l₂₅. alloc1 ! (λ l₂₆. alloc1 !
+        (λ l₂₇. alloc1 ! (λ l₂₈. alloc1 ! (λ l₂₉. alloc1 !
+        (λ l₃₀. alloc1 ! (λ l₃₁. alloc1 ! (λ l₃₂. alloc1 ! (λ l₃₃. alloc1 ! (λ l₃₄. alloc0 ! $ params1 ! $
         pass1 ! (init ! 66 refl (tt, (tt, (record { fits = room .0 }, tt)))) $
         pass1 ! (init ! 64 refl (tt, (tt, (record { fits = room₁ .0 }, tt)))) $
         pass1 ! (init ! 62 refl (LL.lawful N.the-type N′.the-laws 𝓤 H A W .typed cs _ is-c .0)) $
@@ -374,13 +440,46 @@ module _ {M : Type 1} (𝓤 : URA M) (H : Heap 𝓤) (A : Atoms 𝓤) (W : Given
         use4 W (raw (Lay 𝓤 H A at-mem run .pre (to-lay (l₉, (l₁₀, (l₁₁, (l₁₂, (l₁₃, (l₁₄, l₁₅)))))) (t .0) (t .1) m)))
         (goes-lay (l₉, (l₁₀, (l₁₁, (l₁₂, (l₁₃, (l₁₄, l₁₅)))))) (t .0) (t .1) m (is₁ .1) (few m e₁)) $
         calls-at ! fm (Lay 𝓤 H A at-mem run) k₂ (to-lay (l₉, (l₁₀, (l₁₁, (l₁₂, (l₁₃, (l₁₄, l₁₅)))))) (t .0) (t .1) m)
-        (and-then ! (load ! (from ! (stop !)) (look ! 65 refl)) (and-then ! (load ! (from ! (stop !)) (look ! 51 refl)) (and-then ! (load ! (from ! (stop !)) (look ! 40 refl)) (and-then ! (load ! (from ! (stop !)) (look ! 38 refl)) (and-then ! (load ! (from ! (stop !)) (look ! 36 refl)) (and-then ! (load ! (from ! (stop !)) (look ! 34 refl)) (and-then ! (load ! (from ! (stop !)) (look ! 32 refl)) (and-then ! (load ! (from ! (stop !)) (look ! 30 refl)) (and-then ! (load ! (from ! (stop !)) (look ! 28 refl)) (no-more !)))))))))) (λ w₂.
+        (and-then ! (load ! (from ! (stop !)) (look ! 65 refl))
+        (and-then ! (load ! (from ! (stop !)) (look ! 51 refl))
+        (and-then ! (load ! (from ! (stop !)) (look ! 40 refl))
+        (and-then ! (load ! (from ! (stop !)) (look ! 38 refl))
+        (and-then ! (load ! (from ! (stop !)) (look ! 36 refl))
+        (and-then ! (load ! (from ! (stop !)) (look ! 34 refl))
+        (and-then ! (load ! (from ! (stop !)) (look ! 32 refl))
+        (and-then ! (load ! (from ! (stop !)) (look ! 30 refl)) (and-then ! (load ! (from ! (stop !)) (look ! 28 refl)) (no-more !)))))))))) (λ w₂.
         use1 W (later (some (λ (u : Unit {0}). ((‵ (flft κ q) ⊛ ‵ (Toks (t .0) ftrue)) ⊛ ‵ (Nothing .own u (w₂ ∷ [])))
-        ⊛ raw (ensured 𝓤 H A lay-fn.ended (lay-fn.clauses 𝓤 H A at-mem run) (let ν = t .0 in (κ, ((ν .0) ∷ [], ((ν .1 .0) ∷ [], ((ν .1 .1 .0) ∷ [], ((ν .1 .1 .1 .0) ∷ [], ((ν .1 .1 .1 .1 .0) ∷ [], ((ν .1 .1 .1 .1 .1 .0) ∷ [], ((ν .1 .1 .1 .1 .1 .1) ∷ [], tt))))))))) (to-lay-args (l₉, (l₁₀, (l₁₁, (l₁₂, (l₁₃, (l₁₄, l₁₅)))))) (t .0) (t .1) m) tt u)))) (lay-gives (l₉, (l₁₀, (l₁₁, (l₁₂, (l₁₃, (l₁₄, l₁₅)))))) (t .0) (t .1) m w₂) $ await ! tt $ pick ! (λ u.
+        ⊛ raw (ensured 𝓤 H A lay-fn.ended (lay-fn.clauses 𝓤 H A at-mem run)
+        (let ν = t .0 in (
+          κ,
+          (
+            (ν .0) ∷ [],
+            (
+              (ν .1 .0) ∷ [],
+              ((ν .1 .1 .0) ∷ [], ((ν .1 .1 .1 .0) ∷ [], ((ν .1 .1 .1 .1 .0) ∷ [], ((ν .1 .1 .1 .1 .1 .0) ∷ [], ((ν .1 .1 .1 .1 .1 .1) ∷ [], tt))))),
+            ),
+          ),
+        ))
+        (to-lay-args (l₉, (l₁₀, (l₁₁, (l₁₂, (l₁₃, (l₁₄, l₁₅)))))) (t .0) (t .1) m) tt u))))
+        (lay-gives (l₉, (l₁₀, (l₁₁, (l₁₂, (l₁₃, (l₁₄, l₁₅)))))) (t .0) (t .1) m w₂) $ await ! tt $ pick ! (λ u.
         split ! $
         move ! (1 ∷ []) $
         use1 W (some (λ (ls : Unit {0} × (Unit {0} × (List ℕ × (List ℕ × (List ℕ × (List ℕ × (List ℕ × (List ℕ × (List ℕ × (Unit {0})))))))))).
-        ‵ (lasts lay-fn.ended (let ν = t .0 in (κ, ((ν .0) ∷ [], ((ν .1 .0) ∷ [], ((ν .1 .1 .0) ∷ [], ((ν .1 .1 .1 .0) ∷ [], ((ν .1 .1 .1 .1 .0) ∷ [], ((ν .1 .1 .1 .1 .1 .0) ∷ [], ((ν .1 .1 .1 .1 .1 .1) ∷ [], tt))))))))) (to-lay-args (l₉, (l₁₀, (l₁₁, (l₁₂, (l₁₃, (l₁₄, l₁₅)))))) (t .0) (t .1) m) ls) ⊛ raw (fact 𝓤 (Laid-out m (laid ls))))) (id⊢ 𝓤 _) $ pick ! (λ ls.
+        ‵ (lasts lay-fn.ended (let ν = t .0 in (
+          κ,
+          (
+            (ν .0) ∷ [],
+            (
+              (ν .1 .0) ∷ [],
+              (
+                (ν .1 .1 .0) ∷ [],
+                ((ν .1 .1 .1 .0) ∷ [], ((ν .1 .1 .1 .1 .0) ∷ [], ((ν .1 .1 .1 .1 .1 .0) ∷ [], ((ν .1 .1 .1 .1 .1 .1) ∷ [], tt)))),
+              ),
+            ),
+          ),
+        ))
+        (to-lay-args (l₉, (l₁₀, (l₁₁, (l₁₂, (l₁₃, (l₁₄, l₁₅)))))) (t .0) (t .1) m) ls) ⊛ raw (fact 𝓤 (Laid-out m (laid ls)))))
+        (id⊢ 𝓤 _) $ pick ! (λ ls.
         split ! $
         move ! (1 ∷ []) $
         heard ! (Laid-out m (laid ls)) (λ e₂.
@@ -420,13 +519,54 @@ module _ {M : Type 1} (𝓤 : URA M) (H : Heap 𝓤) (A : Atoms 𝓤) (W : Given
         use2 W (raw (Decide 𝓤 H A at-mem run .pre (to-decide (l₉, (l₁₀, (l₁₁, (l₁₂, (l₁₃, (l₁₄, l₁₅)))))) (t′ .0) (t′ .1) (laid ls))))
         (goes-decide (l₉, (l₁₀, (l₁₁, (l₁₂, (l₁₃, (l₁₄, l₁₅)))))) (t′ .0) (t′ .1) (laid ls) (seen m (laid ls) e₁ e₂)) $
         calls-at ! fm (Decide 𝓤 H A at-mem run) k₃ (to-decide (l₉, (l₁₀, (l₁₁, (l₁₂, (l₁₃, (l₁₄, l₁₅)))))) (t′ .0) (t′ .1) (laid ls))
-        (and-then ! (load ! (from ! (stop !)) (look ! 52 refl)) (and-then ! (load ! (from ! (stop !)) (look ! 25 refl)) (and-then ! (load ! (from ! (stop !)) (look ! 23 refl)) (and-then ! (load ! (from ! (stop !)) (look ! 21 refl)) (and-then ! (load ! (from ! (stop !)) (look ! 19 refl)) (and-then ! (load ! (from ! (stop !)) (look ! 17 refl)) (and-then ! (load ! (from ! (stop !)) (look ! 15 refl)) (and-then ! (load ! (from ! (stop !)) (look ! 13 refl)) (and-then ! (load ! (from ! (stop !)) (look ! 9 refl)) (and-then ! (load ! (from ! (stop !)) (look ! 60 refl)) (and-then ! (load ! (from ! (stop !)) (look ! 58 refl)) (and-then ! (load ! (from ! (stop !)) (look ! 5 refl)) (and-then ! (load ! (from ! (stop !)) (look ! 54 refl)) (no-more !)))))))))))))) (λ w₃.
+        (and-then ! (load ! (from ! (stop !)) (look ! 52 refl))
+        (and-then ! (load ! (from ! (stop !)) (look ! 25 refl))
+        (and-then ! (load ! (from ! (stop !)) (look ! 23 refl))
+        (and-then ! (load ! (from ! (stop !)) (look ! 21 refl))
+        (and-then ! (load ! (from ! (stop !)) (look ! 19 refl))
+        (and-then ! (load ! (from ! (stop !)) (look ! 17 refl))
+        (and-then ! (load ! (from ! (stop !)) (look ! 15 refl))
+        (and-then ! (load ! (from ! (stop !)) (look ! 13 refl))
+        (and-then ! (load ! (from ! (stop !)) (look ! 9 refl))
+        (and-then ! (load ! (from ! (stop !)) (look ! 60 refl))
+        (and-then ! (load ! (from ! (stop !)) (look ! 58 refl))
+        (and-then ! (load ! (from ! (stop !)) (look ! 5 refl)) (and-then ! (load ! (from ! (stop !)) (look ! 54 refl)) (no-more !)))))))))))))) (λ w₃.
         use1 W (later (some (λ (r : Came). (‵ (Toks (t′ .0) Q) ⊛ ‵ (O.the-row .own r (w₃ ∷ [])))
-        ⊛ raw (ensured 𝓤 H A decide-fn.ended (decide-fn.clauses 𝓤 H A at-mem run) (let ν = t′ .0 in ((ν .0) ∷ [], ((ν .1 .0) ∷ [], ((ν .1 .1 .0) ∷ [], ((ν .1 .1 .1 .0) ∷ [], ((ν .1 .1 .1 .1 .0) ∷ [], ((ν .1 .1 .1 .1 .1 .0) ∷ [], ((ν .1 .1 .1 .1 .1 .1) ∷ [], (κ₁, (κ₂, (κ₃, tt))))))))))) (to-decide-args (l₉, (l₁₀, (l₁₁, (l₁₂, (l₁₃, (l₁₄, l₁₅)))))) (t′ .0) (t′ .1) (laid ls)) tt r)))) (decide-gives (l₉, (l₁₀, (l₁₁, (l₁₂, (l₁₃, (l₁₄, l₁₅)))))) (t′ .0) (t′ .1) (laid ls) w₃) $ await ! tt $ pick ! (λ r.
+        ⊛ raw (ensured 𝓤 H A decide-fn.ended (decide-fn.clauses 𝓤 H A at-mem run)
+        (let ν = t′ .0 in (
+          (ν .0) ∷ [],
+          (
+            (ν .1 .0) ∷ [],
+            (
+              (ν .1 .1 .0) ∷ [],
+              (
+                (ν .1 .1 .1 .0) ∷ [],
+                ((ν .1 .1 .1 .1 .0) ∷ [], ((ν .1 .1 .1 .1 .1 .0) ∷ [], ((ν .1 .1 .1 .1 .1 .1) ∷ [], (κ₁, (κ₂, (κ₃, tt)))))),
+              ),
+            ),
+          ),
+        ))
+        (to-decide-args (l₉, (l₁₀, (l₁₁, (l₁₂, (l₁₃, (l₁₄, l₁₅)))))) (t′ .0) (t′ .1) (laid ls)) tt r))))
+        (decide-gives (l₉, (l₁₀, (l₁₁, (l₁₂, (l₁₃, (l₁₄, l₁₅)))))) (t′ .0) (t′ .1) (laid ls) w₃) $ await ! tt $ pick ! (λ r.
         split ! $
         move ! (1 ∷ []) $
         use1 W (some (λ (vs : Unit {0} × (Unit {0} × (Unit {0} × (Unit {0} × (Unit {0} × (Unit {0} × (Unit {0} × (Unit {0} × (List ℕ × (Unit {0} × (Unit {0} × (List ℕ × (Unit {0} × (Unit {0})))))))))))))).
-        ‵ (lasts decide-fn.ended (let ν = t′ .0 in ((ν .0) ∷ [], ((ν .1 .0) ∷ [], ((ν .1 .1 .0) ∷ [], ((ν .1 .1 .1 .0) ∷ [], ((ν .1 .1 .1 .1 .0) ∷ [], ((ν .1 .1 .1 .1 .1 .0) ∷ [], ((ν .1 .1 .1 .1 .1 .1) ∷ [], (κ₁, (κ₂, (κ₃, tt))))))))))) (to-decide-args (l₉, (l₁₀, (l₁₁, (l₁₂, (l₁₃, (l₁₄, l₁₅)))))) (t′ .0) (t′ .1) (laid ls)) vs) ⊛ raw (fact 𝓤 (Decided (l₉, (l₁₀, (l₁₁, (l₁₂, (l₁₃, (l₁₄, l₁₅)))))) (t′ .0) (t′ .1) (laid ls) r (vs .1 .1 .1 .1 .1 .1 .1 .1 .0) (vs .1 .1 .1 .1 .1 .1 .1 .1 .1 .1 .1 .0))))) (id⊢ 𝓤 _) $ pick ! (λ vs.
+        ‵ (lasts decide-fn.ended (let ν = t′ .0 in (
+          (ν .0) ∷ [],
+          (
+            (ν .1 .0) ∷ [],
+            (
+              (ν .1 .1 .0) ∷ [],
+              (
+                (ν .1 .1 .1 .0) ∷ [],
+                ((ν .1 .1 .1 .1 .0) ∷ [], ((ν .1 .1 .1 .1 .1 .0) ∷ [], ((ν .1 .1 .1 .1 .1 .1) ∷ [], (κ₁, (κ₂, (κ₃, tt)))))),
+              ),
+            ),
+          ),
+        ))
+        (to-decide-args (l₉, (l₁₀, (l₁₁, (l₁₂, (l₁₃, (l₁₄, l₁₅)))))) (t′ .0) (t′ .1) (laid ls)) vs) ⊛ raw
+        (fact 𝓤 (Decided (l₉, (l₁₀, (l₁₁, (l₁₂, (l₁₃, (l₁₄, l₁₅)))))) (t′ .0) (t′ .1) (laid ls) r (vs .1 .1 .1 .1 .1 .1 .1 .1 .0)
+        (vs .1 .1 .1 .1 .1 .1 .1 .1 .1 .1 .1 .0))))) (id⊢ 𝓤 _) $ pick ! (λ vs.
         split ! $
         move ! (1 ∷ []) $
         heard ! (Decided (l₉, (l₁₀, (l₁₁, (l₁₂, (l₁₃, (l₁₄, l₁₅)))))) (t′ .0) (t′ .1) (laid ls) r (vs .1 .1 .1 .1 .1 .1 .1 .1 .0) (vs .1 .1 .1 .1 .1 .1 .1 .1 .1 .1 .1 .0)) (λ e₃.
@@ -446,7 +586,15 @@ module _ {M : Type 1} (𝓤 : URA M) (H : Heap 𝓤) (A : Atoms 𝓤) (W : Given
         (rooms-apart 𝓤 H A W (l₉, (l₁₀, (l₁₁, (l₁₂, (l₁₃, (l₁₄, l₁₅))))))) $
         returns ! (look ! 76 refl) $
         forget ! 15 refl $ forget ! 17 refl $ forget ! 19 refl $ forget ! 21 refl $ forget ! 23 refl $ forget ! 25 refl $ forget ! 27 refl $ forget ! 29 refl $ forget ! 31 refl $ forget ! 33 refl $ forget ! 35 refl $ forget ! 37 refl $ forget ! 39 refl $ forget ! 41 refl $ forget ! 43 refl $ forget ! 45 refl $ forget ! 47 refl $ forget ! 49 refl $ forget ! 51 refl $ forget ! 60 refl $ forget ! 62 refl $ forget ! 64 refl $ forget ! 66 refl $ forget ! 68 refl $ forget ! 70 refl $ forget ! 72 refl $ forget ! 74 refl $ forget ! 76 refl $
-        move ! (76 ∷ 77 ∷ []) $ free1 ! $ move ! (74 ∷ 75 ∷ []) $ free1 ! $ move ! (72 ∷ 73 ∷ []) $ free1 ! $ move ! (70 ∷ 71 ∷ []) $ free1 ! $ move ! (68 ∷ 69 ∷ []) $ free1 ! $ move ! (66 ∷ 67 ∷ []) $ free1 ! $ move ! (64 ∷ 65 ∷ []) $ free1 ! $ move ! (62 ∷ 63 ∷ []) $ free1 ! $ move ! (60 ∷ 61 ∷ []) $ free1 ! $ move ! (0 ∷ 59 ∷ []) $ free1 ! $ move ! (0 ∷ 57 ∷ []) $ free1 ! $ move ! (0 ∷ 55 ∷ []) $ free1 ! $ move ! (0 ∷ 53 ∷ []) $ free1 ! $ move ! (0 ∷ 51 ∷ []) $ free1 ! $ move ! (0 ∷ 49 ∷ []) $ free1 ! $ move ! (0 ∷ 47 ∷ []) $ free1 ! $ move ! (44 ∷ 45 ∷ []) $ free1 ! $ move ! (42 ∷ 43 ∷ []) $ free1 ! $ move ! (40 ∷ 41 ∷ []) $ free1 ! $ move ! (38 ∷ 39 ∷ []) $ free1 ! $ move ! (36 ∷ 37 ∷ []) $ free1 ! $ move ! (34 ∷ 35 ∷ []) $ free1 ! $ move ! (32 ∷ 33 ∷ []) $ free1 ! $ move ! (30 ∷ 31 ∷ []) $ free1 ! $ move ! (28 ∷ 29 ∷ []) $ free1 ! $ move ! (26 ∷ 27 ∷ []) $ free1 ! $ move ! (24 ∷ 25 ∷ []) $ free1 ! $ move ! (22 ∷ 23 ∷ []) $ free1 ! $ move ! (20 ∷ 21 ∷ []) $ free1 ! $ move ! (18 ∷ 19 ∷ []) $ free1 ! $ move ! (16 ∷ 17 ∷ []) $ free1 ! $ move ! (14 ∷ 15 ∷ []) $ free1 ! $ move ! (12 ∷ 13 ∷ []) $ free1 ! $ move ! (10 ∷ 11 ∷ []) $ free1 ! $ move ! (8 ∷ 9 ∷ []) $ free1 ! $ free0 ! $
+        move ! (76 ∷ 77 ∷ []) $ free1 ! $ move ! (74 ∷ 75 ∷ []) $ free1 ! $ move ! (72 ∷ 73 ∷ []) $ free1 ! $ move ! (70 ∷ 71 ∷ []) $ free1 ! $ move !
+        (68 ∷ 69 ∷ []) $ free1 ! $ move ! (66 ∷ 67 ∷ []) $ free1 ! $ move ! (64 ∷ 65 ∷ []) $ free1 ! $ move ! (62 ∷ 63 ∷ []) $ free1 ! $ move !
+        (60 ∷ 61 ∷ []) $ free1 ! $ move ! (0 ∷ 59 ∷ []) $ free1 ! $ move ! (0 ∷ 57 ∷ []) $ free1 ! $ move ! (0 ∷ 55 ∷ []) $ free1 ! $ move !
+        (0 ∷ 53 ∷ []) $ free1 ! $ move ! (0 ∷ 51 ∷ []) $ free1 ! $ move ! (0 ∷ 49 ∷ []) $ free1 ! $ move ! (0 ∷ 47 ∷ []) $ free1 ! $ move !
+        (44 ∷ 45 ∷ []) $ free1 ! $ move ! (42 ∷ 43 ∷ []) $ free1 ! $ move ! (40 ∷ 41 ∷ []) $ free1 ! $ move ! (38 ∷ 39 ∷ []) $ free1 ! $ move !
+        (36 ∷ 37 ∷ []) $ free1 ! $ move ! (34 ∷ 35 ∷ []) $ free1 ! $ move ! (32 ∷ 33 ∷ []) $ free1 ! $ move ! (30 ∷ 31 ∷ []) $ free1 ! $ move !
+        (28 ∷ 29 ∷ []) $ free1 ! $ move ! (26 ∷ 27 ∷ []) $ free1 ! $ move ! (24 ∷ 25 ∷ []) $ free1 ! $ move ! (22 ∷ 23 ∷ []) $ free1 ! $ move !
+        (20 ∷ 21 ∷ []) $ free1 ! $ move ! (18 ∷ 19 ∷ []) $ free1 ! $ move ! (16 ∷ 17 ∷ []) $ free1 ! $ move ! (14 ∷ 15 ∷ []) $ free1 ! $ move !
+        (12 ∷ 13 ∷ []) $ free1 ! $ move ! (10 ∷ 11 ∷ []) $ free1 ! $ move ! (8 ∷ 9 ∷ []) $ free1 ! $ free0 ! $
         keep ! (5 ∷ 1 ∷ 6 ∷ 3 ∷ 4 ∷ 7 ∷ 2 ∷ []) $
         by ! (exits r (vs .1 .1 .1 .1 .1 .1 .1 .1 .0) (vs .1 .1 .1 .1 .1 .1 .1 .1 .1 .1 .1 .0) w₃ (e₃ (loaded ys) (seen m (laid ls) e₁ e₂)) lw lq))))))))))))))))))))))))))))))))))))))))))))))))))))))
 
@@ -463,7 +611,19 @@ module _ {M : Type 1} (𝓤 : URA M) (H : Heap 𝓤) (A : Atoms 𝓤) (W : Given
       (a .1 .1 .1 .1 .1 .0 .ptr .0) (a .1 .1 .1 .1 .1 .0 .ptr .1) (a .1 .1 .1 .1 .1 .0 .name) (a .1 .1 .1 .1 .1 .0 .now) (are .1 .1 .1 .1 .1 .0 .0 .1) (𝓣 .C) (𝓣 .Λ) (fmOf 𝓤 H (W .laws) 𝓣) k₁ k₂ k₃))
 
   goes : AllGo 𝓤 H A W 4 (f.signature .params) (f.ended .kept) stayed
-  goes = (goes-none-slice 𝓤 H A W 4 (0 ∷ []) tt (plain (λ _. T.the-row)) yes, (goes-gave-slice 𝓤 H A W 4 1 tt (plain (λ _. u64)), (goes-none 𝓤 H A W 4 (λ _. N.the-row) yes (λ κs x f. refl), (goes-none 𝓤 H A W 4 (λ _. S.the-row) yes (λ κs x f. refl), (goes-gave-slice 𝓤 H A W 4 2 tt (plain (λ _. u8)), (goes-none-slice 𝓤 H A W 4 (3 ∷ []) tt (plain (λ _. u8)) yes, tt))))))
+  goes = (
+    goes-none-slice 𝓤 H A W 4 (0 ∷ []) tt (plain (λ _. T.the-row)) yes,
+    (
+      goes-gave-slice 𝓤 H A W 4 1 tt (plain (λ _. u64)),
+      (
+        goes-none 𝓤 H A W 4 (λ _. N.the-row) yes (λ κs x f. refl),
+        (
+          goes-none 𝓤 H A W 4 (λ _. S.the-row) yes (λ κs x f. refl),
+          (goes-gave-slice 𝓤 H A W 4 2 tt (plain (λ _. u8)), (goes-none-slice 𝓤 H A W 4 (3 ∷ []) tt (plain (λ _. u8)) yes, tt)),
+        ),
+      ),
+    ),
+  )
 
 meets : {M : Type 1} (𝓤 : URA M) (H : Heap 𝓤) (A : Atoms 𝓤) (W : Given 𝓤 H A) (at-mem : Memory → SProp 𝓤) (run : Routine → Fun 𝓤) (𝓣 : Tables 𝓤 H)
     → Triple 𝓤 (𝓣 .C #lent-rows·used-rows) (Used 𝓤 H A at-mem run) → Triple 𝓤 (𝓣 .C #lent-rows·lay) (Lay 𝓤 H A at-mem run) → Triple 𝓤 (𝓣 .C #step·decide) (Decide 𝓤 H A at-mem run)

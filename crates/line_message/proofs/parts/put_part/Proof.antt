@@ -12,7 +12,10 @@ use Rattle.line_message.specs.Parts.{partText, part-next, part-end, next
 use borrow.Author.Needs.{needs}
 
 abbrev Inv-loop : tie.InvT-loop
-Inv-loop words order count queue₀ at limit part told end₀ next₀ j₀ queue end next j = (j ≤ count) × (length queue ≡ length queue₀) × (end + 231 * j ≤ at + 231 * count) × (next .0 + j ≤ next₀ .0 + count) × Goes queue₀ at limit (partText part (told .0) (next₀ .0) (chosen (messages words) order count)) queue end (partText part (told .0) (next .0) (chosen (messages words) order j))
+Inv-loop words order count queue₀ at limit part told end₀ next₀ j₀ queue end next j = (j ≤ count) × (length queue ≡ length queue₀)
+    × (end + 231 * j ≤ at + 231 * count) × (next .0 + j ≤ next₀ .0 + count)
+    × Goes queue₀ at limit (partText part (told .0) (next₀ .0) (chosen (messages words) order count)) queue end
+    (partText part (told .0) (next .0) (chosen (messages words) order j))
 
 abbrev μ-loop : tie.MeasureT-loop
 μ-loop words order count queue₀ at limit part told end₀ next₀ j₀ queue end next j = j

@@ -70,14 +70,30 @@ sources-row-returns t c =
     let b = c .before in let at-sources-row = b .sources-row in let b = b .before in let if1 = b .if1 in
     let b = b .before in let octet-at = b .octet-at in let b = b .before .before in let scope = b .scope in
     let b = b .before .before in let filter-at = b .filter-at in let b = b .before .before in let args = b .args in
-    let w = rw (scope .given .1) at (filter-at .ensures .within) in let i = in-text (args .text .now) (scope .given .0 .1 .1 .0) (sym (octet-at .ensures) ∙ if1 .taken) (omega arith) in record { exact = λ n h. c .put-source .ensures ∙ ap (putAhead (scope .given .0 .0) (scope .given .0 .1 .0)) (at-sources-row .ensures .exact (n - 1) (omega arith)) ∙ row-more (args .text .now) (args .at) n (omega arith) (sym (scope .given .1) ∙ filter-at .ensures .exact) (sym (octet-at .ensures) ∙ if1 .taken); within = rw (c .put-source .ensures) (within-more (args .text .now) (scope .given .0 .0) (scope .given .0 .1 .0) (args .at) (scope .given .0 .1 .1 .0) (at-sources-row .result) (omega arith) (at-sources-row .ensures .within)) }
+    let w = rw (scope .given .1) at (filter-at .ensures .within) in let i = in-text (args .text .now) (scope .given .0 .1 .1 .0) (sym (octet-at .ensures) ∙ if1 .taken)
+    (omega arith) in record {
+      exact = λ n h. c .put-source .ensures
+          ∙ ap (putAhead (scope .given .0 .0) (scope .given .0 .1 .0)) (at-sources-row .ensures .exact (n - 1) (omega arith))
+          ∙ row-more (args .text .now) (args .at) n (omega arith) (sym (scope .given .1) ∙ filter-at .ensures .exact)
+          (sym (octet-at .ensures) ∙ if1 .taken);
+      within = rw (c .put-source .ensures)
+          (within-more (args .text .now) (scope .given .0 .0) (scope .given .0 .1 .0) (args .at) (scope .given .0 .1 .1 .0) (at-sources-row .result) (omega arith)
+          (at-sources-row .ensures .within));
+    }
 
 sources-row-returns-2 : (t : ℕ) → sources-row-lts.Need-returns-2 (sources-row-calls t) (sources-row-at t) sources-row.Post
 sources-row-returns-2 t c =
     let b = c .before .before in let if2 = b .if2 in let b = b .before .before in let octet-at = b .octet-at in
     let b = b .before .before in let scope = b .scope in let b = b .before .before in let filter-at = b .filter-at in
     let b = b .before .before in let args = b .args in
-    let w = rw (scope .given .1) at (filter-at .ensures .within) in let i = in-text (args .text .now) (scope .given .0 .1 .1 .0) (sym (octet-at .ensures) ∙ if2 .taken) (omega arith) in rw (c .with-source .ensures, c .before .no-sources .ensures) record { exact = λ n h. row-last (args .text .now) (args .at) n (omega arith) (sym (scope .given .1) ∙ filter-at .ensures .exact) (sym (octet-at .ensures) ∙ if2 .taken); within = within-last (args .text .now) (scope .given .0 .0) (scope .given .0 .1 .0) (args .at) (scope .given .0 .1 .1 .0) (omega arith) (omega arith) }
+    let w = rw (scope .given .1) at (filter-at .ensures .within) in let i = in-text (args .text .now) (scope .given .0 .1 .1 .0) (sym (octet-at .ensures) ∙ if2 .taken)
+    (omega arith) in rw (c .with-source .ensures, c .before .no-sources .ensures)
+    record {
+      exact = λ n h. row-last (args .text .now) (args .at) n (omega arith) (sym (scope .given .1) ∙ filter-at .ensures .exact)
+          (sym (octet-at .ensures) ∙ if2 .taken);
+      within = within-last (args .text .now) (scope .given .0 .0) (scope .given .0 .1 .0) (args .at)
+          (scope .given .0 .1 .1 .0) (omega arith) (omega arith);
+    }
 
 sources-row-returns-3 : (t : ℕ) → sources-row-lts.Need-returns-3 (sources-row-calls t) (sources-row-at t) sources-row.Post
 sources-row-returns-3 t c =

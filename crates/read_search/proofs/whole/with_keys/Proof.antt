@@ -11,7 +11,13 @@ returns c =
     let b = c .before in let next = b .next in
     let b = b .before .before .before .before in let program-at = b .program-at in
     let b = b .before .before .before .before in let args = b .args in
-    let w = rw (next .given .1) at (program-at .ensures .within) in record { exact = keys-found (args .sources) (args .returns) (args .unknown) (args .cells .now) (program-at .last .1 .1 .0) (next .given .0 .0) (next .given .0 .1 .0) (next .given .0 .1 .1 .0) (next .given .0 .1 .1 .1 .0) (next .given .0 .1 .1 .1 .1 .0) (next .given .0 .1 .1 .1 .1 .1 .0) (programAt (args .text .now) (args .at)) (next .given .1) (program-at .ensures .exact); within = record { inside = w .inside; short = omega arith } }
+    let w = rw (next .given .1) at (program-at .ensures .within) in record {
+      exact = keys-found (args .sources) (args .returns) (args .unknown) (args .cells .now)
+          (program-at .last .1 .1 .0) (next .given .0 .0) (next .given .0 .1 .0) (next .given .0 .1 .1 .0) (next .given .0 .1 .1 .1 .0) (next .given .0 .1 .1 .1 .1 .0)
+          (next .given .0 .1 .1 .1 .1 .1 .0) (programAt (args .text .now) (args .at)) (next .given .1)
+          (program-at .ensures .exact);
+      within = record { inside = w .inside; short = omega arith };
+    }
 
 returns-2 : tie.Need-returns-2
 returns-2 c =

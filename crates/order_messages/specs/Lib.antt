@@ -1,3 +1,4 @@
 pub mod Chosen
 pub mod Counts
 pub mod Links
+pub mod Places

@@ -5,6 +5,7 @@ pub mod columns;
 use model::Mailbox;
 ghost use mathlib.Core.Path.{_≡_};
 ghost use Prim.Native.Nat.{_≤_, _<_};
+ghost use lib.Dec.{ltb};
 ghost use lib.ListN.{length, take, set, replicate};
 ghost use Rattle.model.specs.Lists.{same};
 ghost use Rattle.model.specs.Memory.{noMailbox, nameOf, place};
@@ -33,7 +34,8 @@ pub fn load(rows: &[Mailbox]) -> [Mailbox; 64]
 pub fn set_row(rows: &mut [Mailbox], k: usize, x: Mailbox)
     ensures { λ _. ⌜ now (rows .exit) ≡ set (now (rows .entry)) k x ⌝ }
 {
-    if k < rows.len() {
+    let n = rows.len();
+    if is_row(k, n) {
         rows[k] = x;
     }
 }
@@ -92,6 +94,13 @@ pub fn write_back(rows: &mut [Mailbox], from: usize, k: usize, x: Mailbox)
 }
 
 // ---- the array
+
+// Whether there is a row k, of n.
+pub fn is_row(k: usize, n: usize) -> bool
+    ensures { λ r. ⌜ r ≡ ltb k n ⌝ }
+{
+    k < n
+}
 
 // How many of the first m rows there are, of a table of n rows, and of 64 at the most.
 pub fn reach(m: usize, n: usize) -> usize

@@ -110,7 +110,10 @@ module _ (m : Memory) where
   over-with l k s h w = ap (λ (x : Memory). withSession x s) (with-shorter m l k h w)
 
   pub over-self : length (mails m) ≡ m .counts .messages → over (mails m) (m .session) ≡ m
-  over-self n = ap₂ (λ (t : List Message) (c : ℕ). record { rows = m .rows; entries = t; counts = record { mailboxes = m .counts .mailboxes; messages = c; filled = m .counts .filled }; session = m .session; queue = m .queue }) (refill-same noMessage (m .entries) (length (mails m)) (mails m) refl ∙ (ap (λ (k : ℕ). mails m ++ drop k (m .entries)) n ∙ take-append-drop (m .counts .messages) (m .entries))) n
+  over-self n =
+      ap₂ (λ (t : List Message) (c : ℕ). record { rows = m .rows; entries = t; counts = record { mailboxes = m .counts .mailboxes; messages = c; filled = m .counts .filled }; session = m .session; queue = m .queue })
+      (refill-same noMessage (m .entries) (length (mails m)) (mails m) refl ∙ (ap (λ (k : ℕ). mails m ++ drop k (m .entries)) n ∙ take-append-drop (m .counts .messages) (m .entries)))
+      n
 
   drop-one : (l : List Message) (s : Session) (u : ℕ) → length l ≤ length (mails m) → dropMails (over l s) (isMessage (s .selected) u) ≡ over (filterb (λ (e : Message). not (isMessage (s .selected) u e)) l) s
   drop-one l s u h = ap (λ (t : List Message). withMails (over l s) (filterb (λ (e : Message). not (isMessage (s .selected) u e)) t)) (mails-with m l) ∙ over-with l (filterb (λ (e : Message). not (isMessage (s .selected) u e)) l) s h (filter-length (λ (e : Message). not (isMessage (s .selected) u e)) l)

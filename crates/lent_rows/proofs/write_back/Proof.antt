@@ -1,5 +1,5 @@
 -- `lent_rows::write_back` meets its contract: a walk of its MIR, by hand, with two calls. The rows are opened, and lent as a `&mut [Mailbox]` for a lifetime of the call of `move_up`; then they are closed at what it
--- left, and passed on for good to `set_row`. Positions are written by a script (walkgen of the recipe). Assumes nothing.
+-- left, and passed on for good to `set_row`. Positions were written by tools/walkgen.py; what drove it is not kept. Assumes nothing.
 use mathlib.Core.Path.{_≡_, refl, sym, _∙_, ap, subst}
 use mathlib.Core.List.{[], _∷_, List}
 use Prim.Native.Nat.{ℕ, _<_, _≤_, _^_}
@@ -74,7 +74,9 @@ module _ {M : Type 1} (𝓤 : URA M) (H : Heap 𝓤) (A : Atoms 𝓤) (at-mem : 
   abbrev SetRow : Contract 𝓤
   SetRow = tripleOf 𝓤 H A set-row-fn.signature (set-row-fn.spec 𝓤 H A at-mem run)
 
-module _ {M : Type 1} (𝓤 : URA M) (H : Heap 𝓤) (A : Atoms 𝓤) (W : Given 𝓤 H A) (at-mem : Memory → SProp 𝓤) (run : Routine → Fun 𝓤) (κ : Lft) (q : Share) (b o : ℕ) (γ : GName) (ys : List Mailbox) (room : Room T.the-row (length ys)) (j : ℕ) (j-fits : j < 2 ^ 64) (k : ℕ) (k-fits : k < 2 ^ 64) (d : Mailbox) (is-d : Is T.the-row d (val d ∷ [])) (asked : (j ≤ k) × (j < k → k < length ys)) where
+module _ {M : Type 1} (𝓤 : URA M) (H : Heap 𝓤) (A : Atoms 𝓤) (W : Given 𝓤 H A) (at-mem : Memory → SProp 𝓤) (run : Routine → Fun 𝓤)
+    (κ : Lft) (q : Share) (b o : ℕ) (γ : GName) (ys : List Mailbox) (room : Room T.the-row (length ys)) (j : ℕ) (j-fits : j < 2 ^ 64) (k : ℕ) (k-fits : k < 2 ^ 64)
+    (d : Mailbox) (is-d : Is T.the-row d (val d ∷ [])) (asked : (j ≤ k) × (j < k → k < length ys)) where
   -- the rows under a name, at a list
   abbrev xl : GName → List Mailbox → RefT (List Mailbox)
   xl δ l = record { ptr = (b, o); name = δ; now = l }

@@ -254,10 +254,7 @@ module _ {M : Type 1} (𝓤 : URA M) (H : Heap 𝓤) (A : Atoms 𝓤) (W : Given
           use1 W (given (Is (Array T.the-row 64) (over ys ts (i .0)) (valA (over ys ts (i .0)) ∷ [])) (‵ (fat fullShare (tyArray T′.mir 64) l₄ 0 (valA (over ys ts (i .0)))))) (local-whole 𝓤 H A W T.the-row 64 (over ys ts (i .0)) l₄ 0 (LL.vals T.the-type T′.the-laws) (LL.tells T.the-type T′.the-laws) (over-64 i)) $ learn ! (λ is.
           assigns ! (of-opd ! (load ! (from ! (stop !)) (look ! 0 refl))) (from ! (stop !)) (init ! 29 refl (array-lawful 𝓤 H A W T.the-row (LL.lawful T.the-type T′.the-laws 𝓤 H A W) 64 .typed (over ys ts (i .0)) _ is .0)) $
           returns ! (look ! 29 refl) $ forget ! 16 refl $ forget ! 18 refl $ forget ! 20 refl $ forget ! 0 refl $ forget ! 23 refl $ forget ! 25 refl $ forget ! 27 refl $ forget ! 29 refl $
-          move ! (29 ∷ 30 ∷ []) $ free1 ! $ move ! (27 ∷ 28 ∷ []) $ free1 ! $ move ! (25 ∷ 26 ∷ []) $ free1 ! $ move ! (23 ∷ 24 ∷ []) $ free1 ! $ move ! (0 ∷ 22 ∷ []) $
-          free1 ! $ move ! (19 ∷ 20 ∷ []) $ free1 ! $ move ! (17 ∷ 18 ∷ []) $ free1 ! $ move ! (15 ∷ 16 ∷ []) $ free1 ! $ move ! (13 ∷ 14 ∷ []) $ free1 ! $
-          move ! (11 ∷ 12 ∷ []) $ free1 ! $ move ! (9 ∷ 10 ∷ []) $ free1 ! $ move ! (7 ∷ 8 ∷ []) $ free1 ! $ move ! (5 ∷ 6 ∷ []) $ free1 ! $ move ! (3 ∷ 4 ∷ []) $ free1 ! $
-          free0 ! $
+          move ! (29 ∷ 30 ∷ []) $ free1 ! $ move ! (27 ∷ 28 ∷ []) $ free1 ! $ move ! (25 ∷ 26 ∷ []) $ free1 ! $ move ! (23 ∷ 24 ∷ []) $ free1 ! $ move ! (0 ∷ 22 ∷ []) $ free1 ! $ move ! (19 ∷ 20 ∷ []) $ free1 ! $ move ! (17 ∷ 18 ∷ []) $ free1 ! $ move ! (15 ∷ 16 ∷ []) $ free1 ! $ move ! (13 ∷ 14 ∷ []) $ free1 ! $ move ! (11 ∷ 12 ∷ []) $ free1 ! $ move ! (9 ∷ 10 ∷ []) $ free1 ! $ move ! (7 ∷ 8 ∷ []) $ free1 ! $ move ! (5 ∷ 6 ∷ []) $ free1 ! $ move ! (3 ∷ 4 ∷ []) $ free1 ! $ free0 ! $
           keep ! (0 ∷ 1 ∷ 2 ∷ []) $
           by ! (exits (over ys ts (i .0)) (ap (over ys ts) (le-antisymm (i .1) (nltb→le (i .0) m (holds-as true (not (ltb (i .0) m)) (sym (ap not e)) tt))) ∙ all) is))
 
@@ -292,12 +289,7 @@ module _ {M : Type 1} (𝓤 : URA M) (H : Heap 𝓤) (A : Atoms 𝓤) (W : Given
         move ! (2 ∷ 0 ∷ []) $
         looks-slice ! tt T.the-row (Is T.the-row) (shows 𝓤 H A T.the-row) (LL.vals T.the-type T′.the-laws) (LL.tells T.the-type T′.the-laws) (LL.copy T.the-type T′.the-copy 𝓤 H A W) ys b o (λ q′.
         keep ! (0 ∷ 1 ∷ 6 ∷ 4 ∷ 5 ∷ 7 ∷ 8 ∷ 9 ∷ 10 ∷ 11 ∷ 12 ∷ 13 ∷ 14 ∷ 15 ∷ 16 ∷ 17 ∷ 18 ∷ 19 ∷ 20 ∷ 21 ∷ 22 ∷ 23 ∷ 24 ∷ 25 ∷ 26 ∷ 27 ∷ 28 ∷ 29 ∷ 30 ∷ 31 ∷ 32 ∷ 33 ∷ []) $
-        first ! $ blocks ! $ loops ! 𝓣 (Nearer q′ l₀ l₁ l₂ l₃ l₄ l₅ l₆ l₇ l₈ l₉ l₁₀ l₁₁ l₁₂ l₁₃ ts (subst (Is (Array T.the-row 64) ts)
-            (array-is ts w₂ is₂) is₂) m (is₁ .1) (reached m e₁) (all-of m ts e₁ e₂)) (Nearer-wf q′ l₀ l₁ l₂ l₃ l₄ l₅ l₆ l₇ l₈ l₉ l₁₀ l₁₁ l₁₂
-            l₁₃ ts (subst (Is (Array T.the-row 64) ts) (array-is ts w₂ is₂) is₂) m (is₁ .1) (reached m e₁) (all-of m ts e₁ e₂))
-            (At q′ l₀ l₁ l₂ l₃ l₄ l₅ l₆ l₇ l₈ l₉ l₁₀ l₁₁ l₁₂ l₁₃ ts (subst (Is (Array T.the-row 64) ts) (array-is ts w₂ is₂) is₂) m (is₁ .1)
-            (reached m e₁) (all-of m ts e₁ e₂)) (λ i. turn q′ l₀ l₁ l₂ l₃ l₄ l₅ l₆ l₇ l₈ l₉ l₁₀ l₁₁ l₁₂ l₁₃ ts (subst (Is (Array T.the-row 64) ts)
-            (array-is ts w₂ is₂) is₂) m (is₁ .1) (reached m e₁) (all-of m ts e₁ e₂) i (ltb (i .0) m) refl) (0, zero-le))))))))))))))))))))))))
+        first ! $ blocks ! $ loops ! 𝓣 (Nearer q′ l₀ l₁ l₂ l₃ l₄ l₅ l₆ l₇ l₈ l₉ l₁₀ l₁₁ l₁₂ l₁₃ ts (subst (Is (Array T.the-row 64) ts) (array-is ts w₂ is₂) is₂) m (is₁ .1) (reached m e₁) (all-of m ts e₁ e₂)) (Nearer-wf q′ l₀ l₁ l₂ l₃ l₄ l₅ l₆ l₇ l₈ l₉ l₁₀ l₁₁ l₁₂ l₁₃ ts (subst (Is (Array T.the-row 64) ts) (array-is ts w₂ is₂) is₂) m (is₁ .1) (reached m e₁) (all-of m ts e₁ e₂)) (At q′ l₀ l₁ l₂ l₃ l₄ l₅ l₆ l₇ l₈ l₉ l₁₀ l₁₁ l₁₂ l₁₃ ts (subst (Is (Array T.the-row 64) ts) (array-is ts w₂ is₂) is₂) m (is₁ .1) (reached m e₁) (all-of m ts e₁ e₂)) (λ i. turn q′ l₀ l₁ l₂ l₃ l₄ l₅ l₆ l₇ l₈ l₉ l₁₀ l₁₁ l₁₂ l₁₃ ts (subst (Is (Array T.the-row 64) ts) (array-is ts w₂ is₂) is₂) m (is₁ .1) (reached m e₁) (all-of m ts e₁ e₂) i (ltb (i .0) m) refl) (0, zero-le))))))))))))))))))))))))
 
 module _ {M : Type 1} (𝓤 : URA M) (H : Heap 𝓤) (A : Atoms 𝓤) (W : Given 𝓤 H A) where
   walks : (at-mem : Memory → SProp 𝓤) (run : Routine → Fun 𝓤) (𝓣 : Tables 𝓤 H) → Triple 𝓤 (𝓣 .C #lent-rows·reach) (Reach 𝓤 H A at-mem run) → Triple 𝓤 (𝓣 .C #lent-rows·blank) (Blank 𝓤 H A at-mem run)

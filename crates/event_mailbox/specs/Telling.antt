@@ -10,7 +10,7 @@ use Rattle.model.specs.Memory.{Memory, filled}
 use Rattle.model.specs.Lines.{Line, overflow, render}
 use Rattle.model.specs.Queue.{room, written, enqueue, effect}
 use Rattle.model.specs.Events.{Event, silence}
-use Rattle.model.specs.Rules.{Outcome, told}
+use Rattle.model.specs.Rules.{Outcome, eventOutcome}
 use Rattle.laws.specs.Room.{room-same}
 use Rattle.laws.specs.Telling.{told-none, told-one, told-over}
 use Rattle.line_put.specs.Says.{hasRoom}
@@ -31,7 +31,7 @@ module _ (m : Memory) (event : Memory → Event) (made : Heard → Memory) (l : 
   abbrev hears : Bool → Heard
   hears on = heard (m .queue) (m .session) (filled m) on (render l)
 
-  pub told-made : (on : Bool) → event m .lines ≡ when on l → (on ≡ true → filled m ≤ length (m .queue) - 64) → told m event .after ≡ made (hears on)
+  pub told-made : (on : Bool) → event m .lines ≡ when on l → (on ≡ true → filled m ≤ length (m .queue) - 64) → eventOutcome m event .after ≡ made (hears on)
   unfolding heard
   told-made false e free = ap (λ (o : Outcome). o .after) (told-none m event e) ∙ stored
   told-made true e free = go (leb (length (render l)) (room m)) refl
@@ -39,7 +39,7 @@ module _ (m : Memory) (event : Memory → Event) (made : Heard → Memory) (l : 
       fit : (r : Bool) → leb (length (render l)) (room m) ≡ r → hasRoom (m .queue) (filled m) (render l) ≡ r
       fit r q = room-same (filled m) (length (render l)) (length (m .queue) - 64) (free refl) ∙ q
 
-      go : (r : Bool) → leb (length (render l)) (room m) ≡ r → told m event .after ≡ made (hears true)
+      go : (r : Bool) → leb (length (render l)) (room m) ≡ r → eventOutcome m event .after ≡ made (hears true)
       go true q =
           ap (λ (o : Outcome). o .after) (told-one m event l e q)
           ∙ (ends (enqueue (event m .stored) (render l)) ∙ (ap (λ (j : Memory). enqueue j (render l)) stored ∙ (takes (unheard m) (render l) ∙ rw (fit true q))))

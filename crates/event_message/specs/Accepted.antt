@@ -14,7 +14,7 @@ use Rattle.model.specs.Lines.{Line, StatusItem, status, expunge, overflow, rend
 use Rattle.model.specs.Queue.{room, enqueue, effect}
 use Rattle.model.specs.View.{view, placeOf, expungeAtOnce}
 use Rattle.model.specs.Events.{Event, inView, expire, removed, statusLines, countsOf, silence}
-use Rattle.model.specs.Rules.{Outcome, told}
+use Rattle.model.specs.Rules.{Outcome, eventOutcome}
 use Rattle.demands.specs.Lasting.Law.{Law}
 use Rattle.model.specs.declared.Group.{Group}
 use Rattle.model.specs.declared.Mailbox.{Mailbox}
@@ -45,7 +45,7 @@ module _ (m : Memory) (event : Memory → Event) (rs : List Mailbox) (es : List 
     (stored : event m .stored ≡ tablesAre m rs es n) (silent : event (silence m) .stored ≡ tablesAre (silence m) rs es n)
     (ends : (j : Memory) → effect j l ≡ j) where
   pub told-tables : (on : Bool) → event m .lines ≡ when on l → (on ≡ true → filled m ≤ length (m .queue) - 64)
-      → told m event .after ≡ left m rs (record { entries = es; used = n; heard = heard (m .queue) (m .session) (filled m) on (render l) })
+      → eventOutcome m event .after ≡ left m rs (record { entries = es; used = n; heard = heard (m .queue) (m .session) (filled m) on (render l) })
   unfolding heard
   told-tables false e free = ap (λ (o : Outcome). o .after) (told-none m event e) ∙ stored
   told-tables true e free = go (leb (length (render l)) (room m)) refl
@@ -53,7 +53,7 @@ module _ (m : Memory) (event : Memory → Event) (rs : List Mailbox) (es : List 
       fit : (r : Bool) → leb (length (render l)) (room m) ≡ r → hasRoom (m .queue) (filled m) (render l) ≡ r
       fit r q = room-same (filled m) (length (render l)) (length (m .queue) - 64) (free refl) ∙ q
 
-      go : (r : Bool) → leb (length (render l)) (room m) ≡ r → told m event .after ≡ left m rs (record { entries = es; used = n; heard = heard (m .queue) (m .session) (filled m) true (render l) })
+      go : (r : Bool) → leb (length (render l)) (room m) ≡ r → eventOutcome m event .after ≡ left m rs (record { entries = es; used = n; heard = heard (m .queue) (m .session) (filled m) true (render l) })
       go true q = ap (λ (o : Outcome). o .after) (told-one m event l e q) ∙ (ends (enqueue (event m .stored) (render l)) ∙ (ap (λ (j : Memory). enqueue j (render l)) stored ∙ rw (fit true q)))
       go false q = ap (λ (o : Outcome). o .after) (told-over m event l e q) ∙ (ap (λ (j : Memory). enqueue j (render overflow)) silent ∙ rw (fit false q))
 
@@ -94,7 +94,7 @@ module _ (b : Memory) (law : Law b) (rs : List Mailbox) (many i u k : ℕ) (h : 
 
   -- not in the view
   away : inView m i u ≡ false → (awayTold m i x asksExpunge ≡ true → filled m ≤ length (m .queue) - 64)
-      → told m (λ (j : Memory). removed j i u) .after ≡ left m (m .rows) (dropAfter (m .entries) (m .counts .messages) (m .queue) (m .session) (filled m) k x (awayTold m i x asksExpunge))
+      → eventOutcome m (λ (j : Memory). removed j i u) .after ≡ left m (m .rows) (dropAfter (m .entries) (m .counts .messages) (m .queue) (m .session) (filled m) k x (awayTold m i x asksExpunge))
   away v free =
       told-tables m (λ (j : Memory). removed j i u) (m .rows) out (m .counts .messages - 1) (status (nameOf x) (countsOf (tablesAre m (m .rows) out (m .counts .messages - 1)) x))
       (rw v gone)
@@ -106,7 +106,7 @@ module _ (b : Memory) (law : Law b) (rs : List Mailbox) (many i u k : ℕ) (h : 
 
   -- in the view, and told at once
   now-told : (r : Bool) → leb (length (render line)) (room m) ≡ r → inView m i u ≡ true → expungeAtOnce m ≡ true → filled m ≤ length (m .queue) - 64
-      → told m (λ (j : Memory). removed j i u) .after ≡ left m (m .rows) (onceAfter (m .entries) (m .counts .messages) (m .queue) (m .session) (filled m) k n)
+      → eventOutcome m (λ (j : Memory). removed j i u) .after ≡ left m (m .rows) (onceAfter (m .entries) (m .counts .messages) (m .queue) (m .session) (filled m) k n)
   unfolding heard
   now-told r e v a z = go r e
     where
@@ -119,7 +119,7 @@ module _ (b : Memory) (law : Law b) (rs : List Mailbox) (many i u k : ℕ) (h : 
       sel : i ≡ m .session .selected
       sel = eqb-true i (m .session .selected) (and-r (not (eqb i 0)) _ (and-l (isSelected m i) _ v))
 
-      go : (r : Bool) → leb (length (render line)) (room m) ≡ r → told m (λ (j : Memory). removed j i u) .after ≡ left m (m .rows) (onceAfter (m .entries) (m .counts .messages) (m .queue) (m .session) (filled m) k n)
+      go : (r : Bool) → leb (length (render line)) (room m) ≡ r → eventOutcome m (λ (j : Memory). removed j i u) .after ≡ left m (m .rows) (onceAfter (m .entries) (m .counts .messages) (m .queue) (m .session) (filled m) k n)
       go true q =
           ap (λ (o : Outcome). o .after) (told-one m (λ (j : Memory). removed j i u) line (rw (v, a)) q)
           ∙ (ap (λ (j : Memory). effect (enqueue j (render line)) line) (stays v a)
@@ -135,12 +135,12 @@ module _ (b : Memory) (law : Law b) (rs : List Mailbox) (many i u k : ℕ) (h : 
           ∙ rw (expunge-text n (record { 0 = u }), fit false q))
 
   pub remove-told : ((inView m i u && expungeAtOnce m) ≡ true → filled m ≤ length (m .queue) - 64) → (awayTold m i x asksExpunge ≡ true → filled m ≤ length (m .queue) - 64)
-      → told m (λ (j : Memory). removed j i u) .after ≡ left m (m .rows) (removeAfter (m .entries) (m .counts .messages) (m .queue) (m .session) (filled m) k x n (inView m i u) (expungeAtOnce m) (awayTold m i x asksExpunge))
+      → eventOutcome m (λ (j : Memory). removed j i u) .after ≡ left m (m .rows) (removeAfter (m .entries) (m .counts .messages) (m .queue) (m .session) (filled m) k x n (inView m i u) (expungeAtOnce m) (awayTold m i x asksExpunge))
   unfolding removeAfter
   remove-told soon free = go (inView m i u) refl (expungeAtOnce m) refl soon
     where
       go : (v : Bool) → inView m i u ≡ v → (a : Bool) → expungeAtOnce m ≡ a → ((v && a) ≡ true → filled m ≤ length (m .queue) - 64)
-          → told m (λ (j : Memory). removed j i u) .after ≡ left m (m .rows) (cond v (cond a (onceAfter (m .entries) (m .counts .messages) (m .queue) (m .session) (filled m) k n) (waitAfter (m .entries) (m .counts .messages) (m .queue) (m .session) (filled m) k)) (dropAfter (m .entries) (m .counts .messages) (m .queue) (m .session) (filled m) k x (awayTold m i x asksExpunge)))
+          → eventOutcome m (λ (j : Memory). removed j i u) .after ≡ left m (m .rows) (cond v (cond a (onceAfter (m .entries) (m .counts .messages) (m .queue) (m .session) (filled m) k n) (waitAfter (m .entries) (m .counts .messages) (m .queue) (m .session) (filled m) k)) (dropAfter (m .entries) (m .counts .messages) (m .queue) (m .session) (filled m) k x (awayTold m i x asksExpunge)))
       go true v true a z = now-told (leb (length (render line)) (room m)) refl v a (z refl)
       go true v false a z = ap (λ (o : Outcome). o .after) (told-none m (λ (j : Memory). removed j i u) (rw (v, a))) ∙ rw (v, a) waits
       go false v a b z = away v free

@@ -16,7 +16,7 @@ use Rattle.model.specs.Lines.{Line, StatusItem, status, overflow, render, rende
 use Rattle.model.specs.Queue.{room, enqueue, announce, effects}
 use Rattle.model.specs.View.{newAtOnce, announcing, view, unannounced, selectedMessages, showsAny, shownItems, newLines}
 use Rattle.model.specs.Events.{message, withArrived, arrived, statusLines, countsOf, silence}
-use Rattle.model.specs.Rules.{told}
+use Rattle.model.specs.Rules.{eventOutcome}
 use Rattle.model.specs.Lawful.{stateOk}
 use Rattle.demands.specs.Lasting.Rows.{all-snoc}
 use Rattle.demands.specs.Isolation.Alike.{boxes-with, mails-with}
@@ -88,7 +88,7 @@ module _ (m : Memory) (fit : m .counts .mailboxes ≤ length (m .rows)) (still :
 
   -- elsewhere, or waiting
   elsewhere : (isSelected m i && newAtOnce m) ≡ false → (awayTold m i y asksNew ≡ true → filled m ≤ length (m .queue) - 64)
-      → told m (λ (j : Memory). arrived j i u f z c) .after ≡ left m rs (statusAfter (m .entries) (m .counts .messages) (m .queue) (m .session) (filled m) y (message i u f z c) (awayTold m i y asksNew))
+      → eventOutcome m (λ (j : Memory). arrived j i u f z c) .after ≡ left m rs (statusAfter (m .entries) (m .counts .messages) (m .queue) (m .session) (filled m) y (message i u f z c) (awayTold m i y asksNew))
   elsewhere calm free =
       told-tables m (λ (j : Memory). arrived j i u f z c) rs es (m .counts .messages + 1) (status (nameOf y) (countsOf (tablesAre m rs es (m .counts .messages + 1)) y))
       came
@@ -140,13 +140,13 @@ module _ (m : Memory) (fit : m .counts .mailboxes ≤ length (m .rows)) (still :
     owes : arrived m i u f z c .lines ≡ lines
     owes = rw (sel, soon)
 
-    pub at-once : told m (λ (j : Memory). arrived j i u f z c) .after ≡ left m rs (newsAfter (m .entries) (m .counts .messages) (m .queue) (m .session) (filled m) y new w)
+    pub at-once : eventOutcome m (λ (j : Memory). arrived j i u f z c) .after ≡ left m rs (newsAfter (m .entries) (m .counts .messages) (m .queue) (m .session) (filled m) y new w)
     at-once = go (leb (length (renderAll lines)) (room m)) refl
       where
         fits : (r : Bool) → leb (length (renderAll lines)) (room m) ≡ r → hasRoom (m .queue) (filled m) (newsOf (m .entries) (m .counts .messages) (m .queue) (m .session) (filled m) y new w) ≡ r
         fits r q = ap (hasRoom (m .queue) (filled m)) (sym text) ∙ (room-same (filled m) (length (renderAll lines)) (length (m .queue) - 64) free ∙ q)
 
-        go : (r : Bool) → leb (length (renderAll lines)) (room m) ≡ r → told m (λ (j : Memory). arrived j i u f z c) .after ≡ left m rs (newsAfter (m .entries) (m .counts .messages) (m .queue) (m .session) (filled m) y new w)
+        go : (r : Bool) → leb (length (renderAll lines)) (room m) ≡ r → eventOutcome m (λ (j : Memory). arrived j i u f z c) .after ≡ left m rs (newsAfter (m .entries) (m .counts .messages) (m .queue) (m .session) (filled m) y new w)
         go true q =
             told-many m (λ (j : Memory). arrived j i u f z c) lines owes q
             ∙ (ends (renderAll lines)
@@ -159,11 +159,11 @@ module _ (m : Memory) (fit : m .counts .mailboxes ≤ length (m .rows)) (still :
   -- what the caller shows where it is at once: the room, and what a FETCH shows
   pub arrive-told : (w : Shows) → w .any ≡ showsAny (m .session) → ((e : Message) → shown w e ≡ shownItems (m .session) e) → (isSelected m i ≡ true → m .session .told ≤ u)
       → ((isSelected m i && newAtOnce m) ≡ true → filled m ≤ length (m .queue) - 64) → (awayTold m i y asksNew ≡ true → filled m ≤ length (m .queue) - 64)
-      → told m (λ (j : Memory). arrived j i u f z c) .after ≡ left m rs (arriveAfter (m .entries) (m .counts .messages) (m .queue) (m .session) (filled m) y (message i u f z c) (isSelected m i && newAtOnce m) (awayTold m i y asksNew) w)
+      → eventOutcome m (λ (j : Memory). arrived j i u f z c) .after ≡ left m rs (arriveAfter (m .entries) (m .counts .messages) (m .queue) (m .session) (filled m) y (message i u f z c) (isSelected m i && newAtOnce m) (awayTold m i y asksNew) w)
   unfolding arriveAfter
   arrive-told w any items low soon free = go (isSelected m i && newAtOnce m) refl
     where
-      go : (b : Bool) → (isSelected m i && newAtOnce m) ≡ b → told m (λ (j : Memory). arrived j i u f z c) .after
+      go : (b : Bool) → (isSelected m i && newAtOnce m) ≡ b → eventOutcome m (λ (j : Memory). arrived j i u f z c) .after
           ≡ left m rs (cond b (newsAfter (m .entries) (m .counts .messages) (m .queue) (m .session) (filled m) y (message i u f z c) w) (statusAfter (m .entries) (m .counts .messages) (m .queue) (m .session) (filled m) y (message i u f z c) (awayTold m i y asksNew)))
       go true q = at-once (and-l (isSelected m i) (newAtOnce m) q) (and-r (isSelected m i) (newAtOnce m) q) (low (and-l (isSelected m i) (newAtOnce m) q)) (soon q) w any items
       go false q = elsewhere q free

@@ -12,7 +12,7 @@ use Rattle.model.specs.Memory.{Memory, boxes, mails, filled, noMessage, uidOf, 
 use Rattle.model.specs.Groups.{groupOf, groupsOf, askedOf, asksExpunge, asksFlags, selectedAsks, immediateAsks}
 use Rattle.model.specs.View.{view, placeOf, expungeAtOnce, flagsAtOnce, flagsWait}
 use Rattle.model.specs.Events.{inView, removed, reflagged}
-use Rattle.model.specs.Rules.{told}
+use Rattle.model.specs.Rules.{eventOutcome}
 use Rattle.demands.specs.Lasting.Law.{Law}
 use Rattle.demands.specs.Isolation.Erase.{box-id}
 use Rattle.model.specs.declared.Group.{Group}
@@ -104,7 +104,7 @@ module _ (b : Memory) (law : Law b) (rs : List Mailbox) (many i u k : ℕ) (h : 
   rights : inView m i u ≡ true → bothRights (selectedBox m) ≡ bothRights x
   rights v = ap (λ (n : ℕ). bothRights (theMailbox n (boxes m))) (sym (eqb-true i (m .session .selected) (and-r (not (eqb i 0)) _ (and-l (isSelected m i) _ v))))
 
-  pub expunge-told : told m (λ (j : Memory). removed j i u) .after ≡ left m (m .rows) (expungeAfter (m .entries) (m .counts .messages) (m .queue) (m .session) (filled m) k x)
+  pub expunge-told : eventOutcome m (λ (j : Memory). removed j i u) .after ≡ left m (m .rows) (expungeAfter (m .entries) (m .counts .messages) (m .queue) (m .session) (filled m) k x)
   unfolding expungeAfter
   expunge-told =
       remove-told b law rs many i u k h is (soon-free m (law .fill) i u) (away-free m (law .fill) i x asksExpunge)
@@ -112,7 +112,7 @@ module _ (b : Memory) (law : Law b) (rs : List Mailbox) (many i u k : ℕ) (h : 
       (same-once (m .entries) (m .counts .messages) (m .queue) (m .session) (filled m) k x (placeOf u (view m) .0) (awayTold m i x asksExpunge) (inView m i u) (expungeAtOnce m) (bothRights x && immediateAsks (m .session) (asksBit 1)) (λ v. ap (λ (b : Bool). b && immediateAsks (m .session) (asksBit 1)) (rights v))
       ∙ sym (each (removeAfter (m .entries) (m .counts .messages) (m .queue) (m .session) (filled m) k x) placed seen refl (ap (λ (c : Bool). not c && (bothRights x && askedOf (m .session) x (asksBit 1))) chosen)))
 
-  pub reflag-told : (f c : ℕ) → told m (λ (j : Memory). reflagged j i u f c) .after ≡ left m (m .rows) (reflagAfter (m .entries) (m .counts .messages) (m .queue) (m .session) (filled m) k x f c)
+  pub reflag-told : (f c : ℕ) → eventOutcome m (λ (j : Memory). reflagged j i u f c) .after ≡ left m (m .rows) (reflagAfter (m .entries) (m .counts .messages) (m .queue) (m .session) (filled m) k x f c)
   unfolding reflagAfter
   reflag-told f c =
       change-told b law rs many i u f c k h is (flags-free m (law .fill) i u) (away-free m (law .fill) i x asksFlags)

@@ -13,7 +13,7 @@ use Rattle.model.specs.Lines.{Line, status, render}
 use Rattle.model.specs.Queue.{room}
 use Rattle.model.specs.View.{view, placeOf, flagsAtOnce, flagsWait, flagsLine}
 use Rattle.model.specs.Events.{inView, message, reflag, reflagged, changesOf, silence}
-use Rattle.model.specs.Rules.{Outcome, told}
+use Rattle.model.specs.Rules.{Outcome, eventOutcome}
 use Rattle.demands.specs.Lasting.Law.{Law}
 use Rattle.model.specs.declared.Mailbox.{Mailbox}
 use Rattle.laws.specs.Room.{room-same}
@@ -41,7 +41,7 @@ module _ (b : Memory) (law : Law b) (rs : List Mailbox) (many i u f c k : ℕ) (
   on = awayTold m i x asksFlags
 
   abbrev end : Memory
-  end = told m (λ (j : Memory). reflagged j i u f c) .after
+  end = eventOutcome m (λ (j : Memory). reflagged j i u f c) .after
 
   -- the change told by a FETCH, and not
   abbrev now : After

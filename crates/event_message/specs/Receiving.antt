@@ -12,7 +12,7 @@ use Rattle.model.specs.Memory.{Memory, boxes, filled, place, known, theMailbox,
 use Rattle.model.specs.Groups.{askedOf, asksNew, selectedAsks}
 use Rattle.model.specs.View.{newAtOnce}
 use Rattle.model.specs.Events.{message, arrived}
-use Rattle.model.specs.Rules.{told}
+use Rattle.model.specs.Rules.{eventOutcome}
 use Rattle.demands.specs.Lasting.Law.{Law}
 use Rattle.demands.specs.Isolation.Erase.{box-id}
 use Rattle.model.specs.declared.Mailbox.{Mailbox}
@@ -76,7 +76,7 @@ module _ (b : Memory) (law : Law b) (rs : List Mailbox) (many : ℕ) (fit : many
   soon = ap (λ (b : Bool). b && (bothRights x && selectedAsks (m .session) (asksBit 0))) chosen
       ∙ and-same (isSelected m i) (bothRights x && selectedAsks (m .session) (asksBit 0)) (newAtOnce m) (λ v. ap (λ (b : Bool). b && selectedAsks (m .session) (asksBit 0)) (sym (rights v)))
 
-  pub receive-told : told m (λ (j : Memory). arrived j i u f z c) .after ≡ left m (set (m .rows) k (withNext x (u + 1))) (receiveAfter (m .entries) (m .counts .messages) (m .queue) (m .session) (filled m) x u f z c)
+  pub receive-told : eventOutcome m (λ (j : Memory). arrived j i u f z c) .after ≡ left m (set (m .rows) k (withNext x (u + 1))) (receiveAfter (m .entries) (m .counts .messages) (m .queue) (m .session) (filled m) x u f z c)
   unfolding receiveAfter
   receive-told =
       arrive-told m fit (law .states) i u f z c k at h space (showsOf (m .session)) (any-is (m .session)) (items-are (m .session)) low (news-free m (law .fill) i) (away-free m (law .fill) i (withNext x (u + 1)) asksNew)

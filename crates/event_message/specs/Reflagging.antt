@@ -13,7 +13,7 @@ use Rattle.model.specs.Lines.{Line, overflow, render}
 use Rattle.model.specs.Queue.{room, enqueue, effect, unmark}
 use Rattle.model.specs.View.{view, placeOf, flagsAtOnce, flagsWait, flagsLine}
 use Rattle.model.specs.Events.{inView, reflag, reflagged, silence, message}
-use Rattle.model.specs.Rules.{Outcome, told}
+use Rattle.model.specs.Rules.{Outcome, eventOutcome}
 use Rattle.demands.specs.Lasting.Law.{Law}
 use Rattle.model.specs.declared.Mailbox.{Mailbox}
 use Rattle.model.specs.declared.Message.{Message}
@@ -69,7 +69,7 @@ module _ (i u f c : ℕ) where
         ∙ ap (setEntry m k) (again-is s the is)
 
     abbrev pub outcome : Outcome
-    outcome = told m (λ (x : Memory). reflagged x i u f c)
+    outcome = eventOutcome m (λ (x : Memory). reflagged x i u f c)
 
     -- nobody asks, and nothing waits
     pub fl-plain : inView m i u ≡ true → flagsAtOnce m ≡ false → flagsWait m ≡ false → outcome ≡ quiet (setEntry m k (withFlags the f c))

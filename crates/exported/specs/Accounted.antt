@@ -11,7 +11,7 @@ use Rattle.model.specs.Memory.{Memory, held, bothRights, selectedBox}
 use Rattle.model.specs.Lawful.{queueOk}
 use Rattle.model.specs.Call.{call}
 use Rattle.model.specs.Hidden.{Octets, Starts}
-use Rattle.model.specs.Fates.{Fate, waits, told, tells}
+use Rattle.model.specs.Fates.{Fate, waits, reported, tells}
 use Rattle.model.specs.Seen.{apparent, seen, history, final, settingOf, settingBy, heldBy}
 use Rattle.model.specs.Account.{front, settle, accountOf, fateAt, Exact, Occasion, overflows, Cleared, Demand2}
 use Rattle.model.specs.declared.Answer.{Answer}
@@ -104,7 +104,7 @@ module _ (a : Lent) (start : Begins a a) (q : queueOk (length (a .queue)) ≡ tr
         (λ (x : Memory). settle (apparent x) (suc (length (octetsOf cs))) (recordOf (c .octets)) (call x (c .octets) .lines) (waits w)) (λ (x : Memory). waits w) (d .settles (octetsOf cs) (c .octets) k w h);
     first-occasion = λ cs run c made k w h t b o. d .first-occasion (octetsOf cs) (c .octets) k w h (was-taken cs run c made t)
         (there cs run (λ (x : Memory). bothRights (selectedBox x) ≡ true) b) (there cs run (λ (x : Memory). Occasion (accountOf m (octetsOf cs)) (seen x (c .octets)) w) o);
-    told-in-part = λ cs run c made k w h t n p. here cs run (λ (x : Memory). fateAt (accountOf m (octetsOf cs ++ (c .octets ∷ []))) k ≡ cond (tells (front (apparent x) (accountOf m (octetsOf cs)) n) w) (told (suc (length (octetsOf cs)))) (waits w))
+    told-in-part = λ cs run c made k w h t n p. here cs run (λ (x : Memory). fateAt (accountOf m (octetsOf cs ++ (c .octets ∷ []))) k ≡ cond (tells (front (apparent x) (accountOf m (octetsOf cs)) n) w) (reported (suc (length (octetsOf cs)))) (waits w))
         (d .told-in-part (octetsOf cs) (c .octets) k w h (was-taken cs run c made t) n p);
     no-loss = λ cs ds run on h. d .no-loss (octetsOf cs) (octetsOf ds) (there cs run (λ (x : Memory). overflows (history x (octetsOf ds)) ≡ false) h);
     all-told = λ cs ds run on c made h p b z. d .all-told (octetsOf cs) (octetsOf ds) (c .octets)

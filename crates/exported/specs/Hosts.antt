@@ -10,7 +10,7 @@ use Rattle.model.specs.Records.{about, recordOf, ended}
 use Rattle.model.specs.Memory.{Memory, held, bothRights, selectedBox}
 use Rattle.model.specs.Call.{call}
 use Rattle.model.specs.Hidden.{Octets}
-use Rattle.model.specs.Fates.{Debt, waits, told, tells, isSilent}
+use Rattle.model.specs.Fates.{Debt, waits, reported, tells, isSilent}
 use Rattle.model.specs.Seen.{apparent, seen, history, settingOf, settingBy, heldBy}
 use Rattle.model.specs.Account.{front, settle, accountOf, fateAt, Exact, Occasion, losses, overflows, Rested}
 use Rattle.step.specs.Steps.{Lent, memoryOf}
@@ -98,11 +98,11 @@ pub record HostsTold (a : Lent) : Type 0 where
   -- with l and r held what waits is told by the first occasion
   pub first-occasion : (cs : List Hosted) → HostRuns a cs → (c : Hosted) → Makes (lastOf a cs) c → (k : ℕ) (d : Debt) → fateAt (accountOf (memoryOf a) (octetsOf cs)) k ≡ waits d
       → eqb (c .answer .refusal) 0 ≡ true → bothRights (selectedBox (behind a cs)) ≡ true → Occasion (accountOf (memoryOf a) (octetsOf cs)) (seen (behind a cs) (c .octets)) d
-      → fateAt (accountOf (memoryOf a) (octetsOf cs ++ (c .octets ∷ []))) k ≡ told (suc (length (octetsOf cs)))
+      → fateAt (accountOf (memoryOf a) (octetsOf cs ++ (c .octets ∷ []))) k ≡ reported (suc (length (octetsOf cs)))
   -- a command end, whatever its room, tells of what waits exactly what its front tells; the rest waits on
   pub told-in-part : (cs : List Hosted) → HostRuns a cs → (c : Hosted) → Makes (lastOf a cs) c → (k : ℕ) (d : Debt) → fateAt (accountOf (memoryOf a) (octetsOf cs)) k ≡ waits d
       → eqb (c .answer .refusal) 0 ≡ true → (n : ℕ) → recordOf (c .octets) ≡ ended n
-      → fateAt (accountOf (memoryOf a) (octetsOf cs ++ (c .octets ∷ []))) k ≡ cond (tells (front (apparent (behind a cs)) (accountOf (memoryOf a) (octetsOf cs)) n) d) (told (suc (length (octetsOf cs)))) (waits d)
+      → fateAt (accountOf (memoryOf a) (octetsOf cs ++ (c .octets ∷ []))) k ≡ cond (tells (front (apparent (behind a cs)) (accountOf (memoryOf a) (octetsOf cs)) n) d) (reported (suc (length (octetsOf cs)))) (waits d)
   -- calls without an overflow line lose nothing
   pub no-loss : (cs ds : List Hosted) → HostRuns a cs → HostRuns (lastOf a cs) ds → overflows (history (behind a cs) (octetsOf ds)) ≡ false
       → losses (accountOf (memoryOf a) (octetsOf cs ++ octetsOf ds)) ≡ losses (accountOf (memoryOf a) (octetsOf cs))

@@ -18,7 +18,7 @@ use Rattle.model.specs.Events.{Event, created, deleted, renamedTo, subscribedTo
 use Rattle.model.specs.View.{expungeAtOnce, flagsAtOnce, flagsWait}
 use Rattle.model.specs.Answering.{answered, reply, isAccepted, answerLines}
 use Rattle.model.specs.Refusals.{wrongId, nameHeld, wrongUid, wrongState, tableFull}
-use Rattle.model.specs.Rules.{Outcome, accepted, raised, told, endLines}
+use Rattle.model.specs.Rules.{Outcome, accepted, raised, eventOutcome, endLines}
 use Rattle.model.specs.Call.{call, roomless, refuse}
 use Rattle.model.specs.declared.Mailbox.{Mailbox}
 use Rattle.model.specs.declared.Refusal.{Refusal}
@@ -70,12 +70,12 @@ drop-rows m i =
     let b = boxes-fit m in rows-with m (filterb (λ (x : Mailbox). not (eqb (x .id) i)) (boxes m)) (omega arith)
 
 -- ---- an event, told or with the overflow line
-told-rows : (m : Memory) (event : Memory → Event) → AsMany m (event m .stored) → AsMany m (event (silence m) .stored) → AsMany m (told m event .after)
+told-rows : (m : Memory) (event : Memory → Event) → AsMany m (event m .stored) → AsMany m (event (silence m) .stored) → AsMany m (eventOutcome m event .after)
 unfolding settled
 told-rows m event p q = say-rows (settled m event) (tellings m event) ∙ either m (fits m (event m .lines)) _ _ p q
 
 -- an event of a mailbox that has the record's counter by then
-raised-rows : (m : Memory) (i c : ℕ) (event : Memory → Event) → AsMany (raised m i c) (event (raised m i c) .stored) → AsMany (raised m i c) (event (silence (raised m i c)) .stored) → AsMany m (told (raised m i c) event .after)
+raised-rows : (m : Memory) (i c : ℕ) (event : Memory → Event) → AsMany (raised m i c) (event (raised m i c) .stored) → AsMany (raised m i c) (event (silence (raised m i c)) .stored) → AsMany m (eventOutcome (raised m i c) event .after)
 raised-rows m i c event p q = told-rows (raised m i c) event p q ∙ put-rows m i _
 
 removed-rows : (m : Memory) (i u : ℕ) → AsMany m (removed m i u .stored)

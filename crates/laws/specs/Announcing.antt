@@ -14,7 +14,7 @@ use Rattle.model.specs.Lines.{Line, modseq, overflow, render, renderAll}
 use Rattle.model.specs.Queue.{room, enqueue, announce, showsFlags, unmark, effects, say}
 use Rattle.model.specs.View.{existsLine, newLines, shownItems}
 use Rattle.model.specs.Events.{Event, silence, tellings, settled}
-use Rattle.model.specs.Rules.{told}
+use Rattle.model.specs.Rules.{eventOutcome}
 use Rattle.model.specs.Lawful.{stateOk}
 use Rattle.model.specs.declared.Message.{Message}
 use Rattle.model.specs.declared.Session.{Session}
@@ -24,11 +24,11 @@ use Rattle.laws.specs.Counting.{countb, filter-count, filter-both, count
 
 -- ---- several lines are told, or none of them
 module _ (m : Memory) (event : Memory → Event) (ls : List Line) (e : event m .lines ≡ ls) where
-  pub told-many : leb (length (renderAll ls)) (room m) ≡ true → told m event .after ≡ say (event m .stored) ls
+  pub told-many : leb (length (renderAll ls)) (room m) ≡ true → eventOutcome m event .after ≡ say (event m .stored) ls
   unfolding tellings settled
   told-many h = rw (e, h)
 
-  pub told-past : leb (length (renderAll ls)) (room m) ≡ false → told m event .after ≡ enqueue (event (silence m) .stored) (render overflow)
+  pub told-past : leb (length (renderAll ls)) (room m) ≡ false → eventOutcome m event .after ≡ enqueue (event (silence m) .stored) (render overflow)
   unfolding tellings settled
   told-past h = rw (e, h) (say-one (event (silence m) .stored) overflow)
 

@@ -17,7 +17,7 @@ use Rattle.model.specs.Call.{call}
 use Rattle.model.specs.Hidden.{Octets}
 use Rattle.model.specs.declared.Message.{Message}
 use Rattle.model.specs.declared.Answer.the-variants.{Counted}
-use Rattle.model.specs.Fates.{Debt, removal, lowestClass, reselected, expungedFirst, Fate, refused, unowed, told, waits, dropped, lost, silent, ifWaits, waitsStill, isSilent, isLost, tells, isRemoval, isOverflow, isNotice, saysOk, ofMailbox, deletes, adds, expunges, reflags, change, selects, ends, asks, drains, noAct, act, reselects, expungesFirst, setsGroups}
+use Rattle.model.specs.Fates.{Debt, removal, lowestClass, reselected, expungedFirst, Fate, refused, unowed, reported, waits, dropped, lost, silent, ifWaits, waitsStill, isSilent, isLost, tells, isRemoval, isOverflow, isNotice, saysOk, ofMailbox, deletes, adds, expunges, reflags, change, selects, ends, asks, drains, noAct, act, reselects, expungesFirst, setsGroups}
 use Rattle.model.specs.Seen.{apparent, Seen, seen, history, final, settingOf, settingBy, heldBy}
 use Rattle.model.specs.Due.{Account, opened, waiting, Due, nothing, atOnce, later, due, owing}
 
@@ -50,7 +50,7 @@ notices ls = filterb isNotice ls
 -- what waits is told by the first line of call n that tells it, or dropped; else it waits on
 abbrev pub settledDebt : Memory → ℕ → Record → List Line → Debt → Fate
 settledDebt w n r ls d =
-    cond (tells ls d) (told n)
+    cond (tells ls d) (reported n)
     (cond (reselects r) (dropped reselected n)
     (cond (expungesFirst w r d) (dropped expungedFirst n) (waits d)))
 
@@ -66,7 +66,7 @@ overflowed d = elim d [ nothing y ↦ lost | atOnce ls ↦ lost | later x ↦ wa
 abbrev pub own : ℕ → (owes hushed : Due) → List Line → Fate
 own n d hushed ls = elim d [
   | nothing y ↦ unowed y
-  | atOnce ds ↦ cond (anyb isOverflow ls) (overflowed hushed) (cond (same (renderAll ls) (renderAll ds)) (told n) silent)
+  | atOnce ds ↦ cond (anyb isOverflow ls) (overflowed hushed) (cond (same (renderAll ls) (renderAll ds)) (reported n) silent)
   | later x ↦ waits x
 ]
 
@@ -172,11 +172,11 @@ pub record Demand2 (m : Memory) : Type 0 where
   -- with l and r held what waits is told by the first occasion
   pub first-occasion : (os : List Octets) (o : Octets) (k : ℕ) (d : Debt) → fateAt (accountOf m os) k ≡ waits d
       → seen (final m os) o .taken ≡ true → bothRights (selectedBox (final m os)) ≡ true → Occasion (accountOf m os) (seen (final m os) o) d
-      → fateAt (accountOf m (os ++ (o ∷ []))) k ≡ told (suc (length os))
+      → fateAt (accountOf m (os ++ (o ∷ []))) k ≡ reported (suc (length os))
   -- a command end, whatever its room, tells of what waits exactly what its front tells; the rest waits on
   pub told-in-part : (os : List Octets) (o : Octets) (k : ℕ) (d : Debt) → fateAt (accountOf m os) k ≡ waits d
       → seen (final m os) o .taken ≡ true → (c : ℕ) → recordOf o ≡ ended c
-      → fateAt (accountOf m (os ++ (o ∷ []))) k ≡ cond (tells (front (apparent (final m os)) (accountOf m os) c) d) (told (suc (length os))) (waits d)
+      → fateAt (accountOf m (os ++ (o ∷ []))) k ≡ cond (tells (front (apparent (final m os)) (accountOf m os) c) d) (reported (suc (length os))) (waits d)
   -- calls without an overflow line lose nothing
   pub no-loss : (os ps : List Octets) → overflows (history (final m os) ps) ≡ false → losses (accountOf m (os ++ ps)) ≡ losses (accountOf m os)
   -- after calls ps without an overflow line and then a cleared end o, every change is settled, and none was lost since ps began

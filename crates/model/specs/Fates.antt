@@ -44,7 +44,7 @@ pub data Ending : Type 0 where
 pub data Fate : Type 0 where
   refused : Fate
   unowed : Why → Fate
-  told : (n : ℕ) → Fate
+  reported : (n : ℕ) → Fate
   waits : Debt → Fate
   dropped : Ending → (n : ℕ) → Fate
   lost : Fate
@@ -62,7 +62,7 @@ module _ {A : Type 0} where
   abbrev pub ifWaits : (Debt → A) → A → Fate → A
   ifWaits f else refused = else
   ifWaits f else (unowed y) = else
-  ifWaits f else (told n) = else
+  ifWaits f else (reported n) = else
   ifWaits f else (waits d) = f d
   ifWaits f else (dropped y n) = else
   ifWaits f else lost = else
@@ -77,10 +77,10 @@ waitsStill f = ifWaits (λ (d : Debt). true) false f
 
 -- it was passed over; it was lost
 abbrev pub isSilent : Fate → Bool
-isSilent f = elim f [ silent ↦ true | refused ↦ false | unowed y ↦ false | told n ↦ false | waits d ↦ false | dropped y n ↦ false | lost ↦ false ]
+isSilent f = elim f [ silent ↦ true | refused ↦ false | unowed y ↦ false | reported n ↦ false | waits d ↦ false | dropped y n ↦ false | lost ↦ false ]
 
 abbrev pub isLost : Fate → Bool
-isLost f = elim f [ lost ↦ true | refused ↦ false | unowed y ↦ false | told n ↦ false | waits d ↦ false | dropped y n ↦ false | silent ↦ false ]
+isLost f = elim f [ lost ↦ true | refused ↦ false | unowed y ↦ false | reported n ↦ false | waits d ↦ false | dropped y n ↦ false | silent ↦ false ]
 
 -- ---- what a line says
 -- to the account: EXISTS announces; EXPUNGE removes message u; FETCH is of message u, with its flags or without; the overflow line stops all notices;

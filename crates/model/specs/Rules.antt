@@ -20,8 +20,8 @@ pub record Outcome : Type 0 where
   pub after : Memory
 
 -- an event is told (Written, 22)
-abbrev pub told : Memory → (Memory → Event) → Outcome
-told m event = record { answer = Done; lines = tellings m event; after = say (settled m event) (tellings m event) }
+abbrev pub eventOutcome : Memory → (Memory → Event) → Outcome
+eventOutcome m event = record { answer = Done; lines = tellings m event; after = say (settled m event) (tellings m event) }
 
 -- `SE`: the view is all that exists, and nothing waits any more (Records, 15; Written, 12)
 abbrev pub rested : Message → Message
@@ -43,14 +43,14 @@ raised m i c = putBox m i (withCounter (theMailbox i (boxes m)) c)
 
 -- one rule for each kind
 unfoldable pub accepted : Memory → Record → Outcome
-accepted m (create i a q v c n) = told m (λ (k : Memory). created k i a q v c n)
-accepted m (delete i q) = told m (λ (k : Memory). deleted k i q)
-accepted m (rename i q n) = told m (λ (k : Memory). renamedTo k i q n)
-accepted m (subscribe i s q) = told m (λ (k : Memory). subscribedTo k i s q)
-accepted m (grant i r) = told m (λ (k : Memory). granted k i r)
-accepted m (arrive i u f z c) = told (raised m i c) (λ (k : Memory). arrived k i u f z c)
-accepted m (expunge i u c) = told (raised m i c) (λ (k : Memory). removed k i u)
-accepted m (reflag i u f c) = told (raised m i c) (λ (k : Memory). reflagged k i u f c)
+accepted m (create i a q v c n) = eventOutcome m (λ (k : Memory). created k i a q v c n)
+accepted m (delete i q) = eventOutcome m (λ (k : Memory). deleted k i q)
+accepted m (rename i q n) = eventOutcome m (λ (k : Memory). renamedTo k i q n)
+accepted m (subscribe i s q) = eventOutcome m (λ (k : Memory). subscribedTo k i s q)
+accepted m (grant i r) = eventOutcome m (λ (k : Memory). granted k i r)
+accepted m (arrive i u f z c) = eventOutcome (raised m i c) (λ (k : Memory). arrived k i u f z c)
+accepted m (expunge i u c) = eventOutcome (raised m i c) (λ (k : Memory). removed k i u)
+accepted m (reflag i u f c) = eventOutcome (raised m i c) (λ (k : Memory). reflagged k i u f c)
 accepted m (select i) = record { answer = Done; lines = []; after = selecting m i }
 accepted m (ended c) = endedAt m c
 accepted m (command t) = record { answer = Done; lines = answerLines m t; after = answered m t }

@@ -7,7 +7,7 @@ use native.Mathlib.Omega.{arith}
 use lib.Dec.{eqb}
 use Rattle.model.specs.Lists.{anyb}
 use Rattle.model.specs.Laws.{tf, or-l, or-r}
-use Rattle.model.specs.Fates.{Fate, refused, unowed, told, waits, dropped, lost, silent, isSilent}
+use Rattle.model.specs.Fates.{Fate, refused, unowed, reported, waits, dropped, lost, silent, isSilent}
 
 pub record Tally : Type 0 where
   pub called : ℕ
@@ -24,7 +24,7 @@ noTally = record { called = 0; atOnce = 0; later = 0; still = 0; dropped = 0; lo
 abbrev pub counted : ℕ → Fate → Tally → Tally
 counted k refused t = t
 counted k (unowed y) t = t
-counted k (told n) t = record {
+counted k (reported n) t = record {
   called = suc (t .called);
   atOnce = cond (eqb n k) (suc (t .atOnce)) (t .atOnce);
   later = cond (eqb n k) (t .later) (suc (t .later));
@@ -55,7 +55,7 @@ adds-up k (f ∷ fs) h = go f (or-l (isSilent f) _ h) (adds-up (suc k) fs (or-r 
         → (let t = counted k g (tallied (suc k) fs) in t .called ≡ t .atOnce + t .later + t .still + t .dropped + t .lost)
     go refused q ih = ih
     go (unowed y) q ih = ih
-    go (told n) q ih = either (eqb n k)
+    go (reported n) q ih = either (eqb n k)
       where
         either : (c : Bool) → let t = tallied (suc k) fs in suc (t .called) ≡ cond c (suc (t .atOnce)) (t .atOnce) + cond c (t .later) (suc (t .later)) + t .still + t .dropped + t .lost
         either true = omega arith

@@ -11,7 +11,7 @@ use Rattle.model.specs.Memory.{Memory, boxes, mails, filled, known, theMailbox,
 use Rattle.model.specs.Records.{arrive}
 use Rattle.model.specs.Refusals.{tableFull}
 use Rattle.model.specs.Events.{arrived}
-use Rattle.model.specs.Rules.{accepted, told}
+use Rattle.model.specs.Rules.{accepted, eventOutcome}
 use Rattle.demands.specs.Lasting.Law.{Law}
 use Rattle.model.specs.declared.Mailbox.{Mailbox}
 use Rattle.model.specs.declared.Counts.{Counts}
@@ -78,5 +78,5 @@ module _ (m : Memory) (ws : List ℕ) (k : Counts) (s : Session) (q : List ℕ) 
             let same : receiveAfter (m .entries) (m .counts .messages) (m .queue) (m .session) (filled m) (theMailbox i (boxes (risen m p x c))) u f z c ≡ receiveAfter (messages ws) (k .messages) q s (k .filled) y u f z c = cc in
             let rows : set rs p (withNext (theMailbox i (boxes (risen m p x c))) (u + 1)) ≡ set (m .rows) p row = set-set (m .rows) p (withCounter x c) (withNext (theMailbox i (boxes (risen m p x c))) (u + 1)) ∙ ap (set (m .rows) p) (ap (λ (v : Mailbox). withNext v (u + 1)) the-row ∙ sym d) in
             rw past (comes-put m ws k s q lent (accepted m (arrive i u f z c)) (receiveAfter (messages ws) (k .messages) q s (k .filled) y u f z c) ws′ n q′ s′ e refl l r p row
-            (ap (λ (j : Memory). told j (λ (v : Memory). arrived v i u f z c) .after) (is-risen m law i p x w many there c)
+            (ap (λ (j : Memory). eventOutcome j (λ (v : Memory). arrived v i u f z c) .after) (is-risen m law i p x w many there c)
             ∙ (receive-told m law rs (m .counts .mailboxes) (risen-fit m law i p x w many there c) i u f z c p (risen-place m law i p x w many there c) many space (risen-known m law i p x w many there c) (told-low m law i u next) ∙ ap₂ (left m) rows same)) t)

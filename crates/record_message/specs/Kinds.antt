@@ -10,7 +10,7 @@ use Rattle.model.specs.Memory.{Memory, boxes, filled, known, theMailbox, counte
 use Rattle.model.specs.Records.{reflag, expunge}
 use Rattle.model.specs.Refusals.{absent, stale}
 use Rattle.model.specs.Events.{removed, reflagged}
-use Rattle.model.specs.Rules.{Outcome, accepted, told}
+use Rattle.model.specs.Rules.{Outcome, accepted, eventOutcome}
 use Rattle.model.specs.Call.{refuse}
 use Rattle.demands.specs.Lasting.Law.{Law}
 use Rattle.model.specs.declared.Mailbox.{Mailbox}
@@ -74,7 +74,7 @@ module _ (m : Memory) (ws : List ℕ) (k : Counts) (s : Session) (q : List ℕ) 
             let y = the-row in
             let same : reflagAfter (m .entries) (m .counts .messages) (m .queue) (m .session) (filled m) at (theMailbox i (boxes (risen m p x c))) f c ≡ reflagAfter (messages ws) (k .messages) q s (k .filled) at row f c = cc in
             served (accepted m (reflag i u f c)) (reflagAfter (messages ws) (k .messages) q s (k .filled) at row f c) refl
-            (ap (λ (j : Memory). told j (λ (v : Memory). reflagged v i u f c) .after) (is-risen m law i p x w many there c)
+            (ap (λ (j : Memory). eventOutcome j (λ (v : Memory). reflagged v i u f c) .after) (is-risen m law i p x w many there c)
             ∙ (reflag-told m law rs (m .counts .mailboxes) i u at inside (is-that m ws k s q lent law i p x w u at found h) (risen-known m law i p x w many there c) f c ∙ ap (left m rs) same))
 
         pub expunge-done : Leaves (expungeAfter (messages ws) (k .messages) q s (k .filled) at row) ws ws′ n q′ s′ e → Comes m (ladder m (expunge i u c)) r ws ws′ q′
@@ -83,5 +83,5 @@ module _ (m : Memory) (ws : List ℕ) (k : Counts) (s : Session) (q : List ℕ) 
             let y = the-row in
             let same : expungeAfter (m .entries) (m .counts .messages) (m .queue) (m .session) (filled m) at (theMailbox i (boxes (risen m p x c))) ≡ expungeAfter (messages ws) (k .messages) q s (k .filled) at row = cc in
             served (accepted m (expunge i u c)) (expungeAfter (messages ws) (k .messages) q s (k .filled) at row) refl
-            (ap (λ (j : Memory). told j (λ (v : Memory). removed v i u) .after) (is-risen m law i p x w many there c)
+            (ap (λ (j : Memory). eventOutcome j (λ (v : Memory). removed v i u) .after) (is-risen m law i p x w many there c)
             ∙ (expunge-told m law rs (m .counts .mailboxes) i u at inside (is-that m ws k s q lent law i p x w u at found h) (risen-known m law i p x w many there c) ∙ ap (left m rs) same))

@@ -15,7 +15,7 @@ use Rattle.model.specs.Answering.{isAccepted, reply, answerLines, withAsked, an
 use Rattle.model.specs.Answers.{numberOf}
 use Rattle.model.specs.Lawful.{lawful}
 use Rattle.model.specs.Refusals.{wrongId, nameHeld, wrongUid, wrongState, tableFull}
-use Rattle.model.specs.Rules.{Outcome, told, accepted}
+use Rattle.model.specs.Rules.{Outcome, eventOutcome, accepted}
 use Rattle.model.specs.Call.{call, refuse, roomless}
 use Rattle.model.specs.Hidden.{Octets}
 use Rattle.model.specs.declared.Session.{Session}
@@ -72,7 +72,7 @@ module _ (P : Bool → Memory → Type 0) where
 -- ---- a claim of memory that writing lines leaves true
 module _ (P : Memory → Type 0) (written : (n : Memory) (ls : List Line) → P n → P (say n ls)) (m : Memory) where
   -- an event is told, or overflows
-  pub by-told : (event : Memory → Event) → P (event m .stored) → P (event (silence m) .stored) → P (told m event .after)
+  pub by-told : (event : Memory → Event) → P (event m .stored) → P (event (silence m) .stored) → P (eventOutcome m event .after)
   unfolding tellings settled
   by-told event a b = go (fits m (event m .lines))
     where

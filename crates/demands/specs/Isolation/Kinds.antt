@@ -15,7 +15,7 @@ use Rattle.model.specs.Queue.{fits, fitting}
 use Rattle.model.specs.Events.{Event, silence}
 use Rattle.model.specs.Refusals.{wrongId, heldByAnother, nameHeld, absent, stale, wrongUid, unfit, wrongState, tableFull}
 use Rattle.model.specs.Answering.{answerLines}
-use Rattle.model.specs.Rules.{told, rested, endLines, raised, accepted}
+use Rattle.model.specs.Rules.{eventOutcome, rested, endLines, raised, accepted}
 use Rattle.model.specs.Call.{roomless}
 use Rattle.model.specs.declared.Mailbox.{Mailbox}
 use Rattle.model.specs.declared.Message.{Message}
@@ -154,7 +154,7 @@ module _ (H : ℕ → Bool) (h0 : H 0 ≡ false) (s t : Memory) (a : Alike H s t
 
   -- an event of a message, once its mailbox has the counter
   told-raised : (i : ℕ) → H i ≡ false → (c : ℕ) (event : Memory → Event) → (Alike H (raised s i c) (raised t i c) → AlikeEvent H (event (raised s i c)) (event (raised t i c)))
-      → (Alike H (silence (raised s i c)) (silence (raised t i c)) → AlikeEvent H (event (silence (raised s i c))) (event (silence (raised t i c)))) → AlikeOutcome H (told (raised s i c) event) (told (raised t i c) event)
+      → (Alike H (silence (raised s i c)) (silence (raised t i c)) → AlikeEvent H (event (silence (raised s i c))) (event (silence (raised t i c)))) → AlikeOutcome H (eventOutcome (raised s i c) event) (eventOutcome (raised t i c) event)
   told-raised i h c event now quiet =
       let k = raised-left H h0 s t a i h c in
       told-left H h0 (raised s i c) (raised t i c) k event (now k) (quiet (alike-silence H h0 (raised s i c) (raised t i c) k))

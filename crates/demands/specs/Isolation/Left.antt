@@ -14,7 +14,7 @@ use Rattle.model.specs.Lines.{mailItems, expunge, overflow}
 use Rattle.model.specs.Queue.{fits}
 use Rattle.model.specs.View.{placeOf, expungeAtOnce, flagsAtOnce, flagsWait, flagsLine}
 use Rattle.model.specs.Events.{Event, loud, createLines, deleteLines, renameLines, subscriptionLines, rightsLines, newBox, created, deleted, renamedTo, withSubscribed, subscribedTo, withRights, granted, statusLines, countsOf, changesOf, message, withArrived, arrived, inView, expire, removed, reflag, mark, reflagged, silence, tellings, settled}
-use Rattle.model.specs.Rules.{Outcome, told, raised}
+use Rattle.model.specs.Rules.{Outcome, eventOutcome, raised}
 use Rattle.model.specs.declared.Mailbox.{Mailbox}
 use Rattle.model.specs.declared.Message.{Message}
 use Rattle.model.specs.declared.Group.{Group}
@@ -50,14 +50,14 @@ module _ (H : ℕ → Bool) (h0 : H 0 ≡ false) where
 
   -- an event is told alike, if it is alike now and after NOTIFY NONE
   pub told-left : (s t : Memory) → Alike H s t → (event : Memory → Event) → AlikeEvent H (event s) (event t) → AlikeEvent H (event (silence s)) (event (silence t))
-      → AlikeOutcome H (told s event) (told t event)
+      → AlikeOutcome H (eventOutcome s event) (eventOutcome t event)
   unfolding tellings settled
   told-left s t a event now hushed = go (fits s (event s .lines)) refl
     where
       same : fits t (event t .lines) ≡ fits s (event s .lines)
       same = ap (fits t) (now .lines) ∙ same-fits H s t a (event s .lines)
 
-      go : (b : Bool) → fits s (event s .lines) ≡ b → AlikeOutcome H (told s event) (told t event)
+      go : (b : Bool) → fits s (event s .lines) ≡ b → AlikeOutcome H (eventOutcome s event) (eventOutcome t event)
       go true e = record {
         answer = refl;
         after = rw (same, e, now .lines) (alike-say H (event s .stored) (event t .stored) (now .stored) (event s .lines));

@@ -14,7 +14,7 @@ use Rattle.model.specs.Memory.{Memory, boxes, mails, filled, held, place, known
 use Rattle.model.specs.Lines.{Line, status, list, renamed, exists, expunge as expungeLine, fetch, found, overflow, answer, renderAll}
 use Rattle.model.specs.Queue.{fits, enqueue, effect, effects, showsFlags, unmark, say}
 use Rattle.model.specs.Events.{Event, loud, newBox, withSubscribed, withRights, message, inView, reflag as reflagOf, created, deleted, renamedTo, subscribedTo, granted, arrived, removed, reflagged, silence, tellings, settled}
-use Rattle.model.specs.Rules.{told, raised}
+use Rattle.model.specs.Rules.{eventOutcome, raised}
 use Rattle.model.specs.Hidden.{visible}
 use Rattle.model.specs.declared.Mailbox.{Mailbox}
 use Rattle.model.specs.declared.Message.{Message}
@@ -112,12 +112,12 @@ module _ (H : ℕ → Bool) (s t : Memory) (a : Alike H s t) where
 
 -- an event that owes no line, and what it stores
 module _ (H : ℕ → Bool) (s t : Memory) (event : Memory → Event) where
-  off-told : event s .lines ≡ [] → Alike H (event s .stored) t → Alike H (told s event .after) t
+  off-told : event s .lines ≡ [] → Alike H (event s .stored) t → Alike H (eventOutcome s event .after) t
   unfolding tellings settled renderAll
   off-told e k = rw (e, leb·zero) (off-nothing H (event s .stored) t k)
 
   -- the mailboxes after it, whether it is told or overflows
-  pub boxes-told : (l : List Mailbox) → boxes (event s .stored) ≡ l → boxes (event (silence s) .stored) ≡ l → boxes (told s event .after) ≡ l
+  pub boxes-told : (l : List Mailbox) → boxes (event s .stored) ≡ l → boxes (event (silence s) .stored) ≡ l → boxes (eventOutcome s event .after) ≡ l
   unfolding tellings settled
   boxes-told l e k = go (fits s (event s .lines))
     where
@@ -170,12 +170,12 @@ module _ (H : ℕ → Bool) (h0 : H 0 ≡ false) (s t : Memory) (a : Alike H s t
   gone-id k = ap H (box-id i (boxes s) k) ∙ hi
 
   -- ---- the kinds
-  module _ (event : Memory → Event) (l : List Mailbox) (e : boxes (event s .stored) ≡ l) (k : boxes (event (silence s) .stored) ≡ l) (dark : Dark H (told s event .after)) where
+  module _ (event : Memory → Event) (l : List Mailbox) (e : boxes (event s .stored) ≡ l) (k : boxes (event (silence s) .stored) ≡ l) (dark : Dark H (eventOutcome s event .after)) where
     -- the mailboxes after it hold no right at i
     pub dim-after : anyb (λ (x : Mailbox). eqb (x .id) i && visible x) l ≡ false
     dim-after = rw (boxes-told H s t event l e k) at (dark i hi)
 
-  pub created-off : (at q v c : ℕ) (n : Name) → length (boxes s) < length (s .rows) → Dark H (told s (λ (k : Memory). created k i at q v c n) .after) → Alike H (told s (λ (k : Memory). created k i at q v c n) .after) t
+  pub created-off : (at q v c : ℕ) (n : Name) → length (boxes s) < length (s .rows) → Dark H (eventOutcome s (λ (k : Memory). created k i at q v c n) .after) → Alike H (eventOutcome s (λ (k : Memory). created k i at q v c n) .after) t
   created-off at q v c n room dark =
       let x : Mailbox = newBox i at v c n in
       let p : Mailbox → Bool = λ (y : Mailbox). eqb (y .id) i && visible y in
@@ -186,7 +186,7 @@ module _ (H : ℕ → Bool) (h0 : H 0 ≡ false) (s t : Memory) (a : Alike H s t
       (off-boxes H s t a (boxes s ++ (x ∷ [])) (filter-append (staysBox H) (boxes s) (x ∷ []) ∙ rw hi (append-nil (boxesOff H (boxes s))))
       (let m = length-append (boxes s) (x ∷ []) in omega arith))
 
-  pub deleted-off : (q : ℕ) → Alike H (told s (λ (k : Memory). deleted k i q) .after) t
+  pub deleted-off : (q : ℕ) → Alike H (eventOutcome s (λ (k : Memory). deleted k i q) .after) t
   deleted-off q = off-told H s t (λ (k : Memory). deleted k i q) (no-loud q _ (no-when (theMailbox i (boxes s)) _ _ dim))
       (off-drop-mails (dropBox s i)
       (off-boxes H s t a (filterb (λ (x : Mailbox). not (eqb (x .id) i)) (boxes s))
@@ -194,11 +194,11 @@ module _ (H : ℕ → Bool) (h0 : H 0 ≡ false) (s t : Memory) (a : Alike H s t
       (let n = filter-length (λ (x : Mailbox). not (eqb (x .id) i)) (boxes s) in let k = boxes-fit s in omega arith))
       (inMailbox i) (λ e k. k))
 
-  pub renamed-off : (q : ℕ) (n : Name) → known i (boxes s) ≡ true → Alike H (told s (λ (k : Memory). renamedTo k i q n) .after) t
+  pub renamed-off : (q : ℕ) (n : Name) → known i (boxes s) ≡ true → Alike H (eventOutcome s (λ (k : Memory). renamedTo k i q n) .after) t
   renamed-off q n k = off-told H s t (λ (k : Memory). renamedTo k i q n) (no-loud q _ (no-when (theMailbox i (boxes s)) _ _ dim))
       (off-put (withName (theMailbox i (boxes s)) n) (gone-id k))
 
-  pub subscribed-off : (b q : ℕ) → known i (boxes s) ≡ true → Alike H (told s (λ (k : Memory). subscribedTo k i b q) .after) t
+  pub subscribed-off : (b q : ℕ) → known i (boxes s) ≡ true → Alike H (eventOutcome s (λ (k : Memory). subscribedTo k i b q) .after) t
   subscribed-off b q k = off-told H s t (λ (k : Memory). subscribedTo k i b q) (no-loud q _ (rw (no-list (theMailbox i (boxes s)) dim, and-false)))
       (off-put (withAttributes (theMailbox i (boxes s)) (withSubscribed (theMailbox i (boxes s) .attributes) b)) (gone-id k))
 
@@ -212,7 +212,7 @@ module _ (H : ℕ → Bool) (h0 : H 0 ≡ false) (s t : Memory) (a : Alike H s t
       go true g ih = rw (eq-eqb (y .id) i q) at (or-l (eqb (y .id) i && visible y) _ (rw g at z))
       go false g ih = ih (lt-ltb (place i l) (length l) (let w = ltb-true (suc (place i l)) (suc (length l)) (rw g at k) in omega arith)) (or-r (eqb (x .id) i && visible x) _ (rw g at z))
 
-  pub granted-off : (r : ℕ) → known i (boxes s) ≡ true → Dark H (told s (λ (k : Memory). granted k i r) .after) → Alike H (told s (λ (k : Memory). granted k i r) .after) t
+  pub granted-off : (r : ℕ) → known i (boxes s) ≡ true → Dark H (eventOutcome s (λ (k : Memory). granted k i r) .after) → Alike H (eventOutcome s (λ (k : Memory). granted k i r) .after) t
   granted-off r k dark =
       let y : Mailbox = withRights (theMailbox i (boxes s)) r in
       let l : List Mailbox = set (boxes s) (place i (boxes s)) y in
@@ -230,7 +230,7 @@ module _ (H : ℕ → Bool) (h0 : H 0 ≡ false) (s t : Memory) (a : Alike H s t
       rw (boxes-with s (set (boxes s) (place i (boxes s)) (withCounter x c)))
       (any-set (λ (y : Mailbox). eqb (y .id) j && visible y) (boxes s) (place i (boxes s)) (withCounter x c) (d j hj) (ap (λ (b : Bool). eqb (x .id) j && b) dim ∙ and-false (eqb (x .id) j)))
 
-  pub arrived-off : (u f z c : ℕ) → known i (boxes s) ≡ true → length (mails s) < length (s .entries) → Dark H (told s (λ (k : Memory). arrived k i u f z c) .after) → Alike H (told s (λ (k : Memory). arrived k i u f z c) .after) t
+  pub arrived-off : (u f z c : ℕ) → known i (boxes s) ≡ true → length (mails s) < length (s .entries) → Dark H (eventOutcome s (λ (k : Memory). arrived k i u f z c) .after) → Alike H (eventOutcome s (λ (k : Memory). arrived k i u f z c) .after) t
   arrived-off u f z c k room dark =
       let y : Mailbox = withNext (theMailbox i (boxes s)) (u + 1) in
       let l : List Mailbox = set (boxes s) (place i (boxes s)) y in
@@ -241,11 +241,11 @@ module _ (H : ℕ → Bool) (h0 : H 0 ≡ false) (s t : Memory) (a : Alike H s t
       (filter-append (staysMail H) (mails s) (message i u f z c ∷ []) ∙ rw hi (append-nil (mailsOff H (mails s))))
       (let m = length-append (mails s) (message i u f z c ∷ []) in omega arith))
 
-  pub removed-off : (u : ℕ) → Alike H (told s (λ (k : Memory). removed k i u) .after) t
+  pub removed-off : (u : ℕ) → Alike H (eventOutcome s (λ (k : Memory). removed k i u) .after) t
   removed-off u = off-told H s t (λ (k : Memory). removed k i u) (rw (outside u, unselected) (no-when (theMailbox i (boxes s)) _ _ dim))
       (rw (outside u) (off-drop-mails s a (isMessage i u) (no-message u)))
 
-  pub reflagged-off : (u f c : ℕ) → Alike H (told s (λ (k : Memory). reflagged k i u f c) .after) t
+  pub reflagged-off : (u f c : ℕ) → Alike H (eventOutcome s (λ (k : Memory). reflagged k i u f c) .after) t
   reflagged-off u f c = off-told H s t (λ (k : Memory). reflagged k i u f c) (rw (outside u, unselected) (no-when (theMailbox i (boxes s)) _ _ dim))
       (rw (outside u) (off-mails H s t a (map (reflagOf i u f c) (mails s))
       (filter-map-same (reflagOf i u f c) (staysMail H) (λ e. kept e (isMessage i u e)) (λ e h. rw (no-message u e (other e h))) (mails s))

@@ -13,7 +13,7 @@ use Rattle.model.specs.Memory.{Memory, boxes, mails, filled, selectedBox, known
 use Rattle.model.specs.Lines.{Line, status, list, renamed, exists, expunge, fetch, found, overflow, answer, render, renderAll}
 use Rattle.model.specs.Queue.{room, fits, fitting, written, enqueue, announce, unmark, showsFlags, effect, effects, say}
 use Rattle.model.specs.Events.{Event, silence, tellings, settled}
-use Rattle.model.specs.Rules.{told}
+use Rattle.model.specs.Rules.{eventOutcome}
 use Rattle.model.specs.Lawful.{counterOk, messageOk, twin, owned, viewOk, stateOk}
 use Rattle.model.specs.declared.Mailbox.{Mailbox}
 use Rattle.model.specs.declared.Message.{Message}
@@ -212,7 +212,7 @@ unfolding renderAll render
 overflow-short = refl
 
 -- an event is told: its lines fit, or a group stands, so that the overflow line has room
-pub law-told : (m : Memory) → Law m → (event : Memory → Event) → Kept m (event m) → Kept (silence m) (event (silence m)) → (m .session .groupcount ≡ 0 → event m .lines ≡ []) → Law (told m event .after)
+pub law-told : (m : Memory) → Law m → (event : Memory → Event) → Kept m (event m) → Kept (silence m) (event (silence m)) → (m .session .groupcount ≡ 0 → event m .lines ≡ []) → Law (eventOutcome m event .after)
 unfolding tellings settled renderAll
 law-told m k event now hushed none = go (fits m (event m .lines)) refl
   where

@@ -16,7 +16,7 @@ use Rattle.model.specs.Lines.{Line, modseq, mailItems, fetch, overflow, renderA
 use Rattle.model.specs.Queue.{enqueue, effects}
 use Rattle.model.specs.View.{announced, selectedMessages, view, unannounced, existsLine, newAtOnce, shownItems, showsAny, newLines, announcing}
 use Rattle.model.specs.Events.{Event, message, withArrived, arrived, statusLines, countsOf, silence}
-use Rattle.model.specs.Rules.{rested, told as toldOf}
+use Rattle.model.specs.Rules.{rested, eventOutcome}
 use Rattle.model.specs.Lawful.{stateOk}
 use Rattle.demands.specs.Lasting.Law.{Law}
 use Rattle.demands.specs.Lasting.Rows.{row-set, told-next}
@@ -25,7 +25,7 @@ use Rattle.demands.specs.Isolation.Alike.{mails-with, boxes-with}
 use Rattle.model.specs.declared.Mailbox.{Mailbox}
 use Rattle.model.specs.declared.Message.{Message}
 use Rattle.model.specs.declared.Session.{Session}
-use Rattle.model.specs.Fates.{arrival, told, waits, isExists, isRemoval, isMarking}
+use Rattle.model.specs.Fates.{arrival, reported, waits, isExists, isRemoval, isMarking}
 use Rattle.model.specs.Seen.{apparent}
 use Rattle.model.specs.Due.{Account, waiting, atOnce, later, statusDue, countsDue, arrivals, isNew, due}
 use Rattle.model.specs.Account.{owedNow}
@@ -139,7 +139,7 @@ module _ (m : Memory) (k : Law m) (a : Account) (b : Books m a) where
     hushed-arrival = awaits (withArrived (silence m) s u f z c) (mails-with (putBox (silence m) s (withNext (theMailbox s (boxes m)) (u + 1))) (mails m ++ (e₀ ∷ []))) refl refl (overflow ∷ [])
         (also refl none)
 
-    arrive-waiting : due (apparent m) a r ≡ later (arrival u) → due (silence (apparent m)) a r ≡ later (arrival u) → event m .lines ≡ [] → Step m a r (toldOf m event)
+    arrive-waiting : due (apparent m) a r ≡ later (arrival u) → due (silence (apparent m)) a r ≡ later (arrival u) → event m .lines ≡ [] → Step m a r (eventOutcome m event)
     unfolding owedNow
     arrive-waiting p q e =
         told-step-by m a r event (later (arrival u)) (later (arrival u)) p q e tt (λ ls. refl)
@@ -200,7 +200,7 @@ module _ (m : Memory) (k : Law m) (a : Account) (b : Books m a) where
             (any-snoc (λ (e : Message). not (announced x e)) (filterb (inMailbox s) (mails m)) e₀
             ∙ (rw unseen-yet (or-true (anyb (λ (e : Message). not (announced x e)) (filterb (inMailbox s) (mails m))))))
 
-    arrive-told : due (apparent m) a r ≡ atOnce (announcing x) → due (silence (apparent m)) a r ≡ later (arrival u) → event m .lines ≡ announcing x → Step m a r (toldOf m event)
+    arrive-told : due (apparent m) a r ≡ atOnce (announcing x) → due (silence (apparent m)) a r ≡ later (arrival u) → event m .lines ≡ announcing x → Step m a r (eventOutcome m event)
     unfolding owedNow
     arrive-told p q e =
         told-step-by m a r event (atOnce (announcing x)) (later (arrival u)) p q e
@@ -233,8 +233,8 @@ module _ (m : Memory) (k : Law m) (a : Account) (b : Books m a) where
         simply true false = refl
         simply false t = refl
 
-        spoken : Books (effects n (announcing x)) (page (apparent m) a r (announcing x) (told (suc (length (a .fates)))))
-        spoken = turned m (effects n (announcing x)) (apparent m) a b r (announcing x) (told (suc (length (a .fates))))
+        spoken : Books (effects n (announcing x)) (page (apparent m) a r (announcing x) (reported (suc (length (a .fates)))))
+        spoken = turned m (effects n (announcing x)) (apparent m) a b r (announcing x) (reported (suc (length (a .fates))))
             (kept-more n stored-mails ∙ sym (unremoved n (effects n (announcing x)) (announcing x) unremoving end))
             (record {
               removals = λ v. simply (eqb (stateOf s v (mails m)) 1) (anyb (isRemoval v) (announcing x))
@@ -251,17 +251,17 @@ module _ (m : Memory) (k : Law m) (a : Account) (b : Books m a) where
                   ∙ ap (λ (j : ℕ). present j v (mails (effects n (announcing x))) && not (ltb v (effects n (announcing x) .session .told))) (sym (end .selected)))));
             })
 
-    arrive-selected : isSelected m s ≡ true → Step m a r (toldOf m event)
+    arrive-selected : isSelected m s ≡ true → Step m a r (eventOutcome m event)
     unfolding due
     arrive-selected h = go (newAtOnce m) refl
       where
-        go : (c : Bool) → newAtOnce m ≡ c → Step m a r (toldOf m event)
+        go : (c : Bool) → newAtOnce m ≡ c → Step m a r (eventOutcome m event)
         go true y = arrive-told (rw (h, y) (ap atOnce same-announcing)) (rw (h, hush-new m)) (rw (h, y))
         go false y = arrive-waiting (rw (h, y)) (rw (h, hush-new m)) (rw (h, y))
 
   -- the row has the record's counter already
   pub arrived-step : (i u f z c : ℕ) → known i (boxes m) ≡ true → Law (withArrived m i u f z c) → ltb u (theMailbox i (boxes m) .uidnext) ≡ false
-      → withCounter (theMailbox i (boxes m)) c ≡ theMailbox i (boxes m) → Step m a (arrive i u f z c) (toldOf m (λ (x : Memory). arrived x i u f z c))
+      → withCounter (theMailbox i (boxes m)) c ≡ theMailbox i (boxes m) → Step m a (arrive i u f z c) (eventOutcome m (λ (x : Memory). arrived x i u f z c))
   unfolding due owedNow
   arrived-step i u f z c kn law fresh has = go (isSelected m i) refl
     where
@@ -272,10 +272,10 @@ module _ (m : Memory) (k : Law m) (a : Account) (b : Books m a) where
       row = ap (theMailbox i) (boxes-with m (set (boxes m) (place i (boxes m)) (withNext (theMailbox i (boxes m)) (u + 1))))
           ∙ row-set i (withNext (theMailbox i (boxes m)) (u + 1)) (box-id i (boxes m) kn) (boxes m) kn
 
-      go : (d : Bool) → isSelected m i ≡ d → Step m a (arrive i u f z c) (toldOf m (λ (x : Memory). arrived x i u f z c))
+      go : (d : Bool) → isSelected m i ≡ d → Step m a (arrive i u f z c) (eventOutcome m (λ (x : Memory). arrived x i u f z c))
       go true h =
           let p = is-selected m k i h in
-          subst (λ (j : ℕ). Step m a (arrive j u f z c) (toldOf m (λ (x : Memory). arrived x j u f z c))) (sym p)
+          subst (λ (j : ℕ). Step m a (arrive j u f z c) (eventOutcome m (λ (x : Memory). arrived x j u f z c))) (sym p)
           (arrive-selected u f z c (subst (λ (j : ℕ). Law (withArrived m j u f z c)) p law) (subst (λ (j : ℕ). ltb u (theMailbox j (boxes m) .uidnext) ≡ false) p fresh) (rw p at h))
       go false h =
           let e = message i u f z c in

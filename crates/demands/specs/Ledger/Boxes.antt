@@ -12,7 +12,7 @@ use Rattle.model.specs.Memory.{Memory, boxes, mails, nameOf, mayList, selectabl
 use Rattle.model.specs.Groups.{asked, askedOf, asksName, asksSubscription}
 use Rattle.model.specs.Lines.{Line, list, renamed, plain, noselect, nonExistent, subscribed}
 use Rattle.model.specs.Events.{Event, loud, createLines, deleteLines, renameLines, subscriptionLines, rightsLines, listMark, newBox, created, deleted, renamedTo, subscribedTo, granted, withSubscribed, withRights, silence}
-use Rattle.model.specs.Rules.{rested, told as toldOf}
+use Rattle.model.specs.Rules.{rested, eventOutcome}
 use Rattle.demands.specs.Lasting.Law.{Law}
 use Rattle.demands.specs.Isolation.Alike.{mails-with}
 use Rattle.model.specs.declared.Mailbox.{Mailbox}
@@ -129,10 +129,10 @@ module _ (m : Memory) (k : Law m) (a : Account) (b : Books m a) where
       → Elsewhere m (event m .stored) → Elsewhere m (event (silence m) .stored)
       → ((f : Fate) (ls : List Line) → keptBy (apparent m) a r f ls ≡ map rested (mails (event m .stored)))
       → ((f : Fate) (ls : List Line) → keptBy (apparent m) a r f ls ≡ map rested (mails (event (silence m) .stored)))
-      → Step m a r (toldOf m event)
+      → Step m a r (eventOutcome m event)
   quietly r event e p o d x y s t = plain-step m a b r event e (p (apparent m)) (p (silence (apparent m))) o d x y (λ f ls _. s f ls) (λ f ls _. t f ls)
 
-  pub created-step : (i c q v h : ℕ) (n : Name) → Step m a (create i c q v h n) (toldOf m (λ (x : Memory). created x i c q v h n))
+  pub created-step : (i c q v h : ℕ) (n : Name) → Step m a (create i c q v h n) (eventOutcome m (λ (x : Memory). created x i c q v h n))
   unfolding due owedNow
   created-step i c q v h n =
       let x = newBox i c v h n in
@@ -140,7 +140,7 @@ module _ (m : Memory) (k : Law m) (a : Account) (b : Books m a) where
       (λ w. plain-unless (isQuiet q) quiet (appears w x) (appears-plain w x))
       (λ ls. refl) (λ d. refl) (unmoved m _ refl refl refl) (unmoved m _ refl refl refl) (λ f ls. b .kept) (λ f ls. b .kept)
 
-  pub renamed-step : (i q : ℕ) (n : Name) → Step m a (rename i q n) (toldOf m (λ (x : Memory). renamedTo x i q n))
+  pub renamed-step : (i q : ℕ) (n : Name) → Step m a (rename i q n) (eventOutcome m (λ (x : Memory). renamedTo x i q n))
   unfolding due owedNow
   renamed-step i q n =
       let x = theMailbox i (boxes m) in
@@ -148,7 +148,7 @@ module _ (m : Memory) (k : Law m) (a : Account) (b : Books m a) where
       (λ w. let y = theMailbox i (boxes w) in plain-unless (isQuiet q) quiet (renameDue w y (withName y n)) (rename-plain w y (withName y n)))
       (λ ls. refl) (λ d. refl) (unmoved m _ refl refl refl) (unmoved m _ refl refl refl) (λ f ls. b .kept) (λ f ls. b .kept)
 
-  pub subscribed-step : (i c q : ℕ) → Step m a (subscribe i c q) (toldOf m (λ (x : Memory). subscribedTo x i c q))
+  pub subscribed-step : (i c q : ℕ) → Step m a (subscribe i c q) (eventOutcome m (λ (x : Memory). subscribedTo x i c q))
   unfolding due owedNow
   subscribed-step i c q =
       let x = theMailbox i (boxes m) in
@@ -156,7 +156,7 @@ module _ (m : Memory) (k : Law m) (a : Account) (b : Books m a) where
       (λ w. let y = theMailbox i (boxes w) in plain-unless (isQuiet q) quiet (subscriptionDue w y c) (subscription-plain w y c))
       (λ ls. refl) (λ d. refl) (unmoved m _ refl refl refl) (unmoved m _ refl refl refl) (λ f ls. b .kept) (λ f ls. b .kept)
 
-  pub granted-step : (i r : ℕ) → Step m a (grant i r) (toldOf m (λ (x : Memory). granted x i r))
+  pub granted-step : (i r : ℕ) → Step m a (grant i r) (eventOutcome m (λ (x : Memory). granted x i r))
   unfolding due owedNow
   granted-step i r =
       let x = theMailbox i (boxes m) in
@@ -165,7 +165,7 @@ module _ (m : Memory) (k : Law m) (a : Account) (b : Books m a) where
       (λ ls. refl) (λ d. refl) (unmoved m _ refl refl refl) (unmoved m _ refl refl refl) (λ f ls. b .kept) (λ f ls. b .kept)
 
   -- its messages go with it; it is not the selected one
-  pub deleted-step : (i q : ℕ) → known i (boxes m) ≡ true → isSelected m i ≡ false → Step m a (delete i q) (toldOf m (λ (x : Memory). deleted x i q))
+  pub deleted-step : (i q : ℕ) → known i (boxes m) ≡ true → isSelected m i ≡ false → Step m a (delete i q) (eventOutcome m (λ (x : Memory). deleted x i q))
   unfolding due owedNow
   deleted-step i q h n =
       let x = theMailbox i (boxes m) in

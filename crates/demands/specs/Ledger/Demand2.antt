@@ -12,7 +12,7 @@ use Rattle.model.specs.Memory.{Memory, held, selectedBox, bothRights}
 use Rattle.model.specs.Lawful.{queueOk}
 use Rattle.model.specs.Call.{call}
 use Rattle.model.specs.Hidden.{Octets, Starts}
-use Rattle.model.specs.Fates.{Debt, refused, told, waits, waitsStill, tells}
+use Rattle.model.specs.Fates.{Debt, refused, reported, waits, waitsStill, tells}
 use Rattle.model.specs.Seen.{apparent, Seen, seen, history, final, settingOf}
 use Rattle.model.specs.Due.{Account, opened}
 use Rattle.model.specs.Account.{front, settle, ownFate, posted, entered, account, accountOf, fateAt, Occasion, atEnd, atSet, losses, overflows, Cleared, Rested, Demand2}
@@ -64,10 +64,10 @@ demand2 m z q r e = record {
   setting = λ os o. ap settingOf (final-append m os (o ∷ [])) ∙ call-setting (final m os) o .setting;
   never-silent = λ os. stands os .heard;
   settles = λ os o k d h. ap (λ (a : Account). fateAt a k) (account-append opened m os (o ∷ [])) ∙ settling os o k d h (seen (final m os) o .taken) refl;
-  first-occasion = λ os o k d h t b c. ap (λ (a : Account). fateAt a k) (account-append opened m os (o ∷ [])) ∙ (occasion os o t b k d h c ∙ ap (λ (n : ℕ). told (suc n)) (numbered m os));
+  first-occasion = λ os o k d h t b c. ap (λ (a : Account). fateAt a k) (account-append opened m os (o ∷ [])) ∙ (occasion os o t b k d h c ∙ ap (λ (n : ℕ). reported (suc n)) (numbered m os));
   told-in-part = λ os o k d h t c p. ap (λ (a : Account). fateAt a k) (account-append opened m os (o ∷ []))
       ∙ (told-by-front (final m os) (accountOf m os) (stands os) o t c p k d h
-      ∙ ap (λ (n : ℕ). cond (tells (front (apparent (final m os)) (accountOf m os) c) d) (told (suc n)) (waits d)) (numbered m os));
+      ∙ ap (λ (n : ℕ). cond (tells (front (apparent (final m os)) (accountOf m os) c) d) (reported (suc n)) (waits d)) (numbered m os));
   no-loss = λ os ps h. ap losses (account-append opened m os ps) ∙ no-losses (accountOf m os) (history (final m os) ps) h;
   all-told = rest;
 }
@@ -83,7 +83,7 @@ demand2 m z q r e = record {
 
     occasion : (os : List Octets) (o : Octets) → seen (final m os) o .taken ≡ true → bothRights (selectedBox (final m os)) ≡ true → (k : ℕ) (d : Debt) → fateAt (accountOf m os) k ≡ waits d
         → Occasion (accountOf m os) (seen (final m os) o) d
-        → fateAt (entered (accountOf m os) (seen (final m os) o)) k ≡ told (suc (length (accountOf m os .fates)))
+        → fateAt (entered (accountOf m os) (seen (final m os) o)) k ≡ reported (suc (length (accountOf m os .fates)))
     occasion os o t b k d h (atEnd c p l y f) = told-at-end (final m os) (accountOf m os) (stands os) o t c p l b f k d y h
     occasion os o t b k d h (atSet x p g y) = told-at-set (final m os) (accountOf m os) (stands os) o t x p g y b k d h
 

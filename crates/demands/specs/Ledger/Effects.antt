@@ -13,7 +13,7 @@ use Rattle.model.specs.Queue.{announce, unmark, showsFlags, effect, effects}
 use Rattle.model.specs.Rules.{rested}
 use Rattle.demands.specs.Isolation.Alike.{mails-with}
 use Rattle.model.specs.declared.Message.{Message}
-use Rattle.model.specs.Fates.{told, isExists, isRemoval, isMarking}
+use Rattle.model.specs.Fates.{reported, isExists, isRemoval, isMarking}
 use Rattle.demands.specs.Ledger.Each.{All, all-head, all-tail, all-to, map-over}
 use Rattle.demands.specs.Ledger.Entries.{present, stateOf, state-kept, state-gone, state-map, state-put, present-kept, present-gone, present-map}
 

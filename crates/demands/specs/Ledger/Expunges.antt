@@ -15,14 +15,14 @@ use Rattle.model.specs.Lines.{Line, mailItems, expunge as expungeLine, overflow
 use Rattle.model.specs.Queue.{enqueue, effects, say}
 use Rattle.model.specs.View.{view, placeOf, expungeAtOnce}
 use Rattle.model.specs.Events.{Event, statusLines, expire, removed, silence}
-use Rattle.model.specs.Rules.{rested, told as toldOf}
+use Rattle.model.specs.Rules.{rested, eventOutcome}
 use Rattle.model.specs.Refusals.{absent}
 use Rattle.demands.specs.Lasting.Law.{Law}
 use Rattle.demands.specs.Isolation.Erase.{box-id}
 use Rattle.demands.specs.Isolation.Alike.{mails-with}
 use Rattle.model.specs.declared.Mailbox.{Mailbox}
 use Rattle.model.specs.declared.Message.{Message}
-use Rattle.model.specs.Fates.{arrival, removal, marking, Why, notAnnounced, Fate, told, waits, isExists, isRemoval, isMarking}
+use Rattle.model.specs.Fates.{arrival, removal, marking, Why, notAnnounced, Fate, reported, waits, isExists, isRemoval, isMarking}
 use Rattle.model.specs.Seen.{apparent}
 use Rattle.model.specs.Due.{Account, waiting, nothing, atOnce, later, messageDue, statusDue, countsDue, arrivals, viewed, due}
 use Rattle.model.specs.Account.{overflowed, owedNow}
@@ -129,7 +129,7 @@ module _ (m : Memory) (k : Law m) (a : Account) (b : Books m a) where
     expunge-untold : (y : Why) → isSelected m s ≡ true → eqb (stateOf s u (mails m)) 1 ≡ false → due (apparent m) a r ≡ messageDue (apparent m) asksExpunge (nothing y)
         → due (silence (apparent m)) a r ≡ messageDue (silence (apparent m)) asksExpunge (nothing y)
         → (event m ≡ record { stored = dropMails m (isMessage s u); lines = [] }) → (event (silence m) ≡ record { stored = dropMails (silence m) (isMessage s u); lines = [] })
-        → Step m a r (toldOf m event)
+        → Step m a r (eventOutcome m event)
     unfolding owedNow
     expunge-untold y h x p q e g =
         let d = messageDue (apparent m) asksExpunge (nothing y) in
@@ -149,14 +149,14 @@ module _ (m : Memory) (k : Law m) (a : Account) (b : Books m a) where
     expunge-told : isSelected m s ≡ true → present s u (mails m) ≡ true → eqb (stateOf s u (mails m)) 1 ≡ false → ltb u (m .session .told) ≡ true
         → due (apparent m) a r ≡ atOnce (expungeLine (placeOf u (viewed (apparent m) a)) (record { 0 = u }) ∷ []) → due (silence (apparent m)) a r ≡ later (removal u)
         → (event m ≡ record { stored = m; lines = expungeLine (placeOf u (view m)) (record { 0 = u }) ∷ [] })
-        → (event (silence m) ≡ record { stored = changeMails (silence m) (expire s u); lines = [] }) → Step m a r (toldOf m event)
+        → (event (silence m) ≡ record { stored = changeMails (silence m) (expire s u); lines = [] }) → Step m a r (eventOutcome m event)
     unfolding owedNow effects
     expunge-told h here x y p q e g =
         told-step-by m a r event (atOnce ds) (later (removal u)) p q
         (ap (λ (x : Event). x .lines) e ∙ ap (λ (j : _). expungeLine j (record { 0 = u }) ∷ []) (sym (same-place m k a b u))) (also (refl, refl) none) (λ ls. refl)
-        (subst (λ (x : Event). Books (say (x .stored) ds) (page (apparent m) a r ds (told (suc (length (a .fates)))))) (sym e)
+        (subst (λ (x : Event). Books (say (x .stored) ds) (page (apparent m) a r ds (reported (suc (length (a .fates)))))) (sym e)
         (leaves h x (dropMails (enqueue m (renderAll ds)) (isMessage s u)) (mails-with (enqueue m (renderAll ds)) (filterb (λ (e : Message). not (isMessage s u e)) (mails m))) refl refl ds
-        (λ v c. rw c) (λ v. refl) refl (told (suc (length (a .fates)))) (λ d. refl)))
+        (λ v c. rw c) (λ v. refl) refl (reported (suc (length (a .fates)))) (λ d. refl)))
         (subst (λ (x : Event). Books (x .stored) (page (apparent m) a r (overflow ∷ []) (waits (removal u)))) (sym g)
         (lingers h here y (changeMails (silence m) (expire s u)) (mails-with (silence m) (map (expire s u) (mails m))) refl refl (overflow ∷ []) (also refl none)))
       where
@@ -167,7 +167,7 @@ module _ (m : Memory) (k : Law m) (a : Account) (b : Books m a) where
     expunge-waiting : isSelected m s ≡ true → present s u (mails m) ≡ true → ltb u (m .session .told) ≡ true → due (apparent m) a r ≡ later (removal u)
         → due (silence (apparent m)) a r ≡ later (removal u)
         → (event m ≡ record { stored = changeMails m (expire s u); lines = [] }) → (event (silence m) ≡ record { stored = changeMails (silence m) (expire s u); lines = [] })
-        → Step m a r (toldOf m event)
+        → Step m a r (eventOutcome m event)
     unfolding owedNow
     expunge-waiting h here y p q e g =
         told-step-by m a r event (later (removal u)) (later (removal u)) p q (ap (λ (x : Event). x .lines) e) tt (λ ls. refl)
@@ -177,14 +177,14 @@ module _ (m : Memory) (k : Law m) (a : Account) (b : Books m a) where
         (subst (λ (x : Event). Books (x .stored) (page (apparent m) a r (overflow ∷ []) (waits (removal u)))) (sym g)
         (lingers h here y (changeMails (silence m) (expire s u)) (mails-with (silence m) (map (expire s u) (mails m))) refl refl (overflow ∷ []) (also refl none)))
 
-    expunge-selected : isSelected m s ≡ true → absent m s u ≡ false → Step m a r (toldOf m event)
+    expunge-selected : isSelected m s ≡ true → absent m s u ≡ false → Step m a r (eventOutcome m event)
     unfolding due
     expunge-selected h n = go (ltb u (m .session .told)) refl (expungeAtOnce m) refl
       where
         t : (present s u (mails m) ≡ true) × (eqb (stateOf s u (mails m)) 1 ≡ false)
         t = there m k a b u n
 
-        go : (c : Bool) → ltb u (m .session .told) ≡ c → (d : Bool) → expungeAtOnce m ≡ d → Step m a r (toldOf m event)
+        go : (c : Bool) → ltb u (m .session .told) ≡ c → (d : Bool) → expungeAtOnce m ≡ d → Step m a r (eventOutcome m event)
         go false x d y =
             let v : waiting (a .fates) (arrival u) ≡ true = seen-by m k a b u (t .0) ∙ rw x in
             expunge-untold notAnnounced h (t .1) (rw (h, v)) (rw (h, v)) (rw (h, x)) (rw (h, x))
@@ -197,17 +197,17 @@ module _ (m : Memory) (k : Law m) (a : Account) (b : Books m a) where
 
   -- the row has the record's counter already
   pub removed-step : (i u c : ℕ) → known i (boxes m) ≡ true → absent m i u ≡ false → withCounter (theMailbox i (boxes m)) c ≡ theMailbox i (boxes m)
-      → Step m a (expunge i u c) (toldOf m (λ (x : Memory). removed x i u))
+      → Step m a (expunge i u c) (eventOutcome m (λ (x : Memory). removed x i u))
   unfolding due owedNow
   removed-step i u c kn n has = go (isSelected m i) refl
     where
       ends-not : isSelected m i ≡ false → Unending (apparent m) (expunge i u c)
       ends-not h d = rw h
 
-      go : (d : Bool) → isSelected m i ≡ d → Step m a (expunge i u c) (toldOf m (λ (x : Memory). removed x i u))
+      go : (d : Bool) → isSelected m i ≡ d → Step m a (expunge i u c) (eventOutcome m (λ (x : Memory). removed x i u))
       go true h =
           let p = is-selected m k i h in
-          subst (λ (j : ℕ). Step m a (expunge j u c) (toldOf m (λ (x : Memory). removed x j u))) (sym p) (expunge-selected u c (rw p at h) (rw p at n))
+          subst (λ (j : ℕ). Step m a (expunge j u c) (eventOutcome m (λ (x : Memory). removed x j u))) (sym p) (expunge-selected u c (rw p at h) (rw p at n))
       go false h =
           let x = theMailbox i (boxes m) in
           let z = mails-with m (filterb (λ (e : Message). not (isMessage i u e)) (mails m)) in

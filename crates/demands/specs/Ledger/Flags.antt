@@ -14,13 +14,13 @@ use Rattle.model.specs.Lines.{Line, overflow, renderAll}
 use Rattle.model.specs.Queue.{enqueue, effects, say}
 use Rattle.model.specs.View.{view, placeOf, flagsLine, flagsAtOnce, flagsWait}
 use Rattle.model.specs.Events.{Event, message, reflag as reflagOne, mark, reflagged, changesOf, silence}
-use Rattle.model.specs.Rules.{rested, told as toldOf}
+use Rattle.model.specs.Rules.{rested, eventOutcome}
 use Rattle.model.specs.Refusals.{absent}
 use Rattle.demands.specs.Lasting.Law.{Law}
 use Rattle.demands.specs.Isolation.Alike.{mails-with}
 use Rattle.model.specs.declared.Mailbox.{Mailbox}
 use Rattle.model.specs.declared.Message.{Message}
-use Rattle.model.specs.Fates.{arrival, marking, Why, notAnnounced, told, waits}
+use Rattle.model.specs.Fates.{arrival, marking, Why, notAnnounced, reported, waits}
 use Rattle.model.specs.Seen.{apparent}
 use Rattle.model.specs.Due.{Account, waiting, nothing, atOnce, later, messageDue, statusDue, arrivals, viewed, due}
 use Rattle.model.specs.Account.{overflowed, owedNow}
@@ -73,7 +73,7 @@ module _ (m : Memory) (k : Law m) (a : Account) (b : Books m a) where
     -- not told: not announced, or dropped
     flags-untold : (y : Why) → due (apparent m) a r ≡ messageDue (apparent m) asksFlags (nothing y) → due (silence (apparent m)) a r ≡ messageDue (silence (apparent m)) asksFlags (nothing y)
         → (event m ≡ record { stored = changeMails m (reflagOne s u f c); lines = [] }) → (event (silence m) ≡ record { stored = changeMails (silence m) (reflagOne s u f c); lines = [] })
-        → Step m a r (toldOf m event)
+        → Step m a r (eventOutcome m event)
     unfolding owedNow
     flags-untold y p q e g =
         let z = mails-with m (map (reflagOne s u f c) (mails m)) in
@@ -96,12 +96,12 @@ module _ (m : Memory) (k : Law m) (a : Account) (b : Books m a) where
     flags-told : (y : Why) → eqb (stateOf s u (mails m)) 1 ≡ false → due (apparent m) a r ≡ atOnce (flagsLine (placeOf u (viewed (apparent m) a) .0) (message s u f 0 c) ∷ [])
         → due (silence (apparent m)) a r ≡ messageDue (silence (apparent m)) asksFlags (nothing y)
         → (event m ≡ record { stored = changeMails m (reflagOne s u f c); lines = flagsLine (placeOf u (view m) .0) (message s u f 0 c) ∷ [] })
-        → (event (silence m) ≡ record { stored = changeMails (silence m) (reflagOne s u f c); lines = [] }) → Step m a r (toldOf m event)
+        → (event (silence m) ≡ record { stored = changeMails (silence m) (reflagOne s u f c); lines = [] }) → Step m a r (eventOutcome m event)
     unfolding owedNow
     flags-told y x p q e g =
         told-step-by m a r event (atOnce ds) (messageDue (silence (apparent m)) asksFlags (nothing y)) p q
         (ap (λ (x : Event). x .lines) e ∙ ap (λ (j : _). flagsLine (j .0) (message s u f 0 c) ∷ []) (sym (same-place m k a b u))) (also (refl, refl) none) (λ ls. refl)
-        (subst (λ (x : Event). Books (say (x .stored) ds) (page (apparent m) a r ds (told (suc (length (a .fates)))))) (sym e) spoken)
+        (subst (λ (x : Event). Books (say (x .stored) ds) (page (apparent m) a r ds (reported (suc (length (a .fates)))))) (sym e) spoken)
         (subst (λ (x : Event). Books (x .stored) (page (apparent m) a r (overflow ∷ []) (overflowed (messageDue (silence (apparent m)) asksFlags (nothing y))))) (sym g)
         (untold-at (changeMails (silence m) (reflagOne s u f c)) (mails-with (silence m) (map (reflagOne s u f c) (mails m))) refl refl y))
       where
@@ -123,10 +123,10 @@ module _ (m : Memory) (k : Law m) (a : Account) (b : Books m a) where
         end : Ended n (effects n ds) ds
         end = ended-all n bl ds (also (ap (λ (j : ℕ). eqb j 1) (moved .states u) ∙ x) none)
 
-        spoken : Books (effects n ds) (page (apparent m) a r ds (told (suc (length (a .fates)))))
-        spoken = turned m (effects n ds) (apparent m) a b r ds (told (suc (length (a .fates))))
+        spoken : Books (effects n ds) (page (apparent m) a r ds (reported (suc (length (a .fates)))))
+        spoken = turned m (effects n ds) (apparent m) a b r ds (reported (suc (length (a .fates))))
             (ap (map (reflagOne s u f c)) (b .kept) ∙ (flags-kept s u f c (mails m) ∙ (ap (map rested) (sym z) ∙ sym (unremoved n (effects n ds) ds (λ v. refl) end))))
-            (turn-from m n (effects n ds) (apparent m) r ds (told (suc (length (a .fates)))) moved end (λ d. refl) (λ d. refl))
+            (turn-from m n (effects n ds) (apparent m) r ds (reported (suc (length (a .fates)))) moved end (λ d. refl) (λ d. refl))
 
     -- it waits as a mark
     mark-keep : (v w : ℕ) (e : Message) (c : Bool) → isMessage v w (cond c (withStates e 2) e) ≡ isMessage v w e
@@ -140,7 +140,7 @@ module _ (m : Memory) (k : Law m) (a : Account) (b : Books m a) where
     flags-waiting : (y : Why) → present s u (mails m) ≡ true → eqb (stateOf s u (mails m)) 1 ≡ false → due (apparent m) a r ≡ later (marking u)
         → due (silence (apparent m)) a r ≡ messageDue (silence (apparent m)) asksFlags (nothing y)
         → (event m ≡ record { stored = changeMails (changeMails m (reflagOne s u f c)) (mark s u); lines = [] })
-        → (event (silence m) ≡ record { stored = changeMails (silence m) (reflagOne s u f c); lines = [] }) → Step m a r (toldOf m event)
+        → (event (silence m) ≡ record { stored = changeMails (silence m) (reflagOne s u f c); lines = [] }) → Step m a r (eventOutcome m event)
     unfolding owedNow
     flags-waiting y here x p q e g =
         told-step-by m a r event (later (marking u)) (messageDue (silence (apparent m)) asksFlags (nothing y)) p q (ap (λ (x : Event). x .lines) e) tt (λ ls. refl)
@@ -183,14 +183,14 @@ module _ (m : Memory) (k : Law m) (a : Account) (b : Books m a) where
         marks v true h = rw (put v h) (or-true (eqb (stateOf s v (mails m)) 2 && true))
         marks v false h = rw (left v h) (plainly (eqb (stateOf s v (mails m)) 2))
 
-    flags-selected : isSelected m s ≡ true → absent m s u ≡ false → Step m a r (toldOf m event)
+    flags-selected : isSelected m s ≡ true → absent m s u ≡ false → Step m a r (eventOutcome m event)
     unfolding due
     flags-selected h n = go (ltb u (m .session .told)) refl (flagsAtOnce m) refl (flagsWait m) refl
       where
         t : (present s u (mails m) ≡ true) × (eqb (stateOf s u (mails m)) 1 ≡ false)
         t = there m k a b u n
 
-        go : (c : Bool) → ltb u (m .session .told) ≡ c → (d : Bool) → flagsAtOnce m ≡ d → (e : Bool) → flagsWait m ≡ e → Step m a r (toldOf m event)
+        go : (c : Bool) → ltb u (m .session .told) ≡ c → (d : Bool) → flagsAtOnce m ≡ d → (e : Bool) → flagsWait m ≡ e → Step m a r (eventOutcome m event)
         go false x d y e z =
             let v : waiting (a .fates) (arrival u) ≡ true = seen-by m k a b u (t .0) ∙ rw x in
             flags-untold notAnnounced (rw (h, v)) (rw (h, v)) (rw (h, x)) (rw (h, x))
@@ -206,14 +206,14 @@ module _ (m : Memory) (k : Law m) (a : Account) (b : Books m a) where
 
   -- the row has the record's counter already
   pub reflagged-step : (i u f c : ℕ) → absent m i u ≡ false → withCounter (theMailbox i (boxes m)) c ≡ theMailbox i (boxes m)
-      → Step m a (reflag i u f c) (toldOf m (λ (x : Memory). reflagged x i u f c))
+      → Step m a (reflag i u f c) (eventOutcome m (λ (x : Memory). reflagged x i u f c))
   unfolding due owedNow
   reflagged-step i u f c n has = go (isSelected m i) refl
     where
-      go : (d : Bool) → isSelected m i ≡ d → Step m a (reflag i u f c) (toldOf m (λ (x : Memory). reflagged x i u f c))
+      go : (d : Bool) → isSelected m i ≡ d → Step m a (reflag i u f c) (eventOutcome m (λ (x : Memory). reflagged x i u f c))
       go true h =
           let p = is-selected m k i h in
-          subst (λ (j : ℕ). Step m a (reflag j u f c) (toldOf m (λ (x : Memory). reflagged x j u f c))) (sym p) (flags-selected u f c (rw p at h) (rw p at n))
+          subst (λ (j : ℕ). Step m a (reflag j u f c) (eventOutcome m (λ (x : Memory). reflagged x j u f c))) (sym p) (flags-selected u f c (rw p at h) (rw p at n))
       go false h =
           let x = theMailbox i (boxes m) in
           let z = mails-with m (map (reflagOne i u f c) (mails m)) in

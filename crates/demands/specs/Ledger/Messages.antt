@@ -13,13 +13,13 @@ use Rattle.model.specs.Groups.{askedOf, selectedAsks}
 use Rattle.model.specs.Lines.{Line, StatusItem, status}
 use Rattle.model.specs.View.{newAtOnce, expungeAtOnce, flagsAtOnce}
 use Rattle.model.specs.Events.{Event, statusLines, silence}
-use Rattle.model.specs.Rules.{rested, told as toldOf}
+use Rattle.model.specs.Rules.{rested, eventOutcome}
 use Rattle.model.specs.Refusals.{absent}
 use Rattle.model.specs.Lawful.{messageOk, stateOk}
 use Rattle.demands.specs.Lasting.Law.{Law}
 use Rattle.model.specs.declared.Mailbox.{Mailbox}
 use Rattle.model.specs.declared.Message.{Message}
-use Rattle.model.specs.Fates.{arrival, removal, marking, Why, Fate, refused, unowed, told, waits, dropped, lost, silent, waitsStill, listsAll, isExists, isRemoval, isMarking}
+use Rattle.model.specs.Fates.{arrival, removal, marking, Why, Fate, refused, unowed, reported, waits, dropped, lost, silent, waitsStill, listsAll, isExists, isRemoval, isMarking}
 use Rattle.model.specs.Seen.{apparent}
 use Rattle.model.specs.Due.{Account, waiting, nothing, atOnce, notice, met, statusDue, selectedMet, messageDue, arrivals, due}
 use Rattle.model.specs.Account.{dueLines, keptBy, owedNow}
@@ -47,7 +47,7 @@ message-none w asks y = plain-notice (bothRights (selectedBox w)) (selectedMet w
 pub still-none : (f : Fate) → Unwaiting f → waitsStill f ≡ false
 still-none refused h = refl
 still-none (unowed y) h = refl
-still-none (told n) h = refl
+still-none (reported n) h = refl
 still-none (waits (arrival u)) h = tf (eqb u u) (eq-eqb u u refl) (h (arrival u))
 still-none (waits (removal u)) h = tf (eqb u u) (eq-eqb u u refl) (h (removal u))
 still-none (waits (marking u)) h = tf (eqb u u) (eq-eqb u u refl) (h (marking u))
@@ -71,7 +71,7 @@ pub status-by : (m : Memory) (a : Account) → Books m a → (r : Record) (event
     → Elsewhere m (event m .stored) → Elsewhere m (event (silence m) .stored)
     → ((f : Fate) (ls : List Line) → Unwaiting f → keptBy (apparent m) a r f ls ≡ map rested (mails (event m .stored)))
     → ((f : Fate) (ls : List Line) → Unwaiting f → keptBy (apparent m) a r f ls ≡ map rested (mails (event (silence m) .stored)))
-    → Step m a r (toldOf m event)
+    → Step m a r (eventOutcome m event)
 status-by m a b r event x asks is p q e h o d v w s t = plain-by m a b r event (statusDue (apparent m) x asks is) (statusDue (silence (apparent m)) x asks is) p q
     (e ∙ status-lines (apparent m) x asks is) (status-plain (apparent m) x asks is h) (status-plain (silence (apparent m)) x asks is h) o d v w s t
 

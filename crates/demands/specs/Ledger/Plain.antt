@@ -12,8 +12,8 @@ use Rattle.model.specs.Memory.{Memory, mails, isMessage}
 use Rattle.model.specs.Lines.{Line, status, list, renamed, exists, expunge, fetch, found as foundLine, overflow, answer, renderAll}
 use Rattle.model.specs.Queue.{enqueue, effect, effects, say}
 use Rattle.model.specs.Events.{Event, silence}
-use Rattle.model.specs.Rules.{rested, told as toldOf}
-use Rattle.model.specs.Fates.{arrival, removal, marking, Fate, told, isExists, isRemoval, isMarking, isNotice, Why, announces, removes, fetches, stops, answers, other, saying}
+use Rattle.model.specs.Rules.{rested, eventOutcome}
+use Rattle.model.specs.Fates.{arrival, removal, marking, Fate, reported, isExists, isRemoval, isMarking, isNotice, Why, announces, removes, fetches, stops, answers, other, saying}
 use Rattle.model.specs.Seen.{apparent}
 use Rattle.model.specs.Due.{Account, Due, nothing, atOnce, later, notice, unless, due, arrivals}
 use Rattle.model.specs.Account.{dueLines, overflowed, keptBy, owedNow}
@@ -163,7 +163,7 @@ pub plain-step : (m : Memory) (a : Account) → Books m a → (r : Record) (even
     → Elsewhere m (event m .stored) → Elsewhere m (event (silence m) .stored)
     → ((f : Fate) (ls : List Line) → Unwaiting f → keptBy (apparent m) a r f ls ≡ map rested (mails (event m .stored)))
     → ((f : Fate) (ls : List Line) → Unwaiting f → keptBy (apparent m) a r f ls ≡ map rested (mails (event (silence m) .stored)))
-    → Step m a r (toldOf m event)
+    → Step m a r (eventOutcome m event)
 plain-step m a b r event e p q o d x y k l =
     let n = suc (length (a .fates)) in
     let ls = once (due (apparent m) a r) in
@@ -183,5 +183,5 @@ pub plain-by : (m : Memory) (a : Account) → Books m a → (r : Record) (event 
     → Elsewhere m (event m .stored) → Elsewhere m (event (silence m) .stored)
     → ((f : Fate) (ls : List Line) → Unwaiting f → keptBy (apparent m) a r f ls ≡ map rested (mails (event m .stored)))
     → ((f : Fate) (ls : List Line) → Unwaiting f → keptBy (apparent m) a r f ls ≡ map rested (mails (event (silence m) .stored)))
-    → Step m a r (toldOf m event)
+    → Step m a r (eventOutcome m event)
 plain-by m a b r event d h p q e x y o u v w s t = plain-step m a b r event (e ∙ sym (ap once p)) (subst (λ (c : Due). Plain c) (sym p) x) (subst (λ (c : Due). Plain c) (sym q) y) o u v w s t

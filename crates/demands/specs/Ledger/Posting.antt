@@ -9,7 +9,7 @@ use Rattle.model.specs.Laws.{tf, or-false, any-snoc, and-true, and-false}
 use Rattle.model.specs.Records.{Record}
 use Rattle.model.specs.Memory.{Memory}
 use Rattle.model.specs.Lines.{Line}
-use Rattle.model.specs.Fates.{Debt, arrival, removal, marking, sameDebt, Fate, refused, unowed, told, waits, dropped, lost, silent, reselected, expungedFirst, waitsFor, tells, reselects, expungesFirst}
+use Rattle.model.specs.Fates.{Debt, arrival, removal, marking, sameDebt, Fate, refused, unowed, reported, waits, dropped, lost, silent, reselected, expungedFirst, waitsFor, tells, reselects, expungesFirst}
 use Rattle.model.specs.Due.{waiting}
 use Rattle.model.specs.Account.{settle}
 
@@ -35,16 +35,16 @@ module _ (w : Memory) (n : ℕ) (r : Record) (ls : List Line) (d : Debt) where
   settled-one : (f : Fate) → waitsFor d (settle w n r ls f) ≡ (waitsFor d f && stays)
   settled-one refused = refl
   settled-one (unowed y) = refl
-  settled-one (told k) = refl
+  settled-one (reported k) = refl
   settled-one (waits e) = go (sameDebt d e) refl
     where
-      through : (a b c : Bool) → waitsFor d (cond a (told n) (cond b (dropped reselected n) (cond c (dropped expungedFirst n) (waits d)))) ≡ (sameDebt d d && (not a && not (b || c)))
+      through : (a b c : Bool) → waitsFor d (cond a (reported n) (cond b (dropped reselected n) (cond c (dropped expungedFirst n) (waits d)))) ≡ (sameDebt d d && (not a && not (b || c)))
       through true b c = sym (and-false (sameDebt d d))
       through false true c = sym (and-false (sameDebt d d))
       through false false true = sym (and-false (sameDebt d d))
       through false false false = sym (and-true (sameDebt d d))
 
-      past : (a b c : Bool) → sameDebt d e ≡ false → waitsFor d (cond a (told n) (cond b (dropped reselected n) (cond c (dropped expungedFirst n) (waits e)))) ≡ false
+      past : (a b c : Bool) → sameDebt d e ≡ false → waitsFor d (cond a (reported n) (cond b (dropped reselected n) (cond c (dropped expungedFirst n) (waits e)))) ≡ false
       past true b c h = refl
       past false true c h = refl
       past false false true h = refl

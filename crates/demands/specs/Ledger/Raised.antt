@@ -13,7 +13,7 @@ use Rattle.model.specs.Memory.{Memory, boxes, mails, noMailbox, known, place, t
 use Rattle.model.specs.Lines.{Line}
 use Rattle.model.specs.Events.{arrived, removed, reflagged, silence}
 use Rattle.model.specs.Refusals.{absent, stale}
-use Rattle.model.specs.Rules.{Outcome, raised, told as toldOf}
+use Rattle.model.specs.Rules.{Outcome, raised, eventOutcome}
 use Rattle.model.specs.Lawful.{counterOk}
 use Rattle.model.specs.declared.Mailbox.{Mailbox}
 use Rattle.model.specs.Fates.{Fate, isSilent}
@@ -97,7 +97,7 @@ module _ (m : Memory) (k : Law m) (a : Account) (b : Books m a) (i c : ℕ) (kn 
   books = same-books m (raised m i c) a refl refl refl b
 
   pub mail-arrived : (u f z : ℕ) → leb 1 u ≡ true → leb f 31 ≡ true → leb z 4294967295 ≡ true → ltb u (theMailbox i (boxes m) .uidnext) ≡ false → length (mails m) < length (m .entries)
-      → Step m a (arrive i u f z c) (toldOf (raised m i c) (λ (x : Memory). arrived x i u f z c))
+      → Step m a (arrive i u f z c) (eventOutcome (raised m i c) (λ (x : Memory). arrived x i u f z c))
   unfolding owedNow
   mail-arrived u f z p q r fresh free =
       let n = raised m i c in
@@ -106,10 +106,10 @@ module _ (m : Memory) (k : Law m) (a : Account) (b : Books m a) (i c : ℕ) (kn 
       lowered m i c kn a (arrive i u f z c) _ (due-arrive m i c kn a u f z) (λ w ls. refl)
       (arrived-step n law a books i u f z c y (arrived-law n law i y u f z c p q r ok v (raised-reaches m i c kn) free .law) v (has m i c kn))
 
-  pub mail-removed : (u : ℕ) → absent m i u ≡ false → Step m a (expunge i u c) (toldOf (raised m i c) (λ (x : Memory). removed x i u))
+  pub mail-removed : (u : ℕ) → absent m i u ≡ false → Step m a (expunge i u c) (eventOutcome (raised m i c) (λ (x : Memory). removed x i u))
   unfolding owedNow
   mail-removed u h = lowered m i c kn a (expunge i u c) _ (due-expunge m i c kn a u) (λ w ls. refl) (removed-step (raised m i c) law a books i u c (raised-known m i c kn) h (has m i c kn))
 
-  pub mail-reflagged : (u f : ℕ) → absent m i u ≡ false → Step m a (reflag i u f c) (toldOf (raised m i c) (λ (x : Memory). reflagged x i u f c))
+  pub mail-reflagged : (u f : ℕ) → absent m i u ≡ false → Step m a (reflag i u f c) (eventOutcome (raised m i c) (λ (x : Memory). reflagged x i u f c))
   unfolding owedNow
   mail-reflagged u f h = lowered m i c kn a (reflag i u f c) _ (due-reflag m i c kn a u f) (λ w ls. refl) (reflagged-step (raised m i c) law a books i u f c h (has m i c kn))

@@ -18,7 +18,7 @@ use Rattle.model.specs.Answering.{noRoom, isAccepted, reply, answerLines, withA
 use Rattle.model.specs.Answers.{numberOf}
 use Rattle.model.specs.Lawful.{lawful}
 use Rattle.model.specs.Refusals.{wrongId, nameHeld, absent, stale, wrongUid, wrongState, tableFull}
-use Rattle.model.specs.Rules.{Outcome, endLines, raised, told as toldOf, accepted}
+use Rattle.model.specs.Rules.{Outcome, endLines, raised, eventOutcome, accepted}
 use Rattle.model.specs.Call.{call, refuse, roomless}
 use Rattle.model.specs.Hidden.{Octets}
 use Rattle.model.specs.Laws.{tf, and-r, or-r}
@@ -110,7 +110,7 @@ overflow-inside m k z =
 
 -- ---- an event is told
 module _ (m : Memory) (event : Memory → Event) (same : (x : Memory) → Untouched x (event x .stored)) where
-  told-held : held (toldOf m event .after) ≡ held m ++ renderAll (toldOf m event .lines)
+  told-held : held (eventOutcome m event .after) ≡ held m ++ renderAll (eventOutcome m event .lines)
   unfolding tellings settled
   told-held = go (fits m (event m .lines))
     where
@@ -118,7 +118,7 @@ module _ (m : Memory) (event : Memory → Event) (same : (x : Memory) → Untouc
       go true = held-say (event m .stored) (event m .lines) ∙ ap (λ (q : List ℕ). q ++ renderAll (event m .lines)) (same-held m (event m .stored) (same m))
       go false = held-say (event (silence m) .stored) (overflow ∷ []) ∙ ap (λ (q : List ℕ). q ++ renderAll (overflow ∷ [])) (same-held (silence m) (event (silence m) .stored) (same (silence m)))
 
-  told-length : Law m → (m .session .groupcount ≡ 0 → event m .lines ≡ []) → length (toldOf m event .after .queue) ≡ length (m .queue)
+  told-length : Law m → (m .session .groupcount ≡ 0 → event m .lines ≡ []) → length (eventOutcome m event .after .queue) ≡ length (m .queue)
   unfolding tellings settled renderAll
   told-length k none = go (fits m (event m .lines)) refl
     where
@@ -139,7 +139,7 @@ pub record Queued (m n : Memory) (r : Record) (ls : List Line) : Type 0 where
   pub wide : length (n .queue) ≡ length (m .queue)
 
 told : (m : Memory) → Law m → (event : Memory → Event) → ((x : Memory) → Untouched x (event x .stored)) → (m .session .groupcount ≡ 0 → event m .lines ≡ [])
-    → {r : Record} → drainedBy r ≡ 0 → Queued m (toldOf m event .after) r (toldOf m event .lines)
+    → {r : Record} → drainedBy r ≡ 0 → Queued m (eventOutcome m event .after) r (eventOutcome m event .lines)
 told m k event same none {r} z = record { octets = rw z (told-held m event same); wide = told-length m event same k none }
 
 module _ (m : Memory) (k : Law m) where

@@ -23,7 +23,7 @@ use Rattle.model.specs.Answering.{workLines, acceptedLines, isAccepted, reply, 
 use Rattle.model.specs.Answers.{numberOf}
 use Rattle.model.specs.Lawful.{lawful}
 use Rattle.model.specs.Refusals.{wrongId, nameHeld, wrongUid, wrongState, tableFull}
-use Rattle.model.specs.Rules.{Outcome, selecting, endLines, raised, told as toldOf, accepted}
+use Rattle.model.specs.Rules.{Outcome, selecting, endLines, raised, eventOutcome, accepted}
 use Rattle.model.specs.Call.{call, refuse, roomless}
 use Rattle.model.specs.Hidden.{Octets}
 use Rattle.demands.specs.Isolation.Alike.{boxes-with}
@@ -78,10 +78,10 @@ with-boxes {z = z} {f = f} e q = e ∙ ap (λ (j : List Mailbox). record { boxes
 -- ---- an event: what it stores, and that its lines are no overflow line
 told-setting : (m : Memory) (event : Memory → Event) (by : List Mailbox → List Mailbox)
     → ((k : Memory) → settingOf (event k .stored) ≡ record { boxes = by (boxes k); session = settingOf k .session; filled = filled k }) → anyb isOverflow (event m .lines) ≡ false
-    → settingOf (toldOf m event .after)
-    ≡ record { boxes = by (boxes m); session = hushedBy (settingOf m .session) (toldOf m event .lines); filled = filled m - 0 + length (renderAll (toldOf m event .lines)) }
+    → settingOf (eventOutcome m event .after)
+    ≡ record { boxes = by (boxes m); session = hushedBy (settingOf m .session) (eventOutcome m event .lines); filled = filled m - 0 + length (renderAll (eventOutcome m event .lines)) }
 unfolding tellings settled
-told-setting m event by h n = undrained (filled m) (length (renderAll (toldOf m event .lines))) (go (fits m (event m .lines)) refl)
+told-setting m event by h n = undrained (filled m) (length (renderAll (eventOutcome m event .lines))) (go (fits m (event m .lines)) refl)
   where
     go : (c : Bool) → fits m (event m .lines) ≡ c
         → settingOf (say (cond c (event m .stored) (event (silence m) .stored)) (cond c (event m .lines) (overflow ∷ [])))

@@ -25,7 +25,7 @@ use Rattle.model.specs.Hidden.{Octets}
 use Rattle.model.specs.declared.Answer.the-variants.{Counted}
 use Rattle.model.specs.declared.Refusal.{Refusal}
 use Rattle.model.specs.declared.Refusal.the-variants.{UnlawfulMemory, BadRecord, WrongId, NameHeld, WrongUid, WrongState, TableFull, NoRoom}
-use Rattle.model.specs.Fates.{Debt, arrival, removal, marking, sameDebt, lowestClass, Fate, refused, unowed, told, waits, dropped, lost, silent, reselected, expungedFirst, waitsFor, tells, reselects, expungesFirst, setsGroups, saysOk, isOverflow, waitsStill, isLost}
+use Rattle.model.specs.Fates.{Debt, arrival, removal, marking, sameDebt, lowestClass, Fate, refused, unowed, reported, waits, dropped, lost, silent, reselected, expungedFirst, waitsFor, tells, reselects, expungesFirst, setsGroups, saysOk, isOverflow, waitsStill, isLost}
 use Rattle.model.specs.Seen.{apparent, Seen, seen}
 use Rattle.model.specs.Due.{Account, waiting, Due, nothing, atOnce, later, due, owing}
 use Rattle.model.specs.Account.{front, settle, own, ownFate, overflowed, owedNow, notices, posted, entered, account, fateAt, losses, overflows}
@@ -81,12 +81,12 @@ module _ (m : Memory) (a : Account) (s : Stands m a) (o : Octets) (taken : eqb (
   exactly : notices (call m o .lines) ≡ owedNow (apparent m) a (recordOf o) (call m o .lines)
   exactly = let e = call-kept m (s .law) a (s .books) o .exact in rw taken at e
 
-  told-then : (k : ℕ) (d : Debt) → fateAt a k ≡ waits d → tells (call m o .lines) d ≡ true → fateAt (entered a (seen m o)) k ≡ told (suc (length (a .fates)))
+  told-then : (k : ℕ) (d : Debt) → fateAt a k ≡ waits d → tells (call m o .lines) d ≡ true → fateAt (entered a (seen m o)) k ≡ reported (suc (length (a .fates)))
   told-then k d h t = next-fate a (seen m o) k d taken h ∙ rw t
 
   -- a command end with room for all that it owes tells each change that waits and that its class may release
   pub told-at-end : (c : ℕ) → recordOf o ≡ ended c → leb c 1 ≡ true → bothRights (selectedBox m) ≡ true → fits m (owing (apparent m) a c) ≡ true
-      → (k : ℕ) (d : Debt) → leb (lowestClass d) c ≡ true → fateAt a k ≡ waits d → fateAt (entered a (seen m o)) k ≡ told (suc (length (a .fates)))
+      → (k : ℕ) (d : Debt) → leb (lowestClass d) c ≡ true → fateAt a k ≡ waits d → fateAt (entered a (seen m o)) k ≡ reported (suc (length (a .fates)))
   unfolding owedNow
   told-at-end c r l b f k d q h =
       let e : notices (call m o .lines) ≡ fitting (room m) (owing (apparent m) a c) = exactly ∙ ap (λ (x : Record). owedNow (apparent m) a x (call m o .lines)) r in
@@ -96,18 +96,18 @@ module _ (m : Memory) (a : Account) (s : Stands m a) (o : Octets) (taken : eqb (
 
   -- whatever its room, it tells what its front tells
   pub told-by-front : (c : ℕ) → recordOf o ≡ ended c → (k : ℕ) (d : Debt) → fateAt a k ≡ waits d
-      → fateAt (entered a (seen m o)) k ≡ cond (tells (front (apparent m) a c) d) (told (suc (length (a .fates)))) (waits d)
+      → fateAt (entered a (seen m o)) k ≡ cond (tells (front (apparent m) a c) d) (reported (suc (length (a .fates)))) (waits d)
   unfolding owedNow
   told-by-front c r k d h =
       let n = suc (length (a .fates)) in
       let e : notices (call m o .lines) ≡ front (apparent m) a c = exactly ∙ ap (λ (x : Record). owedNow (apparent m) a x (call m o .lines)) r in
       next-fate a (seen m o) k d taken h
       ∙ (ap (λ (x : Record). settle (apparent m) n x (call m o .lines) (waits d)) r
-      ∙ ap (λ (b : Bool). cond b (told n) (waits d)) (sym (tells-notices m (call m o .lines) d) ∙ ap (λ (ls : List Line). tells ls d) e))
+      ∙ ap (λ (b : Bool). cond b (reported n) (waits d)) (sym (tells-notices m (call m o .lines) d) ∙ ap (λ (ls : List Line). tells ls d) e))
 
   -- an accepted NOTIFY SET tells each change that waits
   pub told-at-set : (t : List ℕ) → recordOf o ≡ command t → setsGroups (commandOf t) ≡ true → anyb saysOk (call m o .lines) ≡ true → bothRights (selectedBox m) ≡ true
-      → (k : ℕ) (d : Debt) → fateAt a k ≡ waits d → fateAt (entered a (seen m o)) k ≡ told (suc (length (a .fates)))
+      → (k : ℕ) (d : Debt) → fateAt a k ≡ waits d → fateAt (entered a (seen m o)) k ≡ reported (suc (length (a .fates)))
   unfolding owedNow
   told-at-set t r g y b k d h =
       let e : notices (call m o .lines) ≡ cond (setsGroups (commandOf t) && anyb saysOk (call m o .lines)) (owing (apparent m) a 1) [] = exactly
@@ -181,7 +181,7 @@ none-waiting (f ∷ fs) h = go f (h) (none-waiting fs (λ d. or-r (waitsFor d f)
     go : (g : Fate) → ((d : Debt) → (waitsFor d g || anyb (waitsFor d) fs) ≡ false) → anyb waitsStill fs ≡ false → (waitsStill g || anyb waitsStill fs) ≡ false
     go refused q ih = ih
     go (unowed y) q ih = ih
-    go (told n) q ih = ih
+    go (reported n) q ih = ih
     go (waits (arrival u)) q ih = tf (eqb u u) (eq-eqb u u refl) (or-l (eqb u u) _ (q (arrival u)))
     go (waits (removal u)) q ih = tf (eqb u u) (eq-eqb u u refl) (or-l (eqb u u) _ (q (removal u)))
     go (waits (marking u)) q ih = tf (eqb u u) (eq-eqb u u refl) (or-l (eqb u u) _ (q (marking u)))
@@ -195,7 +195,7 @@ lost-own : (n : ℕ) (d h : Due) (ls : List Line) → isLost (own n d h ls) ≡ 
 lost-own n (nothing y) h ls q = tf false q refl
 lost-own n (atOnce ds) h ls q = go (anyb isOverflow ls) (same (renderAll ls) (renderAll ds)) q
   where
-    go : (c e : Bool) → isLost (cond c (overflowed h) (cond e (told n) silent)) ≡ true → c ≡ true
+    go : (c e : Bool) → isLost (cond c (overflowed h) (cond e (reported n) silent)) ≡ true → c ≡ true
     go true e p = refl
     go false true p = tf false p refl
     go false false p = tf false p refl
@@ -204,10 +204,10 @@ lost-own n (later x) h ls q = tf false q refl
 lost-settled : (w : Memory) (n : ℕ) (r : Record) (ls : List Line) (f : Fate) → isLost (settle w n r ls f) ≡ isLost f
 lost-settled w n r ls refused = refl
 lost-settled w n r ls (unowed y) = refl
-lost-settled w n r ls (told k) = refl
+lost-settled w n r ls (reported k) = refl
 lost-settled w n r ls (waits d) = go (tells ls d) (reselects r) (expungesFirst w r d)
   where
-    go : (a b c : Bool) → isLost (cond a (told n) (cond b (dropped reselected n) (cond c (dropped expungedFirst n) (waits d)))) ≡ false
+    go : (a b c : Bool) → isLost (cond a (reported n) (cond b (dropped reselected n) (cond c (dropped expungedFirst n) (waits d)))) ≡ false
     go true b c = refl
     go false true c = refl
     go false false true = refl

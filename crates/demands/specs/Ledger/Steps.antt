@@ -11,9 +11,9 @@ use Rattle.model.specs.Memory.{Memory, mails}
 use Rattle.model.specs.Lines.{Line, overflow, renderAll}
 use Rattle.model.specs.Queue.{room, fits, enqueue, effects, say}
 use Rattle.model.specs.Events.{Event, silence, tellings, settled}
-use Rattle.model.specs.Rules.{Outcome, rested, told as toldOf}
+use Rattle.model.specs.Rules.{Outcome, rested, eventOutcome}
 use Rattle.demands.specs.Lasting.NameLaws.{same-refl}
-use Rattle.model.specs.Fates.{Debt, arrival, removal, marking, Fate, unowed, told, waits, waitsFor, tells, isExists, isRemoval, isMarking, isOverflow, isNotice, isSilent}
+use Rattle.model.specs.Fates.{Debt, arrival, removal, marking, Fate, unowed, reported, waits, waitsFor, tells, isExists, isRemoval, isMarking, isOverflow, isNotice, isSilent}
 use Rattle.model.specs.Seen.{apparent}
 use Rattle.model.specs.Due.{Account, Due, nothing, atOnce, later, due}
 use Rattle.model.specs.Account.{settle, notices, dueLines, overflowed, own, ownFate, keptBy, posted, owedNow}
@@ -98,7 +98,7 @@ once (later d) = []
 
 abbrev pub fateNow : ℕ → Due → Fate
 fateNow n (nothing y) = unowed y
-fateNow n (atOnce ls) = told n
+fateNow n (atOnce ls) = reported n
 fateNow n (later d) = waits d
 
 -- notices, and no overflow line, are owed
@@ -142,7 +142,7 @@ module _ (m : Memory) (a : Account) (r : Record) (event : Memory → Event) wher
   n = suc (length (a .fates))
 
   made : (ls : List Line) (after : Memory) (f : Fate) → ((k : List Line) → owedNow w a r k ≡ dueLines w (due w a r)) → tellings m event ≡ ls → say (settled m event) (tellings m event) ≡ after
-      → own n (due w a r) (due (silence w) a r) ls ≡ f → isSilent f ≡ false → notices ls ≡ dueLines w (due w a r) → Books after (page w a r ls f) → Step m a r (toldOf m event)
+      → own n (due w a r) (due (silence w) a r) ls ≡ f → isSilent f ≡ false → notices ls ≡ dueLines w (due w a r) → Books after (page w a r ls f) → Step m a r (eventOutcome m event)
   made ls after f owing t e g v x b = record {
     exact = ap notices t ∙ (x ∙ sym (owing (tellings m event)));
     books = subst (λ (k : Memory). Books k (posted w a r (tellings m event))) (sym e) (subst (λ (p : Account). Books after p) (sym (ap (posted w a r) t ∙ ap (page w a r ls) g)) b);
@@ -152,18 +152,18 @@ module _ (m : Memory) (a : Account) (r : Record) (event : Memory → Event) wher
   pub told-step : event m .lines ≡ once (due w a r) → Fair (due w a r) → ((ls : List Line) → owedNow w a r ls ≡ dueLines w (due w a r))
       → Books (say (event m .stored) (once (due w a r))) (page w a r (once (due w a r)) (fateNow n (due w a r)))
       → Books (event (silence m) .stored) (page w a r (overflow ∷ []) (overflowed (due (silence w) a r)))
-      → Step m a r (toldOf m event)
+      → Step m a r (eventOutcome m event)
   unfolding tellings settled
   told-step e fair owing now hushed = go (due w a r) refl fair now
     where
       none-owed : (d : Due) → due w a r ≡ d → once d ≡ [] → dueLines w d ≡ [] → own n d (due (silence w) a r) [] ≡ fateNow n d
-          → Books (say (event m .stored) []) (page w a r [] (fateNow n d)) → Step m a r (toldOf m event)
+          → Books (say (event m .stored) []) (page w a r [] (fateNow n d)) → Step m a r (eventOutcome m event)
       none-owed d q o l g b =
           let z : event m .lines ≡ [] = e ∙ (ap once q ∙ o) in
           let y : fits m (event m .lines) ≡ true = ap (fits m) z ∙ nil-fits m in
           made [] (say (event m .stored) []) (fateNow n d) owing (rw (y, z)) (rw (y, z)) (ap (λ (x : Due). own n x (due (silence w) a r) []) q ∙ g) (loud-now n d) (sym (ap (dueLines w) q ∙ l)) b
 
-      go : (d : Due) → due w a r ≡ d → Fair d → Books (say (event m .stored) (once d)) (page w a r (once d) (fateNow n d)) → Step m a r (toldOf m event)
+      go : (d : Due) → due w a r ≡ d → Fair d → Books (say (event m .stored) (once d)) (page w a r (once d) (fateNow n d)) → Step m a r (eventOutcome m event)
       go (nothing y) q f b = none-owed (nothing y) q refl refl refl b
       go (later x) q f b = none-owed (later x) q refl refl refl b
       go (atOnce ls) q f b = room′ (fits m ls) refl
@@ -171,10 +171,10 @@ module _ (m : Memory) (a : Account) (r : Record) (event : Memory → Event) wher
           z : event m .lines ≡ ls
           z = e ∙ ap once q
 
-          room′ : (c : Bool) → fits m ls ≡ c → Step m a r (toldOf m event)
+          room′ : (c : Bool) → fits m ls ≡ c → Step m a r (eventOutcome m event)
           room′ true h =
               let y : fits m (event m .lines) ≡ true = ap (fits m) z ∙ h in
-              made ls (say (event m .stored) ls) (told n) owing (rw (y, z)) (rw (y, z))
+              made ls (say (event m .stored) ls) (reported n) owing (rw (y, z)) (rw (y, z))
               (ap (λ (x : Due). own n x (due (silence w) a r) ls) q ∙ rw (no-overflow f, same-refl (renderAll ls))) refl
               (filter-all isNotice ls (all-to (λ l p. p .0) f) ∙ sym (ap (dueLines w) q ∙ rw h)) b
           room′ false h =
@@ -187,7 +187,7 @@ module _ (m : Memory) (a : Account) (r : Record) (event : Memory → Event) wher
   pub told-step-by : (d h : Due) → due w a r ≡ d → due (silence w) a r ≡ h → event m .lines ≡ once d → Fair d → ((ls : List Line) → owedNow w a r ls ≡ dueLines w (due w a r))
       → Books (say (event m .stored) (once d)) (page w a r (once d) (fateNow n d))
       → Books (event (silence m) .stored) (page w a r (overflow ∷ []) (overflowed h))
-      → Step m a r (toldOf m event)
+      → Step m a r (eventOutcome m event)
   told-step-by d h p q e f o x y = told-step (e ∙ sym (ap once p)) (subst (λ (c : Due). Fair c) (sym p) f) o
       (subst (λ (c : Due). Books (say (event m .stored) (once c)) (page w a r (once c) (fateNow n c))) (sym p) x)
       (subst (λ (c : Due). Books (event (silence m) .stored) (page w a r (overflow ∷ []) (overflowed c))) (sym q) y)

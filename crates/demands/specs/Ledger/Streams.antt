@@ -23,7 +23,7 @@ use Rattle.demands.specs.Lasting.Ranges.{InRange, in-range}
 use Rattle.demands.specs.Counted.Taken.{unrefused}
 use Rattle.model.specs.declared.Refusal.{Refusal}
 use Rattle.model.specs.declared.Refusal.the-variants.{UnlawfulMemory, BadRecord, WrongId, NameHeld, WrongUid, WrongState, TableFull, NoRoom}
-use Rattle.model.specs.Fates.{arrival, removal, marking, Fate, refused, unowed, told, waits, dropped, lost, silent, reselected, expungedFirst, tells, reselects, expungesFirst, isSilent}
+use Rattle.model.specs.Fates.{arrival, removal, marking, Fate, refused, unowed, reported, waits, dropped, lost, silent, reselected, expungedFirst, tells, reselects, expungesFirst, isSilent}
 use Rattle.model.specs.Seen.{apparent, Seen, seen, history, final}
 use Rattle.model.specs.Due.{Account, opened, waiting}
 use Rattle.model.specs.Account.{ownFate, settle, entered, account, Exact}
@@ -60,10 +60,10 @@ kind-step m k a b noRecord o d e f g = none-step m k a b
 settled-one : (w : Memory) (n : ℕ) (r : Record) (ls : List Line) (f : Fate) → isSilent (settle w n r ls f) ≡ isSilent f
 settled-one w n r ls refused = refl
 settled-one w n r ls (unowed y) = refl
-settled-one w n r ls (told k) = refl
+settled-one w n r ls (reported k) = refl
 settled-one w n r ls (waits d) = go (tells ls d) (reselects r) (expungesFirst w r d)
   where
-    go : (a b c : Bool) → isSilent (cond a (told n) (cond b (dropped reselected n) (cond c (dropped expungedFirst n) (waits d)))) ≡ false
+    go : (a b c : Bool) → isSilent (cond a (reported n) (cond b (dropped reselected n) (cond c (dropped expungedFirst n) (waits d)))) ≡ false
     go true b c = refl
     go false true c = refl
     go false false true = refl

@@ -8,7 +8,7 @@ use Rattle.model.specs.Lines.{renderAll}
 use Rattle.model.specs.Hidden.{Octets}
 use Rattle.model.specs.Pushrun.{start}
 use Rattle.model.specs.Examples.Stream.{mb, dl, rn, sb, rt, me, xp, fl, se, ce, cm, dr, computed}
-use Rattle.model.specs.Fates.{arrival, removal, marking, quiet, noEvent, rightMissing, unmet, unasked, notAnnounced, reselected, expungedFirst, Fate, refused, unowed, told, waits, dropped, lost}
+use Rattle.model.specs.Fates.{arrival, removal, marking, quiet, noEvent, rightMissing, unmet, unasked, notAnnounced, reselected, expungedFirst, Fate, refused, unowed, reported, waits, dropped, lost}
 use Rattle.model.specs.Tally.{tally, tallied}
 use Rattle.model.specs.Seen.{Seen, history}
 use Rattle.model.specs.Due.{Account, opened, waiting, due, removalLines, markingLines}
@@ -92,7 +92,7 @@ before-announcement = refl
 -- flags of another mailbox
 pub flags-elsewhere : Became
     (cm "n NOTIFY SET (personal (MessageNew MessageExpunge FlagChange))" ∷ mb 2 0x33 1 1 1 "b" ∷ me 2 1 0 0 2 ∷ fl 2 1 1 3 ∷ [])
-    (unowed noEvent ∷ unowed quiet ∷ told 7 ∷ told 8 ∷ [])
+    (unowed noEvent ∷ unowed quiet ∷ reported 7 ∷ reported 8 ∷ [])
 unfolding accounted
 flags-elsewhere = refl
 
@@ -101,20 +101,20 @@ flags-elsewhere = refl
 pub at-once-elsewhere : Became
     (cm "n NOTIFY SET (personal (MessageNew MessageExpunge MailboxName SubscriptionChange))"
     ∷ mb 2 0x33 0 1 1 "b" ∷ me 2 1 0 0 2 ∷ xp 2 1 3 ∷ rn 2 0 "c" ∷ sb 2 1 0 ∷ rt 2 0x20 ∷ rt 2 0x30 ∷ dl 2 0 ∷ [])
-    (unowed noEvent ∷ told 6 ∷ told 7 ∷ told 8 ∷ told 9 ∷ told 10 ∷ told 11 ∷ told 12 ∷ told 13 ∷ [])
+    (unowed noEvent ∷ reported 6 ∷ reported 7 ∷ reported 8 ∷ reported 9 ∷ reported 10 ∷ reported 11 ∷ reported 12 ∷ reported 13 ∷ [])
 unfolding accounted
 at-once-elsewhere = refl
 
 -- of messages in the selected one; a delayed group lets the expunge wait
 pub at-once : Became
     (cm "n NOTIFY SET (selected (MessageNew MessageExpunge FlagChange))" ∷ me 1 3 0 0 4 ∷ fl 1 3 1 5 ∷ xp 1 1 6 ∷ [])
-    (unowed noEvent ∷ told 6 ∷ told 7 ∷ told 8 ∷ [])
+    (unowed noEvent ∷ reported 6 ∷ reported 7 ∷ reported 8 ∷ [])
 unfolding accounted
 at-once = refl
 
 pub delayed : Became
     (cm "n NOTIFY SET (selected-delayed (MessageNew MessageExpunge FlagChange))" ∷ me 1 3 0 0 4 ∷ fl 1 3 1 5 ∷ xp 1 1 6 ∷ [])
-    (unowed noEvent ∷ told 6 ∷ told 7 ∷ waits (removal 1) ∷ [])
+    (unowed noEvent ∷ reported 6 ∷ reported 7 ∷ waits (removal 1) ∷ [])
 unfolding accounted
 delayed = refl
 
@@ -142,13 +142,13 @@ waiting-for-right = refl
 -- an expunge waits while r is lost, and a mark through NOTIFY NONE; both are told when that is over
 pub through-loss : Became
     (xp 1 1 4 ∷ rt 1 0x10 ∷ rt 1 0x30 ∷ ce 1 ∷ [])
-    (told 8 ∷ unowed noEvent ∷ unowed noEvent ∷ unowed noEvent ∷ [])
+    (reported 8 ∷ unowed noEvent ∷ unowed noEvent ∷ unowed noEvent ∷ [])
 unfolding accounted
 through-loss = refl
 
 pub through-none : Became
     (fl 1 1 1 4 ∷ cm "n NOTIFY NONE" ∷ ce 0 ∷ [])
-    (told 7 ∷ unowed noEvent ∷ unowed noEvent ∷ [])
+    (reported 7 ∷ unowed noEvent ∷ unowed noEvent ∷ [])
 unfolding accounted
 through-none = refl
 
@@ -167,20 +167,20 @@ not-through-loss-exact = refl
 -- by an EXISTS and by a FETCH that another change owes at once
 pub by-exists : Became
     (me 1 3 0 0 4 ∷ rt 1 0x20 ∷ cm "n NOTIFY SET (selected (MessageNew MessageExpunge FlagChange))" ∷ rt 1 0x30 ∷ me 1 4 0 0 5 ∷ [])
-    (told 9 ∷ unowed unmet ∷ unowed noEvent ∷ unowed unasked ∷ told 9 ∷ [])
+    (reported 9 ∷ unowed unmet ∷ unowed noEvent ∷ unowed unasked ∷ reported 9 ∷ [])
 unfolding accounted
 by-exists = refl
 
 pub by-fetch : Became
     (fl 1 1 1 4 ∷ rt 1 0x20 ∷ cm "n NOTIFY SET (selected (MessageNew MessageExpunge FlagChange))" ∷ rt 1 0x30 ∷ fl 1 1 2 5 ∷ [])
-    (told 9 ∷ unowed unmet ∷ unowed noEvent ∷ unowed unasked ∷ told 9 ∷ [])
+    (reported 9 ∷ unowed unmet ∷ unowed noEvent ∷ unowed unasked ∷ reported 9 ∷ [])
 unfolding accounted
 by-fetch = refl
 
 -- by a command end: class 0 leaves the expunge to class 1
 pub by-command-end : Became
     (fl 1 1 1 4 ∷ xp 1 2 5 ∷ me 1 3 0 0 6 ∷ ce 0 ∷ ce 1 ∷ [])
-    (told 8 ∷ told 9 ∷ told 8 ∷ unowed noEvent ∷ unowed noEvent ∷ [])
+    (reported 8 ∷ reported 9 ∷ reported 8 ∷ unowed noEvent ∷ unowed noEvent ∷ [])
 unfolding accounted
 by-command-end = refl
 
@@ -191,7 +191,7 @@ by-command-end-exact = refl
 -- by an accepted NOTIFY SET: all that waits; by one that is not accepted nothing
 pub by-set : Became
     (fl 1 1 1 4 ∷ fl 1 1 3 5 ∷ xp 1 2 6 ∷ me 1 3 0 0 7 ∷ cm "n NOTIFY SET (personal (MessageNew))" ∷ cm "n NOTIFY SET (personal NONE)" ∷ [])
-    (replicate 4 (told 10) ++ (unowed noEvent ∷ unowed noEvent ∷ []))
+    (replicate 4 (reported 10) ++ (unowed noEvent ∷ unowed noEvent ∷ []))
 unfolding accounted
 by-set = refl
 
@@ -223,7 +223,7 @@ lost-to-overflow = refl
 
 pub waits-after-overflow : Became
     (cm "n NOTIFY SET (selected (MessageNew (UID) MessageExpunge FlagChange))" ∷ filling ++ (me 1 3 0 0 4 ∷ xp 1 1 5 ∷ dr 600 ∷ ce 0 ∷ []))
-    (replicate 22 (unowed noEvent) ++ (told 30 ∷ waits (removal 1) ∷ unowed noEvent ∷ unowed noEvent ∷ []))
+    (replicate 22 (unowed noEvent) ++ (reported 30 ∷ waits (removal 1) ∷ unowed noEvent ∷ unowed noEvent ∷ []))
 unfolding accounted
 waits-after-overflow = refl
 
@@ -237,13 +237,13 @@ lost-elsewhere = refl
 -- a command end with room for EXPUNGE and EXISTS (13 and 12 octets), and not for the FETCH, which the next one tells
 pub told-in-part : Became
     (fl 1 2 1 4 ∷ xp 1 1 5 ∷ me 1 3 0 0 6 ∷ filling ++ (ce 1 ∷ []))
-    (waits (marking 2) ∷ told 29 ∷ told 29 ∷ replicate 22 (unowed noEvent))
+    (waits (marking 2) ∷ reported 29 ∷ reported 29 ∷ replicate 22 (unowed noEvent))
 unfolding accounted
 told-in-part = refl
 
 pub told-in-full : Became
     (fl 1 2 1 4 ∷ xp 1 1 5 ∷ me 1 3 0 0 6 ∷ filling ++ (ce 1 ∷ dr 600 ∷ ce 0 ∷ []))
-    (told 31 ∷ told 29 ∷ told 29 ∷ replicate 24 (unowed noEvent))
+    (reported 31 ∷ reported 29 ∷ reported 29 ∷ replicate 24 (unowed noEvent))
 unfolding accounted
 told-in-full = refl
 

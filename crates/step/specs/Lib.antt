@@ -1,5 +1,4 @@
 pub mod Steps
 pub mod Served
-pub mod Kinds
 pub mod Runs
 pub mod Isolated

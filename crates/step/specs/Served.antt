@@ -5,11 +5,11 @@ use mathlib.Core.List.{List}
 use Prim.Native.Nat.{ℕ, _/_, _≤_}
 use native.Mathlib.Omega.{arith}
 use lib.Dec.{leb}
-use lib.ListN.{length, take, getD, replicate, length-replicate}
+use lib.ListN.{length, take, replicate, length-replicate}
 use lib.Seq.{length-take-le, take-take}
 use borrow.Author.Tests.{leb-true, leb-false}
 use Rattle.model.specs.Records.{isRecord, recordOf}
-use Rattle.model.specs.Memory.{Memory, boxes, noMailbox, place}
+use Rattle.model.specs.Memory.{Memory, boxes, noMailbox}
 use Rattle.model.specs.Lawful.{lawful}
 use Rattle.model.specs.Call.{call}
 use Rattle.model.specs.declared.Mailbox.{Mailbox}
@@ -18,23 +18,13 @@ use Rattle.model.specs.declared.Session.{Session}
 use Rattle.model.specs.declared.Refusal.the-variants.{UnlawfulMemory, BadRecord}
 use Rattle.demands.specs.Lasting.Law.{Law, law-out}
 use Rattle.table_messages.specs.Words.{messages, messages-count}
-use Rattle.table_mailboxes.specs.Columns.{Laid}
 use Rattle.lawful.specs.Lent.{Lent as Rows, memory}
 use Rattle.lent_rows.specs.Standing.{Stands}
 use Rattle.laws.specs.Room.{law-room}
-use Rattle.record_read.specs.declared.Kind.{Kind}
-use Rattle.record_kind.specs.Subjects.{sought}
-use Rattle.record_outcome.specs.Coming.{Lends, Ready, Placed, Comes, changed, refusal, ladder}
+use Rattle.record_outcome.specs.Coming.{Lends, Ready, Comes, changed, refusal, ladder}
 use Rattle.record_outcome.specs.Laws.{call-unlawful, call-bad, call-ladder, comes-refused}
 use Rattle.record_outcome.specs.declared.Outcome.{Outcome as Came}
 use Rattle.step.specs.Steps.{Lent, Steps}
-
--- what a kind's function leaves, for every lawful memory whose words, counts, session, queue and used rows those are: v are the record's numbers, and what
--- follows them stands from `tail` on; mailbox x at place k is the one that the record needs
-abbrev pub Serves : Kind → List ℕ → ℕ → ℕ → Mailbox → ℕ → List ℕ → List ℕ → List ℕ → List ℕ → List ℕ → List ℕ → List ℕ → List ℕ → Counts → Session → List ℕ → List ℕ → Came → List ℕ → List ℕ → Type 0
-Serves kind v tail k x lent ids attributes lens validities nexts counters names ws counts s q o z ws′ q′ =
-    (m : Memory) → Lends m ws counts s q → Law m → length (m .rows) ≡ lent → Placed m (sought kind (getD v 0 0) (s .selected)) k x
-    → Laid (boxes m) ids attributes lens validities nexts counters names → Comes m (ladder m (recordOf o)) z ws ws′ q′
 
 abbrev pub lentAs : List Mailbox → List ℕ → Counts → Session → List ℕ → Lent
 lentAs t ws k s q = record { table = t; words = ws; counts = k; session = s; queue = q }
@@ -61,10 +51,6 @@ comes-steps t ws k s q o r ws′ q′ c = record {
   session = c .session;
   queue = c .queue;
 }
-
--- the mailbox that was found
-pub placed : (m : Memory) (i k : ℕ) (x : Mailbox) → k ≡ place i (boxes m) → x ≡ getD (boxes m) k noMailbox → Placed m i k x
-placed m i k x at is = record { at = at; is = is ∙ ap (λ (j : ℕ). getD (boxes m) j noMailbox) at }
 
 -- ---- a table that is lent as the code has it, whatever its length
 some-rows : (rows : List Mailbox) (lent : ℕ) → length rows ≡ 64 → (t : List Mailbox) × Rows t rows lent

@@ -8,9 +8,9 @@ use Rattle.model.specs.declared.Counts.{Counts}
 use Rattle.record_read.specs.Laws.{read-says}
 use Rattle.table_mailboxes.specs.Rows.{boxes-long}
 use Rattle.record_outcome.specs.Coming.{Placed}
-use Rattle.step.specs.Served.{placed}
-use Rattle.step.proofs.serve.Statement.{statement}
-use Rattle.step.proofs.serve.Tie as tie
+use Rattle.step_record.specs.Kinds.{placed}
+use Rattle.step_record.proofs.serve.Statement.{statement}
+use Rattle.step_record.proofs.serve.Tie as tie
 
 dispatch-requires : tie.Need-dispatch-requires
 dispatch-requires c κs =

@@ -4,10 +4,10 @@ use mathlib.Core.Bool.{_&&_}
 use mathlib.Core.List.{List}
 use Prim.Native.Nat.{ℕ, _-_}
 use native.Mathlib.Omega.{arith}
-use lib.ListN.{length, take, drop, length-drop}
+use lib.ListN.{length, take, drop, getD, length-drop}
 use lib.Seq.{take-all}
-use Rattle.model.specs.Records.{kindOf, isKnown, framed, bodyOk, bodyOf, layout, command}
-use Rattle.model.specs.Memory.{Memory, boxes, selectedBox}
+use Rattle.model.specs.Records.{recordOf, kindOf, isKnown, framed, bodyOk, bodyOf, layout, command}
+use Rattle.model.specs.Memory.{Memory, boxes, noMailbox, place, selectedBox}
 use Rattle.model.specs.Laws.{tf, and-l}
 use Rattle.model.specs.declared.Mailbox.{Mailbox}
 use Rattle.model.specs.declared.Counts.{Counts}
@@ -18,12 +18,22 @@ use Rattle.record_read.specs.Kinds.{kindFor}
 use Rattle.record_read.specs.Laws.{Says, command-says}
 use Rattle.record_read.specs.declared.Kind.{Kind}
 use Rattle.record_read.specs.declared.Kind.the-variants.{Command, Unknown}
-use Rattle.record_kind.specs.Subjects.{subjectOf, kindBy, kind-is}
+use Rattle.record_kind.specs.Subjects.{subjectOf, sought, kindBy, kind-is}
 use Rattle.record_kind.specs.Serving.{InRange, Follows, Serves as Kindly, is-selected}
 use Rattle.record_kind.specs.declared.Subject.{Subject}
-use Rattle.record_outcome.specs.Coming.{Lends, Comes, ladder}
+use Rattle.record_outcome.specs.Coming.{Lends, Placed, Comes, ladder}
 use Rattle.record_outcome.specs.declared.Outcome.{Outcome as Came}
-use Rattle.step.specs.Served.{Serves}
+
+-- what a kind's function leaves, for every lawful memory whose words, counts, session, queue and used rows those are: v are the record's numbers, and what
+-- follows them stands from `tail` on; mailbox x at place k is the one that the record needs
+abbrev pub Serves : Kind → List ℕ → ℕ → ℕ → Mailbox → ℕ → List ℕ → List ℕ → List ℕ → List ℕ → List ℕ → List ℕ → List ℕ → List ℕ → Counts → Session → List ℕ → List ℕ → Came → List ℕ → List ℕ → Type 0
+Serves kind v tail k x lent ids attributes lens validities nexts counters names ws counts s q o z ws′ q′ =
+    (m : Memory) → Lends m ws counts s q → Law m → length (m .rows) ≡ lent → Placed m (sought kind (getD v 0 0) (s .selected)) k x
+    → Laid (boxes m) ids attributes lens validities nexts counters names → Comes m (ladder m (recordOf o)) z ws ws′ q′
+
+-- the mailbox that was found
+pub placed : (m : Memory) (i k : ℕ) (x : Mailbox) → k ≡ place i (boxes m) → x ≡ getD (boxes m) k noMailbox → Placed m i k x
+placed m i k x at is = record { at = at; is = is ∙ ap (λ (j : ℕ). getD (boxes m) j noMailbox) at }
 
 -- what stands from a place on
 pub rest : (o : List ℕ) (n : ℕ) → take (length o - n) (drop n o) ≡ drop n o

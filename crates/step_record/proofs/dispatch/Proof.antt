@@ -3,9 +3,9 @@ use borrow.Author.Needs.{needs}
 use Rattle.record_read.specs.declared.Kind.the-variants.{Command}
 use Rattle.record_read.specs.Laws.{command-bounds}
 use Rattle.record_kind.specs.declared.Subject.the-variants as S
-use Rattle.step.specs.Kinds.{rest, by-subject, says-of, in-range, follows, served, placed-by, answered, nothing}
-use Rattle.step.proofs.dispatch.Statement.{statement}
-use Rattle.step.proofs.dispatch.Tie as tie
+use Rattle.step_record.specs.Kinds.{rest, by-subject, says-of, in-range, follows, served, placed-by, answered, nothing}
+use Rattle.step_record.proofs.dispatch.Statement.{statement}
+use Rattle.step_record.proofs.dispatch.Tie as tie
 
 serve-requires : tie.Need-serve-requires
 serve-requires c κs =

@@ -1,0 +1,2 @@
+-- Definitions that the contracts of `step_record` cite, and laws about them.
+pub mod Kinds

@@ -1,16 +1,18 @@
--- A piece of a text and a word, one octet at a time. Assumes nothing.
-use mathlib.Core.Path.{_≡_}
+-- A piece of a text, one octet at a time, and a table, one word at a time. Assumes nothing.
+use mathlib.Core.Path.{_≡_, refl}
 use mathlib.Core.List.{List, [], _∷_}
-use mathlib.Core.Bool.{true, false}
-use Prim.Native.Nat.{ℕ, suc, _+_, _-_, _≤_, _<_}
+use mathlib.Core.Bool.{Bool, true, false, not, cond, _||_}
+use Prim.Native.Nat.{ℕ, zero, suc, _+_, _-_, _≤_, _<_}
 use native.Mathlib.Numerals.{add-one}
 use native.Mathlib.Omega.{arith}
-use lib.ListN.{length, getD, drop, drop-of-length-le}
-use lib.Seq.{drop-cons, take-nil}
-use borrow.Author.Tests.{eq-eqb, ne-eqb}
-use Rattle.model.specs.Lists.{same}
-use Rattle.model.specs.Text.{upper, sameWord}
+use lib.Dec.{eqb}
+use lib.ListN.{length, getD, drop, length-drop, drop-of-length-le}
+use lib.Seq.{drop-cons, take-all, take-nil, drop-drop}
+use borrow.Author.Tests.{ne-eqb}
+use Rattle.model.specs.Lists.{anyb}
+use Rattle.model.specs.Text.{sameWord}
 use Rattle.model.specs.Reading.{piece}
+use Rattle.octets.specs.Vocabulary.{cut, placeFrom}
 
 module _ (s : List ℕ) (p q : ℕ) where
   -- nothing is left of it
@@ -21,32 +23,34 @@ module _ (s : List ℕ) (p q : ℕ) where
   pub piece-past : length s ≤ p → piece s p q ≡ []
   piece-past h = rw (drop-of-length-le s h) (take-nil (q - p))
 
+  -- the text ends before it does
+  pub piece-rest : length s ≤ q → piece s p q ≡ drop p s
+  piece-rest h = take-all (q - p) (drop p s) (simp length-drop (omega arith))
+
   -- its first octet
   pub piece-cons : p < q → p < length s → piece s p q ≡ getD s p 0 ∷ piece s (p + 1) q
   piece-cons l h = let e : q - p ≡ suc (q - (p + 1)) = omega arith in rw (drop-cons s p 0 h, e, add-one p)
 
-module _ (s w : List ℕ) (p q j : ℕ) where
-  -- the piece is used up and the word is not
-  pub word-short : piece s p q ≡ [] → j < length w → sameWord (piece s p q) (drop j w) ≡ false
-  unfolding same
-  word-short e l = rw (e, drop-cons w j 0 l)
+-- a table of words from a position on: its first word p, whether that is w, and the words behind it
+module _ (w words : List ℕ) (k at : ℕ) (h : at < length words) (l : k ≤ at + 1) where
+  table-open : placeFrom k w (cut (length words + 1 - k) (drop at words)) ≡ cond (sameWord w (piece words (at + 1) (at + 1 + getD words at 0))) k (placeFrom (k + 1) w (cut (length words + 1 - (k + 1)) (drop (at + 1 + getD words at 0) words)))
+  table-open =
+      let e : length words + 1 - k ≡ suc (length words + 1 - (k + 1)) = omega arith in
+      let n : at + 1 + getD words at 0 - (at + 1) ≡ getD words at 0 = omega arith in
+      rw (e, drop-cons words at 0 h, n, drop-drop (getD words at 0) (suc at) words, add-one at, add-one k)
 
-  -- both are
-  pub word-done : piece s p q ≡ [] → length w ≤ j → sameWord (piece s p q) (drop j w) ≡ true
-  unfolding same
-  word-done e l = rw (e, drop-of-length-le w l)
+  pub table-word : (t : Bool) {p : List ℕ} {b : Bool} → p ≡ piece words (at + 1) (at + 1 + getD words at 0) → b ≡ sameWord w p → b ≡ t → placeFrom k w (cut (length words + 1 - k) (drop at words)) ≡ cond t k (placeFrom (k + 1) w (cut (length words + 1 - (k + 1)) (drop (at + 1 + getD words at 0) words)))
+  table-word t e f g = rw (table-open, ← e, ← f, g)
 
-  -- the word is used up and the piece is not
-  pub word-long : p < q → p < length s → length w ≤ j → sameWord (piece s p q) (drop j w) ≡ false
-  unfolding same
-  word-long l h m = rw (piece-cons s p q l h, drop-of-length-le w m)
+pub table-over : (w words : List ℕ) (k at m : ℕ) → length words ≤ at → placeFrom k w (cut m (drop at words)) ≡ 0
+table-over w words k at zero h = refl
+table-over w words k at (suc m) h = rw (drop-of-length-le words h)
 
-  -- an octet that is not the word's
-  pub word-miss : p < q → p < length s → j < length w → (upper (getD s p 0) ≡ upper (getD w j 0) → ⊥) → sameWord (piece s p q) (drop j w) ≡ false
-  unfolding same
-  word-miss l h m n = rw (piece-cons s p q l h, drop-cons w j 0 m, ne-eqb (upper (getD s p 0)) (upper (getD w j 0)) n)
-
-  -- an octet that is
-  pub word-step : p < q → p < length s → j < length w → upper (getD s p 0) ≡ upper (getD w j 0) → sameWord (piece s p q) (drop j w) ≡ sameWord (piece s (p + 1) q) (drop (j + 1) w)
-  unfolding same
-  word-step l h m e = rw (piece-cons s p q l h, drop-cons w j 0 m, eq-eqb (upper (getD s p 0)) (upper (getD w j 0)) e, add-one j)
+-- a word that has a place is one of them
+pub any-place : (k : ℕ) (w : List ℕ) (ts : List (List ℕ)) → not (eqb (placeFrom (suc k) w ts) 0) ≡ anyb (sameWord w) ts
+any-place k w [] = refl
+any-place k w (t ∷ ts) = go (sameWord w t) (any-place (suc k) w ts)
+  where
+    go : (b : Bool) → not (eqb (placeFrom (suc (suc k)) w ts) 0) ≡ anyb (sameWord w) ts → not (eqb (cond b (suc k) (placeFrom (suc (suc k)) w ts)) 0) ≡ (b || anyb (sameWord w) ts)
+    go true e = rw (ne-eqb (suc k) 0 (λ z. omega arith))
+    go false e = e

@@ -1,0 +1,43 @@
+-- A table of words, each led by its length, the place of a word in it, and a chain of tests as one look-up. Assumes nothing.
+use mathlib.Core.Path.{_≡_, refl, sym, ap, _∙_}
+use mathlib.Core.Bool.{Bool, true, false, cond}
+use mathlib.Core.List.{List, [], _∷_}
+use Prim.Native.Nat.{ℕ, zero, suc}
+use lib.ListN.{length, take, drop}
+use Rattle.model.specs.Text.{sameWord}
+
+-- the first m words of a table; one that the table ends in is as long as the table goes
+abbrev pub cut : ℕ → List ℕ → List (List ℕ)
+cut zero l = []
+cut (suc m) [] = []
+cut (suc m) (n ∷ l) = take n l ∷ cut m (drop n l)
+
+-- all of them: each takes an octet at least
+abbrev pub wordsOf : List ℕ → List (List ℕ)
+wordsOf l = cut (length l) l
+
+-- which of these words w is, counted from k on, or 0
+abbrev pub placeFrom : ℕ → List ℕ → List (List ℕ) → ℕ
+placeFrom k w [] = 0
+placeFrom k w (t ∷ ts) = cond (sameWord w t) k (placeFrom (suc k) w ts)
+
+abbrev pub placeOf : List ℕ → List (List ℕ) → ℕ
+placeOf w ts = placeFrom 1 w ts
+
+module _ {A : Type 0} (f : ℕ → A) (w : List ℕ) where
+  -- a chain of tests, in which f says what the place of a word stands for
+  abbrev pub chain : ℕ → List (List ℕ) → A
+  chain k [] = f 0
+  chain k (t ∷ ts) = cond (sameWord w t) (f k) (chain (suc k) ts)
+
+  chain-place : (k : ℕ) (ts : List (List ℕ)) → f (placeFrom k w ts) ≡ chain k ts
+  chain-place k [] = refl
+  chain-place k (t ∷ ts) = go (sameWord w t) (chain-place (suc k) ts)
+    where
+      go : (b : Bool) → f (placeFrom (suc k) w ts) ≡ chain (suc k) ts → f (cond b k (placeFrom (suc k) w ts)) ≡ cond b (f k) (chain (suc k) ts)
+      go true e = refl
+      go false e = e
+
+  -- the chain's answer is that of the place
+  pub found : (ts : List (List ℕ)) {r k : ℕ} → r ≡ placeOf w ts → r ≡ k → f k ≡ chain 1 ts
+  found ts e h = ap f (sym h ∙ e) ∙ chain-place 1 ts

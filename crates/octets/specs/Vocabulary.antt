@@ -1,9 +1,10 @@
 -- A table of words, each led by its length, the place of a word in it, and a chain of tests as one look-up. Assumes nothing.
 use mathlib.Core.Path.{_≡_, refl, sym, ap, _∙_}
-use mathlib.Core.Bool.{Bool, true, false, cond}
+use mathlib.Core.Bool.{Bool, true, false, cond, _||_}
 use mathlib.Core.List.{List, [], _∷_}
-use Prim.Native.Nat.{ℕ, zero, suc}
-use lib.ListN.{length, take, drop}
+use Prim.Native.Nat.{ℕ, zero, suc, _≤_}
+use native.Mathlib.Omega.{arith}
+use lib.ListN.{length, take, drop, getD, List·getD-eq-default}
 use Rattle.model.specs.Text.{sameWord}
 
 -- the first m words of a table; one that the table ends in is as long as the table goes
@@ -21,7 +22,7 @@ abbrev pub placeFrom : ℕ → List ℕ → List (List ℕ) → ℕ
 placeFrom k w [] = 0
 placeFrom k w (t ∷ ts) = cond (sameWord w t) k (placeFrom (suc k) w ts)
 
-abbrev pub placeOf : List ℕ → List (List ℕ) → ℕ
+unfoldable pub placeOf : List ℕ → List (List ℕ) → ℕ
 placeOf w ts = placeFrom 1 w ts
 
 module _ {A : Type 0} (f : ℕ → A) (w : List ℕ) where
@@ -40,4 +41,24 @@ module _ {A : Type 0} (f : ℕ → A) (w : List ℕ) where
 
   -- the chain's answer is that of the place
   pub found : (ts : List (List ℕ)) {r k : ℕ} → r ≡ placeOf w ts → r ≡ k → f k ≡ chain 1 ts
+  unfolding placeOf
   found ts e h = ap f (sym h ∙ e) ∙ chain-place 1 ts
+
+-- a word of several that are answered alike is asked for by itself
+pub one-by-one : {A : Type 0} (a b : Bool) (x y : A) → cond (a || b) x y ≡ cond a x (cond b x y)
+one-by-one true b x y = refl
+one-by-one false b x y = refl
+
+-- r is none of the first n numbers, as the code's tests say it
+abbrev pub Past : ℕ → ℕ → Type 0
+Past zero r = Unit {0}
+Past (suc n) r = Past n r × (r ≡ n → ⊥)
+
+pub past : (n r : ℕ) → Past n r → n ≤ r
+past zero r h = omega arith
+past (suc n) r (h, e) = let l = past n r h in omega arith
+
+-- the answers of the first places, and that of all others
+module _ {A : Type 0} (xs : List A) (x : A) (w : List ℕ) (ts : List (List ℕ)) where
+  pub found-last : {r : ℕ} → r ≡ placeOf w ts → Past (length xs) r → x ≡ chain (λ k. getD xs k x) w 1 ts
+  found-last {r} e h = sym (List·getD-eq-default xs x (past (length xs) r h)) ∙ found (λ k. getD xs k x) w ts e refl

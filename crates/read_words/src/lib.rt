@@ -6,7 +6,7 @@ ghost use mathlib.Core.Path.{_≡_};
 ghost use Prim.Native.Nat.{_+_, _-_, _≤_};
 ghost use lib.ListN.{length};
 ghost use Rattle.model.specs.Reading.{piece};
-ghost use Rattle.model.specs.SearchGrammar.{unsupportedWord, keywordOf};
+ghost use Rattle.model.specs.SearchGrammar.{keywordOf};
 ghost use Rattle.octets.specs.Found.{Reads};
 ghost use Rattle.octets.specs.Numerals.{Counts};
 ghost use Rattle.read_words.specs.Words.{meant, sizeAt, argumentAt, Argues};
@@ -33,38 +33,6 @@ pub enum Word {
     Strange,
 }
 
-// The words of the keys that are not supported, by what stands behind them.
-fn unsupported_word(text: &[u8], at: usize, end: usize) -> Word
-    ensures { λ r. ⌜ meant r ≡ unsupportedWord (piece (now (text .entry)) at end) ⌝ }
-{
-    if octets::is_one_of(text, at, end, b"\x03NEW\x03OLD\x06RECENT") {
-        return Word::Unsupported(Argument::Nothing);
-    }
-    if octets::is_one_of(
-        text,
-        at,
-        end,
-        b"\x03BCC\x04BODY\x02CC\x04FROM\x07SUBJECT\x04TEXT\x02TO",
-    ) {
-        return Word::Unsupported(Argument::Text);
-    }
-    if octets::is_one_of(text, at, end, b"\x07KEYWORD\x09UNKEYWORD") {
-        return Word::Unsupported(Argument::Keyword);
-    }
-    if octets::is_one_of(
-        text,
-        at,
-        end,
-        b"\x06BEFORE\x02ON\x05SINCE\x0aSENTBEFORE\x06SENTON\x09SENTSINCE",
-    ) {
-        return Word::Unsupported(Argument::Date);
-    }
-    if octets::is_word(text, at, end, b"HEADER") {
-        return Word::Unsupported(Argument::Header);
-    }
-    Word::Strange
-}
-
 // Which key's word stands from one position up to another. Each flag has two words, for set and for not set.
 pub fn key_word(text: &[u8], at: usize, end: usize) -> Word
     ensures { λ r. ⌜ meant r ≡ keywordOf (piece (now (text .entry)) at end) ⌝ }
@@ -75,8 +43,28 @@ pub fn key_word(text: &[u8], at: usize, end: usize) -> Word
         end,
         b"\
         \x03ALL\x06LARGER\x07SMALLER\x03UID\x03NOT\x02OR\
-        \x08ANSWERED\x0aUNANSWERED\x07FLAGGED\x09UNFLAGGED\x07DELETED\x09UNDELETED\x04SEEN\x06UNSEEN\x05DRAFT\x07UNDRAFT",
+        \x08ANSWERED\x0aUNANSWERED\x07FLAGGED\x09UNFLAGGED\x07DELETED\x09UNDELETED\x04SEEN\x06UNSEEN\x05DRAFT\x07UNDRAFT\
+        \x03NEW\x03OLD\x06RECENT\
+        \x03BCC\x04BODY\x02CC\x04FROM\x07SUBJECT\x04TEXT\x02TO\
+        \x07KEYWORD\x09UNKEYWORD\
+        \x06BEFORE\x02ON\x05SINCE\x0aSENTBEFORE\x06SENTON\x09SENTSINCE\
+        \x06HEADER",
     );
+    if 34 < place {
+        return Word::Unsupported(Argument::Header);
+    }
+    if 28 < place {
+        return Word::Unsupported(Argument::Date);
+    }
+    if 26 < place {
+        return Word::Unsupported(Argument::Keyword);
+    }
+    if 19 < place {
+        return Word::Unsupported(Argument::Text);
+    }
+    if 16 < place {
+        return Word::Unsupported(Argument::Nothing);
+    }
     if 6 < place {
         return Word::Flag {
             bit: (place as u64 - 7) / 2,
@@ -84,7 +72,7 @@ pub fn key_word(text: &[u8], at: usize, end: usize) -> Word
         };
     }
     match place {
-        0 => unsupported_word(text, at, end),
+        0 => Word::Strange,
         1 => Word::All,
         2 => Word::Above,
         3 => Word::Below,

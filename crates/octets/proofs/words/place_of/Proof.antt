@@ -17,6 +17,7 @@ abbrev μ-loop : tie.MeasureT-loop
 μ-loop word words place₀ at₀ place at = length words - at
 
 loop-holds : tie.Need-loop-holds Inv-loop μ-loop
+unfolding placeOf
 loop-holds c = let words = c .before .before .args .words .now in let e : length words + 1 - 1 ≡ length words = omega arith in (omega arith, omega arith, rw e)
 
 cast-upto : tie.Need-cast-upto Inv-loop μ-loop

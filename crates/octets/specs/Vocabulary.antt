@@ -1,21 +1,21 @@
--- A table of words, each led by its length, the place of a word in it, and a chain of tests as one look-up. Assumes nothing.
+-- A table of words, the place of a word in it, and a chain of tests as one look-up. Assumes nothing.
 use mathlib.Core.Path.{_≡_, refl, sym, ap, _∙_}
 use mathlib.Core.Bool.{Bool, true, false, cond, _||_}
 use mathlib.Core.List.{List, [], _∷_}
-use Prim.Native.Nat.{ℕ, zero, suc, _≤_}
+use Prim.Native.Nat.{ℕ, zero, suc, _+_, _≤_}
 use native.Mathlib.Omega.{arith}
-use lib.ListN.{length, take, drop, getD, List·getD-eq-default}
+use lib.Dec.{leb}
+use lib.ListN.{length, getD, List·getD-eq-default}
+use Rattle.model.specs.Reading.{piece}
 use Rattle.model.specs.Text.{sameWord}
 
--- the first m words of a table; one that the table ends in is as long as the table goes
-abbrev pub cut : ℕ → List ℕ → List (List ℕ)
-cut zero l = []
-cut (suc m) [] = []
-cut (suc m) (n ∷ l) = take n l ∷ cut m (drop n l)
+-- the words of a table from a position on, by their lengths; one octet stands between two of them
+abbrev pub wordsFrom : List ℕ → ℕ → List ℕ → List (List ℕ)
+wordsFrom [] at l = []
+wordsFrom (n ∷ ns) at l = let rest = wordsFrom ns (at + n + 1) l in cond (leb (at + n) (length l)) (piece l at (at + n) ∷ rest) []
 
--- all of them: each takes an octet at least
-abbrev pub wordsOf : List ℕ → List (List ℕ)
-wordsOf l = cut (length l) l
+abbrev pub wordsOf : List ℕ → List ℕ → List (List ℕ)
+wordsOf ns l = wordsFrom ns 0 l
 
 -- which of these words w is, counted from k on, or 0
 abbrev pub placeFrom : ℕ → List ℕ → List (List ℕ) → ℕ
@@ -59,6 +59,9 @@ past zero r h = omega arith
 past (suc n) r (h, e) = let l = past n r h in omega arith
 
 -- the answers of the first places, and that of all others
-module _ {A : Type 0} (xs : List A) (x : A) (w : List ℕ) (ts : List (List ℕ)) where
-  pub found-last : {r : ℕ} → r ≡ placeOf w ts → Past (length xs) r → x ≡ chain (λ k. getD xs k x) w 1 ts
-  found-last {r} e h = sym (List·getD-eq-default xs x (past (length xs) r h)) ∙ found (λ k. getD xs k x) w ts e refl
+module _ {A : Type 0} (xs : List A) (x : A) (w : List ℕ) (ts : List (List ℕ)) {r : ℕ} (e : r ≡ placeOf w ts) where
+  pub found-first : {k : ℕ} → r ≡ k → getD xs k x ≡ chain (λ k. getD xs k x) w 1 ts
+  found-first h = found (λ k. getD xs k x) w ts e h
+
+  pub found-last : Past (length xs) r → x ≡ chain (λ k. getD xs k x) w 1 ts
+  found-last h = sym (List·getD-eq-default xs x (past (length xs) r h)) ∙ found-first refl

@@ -38,7 +38,8 @@ fn month_at(text: &[u8], at: usize) -> Next
         text,
         at,
         end,
-        b"\x03Jan\x03Feb\x03Mar\x03Apr\x03May\x03Jun\x03Jul\x03Aug\x03Sep\x03Oct\x03Nov\x03Dec",
+        b"\x03\x03\x03\x03\x03\x03\x03\x03\x03\x03\x03\x03",
+        b"Jan Feb Mar Apr May Jun Jul Aug Sep Oct Nov Dec",
     ) {
         return Next::At(end);
     }

@@ -32,36 +32,38 @@ pub fn is_word(text: &[u8], from: usize, upto: usize, word: &[u8]) -> bool
     names::same_word(part(text, from, upto), word)
 }
 
-// Which word of a table a word is, counted from 1 on; 0 where it is none of them. Each word of the table is led by its length.
-fn place_of(word: &[u8], words: &[u8]) -> usize
-    ensures { λ r. ⌜ r ≡ placeOf (now (word .entry)) (wordsOf (now (words .entry))) ⌝ }
+// Which word of a table a word is, counted from 1 on, or 0. The words' lengths stand apart: words of other lengths are passed by quickly.
+fn place_of(word: &[u8], lengths: &[u8], words: &[u8]) -> usize
+    ensures { λ r. ⌜ r ≡ placeOf (now (word .entry)) (wordsOf (now (lengths .entry)) (now (words .entry))) ⌝ }
 {
-    let mut place = 1;
+    let mut i = 0;
     let mut at = 0;
-    while at < words.len() {
-        let from = at + 1;
-        let upto = from + words[at] as usize;
-        if names::same_word(word, part(words, from, upto)) {
-            return place;
+    while i < lengths.len() {
+        let upto = at + lengths[i] as usize;
+        if words.len() < upto {
+            return 0;
         }
-        place += 1;
-        at = upto;
+        i += 1;
+        if names::same_word(word, &words[at..upto]) {
+            return i;
+        }
+        at = upto + 1;
     }
     0
 }
 
 // Which word of a table the octets from one position up to another are.
-pub fn word_place(text: &[u8], from: usize, upto: usize, words: &[u8]) -> usize
-    ensures { λ r. ⌜ r ≡ placeOf (piece (now (text .entry)) from upto) (wordsOf (now (words .entry))) ⌝ }
+pub fn word_place(text: &[u8], from: usize, upto: usize, lengths: &[u8], words: &[u8]) -> usize
+    ensures { λ r. ⌜ r ≡ placeOf (piece (now (text .entry)) from upto) (wordsOf (now (lengths .entry)) (now (words .entry))) ⌝ }
 {
-    place_of(part(text, from, upto), words)
+    place_of(part(text, from, upto), lengths, words)
 }
 
 // Whether they are one of its words.
-pub fn is_one_of(text: &[u8], from: usize, upto: usize, words: &[u8]) -> bool
-    ensures { λ r. ⌜ r ≡ anyb (sameWord (piece (now (text .entry)) from upto)) (wordsOf (now (words .entry))) ⌝ }
+pub fn is_one_of(text: &[u8], from: usize, upto: usize, lengths: &[u8], words: &[u8]) -> bool
+    ensures { λ r. ⌜ r ≡ anyb (sameWord (piece (now (text .entry)) from upto)) (wordsOf (now (lengths .entry)) (now (words .entry))) ⌝ }
 {
-    word_place(text, from, upto, words) != 0
+    word_place(text, from, upto, lengths, words) != 0
 }
 
 // Whether the atom at a position is a word.

@@ -32,7 +32,8 @@ fn label_of(text: &[u8], from: usize, upto: usize) -> Label
         text,
         from,
         upto,
-        b"\x03UID\x05FLAGS\x0bRFC822.SIZE\x08ENVELOPE\x0cINTERNALDATE\x06RFC822\x0dRFC822.HEADER\x0bRFC822.TEXT\x0dBODYSTRUCTURE\x04BODY\x09BODY.PEEK",
+        b"\x03\x05\x0b\x08\x0c\x06\x0d\x0b\x0d\x04\x09",
+        b"UID FLAGS RFC822.SIZE ENVELOPE INTERNALDATE RFC822 RFC822.HEADER RFC822.TEXT BODYSTRUCTURE BODY BODY.PEEK",
     ) {
         0 => Label::Unlabelled,
         1 => Label::Plain(Kind::Uid),

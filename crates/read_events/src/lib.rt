@@ -35,7 +35,8 @@ fn named_by(text: &[u8], from: usize, upto: usize) -> Named
         text,
         from,
         upto,
-        b"\x0aMessageNew\x0eMessageExpunge\x0aFlagChange\x10AnnotationChange\x0bMailboxName\x12SubscriptionChange",
+        b"\x0a\x0e\x0a\x10\x0b\x12",
+        b"MessageNew MessageExpunge FlagChange AnnotationChange MailboxName SubscriptionChange",
     ) {
         0 => Named::Plain(Kind::Other),
         1 => Named::New,

@@ -74,7 +74,8 @@ fn word_of(text: &[u8], from: usize, upto: usize) -> Word
         text,
         from,
         upto,
-        b"\x08selected\x10selected-delayed\x07inboxes\x08personal\x0asubscribed\x07subtree\x0bsubtree-one\x09mailboxes",
+        b"\x08\x10\x07\x08\x0a\x07\x0b\x09",
+        b"selected selected-delayed inboxes personal subscribed subtree subtree-one mailboxes",
     ) {
         0 => Word::Unknown,
         1 => Word::Alone(Scope::Selected),

@@ -49,7 +49,7 @@ pub enum VerbRead {
 fn verb_of(text: &[u8], from: usize, upto: usize) -> Verb
     ensures { λ r. ⌜ r ≡ verbOf (verbAt (piece (now (text .entry)) from upto)) ⌝ }
 {
-    match octets::word_place(text, from, upto, b"\x06NOTIFY\x07ESEARCH") {
+    match octets::word_place(text, from, upto, b"\x06\x07", b"NOTIFY ESEARCH") {
         0 => Verb::Other,
         1 => Verb::Notify,
         _ => Verb::Esearch,
@@ -83,7 +83,7 @@ enum OptionRead {
 fn option_of(text: &[u8], from: usize, upto: usize) -> OptionRead
     ensures { λ r. ⌜ r ≡ readOption (returnBy (piece (now (text .entry)) from upto) upto) ⌝ }
 {
-    match octets::word_place(text, from, upto, b"\x03MIN\x03MAX\x03ALL\x05COUNT") {
+    match octets::word_place(text, from, upto, b"\x03\x03\x03\x05", b"MIN MAX ALL COUNT") {
         0 => OptionRead::Bad,
         1 => OptionRead::Is(Wanted::Min, upto),
         2 => OptionRead::Is(Wanted::Max, upto),
@@ -265,7 +265,7 @@ fn is_known(text: &[u8], at: usize) -> bool
     if 8 < n {
         return false;
     }
-    octets::is_one_of(&name, 0, n, b"\x08US-ASCII\x05UTF-8")
+    octets::is_one_of(&name, 0, n, b"\x08\x05", b"US-ASCII UTF-8")
 }
 
 // A charset: an atom or a quoted string.

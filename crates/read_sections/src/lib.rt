@@ -77,7 +77,8 @@ fn section_word(text: &[u8], from: usize, upto: usize) -> Wanted
         text,
         from,
         upto,
-        b"\x06HEADER\x04TEXT\x0dHEADER.FIELDS\x11HEADER.FIELDS.NOT\x04MIME",
+        b"\x06\x04\x0d\x11\x04",
+        b"HEADER TEXT HEADER.FIELDS HEADER.FIELDS.NOT MIME",
     ) {
         0 => Wanted::Nothing,
         1 => Wanted::Whole,

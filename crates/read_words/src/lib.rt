@@ -42,13 +42,21 @@ pub fn key_word(text: &[u8], at: usize, end: usize) -> Word
         at,
         end,
         b"\
-        \x03ALL\x06LARGER\x07SMALLER\x03UID\x03NOT\x02OR\
-        \x08ANSWERED\x0aUNANSWERED\x07FLAGGED\x09UNFLAGGED\x07DELETED\x09UNDELETED\x04SEEN\x06UNSEEN\x05DRAFT\x07UNDRAFT\
-        \x03NEW\x03OLD\x06RECENT\
-        \x03BCC\x04BODY\x02CC\x04FROM\x07SUBJECT\x04TEXT\x02TO\
-        \x07KEYWORD\x09UNKEYWORD\
-        \x06BEFORE\x02ON\x05SINCE\x0aSENTBEFORE\x06SENTON\x09SENTSINCE\
-        \x06HEADER",
+        \x03\x06\x07\x03\x03\x02\
+        \x08\x0a\x07\x09\x07\x09\x04\x06\x05\x07\
+        \x03\x03\x06\
+        \x03\x04\x02\x04\x07\x04\x02\
+        \x07\x09\
+        \x06\x02\x05\x0a\x06\x09\
+        \x06",
+        b"\
+        ALL LARGER SMALLER UID NOT OR \
+        ANSWERED UNANSWERED FLAGGED UNFLAGGED DELETED UNDELETED SEEN UNSEEN DRAFT UNDRAFT \
+        NEW OLD RECENT \
+        BCC BODY CC FROM SUBJECT TEXT TO \
+        KEYWORD UNKEYWORD \
+        BEFORE ON SINCE SENTBEFORE SENTON SENTSINCE \
+        HEADER",
     );
     if 34 < place {
         return Word::Unsupported(Argument::Header);

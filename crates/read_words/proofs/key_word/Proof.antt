@@ -30,7 +30,7 @@ unfolding keywordOf
 key-word-spec =
     tie.close
     (tie.spec
-    (λ c. search needs) (λ c κs. search needs)  -- slice-aggregate-word-place, word-place-requires
+    (λ c. search needs) (λ c. search needs) (λ c κs. search needs)  -- slice-aggregate-word-place, slice-aggregate-word-place-2, word-place-requires
     (λ c. simp one-by-one (simp (lt-ltb _ _ (c .if1 .taken)) at (found keyAt _ _ (c .before .word-place .ensures) refl)))
     (λ c. simp one-by-one (simp (le-ltb _ _ (c .before .if1 .left), lt-ltb _ _ (c .if2 .taken)) at (found keyAt _ _ (c .before .before .word-place .ensures) refl)))
     (λ c.

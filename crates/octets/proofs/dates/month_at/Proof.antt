@@ -29,6 +29,6 @@ month-at-spec =
     returns
     (λ c. search needs)  -- sub-if2
     returns-2
-    (λ c. search needs) (λ c. search needs) (λ c κs. search needs)  -- add-end, slice-aggregate-is-one-of, is-one-of-requires
+    (λ c. search needs) (λ c. search needs) (λ c. search needs) (λ c κs. search needs)  -- add-end, slice-aggregate-is-one-of, slice-aggregate-is-one-of-2, is-one-of-requires
     returns-3
     returns-4)

@@ -8,7 +8,7 @@ use Rattle.octets.proofs.Pieces.{any-place}
 
 returns : tie.Need-returns
 unfolding placeOf
-returns c = let a = c .before .before .before .args in rw (c .word-place .ensures) (any-place 0 (piece (a .text .now) (a .from) (a .upto)) (wordsOf (a .words .now)))
+returns c = let a = c .before .before .before .before .args in rw (c .word-place .ensures) (any-place 0 (piece (a .text .now) (a .from) (a .upto)) (wordsOf (a .lengths .now) (a .words .now)))
 
 pub is-one-of-spec : {M : Type 1} → statement M
 is-one-of-spec =

@@ -39,7 +39,8 @@ module _ (w ns l : List ℕ) (i at : ℕ) (h : i < length ns) where
   pub table-cut : length l < at + getD ns i 0 → placeFrom (i + 1) w (wordsFrom (drop i ns) at l) ≡ 0
   table-cut m = rw (drop-cons ns i 0 h, lt-leb _ _ m)
 
-  pub table-word : at + getD ns i 0 ≤ length l → (t : Bool) {b : Bool} → b ≡ sameWord w (piece l at (at + getD ns i 0)) → b ≡ t → placeFrom (i + 1) w (wordsFrom (drop i ns) at l) ≡ cond t (i + 1) (placeFrom (i + 1 + 1) w (wordsFrom (drop (i + 1) ns) (at + getD ns i 0 + 1) l))
+  pub table-word : at + getD ns i 0 ≤ length l → (t : Bool) {b : Bool} → b ≡ sameWord w (piece l at (at + getD ns i 0)) → b ≡ t
+      → placeFrom (i + 1) w (wordsFrom (drop i ns) at l) ≡ cond t (i + 1) (placeFrom (i + 1 + 1) w (wordsFrom (drop (i + 1) ns) (at + getD ns i 0 + 1) l))
   table-word m t f g = rw (drop-cons ns i 0 h, le-leb _ _ m, ← f, g, add-one (i + 1), add-one i)
 
 -- a word that has a place is one of them

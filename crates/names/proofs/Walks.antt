@@ -94,13 +94,13 @@ pub words-lengths : (a b : List ℕ) → (length a ≡ length b → ⊥) → sam
 words-lengths a b h = same-lengths (map upper a) (map upper b) (λ e. h (sym (length-map a upper) ∙ e ∙ length-map b upper))
 
 module _ (a b : List ℕ) (i : ℕ) where
-  pub words-next : i < length a → i < length b → upper (getD a i 0) ≡ upper (getD b i 0) → sameWord (drop i a) (drop i b) ≡ sameWord (drop (i + 1) a) (drop (i + 1) b)
+  pub words-next : i < length a → i < length b → eqb (upper (getD a i 0)) (upper (getD b i 0)) ≡ true → sameWord (drop i a) (drop i b) ≡ sameWord (drop (i + 1) a) (drop (i + 1) b)
   unfolding same
-  words-next h k e = rw (add-one, drop-cons a i 0 h, drop-cons b i 0 k, eq-eqb _ _ e)
+  words-next h k e = rw (add-one, drop-cons a i 0 h, drop-cons b i 0 k, e)
 
-  pub words-differ : i < length a → i < length b → (upper (getD a i 0) ≡ upper (getD b i 0) → ⊥) → sameWord (drop i a) (drop i b) ≡ false
+  pub words-differ : i < length a → i < length b → eqb (upper (getD a i 0)) (upper (getD b i 0)) ≡ false → sameWord (drop i a) (drop i b) ≡ false
   unfolding same
-  words-differ h k e = rw (drop-cons a i 0 h, drop-cons b i 0 k, ne-eqb _ _ e)
+  words-differ h k e = rw (drop-cons a i 0 h, drop-cons b i 0 k, e)
 
   pub words-past : length a ≤ i → length b ≤ i → sameWord (drop i a) (drop i b) ≡ true
   unfolding same

@@ -124,6 +124,16 @@ fn upper(b: u8) -> u8
     b - 32
 }
 
+// Two octets are the same letter in any case, or the same octet.
+fn same_letter(a: u8, b: u8) -> bool
+    ensures { λ r. ⌜ r ≡ eqb (upper a) (upper b) ⌝ }
+{
+    if a == b {
+        return true;
+    }
+    upper(a) == upper(b)
+}
+
 // Two words are the same, whatever the case of their letters.
 pub fn same_word(a: &[u8], b: &[u8]) -> bool
     ensures { λ r. ⌜ r ≡ sameWord (now (a .entry)) (now (b .entry)) ⌝ }
@@ -133,7 +143,7 @@ pub fn same_word(a: &[u8], b: &[u8]) -> bool
     }
     let mut i = 0;
     while i < a.len() {
-        if upper(a[i]) != upper(b[i]) {
+        if !same_letter(a[i], b[i]) {
             return false;
         }
         i += 1;

@@ -1,19 +1,17 @@
 -- The parts of a date. Assumes nothing.
 use mathlib.Core.Path.{_≡_, refl, ap}
-use mathlib.Core.List.{List, [], _∷_, _++_, map}
-use mathlib.Core.Bool.{Bool, true, false, cond, _&&_, _||_, false≢true}
+use mathlib.Core.List.{List, [], _∷_, map}
+use mathlib.Core.Bool.{false}
 use Prim.Native.Nat.{ℕ, _+_, _-_, _≤_, _<_}
-use Prim.Native.String.{String}
 use native.Mathlib.Omega.{arith}
-use lib.Dec.{eqb, leb}
 use lib.ListN.{length, getD, drop, length-map, length-take, length-drop}
-use borrow.Author.Tests.{le-leb, lt-leb, leb-true, eq-eqb, ne-eqb}
-use Rattle.model.specs.Lists.{same, anyb, allb}
-use Rattle.model.specs.Text.{octets, upper}
+use borrow.Author.Tests.{le-leb, lt-leb, eq-eqb, ne-eqb}
+use Rattle.model.specs.Lists.{same}
+use Rattle.model.specs.Text.{upper}
+use Rattle.model.specs.Laws.{same-lengths}
 use Rattle.model.specs.Octets.{digit}
-use Rattle.model.specs.Reading.{runLength, endOf, piece, is, isOf, months, digitsAt, monthAt, bareDateAt, dateAt}
+use Rattle.model.specs.Reading.{runLength, endOf, piece, digitsAt, monthAt, bareDateAt, dateAt}
 use Rattle.octets.specs.Found.{nextOf}
-use Rattle.octets.specs.Months.{early, late}
 use Rattle.octets.specs.declared.Next.{Next}
 use Rattle.octets.specs.declared.Next.the-variants.{At, Bad}
 use Rattle.octets.proofs.Chains.{then-bad, then-ok, after-none, after-some}
@@ -35,53 +33,13 @@ module _ (least most : ℕ) (s : List ℕ) (at q : ℕ) (e : q ≡ endOf digit s
       let n : runLength digit (drop at s) ≤ most = omega arith in
       rw (le-leb _ _ m, le-leb _ _ n) (ap At e)
 
--- a text is no word that is longer
-same-short : (a b : List ℕ) → length a < length b → same a b ≡ false
-unfolding same
-same-short [] [] h = absurd (omega arith)
-same-short [] (y ∷ ys) h = refl
-same-short (x ∷ xs) [] h = absurd (omega arith)
-same-short (x ∷ xs) (y ∷ ys) h = rw (same-short xs ys (omega arith)) (go (eqb x y))
-  where
-    go : (t : Bool) → cond t false false ≡ false
-    go true = refl
-    go false = refl
+-- a shorter text is no word of three letters, and so no month
+module _ (w : List ℕ) (h : length w < 3) (x y z : ℕ) where
+  short : same (map upper w) (x ∷ y ∷ z ∷ []) ≡ false
+  short = same-lengths (map upper w) (x ∷ y ∷ z ∷ []) (λ e. omega (arith, length-map w upper))
 
-all-short : (w : List ℕ) (n : ℕ) → length w < n → (ts : List String) → allb (λ (t : String). leb n (length (octets t))) ts ≡ true → isOf w ts ≡ false
-all-short w n h [] e = refl
-all-short w n h (t ∷ ts) e = go (leb n (length (octets t))) refl e (λ f. all-short w n h ts f)
-  where
-    go : (b : Bool) → leb n (length (octets t)) ≡ b → (b && allb (λ (u : String). leb n (length (octets u))) ts) ≡ true
-        → (allb (λ (u : String). leb n (length (octets u))) ts ≡ true → isOf w ts ≡ false) → isOf w (t ∷ ts) ≡ false
-    go true l f rest =
-        let m : n ≤ length (octets t) = leb-true _ _ l in
-        rw (same-short (map upper w) (map upper (octets t)) (simp length-map (omega arith))) (rest f)
-    go false l f rest = absurd (false≢true f)
-
-any-split : (p : String → Bool) (a b : List String) → anyb p (a ++ b) ≡ (anyb p a || anyb p b)
-any-split p [] b = refl
-any-split p (x ∷ a) b = go (p x) (any-split p a b)
-  where
-    go : (t : Bool) → anyb p (a ++ b) ≡ (anyb p a || anyb p b) → (t || anyb p (a ++ b)) ≡ ((t || anyb p a) || anyb p b)
-    go true e = refl
-    go false e = e
-
--- the months, by their halves
-months-split : (w : List ℕ) → isOf w months ≡ (isOf w early || isOf w late)
-months-split w = any-split (λ (t : String). is w t) early late
-
-module _ (s : List ℕ) (at : ℕ) where
-  pub month-short : length s < at + 3 → Bad ≡ nextOf (monthAt s at)
-  month-short h = rw (all-short (piece s at (at + 3)) 3 (simp (length-take, length-drop) (omega arith)) months refl)
-
-  pub month-early : isOf (piece s at (at + 3)) early ≡ true → At (at + 3) ≡ nextOf (monthAt s at)
-  month-early e = rw (months-split (piece s at (at + 3)), e)
-
-  pub month-late : isOf (piece s at (at + 3)) early ≡ false → isOf (piece s at (at + 3)) late ≡ true → At (at + 3) ≡ nextOf (monthAt s at)
-  month-late e f = rw (months-split (piece s at (at + 3)), e, f)
-
-  pub month-none : isOf (piece s at (at + 3)) early ≡ false → isOf (piece s at (at + 3)) late ≡ false → Bad ≡ nextOf (monthAt s at)
-  month-none e f = rw (months-split (piece s at (at + 3)), e, f)
+pub month-short : (s : List ℕ) (at : ℕ) → length s < at + 3 → Bad ≡ nextOf (monthAt s at)
+month-short s at h = simp (short (piece s at (at + 3)) (simp (length-take, length-drop) (omega arith)))
 
 -- a date, part by part
 module _ (s : List ℕ) (at : ℕ) where

@@ -1,16 +1,18 @@
--- A piece of a text and a word, one octet at a time. Assumes nothing.
-use mathlib.Core.Path.{_≡_}
+-- A piece of a text, one octet at a time, and a table, one word at a time. Assumes nothing.
+use mathlib.Core.Path.{_≡_, refl}
 use mathlib.Core.List.{List, [], _∷_}
-use mathlib.Core.Bool.{true, false}
+use mathlib.Core.Bool.{Bool, true, false, not, cond, _||_}
 use Prim.Native.Nat.{ℕ, suc, _+_, _-_, _≤_, _<_}
 use native.Mathlib.Numerals.{add-one}
 use native.Mathlib.Omega.{arith}
-use lib.ListN.{length, getD, drop, drop-of-length-le}
-use lib.Seq.{drop-cons, take-nil}
-use borrow.Author.Tests.{eq-eqb, ne-eqb}
-use Rattle.model.specs.Lists.{same}
-use Rattle.model.specs.Text.{upper, sameWord}
+use lib.Dec.{eqb}
+use lib.ListN.{length, getD, drop, length-drop, drop-of-length-le}
+use lib.Seq.{drop-cons, take-all, take-nil}
+use borrow.Author.Tests.{ne-eqb, le-leb, lt-leb}
+use Rattle.model.specs.Lists.{anyb}
+use Rattle.model.specs.Text.{sameWord}
 use Rattle.model.specs.Reading.{piece}
+use Rattle.octets.specs.Vocabulary.{wordsFrom, placeFrom}
 
 module _ (s : List ℕ) (p q : ℕ) where
   -- nothing is left of it
@@ -21,32 +23,31 @@ module _ (s : List ℕ) (p q : ℕ) where
   pub piece-past : length s ≤ p → piece s p q ≡ []
   piece-past h = rw (drop-of-length-le s h) (take-nil (q - p))
 
+  -- the text ends before it does
+  pub piece-rest : length s ≤ q → piece s p q ≡ drop p s
+  piece-rest h = take-all (q - p) (drop p s) (simp length-drop (omega arith))
+
   -- its first octet
   pub piece-cons : p < q → p < length s → piece s p q ≡ getD s p 0 ∷ piece s (p + 1) q
   piece-cons l h = let e : q - p ≡ suc (q - (p + 1)) = omega arith in rw (drop-cons s p 0 h, e, add-one p)
 
-module _ (s w : List ℕ) (p q j : ℕ) where
-  -- the piece is used up and the word is not
-  pub word-short : piece s p q ≡ [] → j < length w → sameWord (piece s p q) (drop j w) ≡ false
-  unfolding same
-  word-short e l = rw (e, drop-cons w j 0 l)
+-- a table of words from a position on: it is over, it is cut short, or whether its first word is w, and the words behind it
+pub table-over : (w ns l : List ℕ) (i at : ℕ) → length ns ≤ i → placeFrom (i + 1) w (wordsFrom (drop i ns) at l) ≡ 0
+table-over w ns l i at h = rw (drop-of-length-le ns h)
 
-  -- both are
-  pub word-done : piece s p q ≡ [] → length w ≤ j → sameWord (piece s p q) (drop j w) ≡ true
-  unfolding same
-  word-done e l = rw (e, drop-of-length-le w l)
+module _ (w ns l : List ℕ) (i at : ℕ) (h : i < length ns) where
+  pub table-cut : length l < at + getD ns i 0 → placeFrom (i + 1) w (wordsFrom (drop i ns) at l) ≡ 0
+  table-cut m = rw (drop-cons ns i 0 h, lt-leb _ _ m)
 
-  -- the word is used up and the piece is not
-  pub word-long : p < q → p < length s → length w ≤ j → sameWord (piece s p q) (drop j w) ≡ false
-  unfolding same
-  word-long l h m = rw (piece-cons s p q l h, drop-of-length-le w m)
+  pub table-word : at + getD ns i 0 ≤ length l → (t : Bool) {b : Bool} → b ≡ sameWord w (piece l at (at + getD ns i 0)) → b ≡ t
+      → placeFrom (i + 1) w (wordsFrom (drop i ns) at l) ≡ cond t (i + 1) (placeFrom (i + 1 + 1) w (wordsFrom (drop (i + 1) ns) (at + getD ns i 0 + 1) l))
+  table-word m t f g = rw (drop-cons ns i 0 h, le-leb _ _ m, ← f, g, add-one (i + 1), add-one i)
 
-  -- an octet that is not the word's
-  pub word-miss : p < q → p < length s → j < length w → (upper (getD s p 0) ≡ upper (getD w j 0) → ⊥) → sameWord (piece s p q) (drop j w) ≡ false
-  unfolding same
-  word-miss l h m n = rw (piece-cons s p q l h, drop-cons w j 0 m, ne-eqb (upper (getD s p 0)) (upper (getD w j 0)) n)
-
-  -- an octet that is
-  pub word-step : p < q → p < length s → j < length w → upper (getD s p 0) ≡ upper (getD w j 0) → sameWord (piece s p q) (drop j w) ≡ sameWord (piece s (p + 1) q) (drop (j + 1) w)
-  unfolding same
-  word-step l h m e = rw (piece-cons s p q l h, drop-cons w j 0 m, eq-eqb (upper (getD s p 0)) (upper (getD w j 0)) e, add-one j)
+-- a word that has a place is one of them
+pub any-place : (k : ℕ) (w : List ℕ) (ts : List (List ℕ)) → not (eqb (placeFrom (suc k) w ts) 0) ≡ anyb (sameWord w) ts
+any-place k w [] = refl
+any-place k w (t ∷ ts) = go (sameWord w t) (any-place (suc k) w ts)
+  where
+    go : (b : Bool) → not (eqb (placeFrom (suc (suc k)) w ts) 0) ≡ anyb (sameWord w) ts → not (eqb (cond b (suc k) (placeFrom (suc (suc k)) w ts)) 0) ≡ (b || anyb (sameWord w) ts)
+    go true e = rw (ne-eqb (suc k) 0 (λ z. omega arith))
+    go false e = e

@@ -3,7 +3,7 @@ pub mod Found
 pub mod Numerals
 pub mod Quotes
 pub mod Values
-pub mod Months
+pub mod Vocabulary
 pub mod Widths
 pub mod Rows
 pub mod Stores

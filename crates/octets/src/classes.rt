@@ -2,10 +2,10 @@
 use super::Class;
 ghost use mathlib.Core.Path.{_≡_};
 ghost use lib.ListN.{getD};
-ghost use Rattle.octets.specs.Classes.{inClass, maskOf};
+ghost use Rattle.octets.specs.Classes.{inClass, maskOf, classTable};
 
 // The classes of each octet, a bit a class.
-const CLASSES: [u8; 256] = [
+pub const CLASSES: [u8; 256] = [
     0, // 0
     16, // 1
     16, // 2
@@ -278,12 +278,21 @@ fn mask_of(c: Class) -> u8
     }
 }
 
+// Whether an octet is of a class, by the table: a loop has it laid out once.
+pub fn in_table(table: &[u8; 256], b: u8, c: Class) -> bool
+    requires { ⌜ now table ≡ classTable ⌝ }
+    ensures { λ r. ⌜ r ≡ inClass c b ⌝ }
+{
+    let mask = mask_of(c);
+    table[b as usize] & mask != 0
+}
+
 // Whether an octet is of a class.
 pub fn in_class(b: u8, c: Class) -> bool
     ensures { λ r. ⌜ r ≡ inClass c b ⌝ }
 {
-    let mask = mask_of(c);
-    CLASSES[b as usize] & mask != 0
+    let table = CLASSES;
+    in_table(&table, b, c)
 }
 
 // The octet at a position, 0 past the end.

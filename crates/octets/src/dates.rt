@@ -3,12 +3,10 @@ use super::Class;
 use super::Next;
 use super::classes::octet_at;
 use super::runs::run_end;
-use super::words::is_word;
-ghost use mathlib.Core.Path.{_≡_};
+use super::words::is_one_of;
 ghost use Prim.Native.Nat.{_+_, _-_, _<_};
-ghost use Rattle.model.specs.Reading.{piece, isOf, digitsAt, monthAt, bareDateAt, dateAt};
+ghost use Rattle.model.specs.Reading.{digitsAt, monthAt, bareDateAt, dateAt};
 ghost use Rattle.octets.specs.Found.{nextOf, Reads};
-ghost use Rattle.octets.specs.Months.{early, late};
 
 // Digits, as few and as many as a date has them.
 fn digits_at(text: &[u8], at: usize, least: usize, most: usize) -> Next
@@ -25,54 +23,6 @@ fn digits_at(text: &[u8], at: usize, least: usize, most: usize) -> Next
     Next::At(end)
 }
 
-fn early_month(text: &[u8], from: usize, upto: usize) -> bool
-    ensures { λ r. ⌜ r ≡ isOf (piece (now (text .entry)) from upto) early ⌝ }
-{
-    if is_word(text, from, upto, b"Jan") {
-        return true;
-    }
-    if is_word(text, from, upto, b"Feb") {
-        return true;
-    }
-    if is_word(text, from, upto, b"Mar") {
-        return true;
-    }
-    if is_word(text, from, upto, b"Apr") {
-        return true;
-    }
-    if is_word(text, from, upto, b"May") {
-        return true;
-    }
-    if is_word(text, from, upto, b"Jun") {
-        return true;
-    }
-    false
-}
-
-fn late_month(text: &[u8], from: usize, upto: usize) -> bool
-    ensures { λ r. ⌜ r ≡ isOf (piece (now (text .entry)) from upto) late ⌝ }
-{
-    if is_word(text, from, upto, b"Jul") {
-        return true;
-    }
-    if is_word(text, from, upto, b"Aug") {
-        return true;
-    }
-    if is_word(text, from, upto, b"Sep") {
-        return true;
-    }
-    if is_word(text, from, upto, b"Oct") {
-        return true;
-    }
-    if is_word(text, from, upto, b"Nov") {
-        return true;
-    }
-    if is_word(text, from, upto, b"Dec") {
-        return true;
-    }
-    false
-}
-
 // The name of a month.
 fn month_at(text: &[u8], at: usize) -> Next
     ensures { λ r. ⌜ Reads (now (text .entry)) at (nextOf (monthAt (now (text .entry)) at)) r ⌝ }
@@ -84,10 +34,13 @@ fn month_at(text: &[u8], at: usize) -> Next
         return Next::Bad;
     }
     let end = at + 3;
-    if early_month(text, at, end) {
-        return Next::At(end);
-    }
-    if late_month(text, at, end) {
+    if is_one_of(
+        text,
+        at,
+        end,
+        b"\x03\x03\x03\x03\x03\x03\x03\x03\x03\x03\x03\x03",
+        b"Jan Feb Mar Apr May Jun Jul Aug Sep Oct Nov Dec",
+    ) {
         return Next::At(end);
     }
     Next::Bad

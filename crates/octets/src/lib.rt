@@ -17,8 +17,10 @@ pub use runs::run_end;
 pub use texts::quoted_at;
 pub use texts::text_at;
 pub use texts::value_of;
+pub use words::is_one_of;
 pub use words::is_word;
 pub use words::word_at;
+pub use words::word_place;
 
 // The classes of octets.
 pub enum Class {

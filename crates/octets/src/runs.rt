@@ -1,7 +1,8 @@
 // Runs of octets of one class.
 use super::Class;
 use super::Next;
-use super::classes::in_class;
+use super::classes::CLASSES;
+use super::classes::in_table;
 ghost use Rattle.model.specs.Reading.{runAt};
 ghost use Rattle.octets.specs.Classes.{inClass, Ends};
 ghost use Rattle.octets.specs.Found.{nextOf, Reads};
@@ -10,9 +11,10 @@ ghost use Rattle.octets.specs.Found.{nextOf, Reads};
 pub fn run_end(text: &[u8], at: usize, c: Class) -> usize
     ensures { λ r. ⌜ Ends (inClass c) (now (text .entry)) at r ⌝ }
 {
+    let table = CLASSES;
     let mut p = at;
     while p < text.len() {
-        if in_class(text[p], c) {
+        if in_table(&table, text[p], c) {
             p += 1;
         } else {
             return p;

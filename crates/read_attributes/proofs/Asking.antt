@@ -1,6 +1,5 @@
 -- One attribute and a list of them, case by case, over plain values: what the code answers is what the definitions say. Assumes nothing.
 use mathlib.Core.Path.{_≡_, refl, sym, ap, _∙_}
-use mathlib.Core.Bool.{Bool, true, false, _||_}
 use mathlib.Core.List.{List, [], _∷_}
 use Prim.Native.Nat.{ℕ, _+_, _-_, _≤_, _<_}
 use native.Mathlib.Omega.{arith}
@@ -24,11 +23,6 @@ use Rattle.read_attributes.specs.declared.AttributesRead.{AttributesRead
 use Rattle.read_attributes.specs.declared.AttributesRead.the-variants.{Is as Are, Bad as None}
 use Rattle.read_sections.proofs.Rows.{run-found}
 use Rattle.octets.specs.Rows.{next-close, next-lost, next-neither, next-space, row-another, row-neither, row-none, row-over}
-
--- the last of several tests
-pub or-last : (b : Bool) → (b || false) ≡ b
-or-last true = refl
-or-last false = refl
 
 -- ---- one attribute
 

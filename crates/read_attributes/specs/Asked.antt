@@ -1,9 +1,8 @@
 -- What the readers of attributes answer. Assumes nothing: these are definitions.
 use mathlib.Core.Path.{_≡_}
 use mathlib.Core.Bool.{true}
-use mathlib.Core.List.{List, [], _∷_}
+use mathlib.Core.List.{List}
 use Prim.Native.Nat.{ℕ, _-_, _≤_, _<_}
-use Prim.Native.String.{String}
 use lib.ListN.{length}
 use Rattle.model.specs.Lists.{anyb}
 use Rattle.model.specs.Requests.{Attribute, uid, flags, size, otherAttribute}
@@ -36,10 +35,6 @@ labelled (plain a) = Plain (kindOf a)
 labelled body = Body
 labelled peek = Peek
 labelled unlabelled = Unlabelled
-
--- the words of attributes that are not supported and have no section
-abbrev pub otherWords : List String
-otherWords = "ENVELOPE" ∷ "INTERNALDATE" ∷ "RFC822" ∷ "RFC822.HEADER" ∷ "RFC822.TEXT" ∷ "BODYSTRUCTURE" ∷ []
 
 -- an attribute that was read, as the code answers it
 abbrev pub readAttribute : Parsed Attribute → AttributeRead

@@ -4,9 +4,9 @@ use octets::Next;
 use read_sections::section_at;
 ghost use mathlib.Core.Path.{_≡_};
 ghost use mathlib.Core.List.{[]};
-ghost use Rattle.model.specs.Reading.{piece, isOf, listAt};
+ghost use Rattle.model.specs.Reading.{piece, listAt};
 ghost use Rattle.model.specs.Attributes.{labelOf, attributeAt};
-ghost use Rattle.read_attributes.specs.Asked.{labelled, sectioned, otherWords, ReadsAttribute, readAttribute, readAttributes, gather, add, join, ReadsRow, ReadsAttributes};
+ghost use Rattle.read_attributes.specs.Asked.{labelled, sectioned, ReadsAttribute, readAttribute, readAttributes, gather, add, join, ReadsRow, ReadsAttributes};
 
 // An attribute: one of the three that are supported, or another.
 pub enum Kind {
@@ -24,51 +24,30 @@ pub enum Label {
     Unlabelled,
 }
 
-// The word from one position up to another is an attribute that is not supported and has no section.
-fn is_other(text: &[u8], from: usize, upto: usize) -> bool
-    ensures { λ r. ⌜ r ≡ isOf (piece (now (text .entry)) from upto) otherWords ⌝ }
-{
-    if octets::is_word(text, from, upto, b"ENVELOPE") {
-        return true;
-    }
-    if octets::is_word(text, from, upto, b"INTERNALDATE") {
-        return true;
-    }
-    if octets::is_word(text, from, upto, b"RFC822") {
-        return true;
-    }
-    if octets::is_word(text, from, upto, b"RFC822.HEADER") {
-        return true;
-    }
-    if octets::is_word(text, from, upto, b"RFC822.TEXT") {
-        return true;
-    }
-    octets::is_word(text, from, upto, b"BODYSTRUCTURE")
-}
-
 // The word from one position up to another, as an attribute's.
 fn label_of(text: &[u8], from: usize, upto: usize) -> Label
     ensures { λ r. ⌜ r ≡ labelled (labelOf (piece (now (text .entry)) from upto)) ⌝ }
 {
-    if octets::is_word(text, from, upto, b"UID") {
-        return Label::Plain(Kind::Uid);
+    match octets::word_place(
+        text,
+        from,
+        upto,
+        b"\x03\x05\x0b\x08\x0c\x06\x0d\x0b\x0d\x04\x09",
+        b"UID FLAGS RFC822.SIZE ENVELOPE INTERNALDATE RFC822 RFC822.HEADER RFC822.TEXT BODYSTRUCTURE BODY BODY.PEEK",
+    ) {
+        0 => Label::Unlabelled,
+        1 => Label::Plain(Kind::Uid),
+        2 => Label::Plain(Kind::Flags),
+        3 => Label::Plain(Kind::Size),
+        4 => Label::Plain(Kind::Other),
+        5 => Label::Plain(Kind::Other),
+        6 => Label::Plain(Kind::Other),
+        7 => Label::Plain(Kind::Other),
+        8 => Label::Plain(Kind::Other),
+        9 => Label::Plain(Kind::Other),
+        10 => Label::Body,
+        _ => Label::Peek,
     }
-    if octets::is_word(text, from, upto, b"FLAGS") {
-        return Label::Plain(Kind::Flags);
-    }
-    if octets::is_word(text, from, upto, b"RFC822.SIZE") {
-        return Label::Plain(Kind::Size);
-    }
-    if is_other(text, from, upto) {
-        return Label::Plain(Kind::Other);
-    }
-    if octets::is_word(text, from, upto, b"BODY") {
-        return Label::Body;
-    }
-    if octets::is_word(text, from, upto, b"BODY.PEEK") {
-        return Label::Peek;
-    }
-    Label::Unlabelled
 }
 
 // An attribute that was read and the position behind it, or that none stands there.

@@ -31,25 +31,21 @@ pub enum Named {
 fn named_by(text: &[u8], from: usize, upto: usize) -> Named
     ensures { λ r. ⌜ eventFor r ≡ eventOf (piece (now (text .entry)) from upto) ⌝ }
 {
-    if octets::is_word(text, from, upto, b"MessageNew") {
-        return Named::New;
+    match octets::word_place(
+        text,
+        from,
+        upto,
+        b"\x0a\x0e\x0a\x10\x0b\x12",
+        b"MessageNew MessageExpunge FlagChange AnnotationChange MailboxName SubscriptionChange",
+    ) {
+        0 => Named::Plain(Kind::Other),
+        1 => Named::New,
+        2 => Named::Plain(Kind::Expunge),
+        3 => Named::Plain(Kind::Flag),
+        4 => Named::Plain(Kind::Annotation),
+        5 => Named::Plain(Kind::Name),
+        _ => Named::Plain(Kind::Subscription),
     }
-    if octets::is_word(text, from, upto, b"MessageExpunge") {
-        return Named::Plain(Kind::Expunge);
-    }
-    if octets::is_word(text, from, upto, b"FlagChange") {
-        return Named::Plain(Kind::Flag);
-    }
-    if octets::is_word(text, from, upto, b"AnnotationChange") {
-        return Named::Plain(Kind::Annotation);
-    }
-    if octets::is_word(text, from, upto, b"MailboxName") {
-        return Named::Plain(Kind::Name);
-    }
-    if octets::is_word(text, from, upto, b"SubscriptionChange") {
-        return Named::Plain(Kind::Subscription);
-    }
-    Named::Plain(Kind::Other)
 }
 
 // Which events are asked for; `listed` says that attributes stand behind one of them, and `attributes` which.

@@ -70,31 +70,23 @@ pub enum Word {
 fn word_of(text: &[u8], from: usize, upto: usize) -> Word
     ensures { λ r. ⌜ r ≡ wordFor (scopeOf (piece (now (text .entry)) from upto)) ⌝ }
 {
-    if octets::is_word(text, from, upto, b"selected") {
-        return Word::Alone(Scope::Selected);
+    match octets::word_place(
+        text,
+        from,
+        upto,
+        b"\x08\x10\x07\x08\x0a\x07\x0b\x09",
+        b"selected selected-delayed inboxes personal subscribed subtree subtree-one mailboxes",
+    ) {
+        0 => Word::Unknown,
+        1 => Word::Alone(Scope::Selected),
+        2 => Word::Alone(Scope::Delayed),
+        3 => Word::Alone(Scope::Inboxes),
+        4 => Word::Alone(Scope::Personal),
+        5 => Word::Alone(Scope::Subscribed),
+        6 => Word::Named(Scope::Subtree),
+        7 => Word::Named(Scope::SubtreeOne),
+        _ => Word::Named(Scope::Mailboxes),
     }
-    if octets::is_word(text, from, upto, b"selected-delayed") {
-        return Word::Alone(Scope::Delayed);
-    }
-    if octets::is_word(text, from, upto, b"inboxes") {
-        return Word::Alone(Scope::Inboxes);
-    }
-    if octets::is_word(text, from, upto, b"personal") {
-        return Word::Alone(Scope::Personal);
-    }
-    if octets::is_word(text, from, upto, b"subscribed") {
-        return Word::Alone(Scope::Subscribed);
-    }
-    if octets::is_word(text, from, upto, b"subtree") {
-        return Word::Named(Scope::Subtree);
-    }
-    if octets::is_word(text, from, upto, b"subtree-one") {
-        return Word::Named(Scope::SubtreeOne);
-    }
-    if octets::is_word(text, from, upto, b"mailboxes") {
-        return Word::Named(Scope::Mailboxes);
-    }
-    Word::Unknown
 }
 
 // A filter that was read: whom it is about, how many names it has, and the position behind it; or that none stands there.

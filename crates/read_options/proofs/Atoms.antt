@@ -7,7 +7,6 @@ use native.Mathlib.Omega.{arith}
 use lib.Dec.{eqb, leb, ltb}
 use lib.ListN.{length, getD}
 use borrow.Author.Tests.{le-leb, lt-leb}
-use Rattle.model.specs.Requests.{notify, esearch, otherVerb}
 use Rattle.model.specs.Reading.{Parsed, bad, ok, andThen, atomAt, endOf, piece, is}
 use Rattle.model.specs.Octets.{atomOctet}
 use Rattle.model.specs.Commands.{tagEnd, tagged, verbAt}
@@ -17,11 +16,9 @@ use Rattle.octets.specs.declared.Next.the-variants.{At, Bad as NoNext}
 use Rattle.read_options.specs.Heads.{verbOf, readVerb}
 use Rattle.read_options.specs.Returning.{readOption, OptionWithin}
 use Rattle.read_options.specs.declared.Verb.{Verb}
-use Rattle.read_options.specs.declared.Verb.the-variants.{Notify, Esearch, Other}
 use Rattle.read_options.specs.declared.VerbRead.the-variants.{Is as IsVerb, Bad as NoVerb}
-use Rattle.read_options.specs.declared.Wanted.the-variants.{Min, Max, All, Count}
 use Rattle.read_options.specs.declared.OptionRead.{OptionRead}
-use Rattle.read_options.specs.declared.OptionRead.the-variants.{Is, Bad}
+use Rattle.read_options.specs.declared.OptionRead.the-variants.{Bad}
 
 -- ---- the tag
 -- `tagged` for a tag that ends at e
@@ -55,16 +52,6 @@ none-found bad h = refl
 none-found (ok p w) h = absurd (let z : _≡_ {A = ℕ} 0 1 = cc in omega arith)
 
 -- ---- its verb
-module _ (w : List ℕ) where
-  pub verb-notify : is w "NOTIFY" ≡ true → Notify ≡ verbOf (verbAt w)
-  verb-notify h = ap (λ (b : Bool). verbOf (cond b notify (cond (is w "ESEARCH") esearch otherVerb))) (sym h)
-
-  pub verb-esearch : is w "NOTIFY" ≡ false → is w "ESEARCH" ≡ true → Esearch ≡ verbOf (verbAt w)
-  verb-esearch g h = ap (λ (b : Bool). verbOf (cond false notify (cond b esearch otherVerb))) (sym h) ∙ ap (λ (b : Bool). verbOf (cond b notify (cond (is w "ESEARCH") esearch otherVerb))) (sym g)
-
-  pub verb-other : is w "NOTIFY" ≡ false → is w "ESEARCH" ≡ false → Other ≡ verbOf (verbAt w)
-  verb-other g h = ap (λ (b : Bool). verbOf (cond false notify (cond b esearch otherVerb))) (sym h) ∙ ap (λ (b : Bool). verbOf (cond b notify (cond (is w "ESEARCH") esearch otherVerb))) (sym g)
-
 module _ (s : List ℕ) (at : ℕ) where
   pub verb-read : (p : ℕ) {v : Verb} → At p ≡ nextOf (atomAt s at) → v ≡ verbOf (verbAt (piece s at p)) → IsVerb v p ≡ readVerb (atomAt s at)
   verb-read p h e = ap (λ (v : Verb). IsVerb v p) e ∙ ap readVerb (sym (atom-found s at p h))
@@ -76,30 +63,6 @@ module _ (s : List ℕ) (at : ℕ) where
 -- an option by the tests for the four words
 abbrev optionBy : ℕ → Bool → Bool → Bool → Bool → OptionRead
 optionBy p a b c d = readOption (cond a (ok p minimum) (cond b (ok p maximum) (cond c (ok p allOf) (cond d (ok p count) bad))))
-
-module _ (w : List ℕ) (p : ℕ) where
-  pub option-by : {a b c d : Bool} → is w "MIN" ≡ a → is w "MAX" ≡ b → is w "ALL" ≡ c → is w "COUNT" ≡ d → optionBy p a b c d ≡ readOption (returnBy w p)
-  option-by {a} {b} {c} e f g h =
-      sym
-      (ap (λ (x : Bool). optionBy p x (is w "MAX") (is w "ALL") (is w "COUNT")) e
-      ∙ ap (λ (x : Bool). optionBy p a x (is w "ALL") (is w "COUNT")) f
-      ∙ ap (λ (x : Bool). optionBy p a b x (is w "COUNT")) g
-      ∙ ap (λ (x : Bool). optionBy p a b c x) h)
-
-  pub option-min : is w "MIN" ≡ true → Is Min p ≡ readOption (returnBy w p)
-  option-min e = option-by e refl refl refl
-
-  pub option-max : is w "MIN" ≡ false → is w "MAX" ≡ true → Is Max p ≡ readOption (returnBy w p)
-  option-max e f = option-by e f refl refl
-
-  pub option-all : is w "MIN" ≡ false → is w "MAX" ≡ false → is w "ALL" ≡ true → Is All p ≡ readOption (returnBy w p)
-  option-all e f g = option-by e f g refl
-
-  pub option-count : is w "MIN" ≡ false → is w "MAX" ≡ false → is w "ALL" ≡ false → is w "COUNT" ≡ true → Is Count p ≡ readOption (returnBy w p)
-  option-count e f g h = option-by e f g h
-
-  pub option-none : is w "MIN" ≡ false → is w "MAX" ≡ false → is w "ALL" ≡ false → is w "COUNT" ≡ false → Bad ≡ readOption (returnBy w p)
-  option-none e f g h = option-by e f g h
 
 -- an option ends where its atom does
 option-in : (s : List ℕ) (at p : ℕ) → at < p → p ≤ length s → (a b c d : Bool) → OptionWithin s at (optionBy p a b c d)

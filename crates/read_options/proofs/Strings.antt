@@ -1,7 +1,7 @@
 -- The names of charsets. Assumes nothing.
 use mathlib.Core.Path.{_≡_, refl, sym, ap, _∙_}
 use mathlib.Core.List.{List, map}
-use mathlib.Core.Bool.{Bool, true, false, cond, _||_, or-false}
+use mathlib.Core.Bool.{Bool, true, false, cond}
 use Prim.Native.Nat.{ℕ, _-_, _≤_, _<_}
 use native.Mathlib.Omega.{arith}
 use lib.ListN.{length, drop, length-map}
@@ -9,7 +9,7 @@ use lib.Seq.{take-all, take-at}
 use Rattle.model.specs.Text.{octets, upper, sameWord}
 use Rattle.model.specs.Octets.{atomOctet}
 use Rattle.model.specs.Requests.{known, unknown}
-use Rattle.model.specs.Reading.{Parsed, bad, ok, andThen, piece, is, textAt}
+use Rattle.model.specs.Reading.{Parsed, bad, ok, andThen, piece, textAt}
 use Rattle.model.specs.SearchGrammar.{charsetOf, charsetAt}
 use Rattle.model.specs.Laws.{same-lengths}
 use Rattle.octets.specs.Found.{nextOf}
@@ -17,14 +17,6 @@ use Rattle.octets.specs.Values.{valueOf, fill}
 use Rattle.octets.specs.declared.Next.the-variants.{At, Bad as NoNext}
 use Rattle.read_options.specs.Charsets.{isKnown, knownOf, readCharset}
 use Rattle.read_options.specs.declared.CharsetRead.the-variants.{Is, Bad}
-
--- ---- a name by its words
-module _ (w : List ℕ) where
-  pub name-first : is w "US-ASCII" ≡ true → true ≡ isKnown w
-  name-first h = ap (λ (b : Bool). b || (is w "UTF-8" || false)) (sym h)
-
-  pub name-second : is w "US-ASCII" ≡ false → is w "UTF-8" ≡ isKnown w
-  name-second h = sym (or-false (is w "UTF-8")) ∙ ap (λ (b : Bool). b || (is w "UTF-8" || false)) (sym h)
 
 -- ---- a name that is longer than those that are known
 test-fails : (b c : Bool) → c ≡ false → cond b c false ≡ false
@@ -35,7 +27,7 @@ word-lengths : (a b : List ℕ) → (length a ≡ length b → ⊥) → sameWord
 word-lengths a b h = same-lengths (map upper a) (map upper b) (λ e. h (sym (length-map a upper) ∙ e ∙ length-map b upper))
 
 pub name-long : (w : List ℕ) → 8 < length w → false ≡ isKnown w
-name-long w h = sym (word-lengths w (octets "UTF-8") (λ e. omega arith)) ∙ name-second w (word-lengths w (octets "US-ASCII") (λ e. omega arith))
+name-long w h = rw (word-lengths w (octets "US-ASCII") (λ e. omega arith), word-lengths w (octets "UTF-8") (λ e. omega arith))
 
 -- ---- a buffer that a name fits
 name-filled : (v out : List ℕ) (n : ℕ) → n ≡ length v → n ≤ length out → piece (fill out v) 0 n ≡ v

@@ -49,13 +49,11 @@ pub enum VerbRead {
 fn verb_of(text: &[u8], from: usize, upto: usize) -> Verb
     ensures { λ r. ⌜ r ≡ verbOf (verbAt (piece (now (text .entry)) from upto)) ⌝ }
 {
-    if octets::is_word(text, from, upto, b"NOTIFY") {
-        return Verb::Notify;
+    match octets::word_place(text, from, upto, b"\x06\x07", b"NOTIFY ESEARCH") {
+        0 => Verb::Other,
+        1 => Verb::Notify,
+        _ => Verb::Esearch,
     }
-    if octets::is_word(text, from, upto, b"ESEARCH") {
-        return Verb::Esearch;
-    }
-    Verb::Other
 }
 
 // The verb at a position.
@@ -85,19 +83,13 @@ enum OptionRead {
 fn option_of(text: &[u8], from: usize, upto: usize) -> OptionRead
     ensures { λ r. ⌜ r ≡ readOption (returnBy (piece (now (text .entry)) from upto) upto) ⌝ }
 {
-    if octets::is_word(text, from, upto, b"MIN") {
-        return OptionRead::Is(Wanted::Min, upto);
+    match octets::word_place(text, from, upto, b"\x03\x03\x03\x05", b"MIN MAX ALL COUNT") {
+        0 => OptionRead::Bad,
+        1 => OptionRead::Is(Wanted::Min, upto),
+        2 => OptionRead::Is(Wanted::Max, upto),
+        3 => OptionRead::Is(Wanted::All, upto),
+        _ => OptionRead::Is(Wanted::Count, upto),
     }
-    if octets::is_word(text, from, upto, b"MAX") {
-        return OptionRead::Is(Wanted::Max, upto);
-    }
-    if octets::is_word(text, from, upto, b"ALL") {
-        return OptionRead::Is(Wanted::All, upto);
-    }
-    if octets::is_word(text, from, upto, b"COUNT") {
-        return OptionRead::Is(Wanted::Count, upto);
-    }
-    OptionRead::Bad
 }
 
 fn option_at(text: &[u8], at: usize) -> OptionRead
@@ -264,16 +256,6 @@ pub enum CharsetRead {
     Bad,
 }
 
-// Whether the first octets of a buffer are the name of a charset that is known.
-fn known_name(name: &[u8], n: usize) -> bool
-    ensures { λ r. ⌜ r ≡ isKnown (piece (now (name .entry)) 0 n) ⌝ }
-{
-    if octets::is_word(name, 0, n, b"US-ASCII") {
-        return true;
-    }
-    octets::is_word(name, 0, n, b"UTF-8")
-}
-
 // Whether the string at a position is the name of a charset that is known.
 fn is_known(text: &[u8], at: usize) -> bool
     ensures { λ r. ⌜ r ≡ isKnown (valueOf (textAt atomOctet (now (text .entry)) at)) ⌝ }
@@ -283,7 +265,7 @@ fn is_known(text: &[u8], at: usize) -> bool
     if 8 < n {
         return false;
     }
-    known_name(&name, n)
+    octets::is_one_of(&name, 0, n, b"\x08\x05", b"US-ASCII UTF-8")
 }
 
 // A charset: an atom or a quoted string.

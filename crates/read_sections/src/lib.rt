@@ -73,22 +73,20 @@ pub enum Wanted {
 fn section_word(text: &[u8], from: usize, upto: usize) -> Wanted
     ensures { λ r. ⌜ r ≡ wordOf (sectionWord (piece (now (text .entry)) from upto)) ⌝ }
 {
-    if octets::is_word(text, from, upto, b"HEADER") {
-        return Wanted::Whole;
+    match octets::word_place(
+        text,
+        from,
+        upto,
+        b"\x06\x04\x0d\x11\x04",
+        b"HEADER TEXT HEADER.FIELDS HEADER.FIELDS.NOT MIME",
+    ) {
+        0 => Wanted::Nothing,
+        1 => Wanted::Whole,
+        2 => Wanted::Whole,
+        3 => Wanted::Fields,
+        4 => Wanted::Fields,
+        _ => Wanted::Mime,
     }
-    if octets::is_word(text, from, upto, b"TEXT") {
-        return Wanted::Whole;
-    }
-    if octets::is_word(text, from, upto, b"HEADER.FIELDS") {
-        return Wanted::Fields;
-    }
-    if octets::is_word(text, from, upto, b"HEADER.FIELDS.NOT") {
-        return Wanted::Fields;
-    }
-    if octets::is_word(text, from, upto, b"MIME") {
-        return Wanted::Mime;
-    }
-    Wanted::Nothing
 }
 
 // The text that a section names; `part` says that the number of a part stands before it.

@@ -1,11 +1,10 @@
 -- The words of keys by the code's names for them, and what stands behind them. Assumes nothing: these are definitions.
-use mathlib.Core.Bool.{true, false, cond}
 use mathlib.Core.List.{List}
 use mathlib.Core.Path.{_≡_}
 use Prim.Native.Nat.{ℕ, _≤_}
 use lib.ListN.{length}
 use Rattle.model.specs.Requests.{all, unsupported, flagged}
-use Rattle.model.specs.Reading.{andThen, after, is, numberAt, astringAt, atomAt, dateAt}
+use Rattle.model.specs.Reading.{andThen, after, numberAt, astringAt, atomAt, dateAt}
 use Rattle.octets.specs.Found.{nextOf}
 use Rattle.octets.specs.Numerals.{readNumber}
 use Rattle.octets.specs.declared.Number.{Number}
@@ -35,16 +34,6 @@ meant (Unsupported a) = takes a
 meant Negated = negated
 meant Alternatives = alternatives
 meant Strange = strange
-
--- the words of the last three flags, by which `flagWord` goes on behind those of the first two
-abbrev pub laterFlagWord : List ℕ → Keyword → Keyword
-laterFlagWord w others =
-    cond (is w "DELETED") (bare (flagged 2 true))
-    (cond (is w "UNDELETED") (bare (flagged 2 false))
-    (cond (is w "SEEN") (bare (flagged 3 true))
-    (cond (is w "UNSEEN") (bare (flagged 3 false))
-    (cond (is w "DRAFT") (bare (flagged 4 true))
-    (cond (is w "UNDRAFT") (bare (flagged 4 false)) others)))))
 
 -- the number behind a word, and a space
 abbrev pub sizeAt : List ℕ → ℕ → Number

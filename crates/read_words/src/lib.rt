@@ -3,14 +3,13 @@ use octets::Class;
 use octets::Next;
 use octets::Number;
 ghost use mathlib.Core.Path.{_≡_};
-ghost use mathlib.Core.List.{[], _∷_};
 ghost use Prim.Native.Nat.{_+_, _-_, _≤_};
 ghost use lib.ListN.{length};
-ghost use Rattle.model.specs.Reading.{isOf, piece};
-ghost use Rattle.model.specs.SearchGrammar.{flagWord, unsupportedWord, keywordOf};
+ghost use Rattle.model.specs.Reading.{piece};
+ghost use Rattle.model.specs.SearchGrammar.{keywordOf};
 ghost use Rattle.octets.specs.Found.{Reads};
 ghost use Rattle.octets.specs.Numerals.{Counts};
-ghost use Rattle.read_words.specs.Words.{meant, laterFlagWord, sizeAt, argumentAt, Argues};
+ghost use Rattle.read_words.specs.Words.{meant, sizeAt, argumentAt, Argues};
 
 // What stands behind the word of a key that is not supported.
 pub enum Argument {
@@ -34,174 +33,61 @@ pub enum Word {
     Strange,
 }
 
-// Words of keys that are not supported, by what stands behind them.
-fn takes_nothing(text: &[u8], at: usize, end: usize) -> bool
-    ensures { λ r. ⌜ r ≡ isOf (piece (now (text .entry)) at end) ("NEW" ∷ "OLD" ∷ "RECENT" ∷ []) ⌝ }
-{
-    if octets::is_word(text, at, end, b"NEW") {
-        return true;
-    }
-    if octets::is_word(text, at, end, b"OLD") {
-        return true;
-    }
-    if octets::is_word(text, at, end, b"RECENT") {
-        return true;
-    }
-    false
-}
-
-fn takes_text(text: &[u8], at: usize, end: usize) -> bool
-    ensures { λ r. ⌜ r ≡ isOf (piece (now (text .entry)) at end) ("BCC" ∷ "BODY" ∷ "CC" ∷ "FROM" ∷ "SUBJECT" ∷ "TEXT" ∷ "TO" ∷ []) ⌝ }
-{
-    if octets::is_word(text, at, end, b"BCC") {
-        return true;
-    }
-    if octets::is_word(text, at, end, b"BODY") {
-        return true;
-    }
-    if octets::is_word(text, at, end, b"CC") {
-        return true;
-    }
-    if octets::is_word(text, at, end, b"FROM") {
-        return true;
-    }
-    if octets::is_word(text, at, end, b"SUBJECT") {
-        return true;
-    }
-    if octets::is_word(text, at, end, b"TEXT") {
-        return true;
-    }
-    if octets::is_word(text, at, end, b"TO") {
-        return true;
-    }
-    false
-}
-
-fn takes_keyword(text: &[u8], at: usize, end: usize) -> bool
-    ensures { λ r. ⌜ r ≡ isOf (piece (now (text .entry)) at end) ("KEYWORD" ∷ "UNKEYWORD" ∷ []) ⌝ }
-{
-    if octets::is_word(text, at, end, b"KEYWORD") {
-        return true;
-    }
-    if octets::is_word(text, at, end, b"UNKEYWORD") {
-        return true;
-    }
-    false
-}
-
-fn takes_date(text: &[u8], at: usize, end: usize) -> bool
-    ensures { λ r. ⌜ r ≡ isOf (piece (now (text .entry)) at end) ("BEFORE" ∷ "ON" ∷ "SINCE" ∷ "SENTBEFORE" ∷ "SENTON" ∷ "SENTSINCE" ∷ []) ⌝ }
-{
-    if octets::is_word(text, at, end, b"BEFORE") {
-        return true;
-    }
-    if octets::is_word(text, at, end, b"ON") {
-        return true;
-    }
-    if octets::is_word(text, at, end, b"SINCE") {
-        return true;
-    }
-    if octets::is_word(text, at, end, b"SENTBEFORE") {
-        return true;
-    }
-    if octets::is_word(text, at, end, b"SENTON") {
-        return true;
-    }
-    if octets::is_word(text, at, end, b"SENTSINCE") {
-        return true;
-    }
-    false
-}
-
-// The words of the keys that are not supported.
-fn unsupported_word(text: &[u8], at: usize, end: usize) -> Word
-    ensures { λ r. ⌜ meant r ≡ unsupportedWord (piece (now (text .entry)) at end) ⌝ }
-{
-    if takes_nothing(text, at, end) {
-        return Word::Unsupported(Argument::Nothing);
-    }
-    if takes_text(text, at, end) {
-        return Word::Unsupported(Argument::Text);
-    }
-    if takes_keyword(text, at, end) {
-        return Word::Unsupported(Argument::Keyword);
-    }
-    if takes_date(text, at, end) {
-        return Word::Unsupported(Argument::Date);
-    }
-    if octets::is_word(text, at, end, b"HEADER") {
-        return Word::Unsupported(Argument::Header);
-    }
-    Word::Strange
-}
-
-// The words of the last three flags, and then those of the keys that are not supported.
-fn later_flag_word(text: &[u8], at: usize, end: usize) -> Word
-    ensures { λ r. ⌜ meant r ≡ laterFlagWord (piece (now (text .entry)) at end) (unsupportedWord (piece (now (text .entry)) at end)) ⌝ }
-{
-    if octets::is_word(text, at, end, b"DELETED") {
-        return Word::Flag { bit: 2, on: true };
-    }
-    if octets::is_word(text, at, end, b"UNDELETED") {
-        return Word::Flag { bit: 2, on: false };
-    }
-    if octets::is_word(text, at, end, b"SEEN") {
-        return Word::Flag { bit: 3, on: true };
-    }
-    if octets::is_word(text, at, end, b"UNSEEN") {
-        return Word::Flag { bit: 3, on: false };
-    }
-    if octets::is_word(text, at, end, b"DRAFT") {
-        return Word::Flag { bit: 4, on: true };
-    }
-    if octets::is_word(text, at, end, b"UNDRAFT") {
-        return Word::Flag { bit: 4, on: false };
-    }
-    unsupported_word(text, at, end)
-}
-
-// The words of the flags, and then those of the keys that are not supported.
-fn flag_word(text: &[u8], at: usize, end: usize) -> Word
-    ensures { λ r. ⌜ meant r ≡ flagWord (piece (now (text .entry)) at end) (unsupportedWord (piece (now (text .entry)) at end)) ⌝ }
-{
-    if octets::is_word(text, at, end, b"ANSWERED") {
-        return Word::Flag { bit: 0, on: true };
-    }
-    if octets::is_word(text, at, end, b"UNANSWERED") {
-        return Word::Flag { bit: 0, on: false };
-    }
-    if octets::is_word(text, at, end, b"FLAGGED") {
-        return Word::Flag { bit: 1, on: true };
-    }
-    if octets::is_word(text, at, end, b"UNFLAGGED") {
-        return Word::Flag { bit: 1, on: false };
-    }
-    later_flag_word(text, at, end)
-}
-
-// Which key's word stands from one position up to another.
+// Which key's word stands from one position up to another. Each flag has two words, for set and for not set.
 pub fn key_word(text: &[u8], at: usize, end: usize) -> Word
     ensures { λ r. ⌜ meant r ≡ keywordOf (piece (now (text .entry)) at end) ⌝ }
 {
-    if octets::is_word(text, at, end, b"ALL") {
-        return Word::All;
+    let place = octets::word_place(
+        text,
+        at,
+        end,
+        b"\
+        \x03\x06\x07\x03\x03\x02\
+        \x08\x0a\x07\x09\x07\x09\x04\x06\x05\x07\
+        \x03\x03\x06\
+        \x03\x04\x02\x04\x07\x04\x02\
+        \x07\x09\
+        \x06\x02\x05\x0a\x06\x09\
+        \x06",
+        b"\
+        ALL LARGER SMALLER UID NOT OR \
+        ANSWERED UNANSWERED FLAGGED UNFLAGGED DELETED UNDELETED SEEN UNSEEN DRAFT UNDRAFT \
+        NEW OLD RECENT \
+        BCC BODY CC FROM SUBJECT TEXT TO \
+        KEYWORD UNKEYWORD \
+        BEFORE ON SINCE SENTBEFORE SENTON SENTSINCE \
+        HEADER",
+    );
+    if 34 < place {
+        return Word::Unsupported(Argument::Header);
     }
-    if octets::is_word(text, at, end, b"LARGER") {
-        return Word::Above;
+    if 28 < place {
+        return Word::Unsupported(Argument::Date);
     }
-    if octets::is_word(text, at, end, b"SMALLER") {
-        return Word::Below;
+    if 26 < place {
+        return Word::Unsupported(Argument::Keyword);
     }
-    if octets::is_word(text, at, end, b"UID") {
-        return Word::Uids;
+    if 19 < place {
+        return Word::Unsupported(Argument::Text);
     }
-    if octets::is_word(text, at, end, b"NOT") {
-        return Word::Negated;
+    if 16 < place {
+        return Word::Unsupported(Argument::Nothing);
     }
-    if octets::is_word(text, at, end, b"OR") {
-        return Word::Alternatives;
+    if 6 < place {
+        return Word::Flag {
+            bit: (place as u64 - 7) / 2,
+            on: place % 2 == 1,
+        };
     }
-    flag_word(text, at, end)
+    match place {
+        0 => Word::Strange,
+        1 => Word::All,
+        2 => Word::Above,
+        3 => Word::Below,
+        4 => Word::Uids,
+        5 => Word::Negated,
+        _ => Word::Alternatives,
+    }
 }
 
 // A space and a number.

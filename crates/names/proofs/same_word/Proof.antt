@@ -8,6 +8,7 @@ use lib.ListN.{length, drop}
 use Rattle.model.specs.Text.{sameWord}
 use Rattle.names.proofs.Walks.{words-next, words-differ, words-past, words-lengths}
 use borrow.Author.Needs.{needs}
+use borrow.Author.Tests.{not-true, not-false}
 
 abbrev Inv-loop : tie.InvT-loop
 Inv-loop a b i₀ i = (i ≤ length a) × (length a ≡ length b) × (sameWord a b ≡ sameWord (drop i a) (drop i b))
@@ -25,17 +26,15 @@ loop-holds c = (search needs, search needs, refl)
 
 returns-2 : tie.Need-returns-2 Inv-loop μ-loop
 returns-2 c =
-    let b = c .before .before .before in let upper = b .upper in
-    let b = b .before .before .before in let loop = b .loop in
+    let b = c .before .before .before .before .before in let loop = b .loop in
     let b = b .before .before .before .before in let args = b .args in
-    sym (loop .inv .2 ∙ words-differ (args .a .now) (args .b .now) (loop .i) (omega arith) (omega arith) (λ e. c .if2 .taken (upper .ensures ∙ e ∙ sym (c .before .upper2 .ensures))))
+    sym (loop .inv .2 ∙ words-differ (args .a .now) (args .b .now) (loop .i) (omega arith) (omega arith) (sym (c .before .same-letter .ensures) ∙ not-true _ (c .if2 .taken)))
 
 loop-again : tie.Need-loop-again Inv-loop μ-loop
 loop-again c =
-    let b = c .before .before .before in let upper = b .upper in
-    let b = b .before .before .before in let loop = b .loop in
+    let b = c .before .before .before .before .before in let loop = b .loop in
     let b = b .before .before .before .before in let args = b .args in
-    (search needs, search needs, loop .inv .2 ∙ words-next (args .a .now) (args .b .now) (loop .i) (omega arith) (omega arith) (sym (upper .ensures) ∙ c .if2 .left ∙ c .before .upper2 .ensures))
+    (search needs, search needs, loop .inv .2 ∙ words-next (args .a .now) (args .b .now) (loop .i) (omega arith) (omega arith) (sym (c .before .same-letter .ensures) ∙ not-false _ (c .if2 .left)))
 
 returns-3 : tie.Need-returns-3 Inv-loop μ-loop
 returns-3 c =
@@ -50,8 +49,7 @@ same-word-spec =
     μ-loop
     returns
     loop-holds
-    (λ c. search needs) (λ c κs. search needs)  -- shared-slice-read-upper, upper-requires
-    (λ c. search needs) (λ c κs. search needs)  -- shared-slice-read-upper-2, upper-requires-2
+    (λ c. search needs) (λ c. search needs) (λ c κs. search needs)  -- shared-slice-read-same-letter, shared-slice-read-same-letter-2, same-letter-requires
     returns-2
     (λ c. search needs) (λ c. search needs)  -- add-i, loop-less
     loop-again

@@ -1,98 +1,35 @@
--- `label_of`: the tests stand in the order of the definition: the first that holds decides, those before it failed. Assumes nothing.
+-- `label_of`: the definition asks for the words in the order of the table, so that the place says which word it is. Assumes nothing.
 use borrow.Author.Needs.{needs}
+use mathlib.Core.Path.{ap}
+use mathlib.Core.List.{List, [], _∷_}
+use Rattle.model.specs.Requests.{uid, flags, size, otherAttribute}
+use Rattle.model.specs.Attributes.{Label, plain, body, peek, unlabelled, labelOf}
+use Rattle.octets.specs.Vocabulary.{found-first, found-last, one-by-one}
+use Rattle.read_attributes.specs.Asked.{labelled}
 use Rattle.read_attributes.proofs.label_of.Statement.{statement}
 use Rattle.read_attributes.proofs.label_of.Tie as tie
-use mathlib.Core.Path.{sym, _∙_}
-use Rattle.model.specs.Attributes.{labelOf}
 
-returns : tie.Need-returns
-unfolding labelOf
-returns c = simp (sym (c .before .is-word .ensures) ∙ c .if1 .taken)
+abbrev other : Label
+other = plain otherAttribute
 
-returns-2 : tie.Need-returns-2
-unfolding labelOf
-returns-2 c = simp (sym (c .before .before .before .before .is-word .ensures) ∙ c .before .before .before .if1 .left, sym (c .before .is-word2 .ensures) ∙ c .if2 .taken)
-
-returns-3 : tie.Need-returns-3
-unfolding labelOf
-returns-3 c =
-    simp (
-      sym (c .before .before .before .before .before .before .before .is-word .ensures) ∙ c .before .before .before .before .before .before .if1 .left,
-      sym (c .before .before .before .before .is-word2 .ensures) ∙ c .before .before .before .if2 .left,
-      sym (c .before .is-word3 .ensures) ∙ c .if3 .taken,
-    )
-
-returns-4 : tie.Need-returns-4
-unfolding labelOf
-returns-4 c =
-    let b = c .before .before .before in let is-word3 = b .is-word3 in
-    let b = b .before .before in let if2 = b .if2 in let b = b .before in let is-word2 = b .is-word2 in
-    let b = b .before .before in let if1 = b .if1 in let b = b .before in let is-word = b .is-word in
-    simp (sym (is-word .ensures) ∙ if1 .left, sym (is-word2 .ensures) ∙ if2 .left, sym (is-word3 .ensures) ∙ c .before .before .if3 .left, sym (c .before .is-other .ensures) ∙ c .if4 .taken)
-
-returns-5 : tie.Need-returns-5
-unfolding labelOf
-returns-5 c =
-    let b = c .before .before .before in let if4 = b .if4 in let b = b .before in let is-other = b .is-other in
-    let b = b .before in let if3 = b .if3 in let b = b .before in let is-word3 = b .is-word3 in
-    let b = b .before .before in let if2 = b .if2 in let b = b .before in let is-word2 = b .is-word2 in
-    let b = b .before .before in let if1 = b .if1 in let b = b .before in let is-word = b .is-word in
-    simp (
-      sym (is-word .ensures) ∙ if1 .left,
-      sym (is-word2 .ensures) ∙ if2 .left,
-      sym (is-word3 .ensures) ∙ if3 .left,
-      sym (is-other .ensures) ∙ if4 .left,
-      sym (c .before .is-word4 .ensures) ∙ c .if5 .taken,
-    )
-
-returns-6 : tie.Need-returns-6
-unfolding labelOf
-returns-6 c =
-    let b = c .before .before .before in let if5 = b .if5 in let b = b .before in let is-word4 = b .is-word4 in
-    let b = b .before .before in let if4 = b .if4 in let b = b .before in let is-other = b .is-other in
-    let b = b .before in let if3 = b .if3 in let b = b .before in let is-word3 = b .is-word3 in
-    let b = b .before .before in let if2 = b .if2 in let b = b .before in let is-word2 = b .is-word2 in
-    let b = b .before .before in let if1 = b .if1 in let b = b .before in let is-word = b .is-word in
-    simp (
-      sym (is-word .ensures) ∙ if1 .left,
-      sym (is-word2 .ensures) ∙ if2 .left,
-      sym (is-word3 .ensures) ∙ if3 .left,
-      sym (is-other .ensures) ∙ if4 .left,
-      sym (is-word4 .ensures) ∙ if5 .left,
-      sym (c .before .is-word5 .ensures) ∙ c .if6 .taken,
-    )
-
-returns-7 : tie.Need-returns-7
-unfolding labelOf
-returns-7 c =
-    let b = c .before .before .before in let if5 = b .if5 in let b = b .before in let is-word4 = b .is-word4 in
-    let b = b .before .before in let if4 = b .if4 in let b = b .before in let is-other = b .is-other in
-    let b = b .before in let if3 = b .if3 in let b = b .before in let is-word3 = b .is-word3 in
-    let b = b .before .before in let if2 = b .if2 in let b = b .before in let is-word2 = b .is-word2 in
-    let b = b .before .before in let if1 = b .if1 in let b = b .before in let is-word = b .is-word in
-    simp (
-      sym (is-word .ensures) ∙ if1 .left,
-      sym (is-word2 .ensures) ∙ if2 .left,
-      sym (is-word3 .ensures) ∙ if3 .left,
-      sym (is-other .ensures) ∙ if4 .left,
-      sym (is-word4 .ensures) ∙ if5 .left,
-      sym (c .before .is-word5 .ensures) ∙ c .if6 .left,
-    )
+abbrev labels : List Label
+labels = unlabelled ∷ plain uid ∷ plain flags ∷ plain size ∷ other ∷ other ∷ other ∷ other ∷ other ∷ other ∷ body ∷ []
 
 pub label-of-spec : {M : Type 1} → statement M
+unfolding labelOf
 label-of-spec =
     tie.close
     (tie.spec
-    (λ c. search needs) (λ c κs. search needs)  -- slice-aggregate-is-word, is-word-requires
-    returns
-    (λ c. search needs) (λ c κs. search needs)  -- slice-aggregate-is-word-2, is-word-requires-2
-    returns-2
-    (λ c. search needs) (λ c κs. search needs)  -- slice-aggregate-is-word-3, is-word-requires-3
-    returns-3
-    (λ c κs. search needs)  -- is-other-requires
-    returns-4
-    (λ c. search needs) (λ c κs. search needs)  -- slice-aggregate-is-word-4, is-word-requires-4
-    returns-5
-    (λ c. search needs) (λ c κs. search needs)  -- slice-aggregate-is-word-5, is-word-requires-5
-    returns-6
-    returns-7)
+    (λ c. search needs) (λ c. search needs) (λ c κs. search needs)  -- slice-aggregate-word-place, slice-aggregate-word-place-2, word-place-requires
+    (λ c. simp one-by-one (ap labelled (found-first labels peek _ _ (c .before .word-place .ensures) (c .match .keys1))))
+    (λ c. simp one-by-one (ap labelled (found-first labels peek _ _ (c .before .word-place .ensures) (c .match .keys2))))
+    (λ c. simp one-by-one (ap labelled (found-first labels peek _ _ (c .before .word-place .ensures) (c .match .keys3))))
+    (λ c. simp one-by-one (ap labelled (found-first labels peek _ _ (c .before .word-place .ensures) (c .match .keys4))))
+    (λ c. simp one-by-one (ap labelled (found-first labels peek _ _ (c .before .word-place .ensures) (c .match .keys5))))
+    (λ c. simp one-by-one (ap labelled (found-first labels peek _ _ (c .before .word-place .ensures) (c .match .keys6))))
+    (λ c. simp one-by-one (ap labelled (found-first labels peek _ _ (c .before .word-place .ensures) (c .match .keys7))))
+    (λ c. simp one-by-one (ap labelled (found-first labels peek _ _ (c .before .word-place .ensures) (c .match .keys8))))
+    (λ c. simp one-by-one (ap labelled (found-first labels peek _ _ (c .before .word-place .ensures) (c .match .keys9))))
+    (λ c. simp one-by-one (ap labelled (found-first labels peek _ _ (c .before .word-place .ensures) (c .match .keys10))))
+    (λ c. simp one-by-one (ap labelled (found-first labels peek _ _ (c .before .word-place .ensures) (c .match .keys11))))
+    (λ c. simp one-by-one (ap labelled (found-last labels peek _ _ (c .before .word-place .ensures) (c .match .rest)))))

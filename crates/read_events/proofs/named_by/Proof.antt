@@ -1,73 +1,25 @@
--- `named_by`: each word is tested in the order of the definition.
+-- `named_by`: the definition asks for the words in the order of the table, so that the place says which word it is. Assumes nothing.
 use borrow.Author.Needs.{needs}
+use mathlib.Core.List.{List, [], _∷_}
+use Rattle.model.specs.Requests.{Event, messageNew, messageExpunge, flagChange, annotationChange, mailboxName, subscriptionChange, otherEvent}
+use Rattle.model.specs.NotifyGrammar.{eventOf}
+use Rattle.octets.specs.Vocabulary.{found-first, found-last}
 use Rattle.read_events.proofs.named_by.Statement.{statement}
 use Rattle.read_events.proofs.named_by.Tie as tie
-use mathlib.Core.Path.{sym, _∙_}
-use Rattle.model.specs.NotifyGrammar.{eventOf}
 
-returns : tie.Need-returns
-unfolding eventOf
-returns c = simp (sym (c .before .is-word .ensures) ∙ c .if1 .taken)
-
-returns-2 : tie.Need-returns-2
-unfolding eventOf
-returns-2 c = simp (sym (c .before .before .before .before .is-word .ensures) ∙ c .before .before .before .if1 .left, sym (c .before .is-word2 .ensures) ∙ c .if2 .taken)
-
-returns-3 : tie.Need-returns-3
-unfolding eventOf
-returns-3 c = simp (sym (c .before .before .before .before .before .before .before .is-word .ensures) ∙ c .before .before .before .before .before .before .if1 .left, sym (c .before .before .before .before .is-word2 .ensures) ∙ c .before .before .before .if2 .left, sym (c .before .is-word3 .ensures) ∙ c .if3 .taken)
-
-returns-4 : tie.Need-returns-4
-unfolding eventOf
-returns-4 c =
-    let b = c .before .before .before in let if3 = b .if3 in let b = b .before in let is-word3 = b .is-word3 in
-    let b = b .before .before in let if2 = b .if2 in let b = b .before in let is-word2 = b .is-word2 in
-    let b = b .before .before in let if1 = b .if1 in let b = b .before in let is-word = b .is-word in
-    simp (sym (is-word .ensures) ∙ if1 .left, sym (is-word2 .ensures) ∙ if2 .left, sym (is-word3 .ensures) ∙ if3 .left, sym (c .before .is-word4 .ensures) ∙ c .if4 .taken)
-
-returns-5 : tie.Need-returns-5
-unfolding eventOf
-returns-5 c =
-    let b = c .before .before .before in let if4 = b .if4 in let b = b .before in let is-word4 = b .is-word4 in
-    let b = b .before .before in let if3 = b .if3 in let b = b .before in let is-word3 = b .is-word3 in
-    let b = b .before .before in let if2 = b .if2 in let b = b .before in let is-word2 = b .is-word2 in
-    let b = b .before .before in let if1 = b .if1 in let b = b .before in let is-word = b .is-word in
-    simp (sym (is-word .ensures) ∙ if1 .left, sym (is-word2 .ensures) ∙ if2 .left, sym (is-word3 .ensures) ∙ if3 .left, sym (is-word4 .ensures) ∙ if4 .left, sym (c .before .is-word5 .ensures) ∙ c .if5 .taken)
-
-returns-6 : tie.Need-returns-6
-unfolding eventOf
-returns-6 c =
-    let b = c .before .before .before in let if5 = b .if5 in let b = b .before in let is-word5 = b .is-word5 in
-    let b = b .before .before in let if4 = b .if4 in let b = b .before in let is-word4 = b .is-word4 in
-    let b = b .before .before in let if3 = b .if3 in let b = b .before in let is-word3 = b .is-word3 in
-    let b = b .before .before in let if2 = b .if2 in let b = b .before in let is-word2 = b .is-word2 in
-    let b = b .before .before in let if1 = b .if1 in let b = b .before in let is-word = b .is-word in
-    simp (sym (is-word .ensures) ∙ if1 .left, sym (is-word2 .ensures) ∙ if2 .left, sym (is-word3 .ensures) ∙ if3 .left, sym (is-word4 .ensures) ∙ if4 .left, sym (is-word5 .ensures) ∙ if5 .left, sym (c .before .is-word6 .ensures) ∙ c .if6 .taken)
-
-returns-7 : tie.Need-returns-7
-unfolding eventOf
-returns-7 c =
-    let b = c .before .before .before in let if5 = b .if5 in let b = b .before in let is-word5 = b .is-word5 in
-    let b = b .before .before in let if4 = b .if4 in let b = b .before in let is-word4 = b .is-word4 in
-    let b = b .before .before in let if3 = b .if3 in let b = b .before in let is-word3 = b .is-word3 in
-    let b = b .before .before in let if2 = b .if2 in let b = b .before in let is-word2 = b .is-word2 in
-    let b = b .before .before in let if1 = b .if1 in let b = b .before in let is-word = b .is-word in
-    simp (sym (is-word .ensures) ∙ if1 .left, sym (is-word2 .ensures) ∙ if2 .left, sym (is-word3 .ensures) ∙ if3 .left, sym (is-word4 .ensures) ∙ if4 .left, sym (is-word5 .ensures) ∙ if5 .left, sym (c .before .is-word6 .ensures) ∙ c .if6 .left)
+abbrev events : List Event
+events = otherEvent ∷ messageNew [] ∷ messageExpunge ∷ flagChange ∷ annotationChange ∷ mailboxName ∷ []
 
 pub named-by-spec : {M : Type 1} → statement M
+unfolding eventOf
 named-by-spec =
     tie.close
     (tie.spec
-    (λ c. search needs) (λ c κs. search needs)  -- slice-aggregate-is-word, is-word-requires
-    returns
-    (λ c. search needs) (λ c κs. search needs)  -- slice-aggregate-is-word-2, is-word-requires-2
-    returns-2
-    (λ c. search needs) (λ c κs. search needs)  -- slice-aggregate-is-word-3, is-word-requires-3
-    returns-3
-    (λ c. search needs) (λ c κs. search needs)  -- slice-aggregate-is-word-4, is-word-requires-4
-    returns-4
-    (λ c. search needs) (λ c κs. search needs)  -- slice-aggregate-is-word-5, is-word-requires-5
-    returns-5
-    (λ c. search needs) (λ c κs. search needs)  -- slice-aggregate-is-word-6, is-word-requires-6
-    returns-6
-    returns-7)
+    (λ c. search needs) (λ c. search needs) (λ c κs. search needs)  -- slice-aggregate-word-place, slice-aggregate-word-place-2, word-place-requires
+    (λ c. found-first events subscriptionChange _ _ (c .before .word-place .ensures) (c .match .keys1))
+    (λ c. found-first events subscriptionChange _ _ (c .before .word-place .ensures) (c .match .keys2))
+    (λ c. found-first events subscriptionChange _ _ (c .before .word-place .ensures) (c .match .keys3))
+    (λ c. found-first events subscriptionChange _ _ (c .before .word-place .ensures) (c .match .keys4))
+    (λ c. found-first events subscriptionChange _ _ (c .before .word-place .ensures) (c .match .keys5))
+    (λ c. found-first events subscriptionChange _ _ (c .before .word-place .ensures) (c .match .keys6))
+    (λ c. found-last events subscriptionChange _ _ (c .before .word-place .ensures) (c .match .rest)))

@@ -16,9 +16,9 @@ returns c =
 
 returns-2 : tie.Need-returns-2
 returns-2 c =
-    let b = c .before .before .before .before in let value-of = b .value-of in
+    let b = c .before .before .before .before .before .before in let value-of = b .value-of in
     let b = b .before .before .before in let args = b .args in
-    name-known (valueOf (textAt atomOctet (args .text .now) (args .at))) (replicate 8 0) (value-of .result) (c .known-name .ensures) (value-of .ensures .is) (value-of .ensures .long) (omega arith)
+    name-known (valueOf (textAt atomOctet (args .text .now) (args .at))) (replicate 8 0) (value-of .result) (c .is-one-of .ensures) (value-of .ensures .is) (value-of .ensures .long) (omega arith)
 
 pub is-known-spec : {M : Type 1} → statement M
 is-known-spec =
@@ -26,5 +26,5 @@ is-known-spec =
     (tie.spec
     (λ c. search needs) (λ c κs. search needs)  -- slice-aggregate-value-of, value-of-requires
     returns
-    (λ c. search needs) (λ c κs. search needs)  -- slice-aggregate-known-name, known-name-requires
+    (λ c. search needs) (λ c. search needs) (λ c. search needs) (λ c κs. search needs)  -- slice-aggregate-name, slice-aggregate-is-one-of, slice-aggregate-is-one-of-2, is-one-of-requires
     returns-2)

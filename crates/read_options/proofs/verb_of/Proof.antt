@@ -1,34 +1,21 @@
--- `verb_of`: each word by its test. Assumes nothing.
-use mathlib.Core.Path.{sym, _∙_}
-use Rattle.model.specs.Reading.{piece}
-use Rattle.read_options.proofs.Atoms.{verb-notify, verb-esearch, verb-other}
+-- `verb_of`: the definition asks for the words in the order of the table, so that the place says which word it is. Assumes nothing.
 use borrow.Author.Needs.{needs}
+use mathlib.Core.Path.{ap}
+use mathlib.Core.List.{List, [], _∷_}
+use Rattle.model.specs.Requests.{Verb, notify, esearch, otherVerb}
+use Rattle.octets.specs.Vocabulary.{found-first, found-last}
+use Rattle.read_options.specs.Heads.{verbOf}
 use Rattle.read_options.proofs.verb_of.Statement.{statement}
 use Rattle.read_options.proofs.verb_of.Tie as tie
 
-returns : tie.Need-returns
-returns c =
-    let b = c .before .before .before .before in let args = b .args in
-    verb-notify (piece (args .text .now) (args .from) (args .upto)) (sym (c .before .is-word .ensures) ∙ c .if1 .taken)
-
-returns-2 : tie.Need-returns-2
-returns-2 c =
-    let b = c .before .before .before in let if1 = b .if1 in let b = b .before in let is-word = b .is-word in
-    let b = b .before .before .before in let args = b .args in
-    verb-esearch (piece (args .text .now) (args .from) (args .upto)) (sym (is-word .ensures) ∙ if1 .left) (sym (c .before .is-word2 .ensures) ∙ c .if2 .taken)
-
-returns-3 : tie.Need-returns-3
-returns-3 c =
-    let b = c .before .before .before in let if1 = b .if1 in let b = b .before in let is-word = b .is-word in
-    let b = b .before .before .before in let args = b .args in
-    verb-other (piece (args .text .now) (args .from) (args .upto)) (sym (is-word .ensures) ∙ if1 .left) (sym (c .before .is-word2 .ensures) ∙ c .if2 .left)
+abbrev verbs : List Verb
+verbs = otherVerb ∷ notify ∷ []
 
 pub verb-of-spec : {M : Type 1} → statement M
 verb-of-spec =
     tie.close
     (tie.spec
-    (λ c. search needs) (λ c κs. search needs)  -- slice-aggregate-is-word, is-word-requires
-    returns
-    (λ c. search needs) (λ c κs. search needs)  -- slice-aggregate-is-word-2, is-word-requires-2
-    returns-2
-    returns-3)
+    (λ c. search needs) (λ c. search needs) (λ c κs. search needs)  -- slice-aggregate-word-place, slice-aggregate-word-place-2, word-place-requires
+    (λ c. ap verbOf (found-first verbs esearch _ _ (c .before .word-place .ensures) (c .match .keys1)))
+    (λ c. ap verbOf (found-first verbs esearch _ _ (c .before .word-place .ensures) (c .match .keys2)))
+    (λ c. ap verbOf (found-last verbs esearch _ _ (c .before .word-place .ensures) (c .match .rest))))

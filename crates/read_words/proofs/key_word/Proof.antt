@@ -1,92 +1,73 @@
--- `key_word`: the tests stand in the order of the definition: the first that holds decides, and behind them come the flags. Assumes nothing.
+-- `key_word`: the definition asks for the words in the order of the table, so that the place says which key it is. Assumes nothing.
 use borrow.Author.Needs.{needs}
-use mathlib.Core.Path.{_∙_, sym}
-use Rattle.read_words.proofs.Choice.{skip, hit}
-use Rattle.model.specs.SearchGrammar.{keywordOf}
+use mathlib.Core.Path.{refl}
+use mathlib.Core.Bool.{cond}
+use mathlib.Core.List.{[], _∷_}
+use Prim.Native.Nat.{ℕ, _-_, _/_, _%_}
+use native.Mathlib.Omega.{arith}
+use lib.Dec.{eqb, ltb}
+use lib.ListN.{getD}
+use borrow.Author.Tests.{lt-ltb, le-ltb}
+use Rattle.model.specs.Requests.{all, unsupported, flagged}
+use Rattle.model.specs.SearchGrammar.{Keyword, bare, above, below, uidSet, string, keyword, date, header, negated, alternatives, strange, keywordOf}
+use Rattle.octets.specs.Vocabulary.{found, one-by-one}
 use Rattle.read_words.proofs.key_word.Statement.{statement}
 use Rattle.read_words.proofs.key_word.Tie as tie
 
-returns : tie.Need-returns
-unfolding keywordOf
-returns c = hit _ _ (sym (c .before .is-word .ensures) ∙ c .if1 .taken)
-
-returns-2 : tie.Need-returns-2
-unfolding keywordOf
-returns-2 c = skip _ _ (sym (c .before .before .before .before .is-word .ensures) ∙ c .before .before .before .if1 .left) (hit _ _ (sym (c .before .is-word2 .ensures) ∙ c .if2 .taken))
-
-returns-3 : tie.Need-returns-3
-unfolding keywordOf
-returns-3 c =
-    skip _ _ (sym (c .before .before .before .before .before .before .before .is-word .ensures) ∙ c .before .before .before .before .before .before .if1 .left)
-    (skip _ _ (sym (c .before .before .before .before .is-word2 .ensures) ∙ c .before .before .before .if2 .left)
-    (hit _ _ (sym (c .before .is-word3 .ensures) ∙ c .if3 .taken)))
-
-returns-4 : tie.Need-returns-4
-unfolding keywordOf
-returns-4 c =
-    let b = c .before .before .before in let if3 = b .if3 in let b = b .before in let is-word3 = b .is-word3 in
-    let b = b .before .before in let if2 = b .if2 in let b = b .before in let is-word2 = b .is-word2 in
-    let b = b .before .before in let if1 = b .if1 in let b = b .before in let is-word = b .is-word in
-    skip _ _ (sym (is-word .ensures) ∙ if1 .left)
-    (skip _ _ (sym (is-word2 .ensures) ∙ if2 .left)
-    (skip _ _ (sym (is-word3 .ensures) ∙ if3 .left) (hit _ _ (sym (c .before .is-word4 .ensures) ∙ c .if4 .taken))))
-
-returns-5 : tie.Need-returns-5
-unfolding keywordOf
-returns-5 c =
-    let b = c .before .before .before in let if4 = b .if4 in let b = b .before in let is-word4 = b .is-word4 in
-    let b = b .before .before in let if3 = b .if3 in let b = b .before in let is-word3 = b .is-word3 in
-    let b = b .before .before in let if2 = b .if2 in let b = b .before in let is-word2 = b .is-word2 in
-    let b = b .before .before in let if1 = b .if1 in let b = b .before in let is-word = b .is-word in
-    skip _ _ (sym (is-word .ensures) ∙ if1 .left)
-    (skip _ _ (sym (is-word2 .ensures) ∙ if2 .left)
-    (skip _ _ (sym (is-word3 .ensures) ∙ if3 .left)
-    (skip _ _ (sym (is-word4 .ensures) ∙ if4 .left) (hit _ _ (sym (c .before .is-word5 .ensures) ∙ c .if5 .taken)))))
-
-returns-6 : tie.Need-returns-6
-unfolding keywordOf
-returns-6 c =
-    let b = c .before .before .before in let if5 = b .if5 in let b = b .before in let is-word5 = b .is-word5 in
-    let b = b .before .before in let if4 = b .if4 in let b = b .before in let is-word4 = b .is-word4 in
-    let b = b .before .before in let if3 = b .if3 in let b = b .before in let is-word3 = b .is-word3 in
-    let b = b .before .before in let if2 = b .if2 in let b = b .before in let is-word2 = b .is-word2 in
-    let b = b .before .before in let if1 = b .if1 in let b = b .before in let is-word = b .is-word in
-    skip _ _ (sym (is-word .ensures) ∙ if1 .left)
-    (skip _ _ (sym (is-word2 .ensures) ∙ if2 .left)
-    (skip _ _ (sym (is-word3 .ensures) ∙ if3 .left)
-    (skip _ _ (sym (is-word4 .ensures) ∙ if4 .left)
-    (skip _ _ (sym (is-word5 .ensures) ∙ if5 .left) (hit _ _ (sym (c .before .is-word6 .ensures) ∙ c .if6 .taken))))))
-
-returns-7 : tie.Need-returns-7
-unfolding keywordOf
-returns-7 c =
-    let b = c .before .before .before .before in let if5 = b .if5 in
-    let b = b .before in let is-word5 = b .is-word5 in let b = b .before .before in let if4 = b .if4 in
-    let b = b .before in let is-word4 = b .is-word4 in let b = b .before .before in let if3 = b .if3 in
-    let b = b .before in let is-word3 = b .is-word3 in let b = b .before .before in let if2 = b .if2 in
-    let b = b .before in let is-word2 = b .is-word2 in let b = b .before .before in let if1 = b .if1 in
-    let b = b .before in let is-word = b .is-word in
-    skip _ _ (sym (is-word .ensures) ∙ if1 .left)
-    (skip _ _ (sym (is-word2 .ensures) ∙ if2 .left)
-    (skip _ _ (sym (is-word3 .ensures) ∙ if3 .left)
-    (skip _ _ (sym (is-word4 .ensures) ∙ if4 .left)
-    (skip _ _ (sym (is-word5 .ensures) ∙ if5 .left) (skip _ _ (sym (c .before .before .is-word6 .ensures) ∙ c .before .if6 .left) (c .flag-word .ensures))))))
+-- the key whose word has a place in the table
+abbrev keyAt : ℕ → Keyword
+keyAt k =
+    cond (ltb 34 k) header
+    (cond (ltb 28 k) date
+    (cond (ltb 26 k) keyword
+    (cond (ltb 19 k) string
+    (cond (ltb 16 k) (bare unsupported)
+    (cond (ltb 6 k) (bare (flagged ((k - 7) / 2) (eqb (k % 2) 1)))
+    (getD (strange ∷ bare all ∷ above ∷ below ∷ uidSet ∷ negated ∷ []) k alternatives))))))
 
 pub key-word-spec : {M : Type 1} → statement M
+unfolding keywordOf
 key-word-spec =
     tie.close
     (tie.spec
-    (λ c. search needs) (λ c κs. search needs)  -- slice-aggregate-is-word, is-word-requires
-    returns
-    (λ c. search needs) (λ c κs. search needs)  -- slice-aggregate-is-word-2, is-word-requires-2
-    returns-2
-    (λ c. search needs) (λ c κs. search needs)  -- slice-aggregate-is-word-3, is-word-requires-3
-    returns-3
-    (λ c. search needs) (λ c κs. search needs)  -- slice-aggregate-is-word-4, is-word-requires-4
-    returns-4
-    (λ c. search needs) (λ c κs. search needs)  -- slice-aggregate-is-word-5, is-word-requires-5
-    returns-5
-    (λ c. search needs) (λ c κs. search needs)  -- slice-aggregate-is-word-6, is-word-requires-6
-    returns-6
-    (λ c κs. search needs)  -- flag-word-requires
-    returns-7)
+    (λ c. search needs) (λ c. search needs) (λ c κs. search needs)  -- slice-aggregate-word-place, slice-aggregate-word-place-2, word-place-requires
+    (λ c. simp one-by-one (simp (lt-ltb _ _ (c .if1 .taken)) at (found keyAt _ _ (c .before .word-place .ensures) refl)))
+    (λ c. simp one-by-one (simp (le-ltb _ _ (c .before .if1 .left), lt-ltb _ _ (c .if2 .taken)) at (found keyAt _ _ (c .before .before .word-place .ensures) refl)))
+    (λ c.
+    simp one-by-one (simp (le-ltb _ _ (c .before .before .if1 .left), le-ltb _ _ (c .before .if2 .left), lt-ltb _ _ (c .if3 .taken))
+    at (found keyAt _ _ (c .before .before .before .word-place .ensures) refl)))
+    (λ c.
+    simp one-by-one (simp (
+      le-ltb _ _ (c .before .before .before .if1 .left),
+      le-ltb _ _ (c .before .before .if2 .left),
+      le-ltb _ _ (c .before .if3 .left),
+      lt-ltb _ _ (c .if4 .taken),
+    )
+    at (found keyAt _ _ (c .before .before .before .before .word-place .ensures) refl)))
+    (λ c.
+    simp one-by-one (simp (
+      le-ltb _ _ (c .before .before .before .before .if1 .left),
+      le-ltb _ _ (c .before .before .before .if2 .left),
+      le-ltb _ _ (c .before .before .if3 .left),
+      le-ltb _ _ (c .before .if4 .left),
+      lt-ltb _ _ (c .if5 .taken),
+    )
+    at (found keyAt _ _ (c .before .before .before .before .before .word-place .ensures) refl)))
+    (λ c. search needs)  -- sub-bit
+    (λ c.
+    simp one-by-one (simp (
+      le-ltb _ _ (c .before .before .before .before .before .if1 .left),
+      le-ltb _ _ (c .before .before .before .before .if2 .left),
+      le-ltb _ _ (c .before .before .before .if3 .left),
+      le-ltb _ _ (c .before .before .if4 .left),
+      le-ltb _ _ (c .before .if5 .left),
+      lt-ltb _ _ (c .if6 .taken),
+    )
+    at (found keyAt _ _ (c .before .before .before .before .before .before .word-place .ensures) refl)))
+    (λ c. simp one-by-one (found keyAt _ _ (c .before .before .before .before .before .before .before .word-place .ensures) (c .match .keys1)))
+    (λ c. simp one-by-one (found keyAt _ _ (c .before .before .before .before .before .before .before .word-place .ensures) (c .match .keys2)))
+    (λ c. simp one-by-one (found keyAt _ _ (c .before .before .before .before .before .before .before .word-place .ensures) (c .match .keys3)))
+    (λ c. simp one-by-one (found keyAt _ _ (c .before .before .before .before .before .before .before .word-place .ensures) (c .match .keys4)))
+    (λ c. simp one-by-one (found keyAt _ _ (c .before .before .before .before .before .before .before .word-place .ensures) (c .match .keys5)))
+    (λ c. simp one-by-one (found keyAt _ _ (c .before .before .before .before .before .before .before .word-place .ensures) (c .match .keys6)))
+    (λ c. simp one-by-one (found keyAt _ _ {k = 6} (c .before .before .before .before .before .before .before .word-place .ensures) (omega arith))))

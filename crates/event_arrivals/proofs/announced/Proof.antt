@@ -18,5 +18,4 @@ announced-spec =
     tie.close
     (tie.spec
     (λ c κs. search needs)  -- silence-requires
-    returns
-    returns-2)
+    returns returns-2)

@@ -94,7 +94,6 @@ receive-spec =
     (λ c. search needs) (λ c. search needs)  -- same-length, same-length-2
     returns
     (λ c κs. search needs) (λ c. search needs)  -- is-told-requires, same-length-3
-    returns-2
-    say-row-requires
+    returns-2 say-row-requires
     (λ c κs. search needs) (λ c. search needs) (λ c. search needs)  -- hear-requires, same-length-4, same-length-5
     returns-3)

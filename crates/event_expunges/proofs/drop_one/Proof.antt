@@ -33,7 +33,6 @@ drop-one-spec =
     tie.close
     (tie.spec
     (λ c κs. search needs) (λ c. search needs) (λ c. search needs)  -- remove-requires, sub-rest, same-length
-    returns
-    say-row-requires
+    returns say-row-requires
     (λ c κs. search needs) (λ c. search needs) (λ c. search needs)  -- hear-requires, same-length-2, same-length-3
     returns-2)

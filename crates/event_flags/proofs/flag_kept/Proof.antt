@@ -35,7 +35,6 @@ flag-kept-spec =
     (tie.spec
     (λ c κs. search needs) (λ c κs. search needs)  -- get-requires, changed-requires
     (λ c κs. search needs) (λ c. search needs)  -- put-requires, same-length
-    returns
-    say-change-requires
+    returns say-change-requires
     (λ c κs. search needs) (λ c. search needs) (λ c. search needs)  -- hear-requires, same-length-2, same-length-3
     returns-2)

@@ -15,5 +15,4 @@ mark-of-spec =
     tie.close
     (tie.spec
     (λ c κs. search needs)  -- has-requires
-    returns
-    returns-2)
+    returns returns-2)

@@ -35,9 +35,7 @@ returns-3 c =
 pub tell-list-spec : {M : Type 1} → statement M
 tell-list-spec =
     tie.close
-    (tie.spec
-    returns
-    say-list-requires
+    (tie.spec returns say-list-requires
     (λ c. search needs)  -- same-length
     returns-2
     (λ c κs. search needs) (λ c. search needs)  -- silence-requires, same-length-2

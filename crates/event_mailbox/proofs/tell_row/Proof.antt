@@ -28,8 +28,6 @@ tell-row-spec =
     tie.close
     (tie.spec
     (λ c κs. search needs)  -- name-end-requires
-    array-share-prefix-o
-    slice-aggregate-tell-list
-    tell-list-requires
+    array-share-prefix-o slice-aggregate-tell-list tell-list-requires
     (λ c. search needs)  -- same-length
     returns)

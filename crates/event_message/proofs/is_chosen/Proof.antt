@@ -12,6 +12,4 @@ returns-2 c = rw (ne-eqb (c .before .before .before .before .args .x .id) 0 (c .
 pub is-chosen-spec : {M : Type 1} → statement M
 is-chosen-spec =
     tie.close
-    (tie.spec
-    returns
-    returns-2)
+    (tie.spec returns returns-2)

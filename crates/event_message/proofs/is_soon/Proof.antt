@@ -17,8 +17,7 @@ returns-3 c = rw (not-false (c .before .before .before .before .args .seen) (c .
 pub is-soon-spec : {M : Type 1} → statement M
 is-soon-spec =
     tie.close
-    (tie.spec
-    returns
+    (tie.spec returns
     (λ c κs. search needs)  -- both-requires
     returns-2
     (λ c κs. search needs)  -- selected-asks-requires

@@ -31,8 +31,6 @@ say-change-spec =
     (tie.spec
     (λ c. search needs) (λ c κs. search needs)  -- cast-validity, counter-of-requires
     (λ c κs. search needs)  -- name-end-requires
-    array-share-prefix-o
-    slice-aggregate-say-flag-status
-    say-flag-status-requires
+    array-share-prefix-o slice-aggregate-say-flag-status say-flag-status-requires
     (λ c. search needs)  -- same-length
     returns)

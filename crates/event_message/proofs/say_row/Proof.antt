@@ -31,8 +31,6 @@ say-row-spec =
     (tie.spec
     (λ c. search needs) (λ c κs. search needs) (λ c. search needs)  -- cast-count, count-requires, cast-next
     (λ c κs. search needs) (λ c κs. search needs)  -- counter-of-requires, name-end-requires
-    array-share-prefix-o
-    slice-aggregate-say-status
-    say-status-requires
+    array-share-prefix-o slice-aggregate-say-status say-status-requires
     (λ c. search needs)  -- same-length
     returns)

@@ -31,9 +31,7 @@ returns c =
 pub drain-spec : {M : Type 1} → statement M
 drain-spec =
     tie.close
-    (tie.spec
-    Inv-loop
-    μ-loop
+    (tie.spec Inv-loop μ-loop
     (λ c. search needs)  -- sub-rest
     loop-holds
     (λ c. search needs) (λ c. search needs) (λ c. search needs)  -- add-queue, slice-read-queue, slice-write-queue

@@ -34,8 +34,7 @@ returns-2 c =
 pub end-command-spec : {M : Type 1} → statement M
 end-command-spec =
     tie.close
-    (tie.spec
-    returns
+    (tie.spec returns
     (λ c. search needs) (λ c. search needs) (λ c. search needs)  -- cast-id, cast-told, sub-limit
     (λ c κs. search needs)  -- by-uid-requires
     speak-requires

@@ -34,12 +34,8 @@ returns-2 c = λ e i h. c .before .loop .inv .1 i (omega arith)
 pub is-owed-spec : {M : Type 1} → statement M
 is-owed-spec =
     tie.close
-    (tie.spec
-    Inv-loop
-    μ-loop
-    loop-holds
+    (tie.spec Inv-loop μ-loop loop-holds
     (λ c κs. search needs)  -- owes-one-requires
     returns
     (λ c. search needs) (λ c. search needs)  -- add-i, loop-less
-    loop-again
-    returns-2)
+    loop-again returns-2)

@@ -50,10 +50,7 @@ returns c =
 pub expunges-spec : {M : Type 1} → statement M
 expunges-spec =
     tie.close
-    (tie.spec
-    Inv-loop
-    μ-loop
-    loop-holds
+    (tie.spec Inv-loop μ-loop loop-holds
     (λ c. search needs) (λ c. search needs)  -- sub-j, mul-expunge-one
     (λ c. search needs) (λ c κs. search needs)  -- shared-slice-read-expunge-one, expunge-one-requires
     (λ c. search needs)  -- loop-less

@@ -50,10 +50,7 @@ returns c =
 pub marks-spec : {M : Type 1} → statement M
 marks-spec =
     tie.close
-    (tie.spec
-    Inv-loop
-    μ-loop
-    loop-holds
+    (tie.spec Inv-loop μ-loop loop-holds
     (λ c. search needs) (λ c. search needs) (λ c. search needs)  -- sub-j, mul-mark-one, shared-slice-read-mark-one
     (λ c κs. search needs) (λ c. search needs)  -- mark-one-requires, loop-less
     loop-again

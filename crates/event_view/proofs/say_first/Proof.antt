@@ -38,5 +38,4 @@ say-first-spec =
     tie.close
     (tie.spec
     (λ c κs. search needs) (λ c. search needs)  -- expunges-requires, same-length
-    returns
-    returns-2)
+    returns returns-2)

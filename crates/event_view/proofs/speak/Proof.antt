@@ -70,6 +70,4 @@ speak-spec =
     (λ c κs. search needs) (λ c κs. search needs)  -- unseen-requires, begun-requires
     say-exists-requires
     (λ c κs. search needs)  -- begun-requires-2
-    marks-requires
-    same-length
-    returns)
+    marks-requires same-length returns)

@@ -23,8 +23,6 @@ returns-3 c =
 pub filled-ok-spec : {M : Type 1} → statement M
 filled-ok-spec =
     tie.close
-    (tie.spec
-    returns
-    returns-2
+    (tie.spec returns returns-2
     (λ c. search needs)  -- sub-result
     returns-3)

@@ -34,6 +34,4 @@ is-lawful-spec =
     tie.close
     (tie.spec
     (λ c κs. search needs)  -- sizes-ok-requires
-    returns
-    contents-ok-requires
-    returns-2)
+    returns contents-ok-requires returns-2)

@@ -70,13 +70,6 @@ returns-8 c =
 pub sizes-ok-spec : {M : Type 1} → statement M
 sizes-ok-spec =
     tie.close
-    (tie.spec
-    returns
-    returns-2
+    (tie.spec returns returns-2
     (λ c κs. search needs)  -- filled-ok-requires
-    returns-3
-    returns-4
-    returns-5
-    returns-6
-    returns-7
-    returns-8)
+    returns-3 returns-4 returns-5 returns-6 returns-7 returns-8)

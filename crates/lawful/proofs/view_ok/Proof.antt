@@ -26,8 +26,7 @@ returns-3 c =
 pub view-ok-spec : {M : Type 1} → statement M
 view-ok-spec =
     tie.close
-    (tie.spec
-    returns
+    (tie.spec returns
     (λ c κs. search needs)  -- find-requires
     returns-2
     (λ c. search needs) (λ c. search needs)  -- mul-result, element-copy-out-result

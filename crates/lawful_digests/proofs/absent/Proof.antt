@@ -32,12 +32,8 @@ returns-2 c = λ z k h e. c .before .loop .inv k (omega arith) e
 pub absent-spec : {M : Type 1} → statement M
 absent-spec =
     tie.close
-    (tie.spec
-    Inv-loop
-    μ-loop
-    loop-holds
+    (tie.spec Inv-loop μ-loop loop-holds
     (λ c. search needs) (λ c. search needs)  -- mul-if1, element-copy-out-if1
     returns
     (λ c. search needs) (λ c. search needs)  -- add-j, loop-less
-    loop-again
-    returns-2)
+    loop-again returns-2)

@@ -66,15 +66,9 @@ returns-2 c =
 pub differ-spec : {M : Type 1} → statement M
 differ-spec =
     tie.close
-    (tie.spec
-    Inv-loop
-    μ-loop
-    loop-holds
-    is-new-requires
-    returns
+    (tie.spec Inv-loop μ-loop loop-holds is-new-requires returns
     (λ c. search needs) (λ c. search needs) (λ c κs. search needs)  -- mul-slot, element-copy-out-slot, slot-requires
     (λ c. search needs) (λ c. search needs)  -- element-copy-out-chain, element-write-chain
     (λ c κs. search needs) (λ c. search needs) (λ c. search needs)  -- octet-requires, element-write-slots, add-i
     (λ c. search needs)  -- loop-less
-    loop-again
-    returns-2)
+    loop-again returns-2)

@@ -32,10 +32,7 @@ returns c =
 pub digest-of-spec : {M : Type 1} → statement M
 digest-of-spec =
     tie.close
-    (tie.spec
-    Inv-loop
-    μ-loop
-    loop-holds
+    (tie.spec Inv-loop μ-loop loop-holds
     (λ c. search needs) (λ c. search needs) (λ c. search needs)  -- mul-word, mul-word-2, add-word
     (λ c κs. search needs) (λ c κs. search needs) (λ c. search needs)  -- word-requires, mix-requires, add-i
     (λ c. search needs)  -- loop-less

@@ -29,11 +29,7 @@ returns c = λ k h. c .before .loop .inv .2 k (omega arith)
 pub digests-of-spec : {M : Type 1} → statement M
 digests-of-spec =
     tie.close
-    (tie.spec
-    Inv-loop
-    μ-loop
-    loop-holds
+    (tie.spec Inv-loop μ-loop loop-holds
     (λ c κs. search needs) (λ c. search needs)  -- digest-of-requires, mul-digests
     (λ c. search needs) (λ c. search needs) (λ c. search needs)  -- array-write-digests, add-i, loop-less
-    loop-again
-    returns)
+    loop-again returns)

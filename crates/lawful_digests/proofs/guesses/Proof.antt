@@ -18,9 +18,7 @@ loop-again c = (search needs, simp length-set (c .before .before .before .before
 pub guesses-spec : {M : Type 1} → statement M
 guesses-spec =
     tie.close
-    (tie.spec
-    Inv-loop
-    μ-loop
+    (tie.spec Inv-loop μ-loop
     (λ c. search needs) (λ c κs. search needs) (λ c. search needs)  -- loop-holds, octet-requires, mul-slot
     (λ c. search needs) (λ c κs. search needs)  -- element-copy-out-slot, slot-requires
     (λ c. search needs) (λ c. search needs) (λ c. search needs)  -- array-write-slots, add-i, loop-less

@@ -13,9 +13,7 @@ abbrev μ-loop : tie.MeasureT-loop
 pub seek-spec : {M : Type 1} → statement M
 seek-spec =
     tie.close
-    (tie.spec
-    Inv-loop
-    μ-loop
+    (tie.spec Inv-loop μ-loop
     (λ c. search needs) (λ c. search needs) (λ c. search needs)  -- loop-holds, mul-if1, element-copy-out-if1
     (λ c. search needs) (λ c. search needs) (λ c. search needs)  -- returns, add-i, loop-less
     (λ c. search needs)  -- loop-again

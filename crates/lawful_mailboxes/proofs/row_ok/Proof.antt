@@ -45,6 +45,4 @@ row-ok-spec =
     (λ c κs. search needs)  -- numbers-ok-requires
     returns
     (λ c κs. search needs)  -- name-seen-requires
-    returns-2
-    name-ok-requires
-    returns-3)
+    returns-2 name-ok-requires returns-3)

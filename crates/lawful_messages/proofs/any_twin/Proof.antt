@@ -41,12 +41,8 @@ returns-2 c =
 pub any-twin-spec : {M : Type 1} → statement M
 any-twin-spec =
     tie.close
-    (tie.spec
-    Inv-loop
-    μ-loop
-    loop-holds
+    (tie.spec Inv-loop μ-loop loop-holds
     (λ c κs. search needs) (λ c κs. search needs)  -- get-requires, are-twins-requires
     returns
     (λ c. search needs) (λ c. search needs)  -- add-i, loop-less
-    loop-again
-    returns-2)
+    loop-again returns-2)

@@ -51,13 +51,9 @@ returns-2 c =
 pub mail-apart-spec : {M : Type 1} → statement M
 mail-apart-spec =
     tie.close
-    (tie.spec
-    Inv-loop
-    μ-loop
-    loop-holds
+    (tie.spec Inv-loop μ-loop loop-holds
     (λ c. search needs) (λ c κs. search needs)  -- add-any-twin, get-requires
     (λ c κs. search needs)  -- any-twin-requires
     returns
     (λ c. search needs) (λ c. search needs)  -- add-i, loop-less
-    loop-again
-    returns-2)
+    loop-again returns-2)

@@ -41,12 +41,8 @@ returns-2 c =
 pub rows-apart-spec : {M : Type 1} → statement M
 rows-apart-spec =
     tie.close
-    (tie.spec
-    Inv-loop
-    μ-loop
-    loop-holds
+    (tie.spec Inv-loop μ-loop loop-holds
     (λ c. search needs) (λ c κs. search needs)  -- add-any-clash, any-clash-requires
     returns
     (λ c. search needs) (λ c. search needs)  -- add-i, loop-less
-    loop-again
-    returns-2)
+    loop-again returns-2)

@@ -195,40 +195,13 @@ returns-5 c =
 pub all-fit-spec : {M : Type 1} → statement M
 all-fit-spec =
     tie.close
-    (tie.spec
-    Inv-loop
-    μ-loop
-    returns
-    mul-end
-    run-requires
-    loop-holds
-    mul-owner
-    shared-slice-read-owner
+    (tie.spec Inv-loop μ-loop returns mul-end run-requires loop-holds mul-owner shared-slice-read-owner
     (λ c κs. search needs)  -- owner-requires
-    mul-entry-fits
-    array-read-entry-fits
-    mul-entry-fits-2
-    element-copy-out-entry-fits
-    mul-entry-fits-3
+    mul-entry-fits array-read-entry-fits mul-entry-fits-2 element-copy-out-entry-fits mul-entry-fits-3
     element-copy-out-entry-fits-2
     (λ c κs. search needs)  -- entry-fits-requires
-    returns-2
-    add-last
-    mul-last
-    shared-slice-read-last
-    mul-last-2
-    array-write-last
-    add-t21
-    add-t34
-    mul-t28
-    shared-slice-read-t31
-    add-t39
-    mul-t40
-    shared-slice-read-t42
-    run-requires-2
-    loop-less
-    loop-again
-    returns-3
+    returns-2 add-last mul-last shared-slice-read-last mul-last-2 array-write-last add-t21 add-t34 mul-t28
+    shared-slice-read-t31 add-t39 mul-t40 shared-slice-read-t42 run-requires-2 loop-less loop-again returns-3
     returns-4
     (λ c κs. search needs)  -- below-requires
     returns-5)

@@ -94,25 +94,16 @@ returns-2 c = c .before .loop .inv
 pub run-spec : {M : Type 1} → statement M
 run-spec =
     tie.close
-    (tie.spec
-    Inv-loop
-    μ-loop
-    loop-holds
+    (tie.spec Inv-loop μ-loop loop-holds
     (λ c. search needs) (λ c. search needs) (λ c κs. search needs)  -- mul-slot, shared-slice-read-slot, slot-requires
     (λ c. search needs) (λ c κs. search needs)  -- element-copy-out-row, row-requires
-    mul-entry-fits
-    element-copy-out-entry-fits
-    mul-entry-fits-2
-    element-copy-out-entry-fits-2
-    mul-entry-fits-3
+    mul-entry-fits element-copy-out-entry-fits mul-entry-fits-2 element-copy-out-entry-fits-2 mul-entry-fits-3
     element-copy-out-entry-fits-3
     (λ c κs. search needs)  -- entry-fits-requires
     returns
     (λ c. search needs) (λ c. search needs) (λ c. search needs)  -- add-last, mul-last, shared-slice-read-last
-    mul-last-2
-    element-write-last
+    mul-last-2 element-write-last
     (λ c. search needs) (λ c. search needs) (λ c. search needs)  -- add-flags, mul-flags, shared-slice-read-flags
     (λ c. search needs) (λ c. search needs) (λ c. search needs)  -- add-size, mul-size, shared-slice-read-size
     (λ c. search needs) (λ c. search needs)  -- add-b, loop-less
-    loop-again
-    returns-2)
+    loop-again returns-2)

@@ -39,12 +39,8 @@ returns-2 c =
 pub blank-groups-spec : {M : Type 1} → statement M
 blank-groups-spec =
     tie.close
-    (tie.spec
-    Inv-loop
-    μ-loop
-    loop-holds
+    (tie.spec Inv-loop μ-loop loop-holds
     (λ c. search needs) (λ c. search needs) (λ c κs. search needs)  -- mul-g, array-copy-out-g, blank-group-requires
     returns
     (λ c. search needs) (λ c. search needs)  -- add-i, loop-less
-    loop-again
-    returns-2)
+    loop-again returns-2)

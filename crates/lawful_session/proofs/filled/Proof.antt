@@ -32,11 +32,7 @@ returns c = let turn = c .before .loop in sum-past (c .before .before .before .a
 pub filled-spec : {M : Type 1} → statement M
 filled-spec =
     tie.close
-    (tie.spec
-    Inv-loop
-    μ-loop
-    loop-holds
+    (tie.spec Inv-loop μ-loop loop-holds
     (λ c. search needs) (λ c κs. search needs)  -- shared-slice-read-octet-if, octet-if-requires
     (λ c. search needs) (λ c. search needs) (λ c. search needs)  -- add-sum, add-i, loop-less
-    loop-again
-    returns)
+    loop-again returns)

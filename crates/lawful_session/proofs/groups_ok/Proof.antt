@@ -40,13 +40,9 @@ returns-2 c =
 pub groups-ok-spec : {M : Type 1} → statement M
 groups-ok-spec =
     tie.close
-    (tie.spec
-    Inv-loop
-    μ-loop
-    loop-holds
+    (tie.spec Inv-loop μ-loop loop-holds
     (λ c. search needs) (λ c. search needs) (λ c κs. search needs)  -- mul-g, array-copy-out-g, group-ok-requires
     returns
     (λ c κs. search needs) (λ c. search needs) (λ c. search needs)  -- wide-octet-requires, add-first, add-i
     (λ c. search needs)  -- loop-less
-    loop-again
-    returns-2)
+    loop-again returns-2)

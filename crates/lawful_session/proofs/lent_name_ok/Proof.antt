@@ -28,11 +28,8 @@ returns-3 c =
 pub lent-name-ok-spec : {M : Type 1} → statement M
 lent-name-ok-spec =
     tie.close
-    (tie.spec
-    returns
+    (tie.spec returns
     (λ c. search needs) (λ c. search needs)  -- cast-n, slice-aggregate-all-zero
-    all-zero-requires
-    returns-2
+    all-zero-requires returns-2
     (λ c. search needs)  -- slice-aggregate-is-kept
-    is-kept-requires
-    returns-3)
+    is-kept-requires returns-3)

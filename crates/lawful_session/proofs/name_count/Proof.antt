@@ -33,11 +33,7 @@ returns c =
 pub name-count-spec : {M : Type 1} → statement M
 name-count-spec =
     tie.close
-    (tie.spec
-    Inv-loop
-    μ-loop
-    loop-holds
+    (tie.spec Inv-loop μ-loop loop-holds
     (λ c. search needs) (λ c. search needs) (λ c κs. search needs)  -- mul-g, array-copy-out-g, wide-octet-requires
     (λ c. search needs) (λ c. search needs) (λ c. search needs)  -- add-sum, add-i, loop-less
-    loop-again
-    returns)
+    loop-again returns)

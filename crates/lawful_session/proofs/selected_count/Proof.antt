@@ -32,11 +32,7 @@ returns c =
 pub selected-count-spec : {M : Type 1} → statement M
 selected-count-spec =
     tie.close
-    (tie.spec
-    Inv-loop
-    μ-loop
-    loop-holds
+    (tie.spec Inv-loop μ-loop loop-holds
     (λ c. search needs) (λ c. search needs) (λ c κs. search needs)  -- mul-g, array-copy-out-g, one-if-requires
     (λ c. search needs) (λ c. search needs) (λ c. search needs)  -- add-sum, add-i, loop-less
-    loop-again
-    returns)
+    loop-again returns)

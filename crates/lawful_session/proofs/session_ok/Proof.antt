@@ -74,9 +74,7 @@ returns-8 c =
 pub session-ok-spec : {M : Type 1} → statement M
 session-ok-spec =
     tie.close
-    (tie.spec
-    returns
-    returns-2
+    (tie.spec returns returns-2
     (λ c κs. search needs)  -- either-requires
     returns-3
     (λ c. search needs) (λ c κs. search needs)  -- cast-n, groups-ok-requires

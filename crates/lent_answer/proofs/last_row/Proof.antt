@@ -20,9 +20,6 @@ returns-4 c = let a = c .before .before .before .args in rw (le-ltb 64 (a .lent)
 pub last-row-spec : {M : Type 1} → statement M
 last-row-spec =
     tie.close
-    (tie.spec
-    returns
-    returns-2
-    returns-3
+    (tie.spec returns returns-2 returns-3
     (λ c. search needs)  -- sub-result
     returns-4)

@@ -29,10 +29,6 @@ returns-5 c =
 pub moved-from-spec : {M : Type 1} → statement M
 moved-from-spec =
     tie.close
-    (tie.spec
-    returns
+    (tie.spec returns
     (λ c. search needs) (λ c. search needs) (λ c. search needs)  -- enum-told, enum-told-2, enum-told-3
-    returns-2
-    returns-3
-    returns-4
-    returns-5)
+    returns-2 returns-3 returns-4 returns-5)

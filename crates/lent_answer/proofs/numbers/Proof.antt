@@ -21,6 +21,4 @@ numbers-spec =
     (tie.spec
     (λ c. search needs) (λ c. search needs) (λ c. search needs)  -- enum-told, enum-known-answer, enum-known-answer-2
     (λ c κs. search needs)  -- number-requires
-    returns
-    returns-2
-    returns-3)
+    returns returns-2 returns-3)

@@ -21,6 +21,4 @@ put-at-spec =
     (tie.spec
     (λ c. search needs) (λ c. search needs) (λ c. search needs)  -- enum-told, enum-told-2, enum-told-3
     (λ c κs. search needs)  -- last-row-requires
-    returns
-    returns-2
-    returns-3)
+    returns returns-2 returns-3)

@@ -27,7 +27,6 @@ is-named-spec =
     tie.close
     (tie.spec
     (λ c κs. search needs)  -- clip-requires
-    array-share-prefix-octets
-    slice-aggregate-same
+    array-share-prefix-octets slice-aggregate-same
     (λ c κs. search needs)  -- same-requires
     returns)

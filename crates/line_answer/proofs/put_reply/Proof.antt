@@ -51,7 +51,6 @@ put-reply-spec =
     (λ c κs. search needs) (λ c. search needs)  -- put-answer-requires, same-length
     returns
     (λ c κs. search needs)  -- tag-end-requires
-    slice-aggregate-put-answer-2
-    put-answer-requires-2
+    slice-aggregate-put-answer-2 put-answer-requires-2
     (λ c. search needs)  -- same-length-2
     returns-2)

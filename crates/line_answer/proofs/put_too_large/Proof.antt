@@ -33,8 +33,7 @@ returns-3 c =
 pub put-too-large-spec : {M : Type 1} → statement M
 put-too-large-spec =
     tie.close
-    (tie.spec
-    enum-told
+    (tie.spec enum-told
     (λ c. search needs) (λ c κs. search needs) (λ c. search needs)  -- slice-aggregate-put, put-requires, enum-told-2
     (λ c. search needs) (λ c κs. search needs)  -- slice-aggregate-put-2, put-requires-2
     (λ c. search needs) (λ c. search needs)  -- enum-told-3, slice-aggregate-put-3

@@ -25,6 +25,4 @@ reply-within-spec =
     tie.close
     (tie.spec
     (λ c κs. search needs)  -- is-accepted-requires
-    returns
-    returns-2
-    returns-3)
+    returns returns-2 returns-3)

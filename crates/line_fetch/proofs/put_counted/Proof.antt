@@ -31,8 +31,7 @@ returns-2 c =
 pub put-counted-spec : {M : Type 1} → statement M
 put-counted-spec =
     tie.close
-    (tie.spec
-    returns
+    (tie.spec returns
     (λ c κs. search needs) (λ c κs. search needs)  -- put-gap-requires, put-requires
     (λ c κs. search needs) (λ c. search needs)  -- put-number-requires, same-length
     returns-2)

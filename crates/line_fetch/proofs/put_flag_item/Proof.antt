@@ -30,8 +30,7 @@ returns-2 c =
 pub put-flag-item-spec : {M : Type 1} → statement M
 put-flag-item-spec =
     tie.close
-    (tie.spec
-    returns
+    (tie.spec returns
     (λ c κs. search needs) (λ c. search needs)  -- put-gap-requires, slice-aggregate-put
     (λ c κs. search needs) (λ c κs. search needs)  -- put-requires, put-flags-requires
     (λ c. search needs) (λ c κs. search needs)  -- slice-aggregate-put-2, put-requires-2

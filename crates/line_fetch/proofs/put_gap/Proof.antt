@@ -22,7 +22,6 @@ returns-2 c =
 pub put-gap-spec : {M : Type 1} → statement M
 put-gap-spec =
     tie.close
-    (tie.spec
-    returns
+    (tie.spec returns
     (λ c κs. search needs) (λ c. search needs)  -- put-byte-requires, same-length
     returns-2)

@@ -17,7 +17,6 @@ returns-2 c =
 pub follows-spec : {M : Type 1} → statement M
 follows-spec =
     tie.close
-    (tie.spec
-    returns
+    (tie.spec returns
     (λ c. search needs)  -- sub-result
     returns-2)

@@ -28,8 +28,7 @@ returns-2 c =
 pub put-all-spec : {M : Type 1} → statement M
 put-all-spec =
     tie.close
-    (tie.spec
-    returns
+    (tie.spec returns
     (λ c. search needs) (λ c κs. search needs)  -- slice-aggregate-put, put-requires
     (λ c κs. search needs) (λ c. search needs)  -- put-set-requires, same-length
     returns-2)

@@ -24,8 +24,7 @@ returns-2 c =
 pub put-labelled-spec : {M : Type 1} → statement M
 put-labelled-spec =
     tie.close
-    (tie.spec
-    returns
+    (tie.spec returns
     (λ c κs. search needs) (λ c κs. search needs)  -- put-requires, put-number-requires
     (λ c. search needs)  -- same-length
     returns-2)

@@ -51,8 +51,7 @@ returns-2 c =
 pub put-row-spec : {M : Type 1} → statement M
 put-row-spec =
     tie.close
-    (tie.spec
-    returns
+    (tie.spec returns
     (λ c. search needs) (λ c κs. search needs) (λ c. search needs)  -- mul-a, clip-requires, add-e
     (λ c. search needs) (λ c. search needs) (λ c. search needs)  -- add-to, sub-put-found, part-put-found-start
     (λ c. search needs) (λ c. search needs) (λ c. search needs)  -- part-put-found-end, mul-put-found, sub-put-found-2

@@ -66,10 +66,7 @@ returns c =
 pub put-rows-spec : {M : Type 1} → statement M
 put-rows-spec =
     tie.close
-    (tie.spec
-    Inv-loop
-    μ-loop
-    loop-holds
+    (tie.spec Inv-loop μ-loop loop-holds
     (λ c. search needs) (λ c. search needs) (λ c. search needs)  -- sub-i, mul-k, shared-slice-read-k
     (λ c. search needs) (λ c. search needs)  -- element-copy-out-put-row, mul-put-row
     (λ c. search needs) (λ c. search needs)  -- element-copy-out-put-row-2, mul-put-row-2

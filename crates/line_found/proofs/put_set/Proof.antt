@@ -52,17 +52,11 @@ returns c =
 pub put-set-spec : {M : Type 1} → statement M
 put-set-spec =
     tie.close
-    (tie.spec
-    Inv-loop
-    μ-loop
+    (tie.spec Inv-loop μ-loop
     (λ c. search needs)  -- shared-slice-read-t12
     loop-holds
     (λ c. search needs) (λ c. search needs) (λ c. search needs)  -- mul-t14, shared-slice-read-t16, add-i
     (λ c κs. search needs) (λ c. search needs)  -- follows-requires, loop-less
-    loop-again
-    put-part-requires
+    loop-again put-part-requires
     (λ c. search needs)  -- loop-less-2
-    loop-again-2
-    put-run-requires
-    same-length
-    returns)
+    loop-again-2 put-run-requires same-length returns)

@@ -42,7 +42,6 @@ put-line-spec =
     tie.close
     (tie.spec
     (λ c κs. search needs) (λ c κs. search needs) (λ c. search needs)  -- has-requires, put-list-requires, same-length
-    returns
-    returns-2
+    returns returns-2
     (λ c κs. search needs) (λ c. search needs)  -- put-status-at-set-requires, same-length-2
     returns-3)

@@ -51,10 +51,7 @@ returns c =
 pub put-lines-spec : {M : Type 1} → statement M
 put-lines-spec =
     tie.close
-    (tie.spec
-    Inv-loop
-    μ-loop
-    loop-holds
+    (tie.spec Inv-loop μ-loop loop-holds
     (λ c. search needs) (λ c. search needs) (λ c. search needs)  -- sub-i, mul-k, shared-slice-read-k
     (λ c. search needs) (λ c. search needs)  -- element-copy-out-on, mul-put-row
     (λ c. search needs)  -- element-copy-out-put-row

@@ -19,8 +19,7 @@ returns-2 c =
 pub put-exists-spec : {M : Type 1} → statement M
 put-exists-spec =
     tie.close
-    (tie.spec
-    returns
+    (tie.spec returns
     (λ c. search needs) (λ c. search needs)  -- add-t10, slice-aggregate-put-count
     (λ c κs. search needs) (λ c. search needs)  -- put-count-requires, same-length
     returns-2)

@@ -38,10 +38,7 @@ returns c =
 pub copy-spec : {M : Type 1} → statement M
 copy-spec =
     tie.close
-    (tie.spec
-    Inv-loop
-    μ-loop
-    loop-holds
+    (tie.spec Inv-loop μ-loop loop-holds
     (λ c. search needs) (λ c. search needs) (λ c. search needs)  -- shared-slice-read-queue, slice-write-queue, add-o
     (λ c. search needs) (λ c. search needs)  -- add-i, loop-less
     loop-again

@@ -45,9 +45,7 @@ returns c =
 pub put-quoted-spec : {M : Type 1} → statement M
 put-quoted-spec =
     tie.close
-    (tie.spec
-    Inv-loop
-    μ-loop
+    (tie.spec Inv-loop μ-loop
     (λ c κs. search needs)  -- put-byte-requires
     loop-holds
     (λ c. search needs) (λ c κs. search needs)  -- shared-slice-read-put-escaped, put-escaped-requires

@@ -53,13 +53,10 @@ returns-2 c =
 pub any-name-spec : {M : Type 1} → statement M
 any-name-spec =
     tie.close
-    (tie.spec
-    Inv-loop
-    μ-loop
+    (tie.spec Inv-loop μ-loop
     (λ c κs. search needs) (λ c κs. search needs)  -- reach-requires, wide-requires
     loop-holds
     (λ c. search needs) (λ c. search needs) (λ c κs. search needs)  -- mul-x, element-copy-out-x, hits-requires
     returns
     (λ c. search needs) (λ c. search needs)  -- add-i, loop-less
-    loop-again
-    returns-2)
+    loop-again returns-2)

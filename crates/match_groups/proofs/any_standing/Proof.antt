@@ -47,14 +47,11 @@ returns-2 c = let a = c .before .before .before .args in
 pub any-standing-spec : {M : Type 1} → statement M
 any-standing-spec =
     tie.close
-    (tie.spec
-    Inv-loop
-    μ-loop
+    (tie.spec Inv-loop μ-loop
     (λ c κs. search needs)  -- groups-requires
     loop-holds
     (λ c. search needs) (λ c. search needs)  -- mul-group-of, element-copy-out-group-of
     (λ c κs. search needs) (λ c κs. search needs)  -- group-of-requires, stands-requires
     returns
     (λ c. search needs) (λ c. search needs)  -- add-i, loop-less
-    loop-again
-    returns-2)
+    loop-again returns-2)

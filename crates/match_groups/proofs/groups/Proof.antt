@@ -19,5 +19,4 @@ groups-spec =
     tie.close
     (tie.spec
     (λ c κs. search needs)  -- wide-requires
-    returns
-    returns-2)
+    returns returns-2)

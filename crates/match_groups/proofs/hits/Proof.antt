@@ -37,11 +37,8 @@ hits-spec =
     tie.close
     (tie.spec
     (λ c κs. search needs)  -- clip-requires
-    array-share-prefix-o
-    slice-aggregate-in-subtree
+    array-share-prefix-o slice-aggregate-in-subtree
     (λ c κs. search needs)  -- in-subtree-requires
-    returns
-    array-share-prefix-o-2
-    slice-aggregate-same
+    returns array-share-prefix-o-2 slice-aggregate-same
     (λ c κs. search needs)  -- same-requires
     returns-2)

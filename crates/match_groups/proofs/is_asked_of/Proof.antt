@@ -27,7 +27,6 @@ is-asked-of-spec =
     tie.close
     (tie.spec
     (λ c κs. search needs)  -- clip-requires
-    array-share-prefix-o
-    slice-aggregate-is-asked
+    array-share-prefix-o slice-aggregate-is-asked
     (λ c κs. search needs)  -- is-asked-requires
     returns)

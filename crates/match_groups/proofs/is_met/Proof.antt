@@ -38,8 +38,4 @@ is-met-spec =
     (λ c κs. search needs) (λ c. search needs)  -- has-requires, enum-known-selector
     (λ c κs. search needs) (λ c. search needs)  -- takes-subtree-requires, enum-known-selector-2
     (λ c κs. search needs) (λ c. search needs) (λ c. search needs)  -- any-name-requires, returns, returns-2
-    returns-3
-    returns-4
-    returns-5
-    returns-6
-    returns-7)
+    returns-3 returns-4 returns-5 returns-6 returns-7)

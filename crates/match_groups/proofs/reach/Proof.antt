@@ -23,5 +23,4 @@ reach-spec =
     tie.close
     (tie.spec
     (λ c κs. search needs) (λ c κs. search needs) (λ c. search needs)  -- wide-requires, wide-requires-2, add-end
-    returns
-    returns-2)
+    returns returns-2)

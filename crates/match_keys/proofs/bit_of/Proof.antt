@@ -17,7 +17,6 @@ returns-2 c =
 pub bit-of-spec : {M : Type 1} → statement M
 bit-of-spec =
     tie.close
-    (tie.spec
-    returns
+    (tie.spec returns
     (λ c. search needs)  -- shr-result
     returns-2)

@@ -27,6 +27,4 @@ in-part-spec =
     tie.close
     (tie.spec
     (λ c κs. search needs) (λ c κs. search needs)  -- bound-requires, bound-requires-2
-    returns
-    returns-2
-    returns-3)
+    returns returns-2 returns-3)

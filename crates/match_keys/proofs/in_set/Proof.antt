@@ -39,14 +39,10 @@ returns-2 c =
 pub in-set-spec : {M : Type 1} → statement M
 in-set-spec =
     tie.close
-    (tie.spec
-    Inv-loop
-    μ-loop
-    loop-holds
+    (tie.spec Inv-loop μ-loop loop-holds
     (λ c. search needs) (λ c. search needs) (λ c. search needs)  -- add-loop, mul-from, shared-slice-read-from
     (λ c. search needs) (λ c. search needs) (λ c. search needs)  -- add-upto, mul-upto, shared-slice-read-upto
     (λ c κs. search needs)  -- in-part-requires
     returns
     (λ c. search needs) (λ c. search needs)  -- add-i, loop-less
-    loop-again
-    returns-2)
+    loop-again returns-2)

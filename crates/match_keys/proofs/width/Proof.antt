@@ -17,8 +17,7 @@ returns-3 c = (simp (lt-leb _ _ (c .before .if1 .left), le-ltb _ _ (c .if2 .left
 pub width-spec : {M : Type 1} → statement M
 width-spec =
     tie.close
-    (tie.spec
-    returns
+    (tie.spec returns
     (λ c. search needs) (λ c. search needs)  -- mul-result, add-result
     returns-2
     (λ c. search needs)  -- add-result-2

@@ -34,7 +34,4 @@ is-picked-spec =
     tie.close
     (tie.spec
     (λ c κs. search needs)  -- has-requires
-    returns
-    returns-2
-    returns-3
-    returns-4)
+    returns returns-2 returns-3 returns-4)

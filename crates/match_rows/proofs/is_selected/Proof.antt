@@ -18,7 +18,6 @@ returns-2 c =
 pub is-selected-spec : {M : Type 1} → statement M
 is-selected-spec =
     tie.close
-    (tie.spec
-    returns
+    (tie.spec returns
     (λ c κs. search needs)  -- wide-id-requires
     returns-2)

@@ -70,9 +70,7 @@ returns c =
 pub note-rows-spec : {M : Type 1} → statement M
 note-rows-spec =
     tie.close
-    (tie.spec
-    Inv-loop
-    μ-loop
+    (tie.spec Inv-loop μ-loop
     (λ c. search needs) (λ c κs. search needs)  -- slice-aggregate-mark-asked, mark-asked-requires
     (λ c. search needs) (λ c κs. search needs)  -- slice-aggregate-mark-asked-2, mark-asked-requires-2
     (λ c κs. search needs)  -- selected-asks-any-requires
@@ -80,10 +78,6 @@ note-rows-spec =
     (λ c. search needs) (λ c. search needs)  -- mul-note, element-copy-out-note
     (λ c. search needs) (λ c. search needs)  -- element-copy-out-note-2, array-read-note
     (λ c. search needs) (λ c κs. search needs)  -- array-read-note-2, note-requires
-    slice-write-picked
-    slice-write-asks
+    slice-write-picked slice-write-asks
     (λ c. search needs) (λ c. search needs)  -- add-k, loop-less
-    loop-again
-    same-length
-    same-length-2
-    returns)
+    loop-again same-length same-length-2 returns)

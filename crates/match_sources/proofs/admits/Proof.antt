@@ -25,10 +25,7 @@ returns-4 c =
 pub admits-spec : {M : Type 1} → statement M
 admits-spec =
     tie.close
-    (tie.spec
-    returns
-    returns-2
-    returns-3
+    (tie.spec returns returns-2 returns-3
     (λ c κs. search needs) (λ c κs. search needs)  -- has-requires, has-requires-2
     (λ c κs. search needs) (λ c κs. search needs)  -- has-requires-3, has-requires-4
     (λ c κs. search needs) (λ c κs. search needs)  -- has-requires-5, by-rights-requires

@@ -55,14 +55,11 @@ returns-2 c =
 pub any-admits-spec : {M : Type 1} → statement M
 any-admits-spec =
     tie.close
-    (tie.spec
-    Inv-loop
-    μ-loop
+    (tie.spec Inv-loop μ-loop
     (λ c κs. search needs)  -- listed-count-requires
     loop-holds
     (λ c. search needs) (λ c. search needs)  -- mul-one, element-copy-out-one
     (λ c κs. search needs)  -- is-admitted-requires
     returns
     (λ c. search needs) (λ c. search needs)  -- add-i, loop-less
-    loop-again
-    returns-2)
+    loop-again returns-2)

@@ -49,15 +49,10 @@ is-meant-spec =
     tie.close
     (tie.spec
     (λ c κs. search needs)  -- clip-requires
-    array-share-prefix-o
-    slice-aggregate-in-subtree
+    array-share-prefix-o slice-aggregate-in-subtree
     (λ c κs. search needs)  -- in-subtree-requires
-    returns
-    array-share-prefix-o-2
-    slice-aggregate-in-one-level
+    returns array-share-prefix-o-2 slice-aggregate-in-one-level
     (λ c κs. search needs)  -- in-one-level-requires
-    returns-2
-    array-share-prefix-o-3
-    slice-aggregate-same
+    returns-2 array-share-prefix-o-3 slice-aggregate-same
     (λ c κs. search needs)  -- same-requires
     returns-3)

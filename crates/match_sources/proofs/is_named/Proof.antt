@@ -47,13 +47,10 @@ returns-2 c =
 pub is-named-spec : {M : Type 1} → statement M
 is-named-spec =
     tie.close
-    (tie.spec
-    Inv-loop
-    μ-loop
+    (tie.spec Inv-loop μ-loop
     (λ c κs. search needs)  -- run-end-requires
     loop-holds
     (λ c. search needs) (λ c. search needs) (λ c κs. search needs)  -- mul-x, element-copy-out-x, is-meant-requires
     returns
     (λ c. search needs) (λ c. search needs)  -- add-i, loop-less
-    loop-again
-    returns-2)
+    loop-again returns-2)

@@ -11,6 +11,5 @@ returns c = (omega arith, λ l e. take-within (c .before .args .count) 8 l e (om
 pub listed-count-spec : {M : Type 1} → statement M
 listed-count-spec =
     tie.close
-    (tie.spec
-    returns
+    (tie.spec returns
     (λ c. search needs))  -- returns-2

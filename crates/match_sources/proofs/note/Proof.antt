@@ -32,5 +32,4 @@ note-spec =
     (λ c. search needs) (λ c κs. search needs) (λ c. search needs)  -- mul-from, clip-requires, add-end
     (λ c. search needs) (λ c. search needs)  -- sub-is-searched, part-is-searched-start
     (λ c. search needs) (λ c κs. search needs)  -- part-is-searched-end, is-searched-requires
-    returns
-    returns-2)
+    returns returns-2)

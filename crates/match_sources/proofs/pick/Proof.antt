@@ -33,10 +33,7 @@ returns c = λ k h. c .before .loop .inv .2 k (omega arith)
 pub pick-spec : {M : Type 1} → statement M
 pick-spec =
     tie.close
-    (tie.spec
-    Inv-loop
-    μ-loop
-    loop-holds
+    (tie.spec Inv-loop μ-loop loop-holds
     (λ c. search needs) (λ c. search needs)  -- mul-is-selected, element-copy-out-is-selected
     (λ c κs. search needs) (λ c. search needs)  -- is-selected-requires, element-copy-out-note
     (λ c. search needs) (λ c κs. search needs)  -- element-copy-out-note-2, note-requires

@@ -19,8 +19,6 @@ returns-2 c =
 pub run-end-spec : {M : Type 1} → statement M
 run-end-spec =
     tie.close
-    (tie.spec
-    returns
-    returns-2
+    (tie.spec returns returns-2
     (λ c. search needs)  -- add-result
     (λ c. search needs))  -- returns-3

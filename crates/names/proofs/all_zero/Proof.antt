@@ -31,11 +31,7 @@ returns c = sum-past (c .before .before .before .args .s .now) (c .before .loop 
 pub all-zero-spec : {M : Type 1} → statement M
 all-zero-spec =
     tie.close
-    (tie.spec
-    Inv-loop
-    μ-loop
-    loop-holds
+    (tie.spec Inv-loop μ-loop loop-holds
     (λ c. search needs) (λ c κs. search needs) (λ c. search needs)  -- shared-slice-read-wide, wide-requires, add-sum
     (λ c. search needs) (λ c. search needs)  -- add-i, loop-less
-    loop-again
-    returns)
+    loop-again returns)

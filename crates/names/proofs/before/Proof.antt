@@ -43,14 +43,9 @@ returns-3 c =
 pub before-spec : {M : Type 1} → statement M
 before-spec =
     tie.close
-    (tie.spec
-    Inv-loop
-    μ-loop
-    loop-holds
-    returns
+    (tie.spec Inv-loop μ-loop loop-holds returns
     (λ c. search needs) (λ c. search needs)  -- shared-slice-read-if2, shared-slice-read-if2-2
     (λ c. search needs) (λ c. search needs)  -- shared-slice-read-result, shared-slice-read-result-2
     returns-2
     (λ c. search needs) (λ c. search needs)  -- add-i, loop-less
-    loop-again
-    returns-3)
+    loop-again returns-3)

@@ -18,7 +18,6 @@ returns-2 c =
 pub beneath-spec : {M : Type 1} → statement M
 beneath-spec =
     tie.close
-    (tie.spec
-    returns
+    (tie.spec returns
     (λ c κs. search needs)  -- leads-requires
     returns-2)

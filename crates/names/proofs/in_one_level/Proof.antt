@@ -31,5 +31,4 @@ in-one-level-spec =
     returns
     (λ c κs. search needs) (λ c. search needs)  -- beneath-requires, add-slash-from
     (λ c κs. search needs)  -- slash-from-requires
-    returns-2
-    returns-3)
+    returns-2 returns-3)

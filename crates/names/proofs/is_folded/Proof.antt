@@ -18,5 +18,4 @@ is-folded-spec =
     (tie.spec
     (λ c κs. search needs) (λ c. search needs)  -- is-inbox-requires, slice-aggregate-same
     (λ c κs. search needs)  -- same-requires
-    returns
-    returns-2)
+    returns returns-2)

@@ -35,11 +35,9 @@ returns-3 c =
 pub is-kept-spec : {M : Type 1} → statement M
 is-kept-spec =
     tie.close
-    (tie.spec
-    slice-aggregate-is-valid
+    (tie.spec slice-aggregate-is-valid
     (λ c κs. search needs)  -- is-valid-requires
-    returns
-    slice-aggregate-is-folded
+    returns slice-aggregate-is-folded
     (λ c κs. search needs)  -- is-folded-requires
     returns-2
     (λ c. search needs) (λ c. search needs)  -- sub-all-zero, part-all-zero-start

@@ -17,8 +17,6 @@ returns-3 c = c .text-ok .ensures ∙ some-octets (c .before .before .before .be
 pub is-valid-spec : {M : Type 1} → statement M
 is-valid-spec =
     tie.close
-    (tie.spec
-    returns
-    returns-2
+    (tie.spec returns returns-2
     (λ c κs. search needs)  -- text-ok-requires
     returns-3)

@@ -31,10 +31,7 @@ returns c =
 pub kept-spec : {M : Type 1} → statement M
 kept-spec =
     tie.close
-    (tie.spec
-    Inv-loop
-    μ-loop
-    loop-holds
+    (tie.spec Inv-loop μ-loop loop-holds
     (λ c. search needs) (λ c. search needs)  -- shared-slice-read-octets, array-write-octets
     (λ c. search needs) (λ c. search needs)  -- add-i, loop-less
     loop-again

@@ -41,11 +41,7 @@ returns-3 c =
 pub leads-spec : {M : Type 1} → statement M
 leads-spec =
     tie.close
-    (tie.spec
-    Inv-loop
-    μ-loop
-    returns
-    loop-holds
+    (tie.spec Inv-loop μ-loop returns loop-holds
     (λ c. search needs) (λ c. search needs)  -- shared-slice-read-if2, shared-slice-read-if2-2
     returns-2
     (λ c. search needs) (λ c. search needs)  -- add-i, loop-less

@@ -42,13 +42,8 @@ returns-3 c =
 pub same-spec : {M : Type 1} → statement M
 same-spec =
     tie.close
-    (tie.spec
-    Inv-loop
-    μ-loop
-    returns
-    loop-holds
+    (tie.spec Inv-loop μ-loop returns loop-holds
     (λ c. search needs) (λ c. search needs)  -- shared-slice-read-if2, shared-slice-read-if2-2
     returns-2
     (λ c. search needs) (λ c. search needs)  -- add-i, loop-less
-    loop-again
-    returns-3)
+    loop-again returns-3)

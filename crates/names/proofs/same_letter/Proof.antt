@@ -15,7 +15,6 @@ returns-2 c = rw (c .before .upper .ensures, c .upper2 .ensures)
 pub same-letter-spec : {M : Type 1} → statement M
 same-letter-spec =
     tie.close
-    (tie.spec
-    returns
+    (tie.spec returns
     (λ c κs. search needs) (λ c κs. search needs)  -- upper-requires, upper-requires-2
     returns-2)

@@ -44,13 +44,8 @@ returns-3 c =
 pub same-word-spec : {M : Type 1} → statement M
 same-word-spec =
     tie.close
-    (tie.spec
-    Inv-loop
-    μ-loop
-    returns
-    loop-holds
+    (tie.spec Inv-loop μ-loop returns loop-holds
     (λ c. search needs) (λ c. search needs) (λ c κs. search needs)  -- shared-slice-read-same-letter, shared-slice-read-same-letter-2, same-letter-requires
     returns-2
     (λ c. search needs) (λ c. search needs)  -- add-i, loop-less
-    loop-again
-    returns-3)
+    loop-again returns-3)

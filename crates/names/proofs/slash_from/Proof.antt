@@ -37,12 +37,8 @@ returns-2 c =
 pub slash-from-spec : {M : Type 1} → statement M
 slash-from-spec =
     tie.close
-    (tie.spec
-    Inv-loop
-    μ-loop
-    loop-holds
+    (tie.spec Inv-loop μ-loop loop-holds
     (λ c. search needs)  -- shared-slice-read-if1
     returns
     (λ c. search needs) (λ c. search needs)  -- add-i, loop-less
-    loop-again
-    returns-2)
+    loop-again returns-2)

@@ -27,6 +27,4 @@ stored-spec =
     returns
     (λ c κs. search needs) (λ c. search needs)  -- is-inbox-requires, slice-aggregate-kept-2
     (λ c κs. search needs)  -- kept-requires-2
-    returns-2
-    kept-requires-3
-    returns-3)
+    returns-2 kept-requires-3 returns-3)

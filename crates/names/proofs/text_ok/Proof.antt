@@ -46,15 +46,10 @@ returns-4 c = sym (c .before .loop .inv .1 ∙ text-past (c .before .before .bef
 pub text-ok-spec : {M : Type 1} → statement M
 text-ok-spec =
     tie.close
-    (tie.spec
-    Inv-loop
-    μ-loop
-    loop-holds
+    (tie.spec Inv-loop μ-loop loop-holds
     (λ c. search needs)  -- shared-slice-read-b
-    returns
-    returns-2
+    returns returns-2
     (λ c κs. search needs)  -- both-slashes-requires
     returns-3
     (λ c. search needs) (λ c. search needs)  -- add-i, loop-less
-    loop-again
-    returns-4)
+    loop-again returns-4)

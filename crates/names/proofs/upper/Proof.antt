@@ -16,8 +16,6 @@ returns-3 c = rw (le-leb _ _ (c .before .if1 .left), le-leb _ _ (c .if2 .left))
 pub upper-spec : {M : Type 1} → statement M
 upper-spec =
     tie.close
-    (tie.spec
-    returns
-    returns-2
+    (tie.spec returns returns-2
     (λ c. search needs)  -- sub-result
     returns-3)

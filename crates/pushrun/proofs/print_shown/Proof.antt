@@ -12,7 +12,6 @@ slice-aggregate-print c = sym (length-take-le _ _ (omega arith))
 pub print-shown-spec : {M : Type 1} → statement M
 print-shown-spec =
     tie.close
-    (tie.spec
-    slice-aggregate-print
+    (tie.spec slice-aggregate-print
     (λ c κs. search needs)  -- print-requires
     (λ c. search needs))  -- returns

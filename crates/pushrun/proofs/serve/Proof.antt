@@ -22,9 +22,7 @@ slice-aggregate-serve-one c = sym (length-take-le _ _ (omega arith))
 pub serve-spec : {M : Type 1} → statement M
 serve-spec =
     tie.close
-    (tie.spec
-    Inv-loop
-    μ-loop
+    (tie.spec Inv-loop μ-loop
     (λ c κs. search needs) (λ c. search needs)  -- start-requires, loop-holds
     (λ c κs. search needs) (λ c. search needs)  -- next-record-requires, slice-reshare-prefix-serve-one
     slice-aggregate-serve-one

@@ -21,7 +21,4 @@ added-spec =
     (tie.spec
     (λ c. search needs) (λ c. search needs) (λ c. search needs)  -- enum-told, enum-told-2, enum-told-3
     (λ c. search needs)  -- enum-told-4
-    returns
-    returns-2
-    returns-3
-    returns-4)
+    returns returns-2 returns-3 returns-4)

@@ -82,9 +82,4 @@ attribute-at-spec =
     (λ c κs. search needs) (λ c. search needs)  -- with-section-requires, enum-told-2
     (λ c κs. search needs) (λ c κs. search needs)  -- section-at-requires-2, with-section-requires-2
     (λ c. search needs) (λ c. search needs)  -- enum-told-3, enum-told-4
-    returns
-    returns-2
-    returns-3
-    returns-4
-    returns-5
-    returns-6)
+    returns returns-2 returns-3 returns-4 returns-5 returns-6)

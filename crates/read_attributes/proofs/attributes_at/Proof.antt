@@ -34,7 +34,6 @@ attributes-at-spec =
     tie.close
     (tie.spec
     (λ c κs. search needs)  -- octet-at-requires
-    returns
-    add-attributes-to-close
+    returns add-attributes-to-close
     (λ c κs. search needs)  -- attributes-to-close-requires
     returns-2)

@@ -20,5 +20,4 @@ judge-spec =
     (λ c κs. search needs) (λ c. search needs)  -- head-requires, enum-known-verb
     (λ c κs. search needs) (λ c. search needs)  -- judge-by-requires, enum-told
     (λ c κs. search needs) (λ c. search needs)  -- unread-requires, same-length
-    returns
-    returns-2)
+    returns returns-2)

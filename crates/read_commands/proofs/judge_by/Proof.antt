@@ -25,5 +25,4 @@ judge-by-spec =
     (λ c κs. search needs)  -- unread-requires
     returns
     (λ c. search needs)  -- same-length
-    returns-2
-    returns-3)
+    returns-2 returns-3)

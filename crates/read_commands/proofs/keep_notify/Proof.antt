@@ -28,7 +28,6 @@ keep-notify-spec =
     tie.close
     (tie.spec
     (λ c κs. search needs) (λ c κs. search needs)  -- octet-at-requires, unkept-requires
-    returns
-    add-keep-at
+    returns add-keep-at
     (λ c κs. search needs) (λ c κs. search needs)  -- keep-at-requires, notify-upto-requires
     returns-2)

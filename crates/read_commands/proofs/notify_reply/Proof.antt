@@ -19,6 +19,5 @@ notify-reply-spec =
     (λ c. search needs) (λ c κs. search needs) (λ c. search needs)  -- enum-told, answer-requires, enum-known-r
     (λ c κs. search needs) (λ c κs. search needs)  -- reply-for-requires, answer-requires-2
     (λ c. search needs) (λ c κs. search needs)  -- enum-told-2, unread-requires
-    returns
-    returns-2
+    returns returns-2
     (λ c. search needs))  -- returns-3

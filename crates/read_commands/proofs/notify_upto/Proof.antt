@@ -21,8 +21,5 @@ notify-upto-spec =
     tie.close
     (tie.spec
     (λ c. search needs) (λ c. search needs) (λ c. search needs)  -- enum-known-r, enum-known-r-2, enum-told
-    returns
-    returns-2
-    returns-3
-    returns-4
+    returns returns-2 returns-3 returns-4
     (λ c. search needs))  -- returns-5

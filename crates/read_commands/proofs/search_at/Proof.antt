@@ -29,8 +29,7 @@ search-at-spec =
     tie.close
     (tie.spec
     (λ c κs. search needs)  -- octet-at-requires
-    returns
-    add-search-at
+    returns add-search-at
     (λ c κs. search needs) (λ c κs. search needs)  -- search-at-requires, search-upto-requires
     (λ c. search needs)  -- same-length
     returns-2)

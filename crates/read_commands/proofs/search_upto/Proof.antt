@@ -15,6 +15,5 @@ search-upto-spec =
     tie.close
     (tie.spec
     (λ c. search needs) (λ c. search needs)  -- enum-known-r, enum-told
-    returns
-    returns-2
+    returns returns-2
     (λ c. search needs))  -- returns-3

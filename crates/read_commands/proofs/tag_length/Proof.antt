@@ -16,5 +16,4 @@ tag-length-spec =
     tie.close
     (tie.spec
     (λ c κs. search needs) (λ c κs. search needs)  -- is-tagged-requires, tag-end-requires
-    returns
-    returns-2)
+    returns returns-2)

@@ -18,6 +18,5 @@ watch-by-spec =
     (tie.spec
     (λ c. search needs) (λ c κs. search needs) (λ c. search needs)  -- enum-told, watch-notify-requires, enum-told-2
     (λ c. search needs)  -- enum-told-3
-    returns
-    returns-2
+    returns returns-2
     (λ c. search needs))  -- returns-3

@@ -16,5 +16,4 @@ watched-spec =
     (tie.spec
     (λ c κs. search needs) (λ c. search needs)  -- head-requires, enum-known-verb
     (λ c κs. search needs) (λ c. search needs)  -- watch-by-requires, enum-told
-    returns
-    returns-2)
+    returns returns-2)

@@ -35,6 +35,4 @@ event-at-spec =
     (λ c κs. search needs) (λ c. search needs)  -- named-by-requires, enum-told
     (λ c κs. search needs) (λ c. search needs)  -- new-at-requires, enum-known-k
     (λ c κs. search needs) (λ c. search needs)  -- plain-event-requires, enum-told-2
-    returns
-    returns-2
-    returns-3)
+    returns returns-2 returns-3)

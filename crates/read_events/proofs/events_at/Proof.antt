@@ -62,5 +62,4 @@ events-at-spec =
     returns
     (λ c. search needs) (λ c κs. search needs)  -- slice-aggregate-word-at, word-at-requires
     (λ c κs. search needs) (λ c κs. search needs)  -- run-end-requires, no-events-requires
-    returns-2
-    returns-3)
+    returns-2 returns-3)

@@ -56,8 +56,7 @@ new-at-spec =
     tie.close
     (tie.spec
     (λ c κs. search needs) (λ c κs. search needs)  -- octet-at-requires, bare-new-requires
-    returns
-    add-next
+    returns add-next
     (λ c κs. search needs) (λ c κs. search needs)  -- octet-at-requires-2, bare-new-requires-2
     returns-2
     (λ c κs. search needs) (λ c κs. search needs)  -- attributes-at-requires, new-with-requires

@@ -28,9 +28,4 @@ plain-event-spec =
     (λ c κs. search needs) (λ c. search needs) (λ c. search needs)  -- no-events-requires, enum-told, enum-told-2
     (λ c. search needs) (λ c. search needs) (λ c. search needs)  -- enum-told-3, enum-told-4, enum-told-5
     (λ c. search needs)  -- enum-told-6
-    returns
-    returns-2
-    returns-3
-    returns-4
-    returns-5
-    returns-6)
+    returns returns-2 returns-3 returns-4 returns-5 returns-6)

@@ -42,5 +42,4 @@ filter-at-spec =
     (λ c κs. search needs)  -- word-of-requires
     filter-by-requires
     (λ c. search needs)  -- enum-told
-    returns
-    returns-2)
+    returns returns-2)

@@ -27,6 +27,4 @@ filter-by-spec =
     (tie.spec
     (λ c. search needs) (λ c. search needs)  -- enum-known-word, enum-known-word-2
     (λ c κs. search needs) (λ c. search needs)  -- named-at-requires, enum-told
-    returns
-    returns-2
-    returns-3)
+    returns returns-2 returns-3)

@@ -35,11 +35,4 @@ is-groupable-spec =
     (λ c. search needs) (λ c. search needs) (λ c. search needs)  -- enum-told, enum-told-2, enum-told-3
     (λ c. search needs) (λ c. search needs) (λ c. search needs)  -- enum-told-4, enum-told-5, enum-told-6
     (λ c. search needs) (λ c. search needs)  -- enum-told-7, enum-told-8
-    returns
-    returns-2
-    returns-3
-    returns-4
-    returns-5
-    returns-6
-    returns-7
-    returns-8)
+    returns returns-2 returns-3 returns-4 returns-5 returns-6 returns-7 returns-8)

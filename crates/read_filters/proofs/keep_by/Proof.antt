@@ -28,6 +28,4 @@ keep-by-spec =
     (tie.spec
     (λ c. search needs) (λ c. search needs) (λ c κs. search needs)  -- enum-told, enum-told-2, keep-named-requires
     (λ c. search needs) (λ c κs. search needs)  -- enum-told-3, unread-requires
-    returns
-    returns-2
-    returns-3)
+    returns returns-2 returns-3)

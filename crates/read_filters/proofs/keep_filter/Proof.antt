@@ -47,5 +47,4 @@ keep-filter-spec =
     (λ c κs. search needs)  -- unread-requires
     returns
     (λ c κs. search needs)  -- word-of-requires
-    keep-by-requires
-    returns-2)
+    keep-by-requires returns-2)

@@ -37,7 +37,6 @@ keep-named-spec =
     tie.close
     (tie.spec
     (λ c κs. search needs) (λ c κs. search needs)  -- octet-at-requires, unread-requires
-    returns
-    add-keep-names
+    returns add-keep-names
     (λ c κs. search needs)  -- keep-names-requires
     returns-2)

@@ -47,8 +47,6 @@ named-at-spec =
     tie.close
     (tie.spec
     (λ c κs. search needs)  -- octet-at-requires
-    returns
-    add-names-at
+    returns add-names-at
     (λ c κs. search needs) (λ c. search needs) (λ c. search needs)  -- names-at-requires, enum-known-count, enum-told
-    returns-2
-    returns-3)
+    returns-2 returns-3)

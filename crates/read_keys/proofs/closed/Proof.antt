@@ -45,11 +45,6 @@ closed-spec =
     tie.close
     (tie.spec
     (λ c. search needs)  -- enum-known-r
-    add-store-two
-    sub-store-two
-    store-two-requires
-    add-t18
-    add-t19
+    add-store-two sub-store-two store-two-requires add-t18 add-t19
     (λ c. search needs) (λ c. search needs)  -- enum-told, same-length
-    returns
-    returns-2)
+    returns returns-2)

@@ -28,6 +28,5 @@ joined-spec =
     add-t15
     (λ c κs. search needs) (λ c κs. search needs)  -- higher-requires, either-of-requires
     (λ c κs. search needs) (λ c. search needs) (λ c. search needs)  -- higher-requires-2, enum-told, enum-told-2
-    returns
-    returns-2
+    returns returns-2
     (λ c. search needs))  -- returns-3

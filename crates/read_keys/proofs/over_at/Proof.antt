@@ -36,7 +36,4 @@ over-at-spec =
     (tie.spec
     (λ c. search needs) (λ c κs. search needs) (λ c. search needs)  -- enum-told, octet-at-requires, add-t8
     (λ c. search needs)  -- enum-told-2
-    returns
-    returns-2
-    returns-3
-    returns-4)
+    returns returns-2 returns-3 returns-4)

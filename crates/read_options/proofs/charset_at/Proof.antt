@@ -22,5 +22,4 @@ charset-at-spec =
     (tie.spec
     (λ c κs. search needs) (λ c. search needs)  -- text-at-requires, enum-known-end
     (λ c κs. search needs) (λ c. search needs)  -- is-known-requires, enum-told
-    returns
-    returns-2)
+    returns returns-2)

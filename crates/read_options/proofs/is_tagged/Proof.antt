@@ -21,7 +21,6 @@ is-tagged-spec =
     tie.close
     (tie.spec
     (λ c κs. search needs)  -- tag-end-requires
-    returns
-    returns-2
+    returns returns-2
     (λ c κs. search needs)  -- octet-at-requires
     returns-3)

@@ -23,5 +23,4 @@ option-at-spec =
     (tie.spec
     (λ c κs. search needs) (λ c. search needs)  -- run-at-requires, enum-known-end
     (λ c κs. search needs) (λ c. search needs)  -- option-of-requires, enum-told
-    returns
-    returns-2)
+    returns returns-2)

@@ -62,11 +62,8 @@ returns-at-spec =
     tie.close
     (tie.spec
     (λ c κs. search needs)  -- octet-at-requires
-    returns
-    add-octet-at
+    returns add-octet-at
     (λ c κs. search needs)  -- octet-at-requires-2
-    add-t7
-    returns-2
-    add-row-at
+    add-t7 returns-2 add-row-at
     (λ c κs. search needs) (λ c κs. search needs)  -- row-at-requires, judged-requires
     returns-3)

@@ -22,5 +22,4 @@ verb-at-spec =
     (tie.spec
     (λ c κs. search needs) (λ c. search needs)  -- run-at-requires, enum-known-end
     (λ c κs. search needs) (λ c. search needs)  -- verb-of-requires, enum-told
-    returns
-    returns-2)
+    returns returns-2)

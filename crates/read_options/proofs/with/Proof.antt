@@ -23,7 +23,4 @@ with-spec =
     (λ c κs. search needs) (λ c. search needs)  -- still-requires-2, enum-told-3
     (λ c κs. search needs) (λ c. search needs)  -- still-requires-3, enum-told-4
     (λ c κs. search needs)  -- still-requires-4
-    returns
-    returns-2
-    returns-3
-    returns-4)
+    returns returns-2 returns-3 returns-4)

@@ -47,8 +47,6 @@ close-at-spec =
     tie.close
     (tie.spec
     (λ c κs. search needs)  -- octet-at-requires
-    returns
-    add-next
+    returns add-next
     (λ c κs. search needs) (λ c κs. search needs)  -- octet-at-requires-2, partial-at-requires
-    returns-2
-    returns-3)
+    returns-2 returns-3)

@@ -61,12 +61,9 @@ count-at-spec =
     tie.close
     (tie.spec
     (λ c κs. search needs)  -- octet-at-requires
-    returns
-    add-positive-at
+    returns add-positive-at
     (λ c κs. search needs) (λ c. search needs)  -- positive-at-requires, enum-known-next
     (λ c κs. search needs)  -- octet-at-requires-2
     add-t12
     (λ c. search needs)  -- enum-told
-    returns-2
-    returns-3
-    returns-4)
+    returns-2 returns-3 returns-4)

@@ -48,10 +48,8 @@ fields-at-spec =
     tie.close
     (tie.spec
     (λ c κs. search needs)  -- octet-at-requires
-    returns
-    add-next
+    returns add-next
     (λ c κs. search needs)  -- octet-at-requires-2
-    returns-2
-    add-fields-to-close
+    returns-2 add-fields-to-close
     (λ c κs. search needs)  -- fields-to-close-requires
     returns-3)

@@ -41,9 +41,7 @@ partial-at-spec =
     tie.close
     (tie.spec
     (λ c κs. search needs)  -- octet-at-requires
-    returns
-    add-number-at
+    returns add-number-at
     (λ c κs. search needs) (λ c. search needs)  -- number-at-requires, enum-known-next
     (λ c κs. search needs) (λ c. search needs)  -- count-at-requires, enum-told
-    returns-2
-    returns-3)
+    returns-2 returns-3)

@@ -47,9 +47,7 @@ section-at-spec =
     tie.close
     (tie.spec
     (λ c κs. search needs)  -- octet-at-requires
-    returns
-    add-section-spec-at
+    returns add-section-spec-at
     (λ c κs. search needs) (λ c. search needs)  -- section-spec-at-requires, enum-known-next
     (λ c κs. search needs) (λ c. search needs)  -- close-at-requires, enum-told
-    returns-2
-    returns-3)
+    returns-2 returns-3)

@@ -54,6 +54,4 @@ section-part-at-spec =
     (λ c κs. search needs)  -- octet-at-requires
     add-section-text-at
     (λ c κs. search needs) (λ c. search needs)  -- section-text-at-requires, enum-told
-    returns
-    returns-2
-    returns-3)
+    returns returns-2 returns-3)

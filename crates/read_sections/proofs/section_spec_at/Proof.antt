@@ -48,5 +48,4 @@ section-spec-at-spec =
     returns
     (λ c κs. search needs) (λ c κs. search needs)  -- in-class-requires, section-part-at-requires
     (λ c κs. search needs)  -- section-text-at-requires
-    returns-2
-    returns-3)
+    returns-2 returns-3)

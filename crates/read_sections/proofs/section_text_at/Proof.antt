@@ -88,9 +88,4 @@ section-text-at-spec =
     (λ c κs. search needs) (λ c. search needs) (λ c. search needs)  -- section-word-requires, enum-told, enum-told-2
     (λ c κs. search needs) (λ c. search needs) (λ c. search needs)  -- fields-at-requires, enum-told-3, enum-told-4
     (λ c. search needs)  -- enum-told-5
-    returns
-    returns-2
-    returns-3
-    returns-4
-    returns-5
-    returns-6)
+    returns returns-2 returns-3 returns-4 returns-5 returns-6)

@@ -28,5 +28,4 @@ keep-sources-spec =
     (λ c κs. search needs)  -- list-by-requires
     returns
     (λ c κs. search needs) (λ c κs. search needs)  -- nothing-listed-requires, keep-nothing-requires
-    put-listed-requires
-    returns-2)
+    put-listed-requires returns-2)

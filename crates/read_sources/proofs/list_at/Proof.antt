@@ -40,8 +40,6 @@ list-at-spec =
     tie.close
     (tie.spec
     (λ c κs. search needs) (λ c κs. search needs)  -- octet-at-requires, unlisted-requires
-    returns
-    add-list-row
+    returns add-list-row
     (λ c κs. search needs)  -- nothing-listed-requires
-    list-row-requires
-    returns-2)
+    list-row-requires returns-2)

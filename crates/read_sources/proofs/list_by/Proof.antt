@@ -48,7 +48,6 @@ list-by-spec =
     (λ c κs. search needs) (λ c κs. search needs)  -- list-at-requires, behind-space-requires
     (λ c. search needs) (λ c. search needs)  -- enum-known-next, enum-told-2
     (λ c κs. search needs)  -- unlisted-requires-2
-    returns-2
-    returns-3
+    returns-2 returns-3
     (λ c κs. search needs)  -- unlisted-requires-3
     returns-4)

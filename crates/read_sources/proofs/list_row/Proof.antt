@@ -89,19 +89,11 @@ loop-again c =
 pub list-row-spec : {M : Type 1} → statement M
 list-row-spec =
     tie.close
-    (tie.spec
-    Inv-loop
-    μ-loop
-    loop-holds
+    (tie.spec Inv-loop μ-loop loop-holds
     (λ c κs. search needs) (λ c. search needs) (λ c. search needs)  -- filter-at-requires, enum-known-scope, enum-told
     (λ c κs. search needs)  -- unlisted-requires
-    returns
-    list-one-requires
+    returns list-one-requires
     (λ c κs. search needs)  -- octet-at-requires
-    add-t12
-    returns-2
+    add-t12 returns-2
     (λ c κs. search needs)  -- unlisted-requires-2
-    returns-3
-    add-p
-    loop-less
-    loop-again)
+    returns-3 add-p loop-less loop-again)

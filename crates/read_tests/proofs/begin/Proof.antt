@@ -97,8 +97,7 @@ begin-spec =
     tie.close
     (tie.spec
     (λ c κs. search needs)  -- octet-at-requires
-    add-t9
-    returns
+    add-t9 returns
     (λ c κs. search needs) (λ c. search needs)  -- put-set-requires, same-length
     returns-2
     (λ c κs. search needs) (λ c κs. search needs)  -- in-class-requires, put-set-requires-2
@@ -108,5 +107,4 @@ begin-spec =
     (λ c κs. search needs)  -- key-word-requires
     begin-by-requires
     (λ c. search needs) (λ c. search needs)  -- enum-told, same-length-3
-    returns-4
-    returns-5)
+    returns-4 returns-5)

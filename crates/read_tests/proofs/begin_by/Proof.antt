@@ -192,12 +192,6 @@ begin-by-spec =
     (λ c. search needs)  -- same-length-4
     returns-4
     (λ c. search needs)  -- same-length-5
-    returns-5
-    returns-6
+    returns-5 returns-6
     (λ c. search needs)  -- same-length-6
-    returns-7
-    returns-8
-    returns-9
-    returns-10
-    returns-11
-    returns-12)
+    returns-7 returns-8 returns-9 returns-10 returns-11 returns-12)

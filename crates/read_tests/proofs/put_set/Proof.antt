@@ -54,8 +54,7 @@ put-set-spec =
     (tie.spec
     (λ c. search needs) (λ c κs. search needs) (λ c. search needs)  -- add-set-at, set-at-requires, enum-known-parts
     (λ c κs. search needs) (λ c. search needs)  -- store-two-requires, add-t16
-    mul-t18
-    add-t19
+    mul-t18 add-t19
     (λ c. search needs) (λ c. search needs)  -- enum-told, same-length
     returns
     (λ c. search needs)  -- same-length-2

@@ -18,5 +18,4 @@ put-size-spec =
     (tie.spec
     (λ c. search needs) (λ c κs. search needs) (λ c. search needs)  -- enum-known-x, store-two-requires, add-t11
     (λ c. search needs) (λ c. search needs)  -- enum-told, same-length
-    returns
-    returns-2)
+    returns returns-2)

@@ -74,9 +74,4 @@ argument-at-spec =
     (λ c κs. search needs) (λ c. search needs)  -- date-behind-requires, enum-told-5
     (λ c κs. search needs) (λ c. search needs)  -- text-behind-requires-2, enum-known-p
     (λ c κs. search needs) (λ c. search needs)  -- text-behind-requires-3, enum-told-6
-    returns
-    returns-2
-    returns-3
-    returns-4
-    returns-5
-    returns-6)
+    returns returns-2 returns-3 returns-4 returns-5 returns-6)

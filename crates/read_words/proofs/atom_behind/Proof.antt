@@ -34,5 +34,4 @@ atom-behind-spec =
     (λ c κs. search needs)  -- octet-at-requires
     add-run-at
     (λ c κs. search needs)  -- run-at-requires
-    returns
-    returns-2)
+    returns returns-2)

@@ -34,5 +34,4 @@ date-behind-spec =
     (λ c κs. search needs)  -- octet-at-requires
     add-date-at
     (λ c κs. search needs)  -- date-at-requires
-    returns
-    returns-2)
+    returns returns-2)

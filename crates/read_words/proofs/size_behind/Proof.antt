@@ -37,5 +37,4 @@ size-behind-spec =
     (λ c κs. search needs)  -- octet-at-requires
     add-number-at
     (λ c κs. search needs)  -- number-at-requires
-    returns
-    returns-2)
+    returns returns-2)

@@ -34,5 +34,4 @@ text-behind-spec =
     (λ c κs. search needs)  -- octet-at-requires
     add-text-at
     (λ c κs. search needs)  -- text-at-requires
-    returns
-    returns-2)
+    returns returns-2)

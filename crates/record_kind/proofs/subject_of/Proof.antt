@@ -53,16 +53,5 @@ subject-of-spec =
     (λ c. search needs) (λ c. search needs) (λ c. search needs)  -- enum-told-7, enum-told-8, enum-told-9
     (λ c. search needs) (λ c. search needs) (λ c. search needs)  -- enum-told-10, enum-told-11, enum-told-12
     (λ c. search needs)  -- enum-told-13
-    returns
-    returns-2
-    returns-3
-    returns-4
-    returns-5
-    returns-6
-    returns-7
-    returns-8
-    returns-9
-    returns-10
-    returns-11
-    returns-12
-    returns-13)
+    returns returns-2 returns-3 returns-4 returns-5 returns-6 returns-7 returns-8 returns-9 returns-10 returns-11
+    returns-12 returns-13)

@@ -27,7 +27,6 @@ is-kept-spec =
     tie.close
     (tie.spec
     (λ c κs. search needs)  -- clip-requires
-    array-share-prefix-octets
-    slice-aggregate-is-held
+    array-share-prefix-octets slice-aggregate-is-held
     (λ c κs. search needs)  -- is-held-requires
     returns)

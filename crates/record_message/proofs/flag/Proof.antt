@@ -58,8 +58,7 @@ flag-spec =
     (λ c κs. search needs)  -- refused-requires
     returns
     (λ c κs. search needs) (λ c κs. search needs)  -- is-stale-requires, refused-requires-2
-    returns-2
-    find-requires
+    returns-2 find-requires
     (λ c κs. search needs) (λ c. search needs)  -- refused-requires-3, same-length
     returns-3
     (λ c κs. search needs)  -- with-counter-requires

@@ -35,8 +35,7 @@ returns-2 c =
 pub none-spec : {M : Type 1} → statement M
 none-spec =
     tie.close
-    (tie.spec
-    say-reply-requires
+    (tie.spec say-reply-requires
     (λ c κs. search needs) (λ c κs. search needs)  -- ending-at-requires, watched-requires
     (λ c κs. search needs) (λ c. search needs)  -- unmoved-requires, same-length
     returns

@@ -99,5 +99,4 @@ notify-spec =
     (λ c. search needs) (λ c κs. search needs) (λ c. search needs)  -- enum-told-2, refused-requires, same-length-2
     returns-2
     (λ c. search needs) (λ c. search needs)  -- same-length-3, same-length-4
-    returns-3
-    returns-4)
+    returns-3 returns-4)

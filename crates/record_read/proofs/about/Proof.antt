@@ -30,7 +30,6 @@ about-spec =
     tie.close
     (tie.spec
     (λ c κs. search needs) (λ c κs. search needs)  -- kind-of-requires, starts-with-id-requires
-    returns
-    returns-2
+    returns returns-2
     (λ c κs. search needs)  -- little-requires
     returns-3)

@@ -15,5 +15,4 @@ by-mark-spec =
     tie.close
     (tie.spec
     (λ c κs. search needs)  -- is-marked-requires
-    returns
-    returns-2)
+    returns returns-2)

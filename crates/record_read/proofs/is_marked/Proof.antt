@@ -22,8 +22,7 @@ returns-3 c =
 pub is-marked-spec : {M : Type 1} → statement M
 is-marked-spec =
     tie.close
-    (tie.spec
-    returns
+    (tie.spec returns
     (λ c. search needs)  -- shared-slice-read-if2
     returns-2
     (λ c. search needs)  -- shared-slice-read-result

@@ -13,7 +13,6 @@ returns-2 c = rw (ne-eqb _ 0 (c .before .if1 .left)) (c .is-unfit .ensures)
 pub is-barred-spec : {M : Type 1} → statement M
 is-barred-spec =
     tie.close
-    (tie.spec
-    returns
+    (tie.spec returns
     (λ c κs. search needs)  -- is-unfit-requires
     returns-2)

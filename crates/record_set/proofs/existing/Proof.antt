@@ -15,5 +15,4 @@ existing-spec =
     tie.close
     (tie.spec
     (λ c κs. search needs)  -- count-requires
-    returns
-    returns-2)
+    returns returns-2)

@@ -38,8 +38,7 @@ returns-2 c =
 pub owed-size-spec : {M : Type 1} → statement M
 owed-size-spec =
     tie.close
-    (tie.spec
-    returns
+    (tie.spec returns
     (λ c. search needs) (λ c. search needs) (λ c. search needs)  -- cast-id, cast-told, slice-aggregate-by-uid
     (λ c κs. search needs) (λ c. search needs)  -- by-uid-requires, slice-aggregate-put-owed
     put-owed-requires

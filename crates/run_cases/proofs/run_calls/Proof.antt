@@ -18,9 +18,7 @@ abbrev μ-loop : tie.MeasureT-loop
 pub run-calls-spec : {M : Type 1} → statement M
 run-calls-spec =
     tie.close
-    (tie.spec
-    Inv-loop
-    μ-loop
+    (tie.spec Inv-loop μ-loop
     (λ c κs. search needs) (λ c. search needs) (λ c. search needs)  -- start-requires, loop-holds, add-i
     (λ c κs. search needs) (λ c κs. search needs)  -- next-turn-requires, known-after-requires
     (λ c. search needs) (λ c. search needs) (λ c. search needs)  -- same-length, same-length-2, same-length-3

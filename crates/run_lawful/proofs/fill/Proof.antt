@@ -15,9 +15,7 @@ abbrev μ-loop : tie.MeasureT-loop
 pub fill-spec : {M : Type 1} → statement M
 fill-spec =
     tie.close
-    (tie.spec
-    Inv-loop
-    μ-loop
+    (tie.spec Inv-loop μ-loop
     (λ c. search needs) (λ c κs. search needs) (λ c. search needs)  -- loop-holds, next-number-requires, mul-words
     (λ c. search needs) (λ c. search needs) (λ c. search needs)  -- slice-write-words, add-i, loop-less
     (λ c. search needs) (λ c. search needs)  -- loop-again, same-length

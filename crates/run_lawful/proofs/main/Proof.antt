@@ -13,9 +13,7 @@ abbrev μ-loop : tie.MeasureT-loop
 pub main-spec : {M : Type 1} → statement M
 main-spec =
     tie.close
-    (tie.spec
-    Inv-loop
-    μ-loop
+    (tie.spec Inv-loop μ-loop
     (λ c. search needs) (λ c κs. search needs) (λ c. search needs)  -- loop-holds, step-requires, add-yes
     (λ c. search needs) (λ c. search needs) (λ c. search needs)  -- add-cases, loop-less, loop-again
     (λ c κs. search needs)  -- print-total-requires

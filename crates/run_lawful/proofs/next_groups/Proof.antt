@@ -15,9 +15,7 @@ abbrev μ-loop : tie.MeasureT-loop
 pub next-groups-spec : {M : Type 1} → statement M
 next-groups-spec =
     tie.close
-    (tie.spec
-    Inv-loop
-    μ-loop
+    (tie.spec Inv-loop μ-loop
     (λ c. search needs) (λ c κs. search needs) (λ c. search needs)  -- loop-holds, next-group-requires, mul-groups
     (λ c. search needs) (λ c. search needs) (λ c. search needs)  -- array-set-from-groups, add-i, loop-less
     (λ c. search needs)  -- loop-again

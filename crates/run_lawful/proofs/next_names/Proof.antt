@@ -15,9 +15,7 @@ abbrev μ-loop : tie.MeasureT-loop
 pub next-names-spec : {M : Type 1} → statement M
 next-names-spec =
     tie.close
-    (tie.spec
-    Inv-loop
-    μ-loop
+    (tie.spec Inv-loop μ-loop
     (λ c. search needs) (λ c κs. search needs) (λ c. search needs)  -- loop-holds, next-name-requires, mul-names
     (λ c. search needs) (λ c. search needs) (λ c. search needs)  -- array-set-from-names, add-i, loop-less
     (λ c. search needs)  -- loop-again

@@ -15,9 +15,7 @@ abbrev μ-loop : tie.MeasureT-loop
 pub next-rows-spec : {M : Type 1} → statement M
 next-rows-spec =
     tie.close
-    (tie.spec
-    Inv-loop
-    μ-loop
+    (tie.spec Inv-loop μ-loop
     (λ c κs. search needs) (λ c κs. search needs)  -- vacant-requires, at-most-requires
     (λ c. search needs) (λ c κs. search needs) (λ c. search needs)  -- loop-holds, next-row-requires, mul-table
     (λ c. search needs) (λ c. search needs) (λ c. search needs)  -- array-set-from-table, add-i, loop-less

@@ -24,11 +24,6 @@ returns-2 c = tt
 pub main-spec : {M : Type 1} → statement M
 main-spec =
     tie.close
-    (tie.spec
-    Inv-loop
-    μ-loop
-    loop-holds
+    (tie.spec Inv-loop μ-loop loop-holds
     (λ c κs. search needs) (λ c. search needs) (λ c. search needs)  -- step-requires, sub-turns, loop-less
-    loop-again
-    returns
-    returns-2)
+    loop-again returns returns-2)

@@ -23,11 +23,7 @@ returns c = tt
 pub print-cells-spec : {M : Type 1} → statement M
 print-cells-spec =
     tie.close
-    (tie.spec
-    Inv-loop
-    μ-loop
-    loop-holds
+    (tie.spec Inv-loop μ-loop loop-holds
     (λ c. search needs) (λ c. search needs)  -- mul-print-cell, shared-slice-read-print-cell
     (λ c κs. search needs) (λ c. search needs) (λ c. search needs)  -- print-cell-requires, add-i, loop-less
-    loop-again
-    returns)
+    loop-again returns)

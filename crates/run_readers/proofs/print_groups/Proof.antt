@@ -22,12 +22,9 @@ returns c = tt
 pub print-groups-spec : {M : Type 1} → statement M
 print-groups-spec =
     tie.close
-    (tie.spec
-    Inv-loop
-    μ-loop
+    (tie.spec Inv-loop μ-loop
     (λ c κs. search needs)  -- wide-requires
     loop-holds
     (λ c. search needs) (λ c. search needs)  -- mul-print-group, array-copy-out-print-group
     (λ c κs. search needs) (λ c. search needs) (λ c. search needs)  -- print-group-requires, add-i, loop-less
-    loop-again
-    returns)
+    loop-again returns)

@@ -22,11 +22,7 @@ returns c = tt
 pub print-listed-spec : {M : Type 1} → statement M
 print-listed-spec =
     tie.close
-    (tie.spec
-    Inv-loop
-    μ-loop
-    loop-holds
+    (tie.spec Inv-loop μ-loop loop-holds
     (λ c. search needs) (λ c. search needs)  -- mul-print-source, array-copy-out-print-source
     (λ c κs. search needs) (λ c. search needs) (λ c. search needs)  -- print-source-requires, add-i, loop-less
-    loop-again
-    returns)
+    loop-again returns)

@@ -22,13 +22,10 @@ returns c = tt
 pub print-name-spec : {M : Type 1} → statement M
 print-name-spec =
     tie.close
-    (tie.spec
-    Inv-loop
-    μ-loop
+    (tie.spec Inv-loop μ-loop
     (λ c. search needs) (λ c κs. search needs)  -- slice-aggregate-print, print-requires
     (λ c κs. search needs)  -- wide-requires
     loop-holds
     (λ c. search needs) (λ c κs. search needs)  -- array-read-print-octet, print-octet-requires
     (λ c. search needs) (λ c. search needs)  -- add-i, loop-less
-    loop-again
-    returns)
+    loop-again returns)

@@ -22,11 +22,7 @@ returns c = tt
 pub print-names-spec : {M : Type 1} → statement M
 print-names-spec =
     tie.close
-    (tie.spec
-    Inv-loop
-    μ-loop
-    loop-holds
+    (tie.spec Inv-loop μ-loop loop-holds
     (λ c. search needs) (λ c. search needs)  -- mul-print-name, array-copy-out-print-name
     (λ c κs. search needs) (λ c. search needs) (λ c. search needs)  -- print-name-requires, add-i, loop-less
-    loop-again
-    returns)
+    loop-again returns)

@@ -18,6 +18,5 @@ step-spec =
     (λ c. search needs) (λ c κs. search needs)  -- slice-aggregate-read-full, read-full-requires
     (λ c. search needs) (λ c κs. search needs) (λ c. search needs)  -- returns, little-requires, returns-2
     (λ c κs. search needs) (λ c. search needs)  -- buffer-requires, array-borrow-prefix-text
-    slice-aggregate-answer
-    answer-requires
+    slice-aggregate-answer answer-requires
     (λ c. search needs))  -- returns-3

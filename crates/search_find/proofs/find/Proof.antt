@@ -62,20 +62,12 @@ returns-2 c =
 pub find-spec : {M : Type 1} → statement M
 find-spec =
     tie.close
-    (tie.spec
-    Inv-loop
-    μ-loop
-    returns
+    (tie.spec Inv-loop μ-loop returns
     (λ c. search needs) (λ c κs. search needs)  -- shared-slice-read-bottom, entry-requires
     loop-holds
     (λ c. search needs)  -- sub-k
-    mul-i
-    shared-slice-read-i
+    mul-i shared-slice-read-i
     (λ c κs. search needs)  -- entry-requires-2
     sub-t20
     (λ c κs. search needs)  -- is-hit-requires
-    push-requires
-    loop-less
-    loop-again
-    same-length
-    returns-2)
+    push-requires loop-less loop-again same-length returns-2)

@@ -130,23 +130,15 @@ returns c =
 pub find-runs-spec : {M : Type 1} → statement M
 find-runs-spec =
     tie.close
-    (tie.spec
-    Inv-loop
-    μ-loop
+    (tie.spec Inv-loop μ-loop
     (λ c. search needs)  -- slice-aggregate-link
-    link-requires
-    loop-holds
+    link-requires loop-holds
     (λ c. search needs) (λ c. search needs) (λ c. search needs)  -- sub-i, mul-id, shared-slice-read-id
     (λ c. search needs) (λ c. search needs) (λ c κs. search needs)  -- mul-id-2, element-copy-out-id, within-requires
     (λ c. search needs) (λ c. search needs)  -- slice-aggregate-search-row, mul-search-row
     (λ c. search needs) (λ c. search needs)  -- sub-search-row, part-search-row-start
     (λ c. search needs)  -- part-search-row-end
-    search-row-requires
-    mul-starts
-    slice-write-starts
-    mul-counts
-    slice-write-counts
-    add-total
+    search-row-requires mul-starts slice-write-starts mul-counts slice-write-counts add-total
     (λ c. search needs)  -- loop-less
     loop-again
     (λ c. search needs) (λ c. search needs) (λ c. search needs)  -- same-length, same-length-2, same-length-3

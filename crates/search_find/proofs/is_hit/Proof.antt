@@ -18,7 +18,6 @@ returns-2 c =
 pub is-hit-spec : {M : Type 1} → statement M
 is-hit-spec =
     tie.close
-    (tie.spec
-    returns
+    (tie.spec returns
     (λ c κs. search needs)  -- all-hold-requires
     returns-2)

@@ -20,5 +20,4 @@ push-place-spec =
     (tie.spec
     (λ c. search needs) (λ c. search needs) (λ c. search needs)  -- mul-list, slice-write-list, add-result
     (λ c. search needs)  -- same-length
-    returns
-    returns-2)
+    returns returns-2)

@@ -34,7 +34,6 @@ search-view-spec =
     tie.close
     (tie.spec
     (λ c κs. search needs)  -- by-uid-requires
-    told-of-requires
-    find-requires
+    told-of-requires find-requires
     (λ c. search needs) (λ c. search needs) (λ c. search needs)  -- same-length, same-length-2, same-length-3
     returns)

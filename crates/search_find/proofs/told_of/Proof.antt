@@ -46,14 +46,9 @@ returns c =
 pub told-of-spec : {M : Type 1} → statement M
 told-of-spec =
     tie.close
-    (tie.spec
-    Inv-loop
-    μ-loop
-    loop-holds
+    (tie.spec Inv-loop μ-loop loop-holds
     (λ c. search needs) (λ c. search needs)  -- mul-place, shared-slice-read-place
     (λ c κs. search needs)  -- entry-requires
     push-place-requires
     (λ c. search needs) (λ c. search needs)  -- add-i, loop-less
-    loop-again
-    same-length
-    returns)
+    loop-again same-length returns)

@@ -41,7 +41,6 @@ put-lines-spec =
     tie.close
     (tie.spec
     (λ c κs. search needs)  -- tag-length-requires
-    slice-aggregate-put-rows
-    put-rows-requires
+    slice-aggregate-put-rows put-rows-requires
     (λ c. search needs)  -- same-length
     returns)

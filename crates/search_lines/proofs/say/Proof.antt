@@ -66,7 +66,6 @@ say-spec =
     (λ c κs. search needs) (λ c. search needs)  -- say-reply-requires, same-length
     returns
     (λ c. search needs)  -- same-length-2
-    returns-2
-    put-whole-requires
+    returns-2 put-whole-requires
     (λ c. search needs)  -- same-length-3
     returns-3)

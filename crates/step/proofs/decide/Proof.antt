@@ -53,7 +53,6 @@ decide-spec =
     returns
     (λ c κs. search needs) (λ c κs. search needs)  -- read-requires, refused-requires-2
     (λ c. search needs)  -- same-length-2
-    returns-2
-    serve-requires
+    returns-2 serve-requires
     (λ c. search needs) (λ c. search needs)  -- same-length-3, same-length-4
     returns-3)

@@ -94,5 +94,4 @@ dispatch-spec =
     (λ c. search needs) (λ c. search needs)  -- same-length-5, same-length-6
     returns-3
     (λ c. search needs) (λ c. search needs)  -- same-length-7, same-length-8
-    returns-4
-    returns-5)
+    returns-4 returns-5)

@@ -20,6 +20,4 @@ applied-spec =
     (tie.spec
     (λ c. search needs) (λ c. search needs) (λ c κs. search needs)  -- enum-told, enum-told-2, put-row-requires
     (λ c. search needs) (λ c κs. search needs)  -- enum-told-3, take-out-requires
-    returns
-    returns-2
-    returns-3)
+    returns returns-2 returns-3)

@@ -36,8 +36,6 @@ put-held-spec =
     tie.close
     (tie.spec
     (λ c κs. search needs) (λ c. search needs)  -- put-requires, same-length
-    returns
-    slice-aggregate-put
-    put-requires-2
+    returns slice-aggregate-put put-requires-2
     (λ c. search needs)  -- same-length-2
     returns-2)

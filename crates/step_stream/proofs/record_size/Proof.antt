@@ -34,5 +34,4 @@ record-size-spec =
     (λ c. search needs)  -- sub-left
     returns
     (λ c. search needs) (λ c κs. search needs) (λ c. search needs)  -- add-little, little-requires, add-size
-    returns-2
-    returns-3)
+    returns-2 returns-3)

@@ -20,8 +20,7 @@ returns-2 c = (
 pub run-spec : {M : Type 1} → statement M
 run-spec =
     tie.close
-    (tie.spec
-    returns
+    (tie.spec returns
     (λ c. search needs) (λ c. search needs)  -- slice-aggregate-walk, slice-aggregate-walk-2
     (λ c κs. search needs) (λ c. search needs)  -- walk-requires, same-length
     returns-2)

@@ -62,16 +62,10 @@ returns c = running-end (c .before .loop .inv .2) (c .loop-test .left)
 pub walk-spec : {M : Type 1} → statement M
 walk-spec =
     tie.close
-    (tie.spec
-    Inv-loop
-    μ-loop
+    (tie.spec Inv-loop μ-loop
     (λ c κs. search needs)  -- start-requires
-    loop-holds
-    record-size-requires
-    add-e
+    loop-holds record-size-requires add-e
     (λ c. search needs) (λ c. search needs) (λ c. search needs)  -- sub-turn, part-turn-start, part-turn-end
-    turn-requires
-    loop-less
-    loop-again
+    turn-requires loop-less loop-again
     (λ c. search needs) (λ c. search needs) (λ c. search needs)  -- same-length, same-length-2, same-length-3
     returns)

@@ -28,5 +28,4 @@ count-spec =
     tie.close
     (tie.spec
     (λ c κs. search needs) (λ c. search needs)  -- guesses-requires, slice-aggregate-tally-all
-    tally-all-requires
-    returns)
+    tally-all-requires returns)

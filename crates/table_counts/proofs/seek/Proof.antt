@@ -34,12 +34,8 @@ returns-2 c =
 pub seek-spec : {M : Type 1} → statement M
 seek-spec =
     tie.close
-    (tie.spec
-    Inv-loop
-    μ-loop
-    loop-holds
+    (tie.spec Inv-loop μ-loop loop-holds
     (λ c. search needs) (λ c. search needs)  -- mul-if1, element-copy-out-if1
     returns
     (λ c. search needs) (λ c. search needs)  -- add-i, loop-less
-    loop-again
-    returns-2)
+    loop-again returns-2)

@@ -39,11 +39,7 @@ returns c =
 pub tally-all-spec : {M : Type 1} → statement M
 tally-all-spec =
     tie.close
-    (tie.spec
-    Inv-loop
-    μ-loop
-    loop-holds
-    tally-requires
+    (tie.spec Inv-loop μ-loop loop-holds tally-requires
     (λ c. search needs) (λ c. search needs)  -- add-i, loop-less
     loop-again
     (λ c. search needs)  -- same-length

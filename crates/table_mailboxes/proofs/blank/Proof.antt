@@ -33,12 +33,7 @@ returns c =
 pub blank-spec : {M : Type 1} → statement M
 blank-spec =
     tie.close
-    (tie.spec
-    Inv-loop
-    μ-loop
-    loop-holds
+    (tie.spec Inv-loop μ-loop loop-holds
     (λ c. search needs) (λ c. search needs) (λ c. search needs)  -- mul-column, slice-write-column, add-i
     (λ c. search needs)  -- loop-less
-    loop-again
-    same-length
-    returns)
+    loop-again same-length returns)

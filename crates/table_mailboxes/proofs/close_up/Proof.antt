@@ -35,10 +35,7 @@ returns c =
 pub close-up-spec : {M : Type 1} → statement M
 close-up-spec =
     tie.close
-    (tie.spec
-    Inv-loop
-    μ-loop
-    loop-holds
+    (tie.spec Inv-loop μ-loop loop-holds
     (λ c. search needs) (λ c. search needs) (λ c. search needs)  -- add-loop, add-x, mul-x
     (λ c. search needs) (λ c. search needs) (λ c. search needs)  -- array-copy-out-x, mul-t, array-set-from-t
     (λ c. search needs) (λ c. search needs)  -- add-i, loop-less

@@ -78,9 +78,7 @@ returns c =
 pub fill-spec : {M : Type 1} → statement M
 fill-spec =
     tie.close
-    (tie.spec
-    Inv-loop
-    μ-loop
+    (tie.spec Inv-loop μ-loop
     (λ c κs. search needs)  -- blank-requires
     loop-holds
     (λ c. search needs) (λ c. search needs) (λ c κs. search needs)  -- mul-x, array-copy-out-x, wide-id-requires
@@ -91,12 +89,5 @@ fill-spec =
     (λ c. search needs) (λ c κs. search needs)  -- slice-write-nexts, joined-requires
     (λ c. search needs) (λ c. search needs)  -- mul-counters, slice-write-counters
     (λ c κs. search needs) (λ c. search needs) (λ c. search needs)  -- keep-name-requires, add-i, loop-less
-    loop-again
-    same-length
-    same-length-2
-    same-length-3
-    same-length-4
-    same-length-5
-    same-length-6
-    same-length-7
+    loop-again same-length same-length-2 same-length-3 same-length-4 same-length-5 same-length-6 same-length-7
     returns)

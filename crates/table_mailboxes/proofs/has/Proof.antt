@@ -30,10 +30,6 @@ returns c =
 pub has-spec : {M : Type 1} → statement M
 has-spec =
     tie.close
-    (tie.spec
-    Inv-loop
-    μ-loop
-    loop-holds
+    (tie.spec Inv-loop μ-loop loop-holds
     (λ c. search needs) (λ c. search needs)  -- sub-i, loop-less
-    loop-again
-    returns)
+    loop-again returns)

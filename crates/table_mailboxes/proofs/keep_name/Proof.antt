@@ -40,13 +40,9 @@ returns c =
 pub keep-name-spec : {M : Type 1} → statement M
 keep-name-spec =
     tie.close
-    (tie.spec
-    Inv-loop
-    μ-loop
+    (tie.spec Inv-loop μ-loop
     (λ c. search needs)  -- mul-at
     loop-holds
     (λ c. search needs) (λ c. search needs) (λ c. search needs)  -- array-read-names, add-names, slice-write-names
     (λ c. search needs) (λ c. search needs)  -- add-j, loop-less
-    loop-again
-    same-length
-    returns)
+    loop-again same-length returns)

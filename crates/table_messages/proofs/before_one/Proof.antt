@@ -33,7 +33,4 @@ before-one-spec =
     tie.close
     (tie.spec
     (λ c κs. search needs)  -- get-requires
-    returns
-    returns-2
-    returns-3
-    returns-4)
+    returns returns-2 returns-3 returns-4)

@@ -40,12 +40,8 @@ returns c =
 pub count-each-spec : {M : Type 1} → statement M
 count-each-spec =
     tie.close
-    (tie.spec
-    Inv-loop
-    μ-loop
-    loop-holds
+    (tie.spec Inv-loop μ-loop loop-holds
     (λ c κs. search needs)  -- count-one-requires
     add-n
     (λ c. search needs) (λ c. search needs)  -- add-i, loop-less
-    loop-again
-    returns)
+    loop-again returns)

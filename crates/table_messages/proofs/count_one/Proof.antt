@@ -27,6 +27,4 @@ count-one-spec =
     tie.close
     (tie.spec
     (λ c κs. search needs)  -- get-requires
-    returns
-    returns-2
-    returns-3)
+    returns returns-2 returns-3)

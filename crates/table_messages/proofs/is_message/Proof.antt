@@ -26,6 +26,4 @@ is-message-spec =
     tie.close
     (tie.spec
     (λ c κs. search needs)  -- get-requires
-    returns
-    returns-2
-    returns-3)
+    returns returns-2 returns-3)

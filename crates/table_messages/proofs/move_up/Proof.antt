@@ -32,10 +32,7 @@ returns c =
 pub move-up-spec : {M : Type 1} → statement M
 move-up-spec =
     tie.close
-    (tie.spec
-    Inv-loop
-    μ-loop
-    loop-holds
+    (tie.spec Inv-loop μ-loop loop-holds
     (λ c. search needs) (λ c. search needs) (λ c. search needs)  -- add-words, mul-words, slice-read-words
     (λ c. search needs) (λ c. search needs) (λ c. search needs)  -- mul-words-2, slice-write-words, add-i
     (λ c. search needs)  -- loop-less

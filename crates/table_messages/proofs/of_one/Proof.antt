@@ -16,5 +16,4 @@ of-one-spec =
     tie.close
     (tie.spec
     (λ c. search needs) (λ c. search needs) (λ c. search needs)  -- mul-if1, mul-if1-2, shared-slice-read-if1
-    returns
-    returns-2)
+    returns returns-2)

@@ -40,10 +40,7 @@ returns c =
 pub place-of-spec : {M : Type 1} → statement M
 place-of-spec =
     tie.close
-    (tie.spec
-    Inv-loop
-    μ-loop
-    loop-holds
+    (tie.spec Inv-loop μ-loop loop-holds
     (λ c κs. search needs)  -- before-one-requires
     add-n
     (λ c. search needs) (λ c. search needs)  -- add-i, loop-less

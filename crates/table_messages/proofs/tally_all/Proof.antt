@@ -39,13 +39,9 @@ returns c = let e : c .before .loop .i ≡ c .before .before .before .args .used
 pub tally-all-spec : {M : Type 1} → statement M
 tally-all-spec =
     tie.close
-    (tie.spec
-    Inv-loop
-    μ-loop
-    loop-holds
+    (tie.spec Inv-loop μ-loop loop-holds
     (λ c κs. search needs)  -- of-one-requires
     add-count
     (λ c. search needs) (λ c. search needs) (λ c. search needs)  -- mul-states, add-states, mul-states-2
     (λ c. search needs) (λ c. search needs) (λ c. search needs)  -- shared-slice-read-states, add-i, loop-less
-    loop-again
-    returns)
+    loop-again returns)

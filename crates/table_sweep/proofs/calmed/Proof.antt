@@ -21,6 +21,4 @@ calmed-spec =
     (tie.spec
     (λ c. search needs) (λ c κs. search needs) (λ c. search needs)  -- enum-told, changed-requires, enum-known-sweep
     (λ c κs. search needs) (λ c. search needs)  -- shown-one-requires, enum-told-2
-    returns
-    returns-2
-    returns-3)
+    returns returns-2 returns-3)

@@ -38,11 +38,7 @@ returns c =
 pub compact-spec : {M : Type 1} → statement M
 compact-spec =
     tie.close
-    (tie.spec
-    Inv-loop
-    μ-loop
-    loop-holds
-    move-one-requires
+    (tie.spec Inv-loop μ-loop loop-holds move-one-requires
     (λ c. search needs) (λ c. search needs)  -- add-i, loop-less
     loop-again
     (λ c. search needs)  -- same-length

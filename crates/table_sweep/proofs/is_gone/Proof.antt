@@ -26,6 +26,4 @@ is-gone-spec =
     (tie.spec
     (λ c. search needs) (λ c. search needs) (λ c κs. search needs)  -- enum-told, enum-known-sweep, is-below-requires
     (λ c κs. search needs) (λ c. search needs)  -- both-requires, enum-known-sweep-2
-    returns
-    returns-2
-    returns-3)
+    returns returns-2 returns-3)

@@ -20,6 +20,4 @@ is-idle-spec =
     (tie.spec
     (λ c. search needs) (λ c. search needs) (λ c κs. search needs)  -- enum-told, enum-known-sweep, both-requires
     (λ c. search needs)  -- enum-told-2
-    returns
-    returns-2
-    returns-3)
+    returns returns-2 returns-3)

@@ -31,5 +31,4 @@ shown-one-spec =
     (tie.spec
     (λ c κs. search needs) (λ c κs. search needs)  -- is-below-requires, both-requires
     (λ c κs. search needs)  -- changed-requires
-    returns
-    returns-2)
+    returns returns-2)

@@ -40,10 +40,7 @@ returns c =
 pub wipe-spec : {M : Type 1} → statement M
 wipe-spec =
     tie.close
-    (tie.spec
-    Inv-loop
-    μ-loop
-    loop-holds
+    (tie.spec Inv-loop μ-loop loop-holds
     (λ c κs. search needs) (λ c κs. search needs) (λ c. search needs)  -- nothing-requires, put-requires, add-j
     (λ c. search needs)  -- loop-less
     loop-again

@@ -13,7 +13,6 @@ returns-2 c = rw (eq-eqb _ 0 (c .before .if1 .left)) (c .noticed .ensures)
 pub create-told-spec : {M : Type 1} → statement M
 create-told-spec =
     tie.close
-    (tie.spec
-    returns
+    (tie.spec returns
     (λ c κs. search needs)  -- noticed-requires
     returns-2)

@@ -39,8 +39,7 @@ returns-4 c =
 pub rename-told-spec : {M : Type 1} → statement M
 rename-told-spec =
     tie.close
-    (tie.spec
-    returns
+    (tie.spec returns
     (λ c κs. search needs)  -- both-requires
     returns-2
     (λ c κs. search needs)  -- is-asked-of-requires

@@ -36,7 +36,6 @@ say-rows-spec =
     (λ c. search needs)  -- array-share-prefix-new
     slice-aggregate-say-renamed
     (λ c. search needs)  -- array-share-prefix-old
-    slice-aggregate-say-renamed-2
-    say-renamed-requires
+    slice-aggregate-say-renamed-2 say-renamed-requires
     (λ c. search needs)  -- same-length
     returns)

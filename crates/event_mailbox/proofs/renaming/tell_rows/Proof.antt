@@ -37,9 +37,7 @@ returns-3 c =
 pub tell-rows-spec : {M : Type 1} → statement M
 tell-rows-spec =
     tie.close
-    (tie.spec
-    returns
-    say-rows-requires
+    (tie.spec returns say-rows-requires
     (λ c. search needs)  -- same-length
     returns-2
     (λ c κs. search needs) (λ c. search needs)  -- silence-requires, same-length-2

@@ -42,5 +42,4 @@ grant-told-spec =
     (λ c κs. search needs)  -- noticed-requires
     returns-2
     (λ c κs. search needs) (λ c κs. search needs)  -- has-requires-3, noticed-requires-2
-    returns-3
-    returns-4)
+    returns-3 returns-4)

@@ -15,5 +15,4 @@ does-differ-spec =
     tie.close
     (tie.spec
     (λ c κs. search needs)  -- has-requires
-    returns
-    returns-2)
+    returns returns-2)

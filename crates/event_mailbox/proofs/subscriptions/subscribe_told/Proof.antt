@@ -46,8 +46,7 @@ returns-4 c =
 pub subscribe-told-spec : {M : Type 1} → statement M
 subscribe-told-spec =
     tie.close
-    (tie.spec
-    returns
+    (tie.spec returns
     (λ c κs. search needs)  -- does-differ-requires
     returns-2
     (λ c κs. search needs)  -- both-requires

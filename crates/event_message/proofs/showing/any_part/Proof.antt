@@ -48,13 +48,10 @@ returns-2 c = let a = c .before .before .before .args in
 pub any-part-spec : {M : Type 1} → statement M
 any-part-spec =
     tie.close
-    (tie.spec
-    Inv-loop
-    μ-loop
+    (tie.spec Inv-loop μ-loop
     (λ c κs. search needs)  -- standing-requires
     loop-holds
     (λ c. search needs) (λ c. search needs) (λ c κs. search needs)  -- mul-g, element-copy-out-g, has-part-requires
     returns
     (λ c. search needs) (λ c. search needs)  -- add-i, loop-less
-    loop-again
-    returns-2)
+    loop-again returns-2)

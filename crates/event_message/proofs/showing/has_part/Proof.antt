@@ -18,7 +18,6 @@ returns-2 c =
 pub has-part-spec : {M : Type 1} → statement M
 has-part-spec =
     tie.close
-    (tie.spec
-    returns
+    (tie.spec returns
     (λ c κs. search needs)  -- holds-requires
     returns-2)

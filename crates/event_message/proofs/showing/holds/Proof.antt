@@ -17,7 +17,6 @@ returns-2 c =
 pub holds-spec : {M : Type 1} → statement M
 holds-spec =
     tie.close
-    (tie.spec
-    returns
+    (tie.spec returns
     (λ c. search needs) (λ c κs. search needs)  -- sub-has, has-requires
     returns-2)

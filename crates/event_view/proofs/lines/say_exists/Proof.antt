@@ -26,8 +26,7 @@ returns-2 c =
 pub say-exists-spec : {M : Type 1} → statement M
 say-exists-spec =
     tie.close
-    (tie.spec
-    returns
+    (tie.spec returns
     (λ c. search needs) (λ c. search needs)  -- add-t10, slice-aggregate-say-count
     (λ c κs. search needs) (λ c. search needs)  -- say-count-requires, same-length
     returns-2)

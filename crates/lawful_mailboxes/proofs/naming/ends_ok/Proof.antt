@@ -43,14 +43,10 @@ returns-7 c =
 pub ends-ok-spec : {M : Type 1} → statement M
 ends-ok-spec =
     tie.close
-    (tie.spec
-    returns
-    returns-2
-    returns-3
+    (tie.spec returns returns-2 returns-3
     (λ c. search needs)  -- shared-slice-read-if4
     returns-4
     (λ c. search needs) (λ c. search needs) (λ c. search needs)  -- add-end, sub-last, shared-slice-read-last
-    returns-5
-    returns-6
+    returns-5 returns-6
     (λ c. search needs)  -- shared-slice-read-result
     returns-7)

@@ -19,5 +19,4 @@ misplaced-spec =
     tie.close
     (tie.spec
     (λ c κs. search needs)  -- is-placed-requires
-    returns
-    returns-2)
+    returns returns-2)

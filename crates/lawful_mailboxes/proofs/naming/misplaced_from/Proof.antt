@@ -29,13 +29,9 @@ returns c = let e : c .before .loop .i ≡ c .before .before .before .args .n = 
 pub misplaced-from-spec : {M : Type 1} → statement M
 misplaced-from-spec =
     tie.close
-    (tie.spec
-    Inv-loop
-    μ-loop
-    loop-holds
+    (tie.spec Inv-loop μ-loop loop-holds
     (λ c. search needs) (λ c. search needs)  -- add-misplaced, shared-slice-read-misplaced
     (λ c. search needs) (λ c. search needs)  -- add-misplaced-2, add-misplaced-3
     (λ c. search needs) (λ c κs. search needs)  -- shared-slice-read-misplaced-2, misplaced-requires
     (λ c. search needs) (λ c. search needs) (λ c. search needs)  -- add-sum, add-i, loop-less
-    loop-again
-    returns)
+    loop-again returns)

@@ -34,13 +34,9 @@ returns-2 c = λ z k h. c .before .loop .inv .1 k (omega arith)
 pub below-spec : {M : Type 1} → statement M
 below-spec =
     tie.close
-    (tie.spec
-    Inv-loop
-    μ-loop
-    loop-holds
+    (tie.spec Inv-loop μ-loop loop-holds
     (λ c. search needs) (λ c. search needs) (λ c. search needs)  -- mul-if1, element-copy-out-if1, mul-if1-2
     (λ c. search needs)  -- element-copy-out-if1-2
     returns
     (λ c. search needs) (λ c. search needs)  -- add-i, loop-less
-    loop-again
-    returns-2)
+    loop-again returns-2)

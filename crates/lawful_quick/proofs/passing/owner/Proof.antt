@@ -38,13 +38,8 @@ owner-spec =
     (tie.spec
     (λ c κs. search needs) (λ c. search needs)  -- slot-requires, element-copy-out-row
     (λ c κs. search needs)  -- row-requires
-    mul-if1
-    element-copy-out-if1
-    returns
-    element-copy-out-row-2
+    mul-if1 element-copy-out-if1 returns element-copy-out-row-2
     (λ c κs. search needs)  -- row-requires-2
-    mul-if2
-    element-copy-out-if2
-    returns-2
+    mul-if2 element-copy-out-if2 returns-2
     (λ c κs. search needs) (λ c. search needs)  -- seek-requires, returns-3
     (λ c. search needs))  -- returns-4

@@ -37,12 +37,9 @@ returns c =
 pub octets-of-spec : {M : Type 1} → statement M
 octets-of-spec =
     tie.close
-    (tie.spec
-    Inv-loop
-    μ-loop
+    (tie.spec Inv-loop μ-loop
     (λ c. search needs)  -- mul-at
     loop-holds
     (λ c. search needs) (λ c. search needs) (λ c. search needs)  -- add-name, shared-slice-read-name, array-write-name
     (λ c. search needs) (λ c. search needs)  -- add-j, loop-less
-    loop-again
-    returns)
+    loop-again returns)

@@ -32,8 +32,7 @@ returns-3 c =
 pub put-flag-spec : {M : Type 1} → statement M
 put-flag-spec =
     tie.close
-    (tie.spec
-    returns
+    (tie.spec returns
     (λ c κs. search needs) (λ c. search needs)  -- put-requires, same-length
     returns-2
     (λ c κs. search needs) (λ c κs. search needs)  -- put-byte-requires, put-requires-2

@@ -21,7 +21,6 @@ returns-2 c =
 pub put-fresh-spec : {M : Type 1} → statement M
 put-fresh-spec =
     tie.close
-    (tie.spec
-    returns
+    (tie.spec returns
     (λ c. search needs) (λ c κs. search needs) (λ c. search needs)  -- add-more, put-new-requires, same-length
     returns-2)

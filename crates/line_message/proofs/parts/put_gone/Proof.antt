@@ -27,8 +27,7 @@ returns-3 c =
 pub put-gone-spec : {M : Type 1} → statement M
 put-gone-spec =
     tie.close
-    (tie.spec
-    returns
+    (tie.spec returns
     (λ c κs. search needs) (λ c. search needs)  -- put-expunge-requires, same-length
     returns-2
     (λ c. search needs)  -- add-more

@@ -34,9 +34,6 @@ returns-4 c =
 pub put-marked-spec : {M : Type 1} → statement M
 put-marked-spec =
     tie.close
-    (tie.spec
-    returns
-    returns-2
+    (tie.spec returns returns-2
     (λ c. search needs) (λ c κs. search needs) (λ c. search needs)  -- add-more, put-fetch-requires, same-length
-    returns-3
-    returns-4)
+    returns-3 returns-4)

@@ -43,10 +43,7 @@ returns c =
 pub put-part-spec : {M : Type 1} → statement M
 put-part-spec =
     tie.close
-    (tie.spec
-    Inv-loop
-    μ-loop
-    loop-holds
+    (tie.spec Inv-loop μ-loop loop-holds
     (λ c. search needs) (λ c. search needs) (λ c. search needs)  -- sub-j, mul-entry, shared-slice-read-entry
     (λ c κs. search needs)  -- entry-requires
     put-one-requires

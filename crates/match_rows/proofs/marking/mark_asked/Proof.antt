@@ -75,15 +75,11 @@ returns c =
 pub mark-asked-spec : {M : Type 1} → statement M
 mark-asked-spec =
     tie.close
-    (tie.spec
-    Inv-loop
-    μ-loop
+    (tie.spec Inv-loop μ-loop
     (λ c κs. search needs)  -- groups-requires
     loop-holds
     (λ c. search needs) (λ c. search needs)  -- mul-group-of, element-copy-out-group-of
     (λ c κs. search needs)  -- group-of-requires
     mark-group-requires
     (λ c. search needs) (λ c. search needs)  -- add-i, loop-less
-    loop-again
-    same-length
-    returns)
+    loop-again same-length returns)

@@ -71,8 +71,7 @@ mark-met-spec =
     (λ c κs. search needs) (λ c. search needs)  -- mark-taken-requires-3, enum-known-selector
     (λ c κs. search needs) (λ c. search needs)  -- mark-range-requires, enum-known-selector-2
     (λ c κs. search needs)  -- mark-range-requires-2
-    returns
-    returns-2
+    returns returns-2
     (λ c. search needs)  -- same-length
     returns-3
     (λ c. search needs)  -- same-length-2

@@ -31,7 +31,6 @@ mark-name-spec =
     tie.close
     (tie.spec
     (λ c κs. search needs)  -- clip-requires
-    array-share-prefix-o
-    slice-aggregate-mark-top
+    array-share-prefix-o slice-aggregate-mark-top
     (λ c κs. search needs) (λ c. search needs)  -- mark-top-requires, same-length
     returns)

@@ -67,14 +67,10 @@ returns c =
 pub mark-range-spec : {M : Type 1} → statement M
 mark-range-spec =
     tie.close
-    (tie.spec
-    Inv-loop
-    μ-loop
+    (tie.spec Inv-loop μ-loop
     (λ c κs. search needs) (λ c κs. search needs)  -- reach-requires, wide-requires
     loop-holds
     (λ c. search needs) (λ c. search needs)  -- mul-x, element-copy-out-x
     mark-name-requires
     (λ c. search needs) (λ c. search needs)  -- add-i, loop-less
-    loop-again
-    same-length
-    returns)
+    loop-again same-length returns)

@@ -49,15 +49,10 @@ returns c = λ k h. c .before .loop .inv .2 .below k (omega arith)
 pub mark-taken-spec : {M : Type 1} → statement M
 mark-taken-spec =
     tie.close
-    (tie.spec
-    Inv-loop
-    μ-loop
-    loop-holds
+    (tie.spec Inv-loop μ-loop loop-holds
     (λ c. search needs) (λ c κs. search needs)  -- element-copy-out-takes, takes-requires
     slice-read-mark
     (λ c κs. search needs)  -- marked-requires
     slice-write-marks
     (λ c. search needs) (λ c. search needs)  -- add-k, loop-less
-    loop-again
-    same-length
-    returns)
+    loop-again same-length returns)

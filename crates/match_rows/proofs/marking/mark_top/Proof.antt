@@ -48,15 +48,10 @@ returns c = λ k h. c .before .loop .inv .2 .below k (omega arith)
 pub mark-top-spec : {M : Type 1} → statement M
 mark-top-spec =
     tie.close
-    (tie.spec
-    Inv-loop
-    μ-loop
-    loop-holds
+    (tie.spec Inv-loop μ-loop loop-holds
     (λ c κs. search needs)  -- lies-requires
     slice-read-mark
     (λ c κs. search needs)  -- marked-requires
     slice-write-marks
     (λ c. search needs) (λ c. search needs)  -- add-k, loop-less
-    loop-again
-    same-length
-    returns)
+    loop-again same-length returns)

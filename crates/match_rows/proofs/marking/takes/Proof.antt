@@ -24,8 +24,6 @@ takes-spec =
     (λ c κs. search needs) (λ c. search needs)  -- takes-personal-requires, enum-told-5
     (λ c κs. search needs) (λ c. search needs) (λ c. search needs)  -- has-requires, enum-told-6, enum-told-7
     (λ c. search needs) (λ c. search needs)  -- returns, returns-2
-    returns-3
-    returns-4
-    returns-5
+    returns-3 returns-4 returns-5
     (λ c. search needs)  -- returns-6
     (λ c. search needs))  -- returns-7

@@ -92,12 +92,10 @@ bare-date-at-spec =
     (λ c κs. search needs) (λ c. search needs) (λ c. search needs)  -- digits-at-requires, enum-known-q, enum-told
     returns
     (λ c κs. search needs)  -- octet-at-requires
-    returns-2
-    add-month-at
+    returns-2 add-month-at
     (λ c κs. search needs) (λ c. search needs) (λ c. search needs)  -- month-at-requires, enum-known-r, enum-told-2
     returns-3
     (λ c κs. search needs)  -- octet-at-requires-2
-    returns-4
-    add-digits-at
+    returns-4 add-digits-at
     (λ c κs. search needs)  -- digits-at-requires-2
     returns-5)

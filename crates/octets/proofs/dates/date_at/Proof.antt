@@ -75,8 +75,6 @@ date-at-spec =
     (λ c κs. search needs) (λ c. search needs) (λ c. search needs)  -- bare-date-at-requires, enum-known-q, enum-told
     returns
     (λ c κs. search needs)  -- octet-at-requires-2
-    returns-2
-    add-t7
-    returns-3
+    returns-2 add-t7 returns-3
     (λ c κs. search needs)  -- bare-date-at-requires-2
     returns-4)

@@ -27,5 +27,4 @@ digits-at-spec =
     (λ c κs. search needs) (λ c. search needs)  -- run-end-requires, sub-if1
     returns
     (λ c. search needs)  -- sub-if2
-    returns-2
-    returns-3)
+    returns-2 returns-3)

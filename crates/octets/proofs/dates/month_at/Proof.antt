@@ -25,10 +25,8 @@ returns-4 c = record { exact = rw (sym (c .before .is-one-of .ensures) ∙ c .if
 pub month-at-spec : {M : Type 1} → statement M
 month-at-spec =
     tie.close
-    (tie.spec
-    returns
+    (tie.spec returns
     (λ c. search needs)  -- sub-if2
     returns-2
     (λ c. search needs) (λ c. search needs) (λ c. search needs) (λ c κs. search needs)  -- add-end, slice-aggregate-is-one-of, slice-aggregate-is-one-of-2, is-one-of-requires
-    returns-3
-    returns-4)
+    returns-3 returns-4)

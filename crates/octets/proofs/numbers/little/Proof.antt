@@ -43,12 +43,9 @@ returns c =
 pub little-spec : {M : Type 1} → statement M
 little-spec =
     tie.close
-    (tie.spec
-    Inv-loop
-    μ-loop
+    (tie.spec Inv-loop μ-loop
     (λ c κs. search needs)  -- four-at-most-requires
     loop-holds
     (λ c. search needs) (λ c. search needs) (λ c κs. search needs)  -- sub-i, mul-v, octet-from-requires
     (λ c κs. search needs) (λ c. search needs) (λ c. search needs)  -- wide-requires, add-v, loop-less
-    loop-again
-    returns)
+    loop-again returns)

@@ -43,15 +43,11 @@ returns-3 c =
 pub number-at-spec : {M : Type 1} → statement M
 number-at-spec =
     tie.close
-    (tie.spec
-    Inv-loop
-    μ-loop
+    (tie.spec Inv-loop μ-loop
     (λ c κs. search needs)  -- run-end-requires
-    returns
-    loop-holds
+    returns loop-holds
     (λ c. search needs) (λ c. search needs)  -- mul-v, shared-slice-read-digit-value
     (λ c κs. search needs) (λ c. search needs)  -- digit-value-requires, add-v
     returns-2
     (λ c. search needs) (λ c. search needs)  -- add-i, loop-less
-    loop-again
-    returns-3)
+    loop-again returns-3)

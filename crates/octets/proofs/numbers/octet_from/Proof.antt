@@ -20,8 +20,7 @@ returns-2 c =
 pub octet-from-spec : {M : Type 1} → statement M
 octet-from-spec =
     tie.close
-    (tie.spec
-    returns
+    (tie.spec returns
     (λ c. search needs)  -- sub-if2
     returns-2
     (λ c. search needs) (λ c. search needs)  -- add-result, shared-slice-read-result

@@ -16,5 +16,4 @@ run-at-spec =
     tie.close
     (tie.spec
     (λ c κs. search needs)  -- run-end-requires
-    returns
-    returns-2)
+    returns returns-2)

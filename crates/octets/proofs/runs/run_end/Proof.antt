@@ -40,12 +40,7 @@ returns-2 c =
 pub run-end-spec : {M : Type 1} → statement M
 run-end-spec =
     tie.close
-    (tie.spec
-    Inv-loop
-    μ-loop
-    loop-holds
+    (tie.spec Inv-loop μ-loop loop-holds
     (λ c. search needs) (λ c κs. search needs)  -- shared-slice-read-in-table, in-table-requires
     (λ c. search needs) (λ c. search needs)  -- add-p, loop-less
-    loop-again
-    returns
-    returns-2)
+    loop-again returns returns-2)

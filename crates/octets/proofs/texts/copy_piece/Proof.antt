@@ -38,10 +38,7 @@ returns-2 c =
 pub copy-piece-spec : {M : Type 1} → statement M
 copy-piece-spec =
     tie.close
-    (tie.spec
-    Inv-loop
-    μ-loop
-    loop-holds
+    (tie.spec Inv-loop μ-loop loop-holds
     (λ c. search needs)  -- same-length
     returns
     (λ c. search needs) (λ c κs. search needs) (λ c. search needs)  -- shared-slice-read-store, store-requires, add-n

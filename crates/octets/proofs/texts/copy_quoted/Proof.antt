@@ -71,13 +71,9 @@ returns-3 c =
 pub copy-quoted-spec : {M : Type 1} → statement M
 copy-quoted-spec =
     tie.close
-    (tie.spec
-    Inv-loop
-    μ-loop
+    (tie.spec Inv-loop μ-loop
     (λ c κs. search needs) (λ c. search needs) (λ c. search needs)  -- quoted-at-requires, enum-told, enum-told-2
-    returns
-    add-p
-    loop-holds
+    returns add-p loop-holds
     (λ c. search needs) (λ c κs. search needs)  -- shared-slice-read-b, quote-step-requires
     (λ c. search needs)  -- same-length
     returns-2

@@ -18,5 +18,4 @@ keep-spec =
     tie.close
     (tie.spec
     (λ c κs. search needs) (λ c. search needs) (λ c. search needs)  -- store-requires, add-result, same-length
-    returns
-    returns-2)
+    returns returns-2)

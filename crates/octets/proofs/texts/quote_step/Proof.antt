@@ -29,12 +29,6 @@ returns-7 c = rw (c .before .before .before .before .if1 .left, ne-eqb _ _ (c .b
 pub quote-step-spec : {M : Type 1} → statement M
 quote-step-spec =
     tie.close
-    (tie.spec
-    returns
-    returns-2
-    returns-3
-    returns-4
-    returns-5
+    (tie.spec returns returns-2 returns-3 returns-4 returns-5
     (λ c κs. search needs)  -- in-class-requires
-    returns-6
-    returns-7)
+    returns-6 returns-7)

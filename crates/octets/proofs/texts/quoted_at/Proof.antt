@@ -55,17 +55,11 @@ returns-4 c = record { exact = sym (c .before .loop .inv .2 ∙ ap nextOf (quote
 pub quoted-at-spec : {M : Type 1} → statement M
 quoted-at-spec =
     tie.close
-    (tie.spec
-    Inv-loop
-    μ-loop
+    (tie.spec Inv-loop μ-loop
     (λ c κs. search needs)  -- octet-at-requires
-    returns
-    add-p
-    loop-holds
+    returns add-p loop-holds
     (λ c. search needs) (λ c κs. search needs)  -- shared-slice-read-quote-step, quote-step-requires
     (λ c. search needs)  -- add-t12
-    returns-2
-    returns-3
+    returns-2 returns-3
     (λ c. search needs) (λ c. search needs)  -- add-p-2, loop-less
-    loop-again
-    returns-4)
+    loop-again returns-4)

@@ -49,17 +49,11 @@ returns-3 c =
 pub place-of-spec : {M : Type 1} → statement M
 place-of-spec =
     tie.close
-    (tie.spec
-    Inv-loop
-    μ-loop
-    loop-holds
+    (tie.spec Inv-loop μ-loop loop-holds
     (λ c. search needs)  -- shared-slice-read-upto
-    cast-upto
-    add-upto
-    returns
+    cast-upto add-upto returns
     (λ c. search needs) (λ c. search needs) (λ c. search needs) (λ c. search needs)  -- add-i, sub-same-word, part-same-word-start, part-same-word-end
     (λ c κs. search needs)  -- same-word-requires
     returns-2
     (λ c. search needs) (λ c. search needs)  -- add-at, loop-less
-    loop-again
-    returns-3)
+    loop-again returns-3)

@@ -67,5 +67,4 @@ keep-names-spec =
     (λ c κs. search needs)  -- unread-requires
     returns-2
     (λ c κs. search needs)  -- name-at-requires
-    keep-one-requires
-    returns-3)
+    keep-one-requires returns-3)

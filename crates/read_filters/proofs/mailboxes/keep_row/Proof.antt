@@ -113,20 +113,13 @@ loop-again c =
 pub keep-row-spec : {M : Type 1} → statement M
 keep-row-spec =
     tie.close
-    (tie.spec
-    Inv-loop
-    μ-loop
-    loop-holds
+    (tie.spec Inv-loop μ-loop loop-holds
     (λ c κs. search needs) (λ c. search needs) (λ c. search needs)  -- text-at-requires, enum-known-q, enum-told
     (λ c κs. search needs)  -- unread-requires
     returns
     (λ c κs. search needs)  -- name-at-requires
     keep-one-requires
     (λ c κs. search needs)  -- octet-at-requires
-    add-t12
-    returns-2
+    add-t12 returns-2
     (λ c κs. search needs)  -- unread-requires-2
-    returns-3
-    add-p
-    loop-less
-    loop-again)
+    returns-3 add-p loop-less loop-again)

@@ -42,5 +42,4 @@ names-at-spec =
     (λ c κs. search needs)  -- names-row-requires
     returns
     (λ c κs. search needs) (λ c. search needs) (λ c. search needs)  -- text-at-requires, enum-known-p, enum-told
-    returns-2
-    returns-3)
+    returns-2 returns-3)

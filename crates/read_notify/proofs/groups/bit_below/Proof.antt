@@ -15,5 +15,4 @@ bit-below-spec =
     tie.close
     (tie.spec
     (λ c. search needs) (λ c. search needs) (λ c. search needs)  -- mul-result, add-result, mul-result-2
-    returns
-    returns-2)
+    returns returns-2)

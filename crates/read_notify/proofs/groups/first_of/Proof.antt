@@ -15,5 +15,4 @@ first-of-spec =
     tie.close
     (tie.spec
     (λ c κs. search needs)  -- low-requires
-    returns
-    returns-2)
+    returns returns-2)

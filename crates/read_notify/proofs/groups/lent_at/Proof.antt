@@ -58,11 +58,8 @@ lent-at-spec =
     tie.close
     (tie.spec
     (λ c κs. search needs)  -- octet-at-requires
-    returns
-    add-filter-at
+    returns add-filter-at
     (λ c κs. search needs) (λ c. search needs)  -- filter-at-requires, enum-known-scope
     (λ c κs. search needs) (λ c κs. search needs)  -- is-groupable-requires, lent-behind-requires
     (λ c. search needs)  -- enum-told
-    returns-2
-    returns-3
-    returns-4)
+    returns-2 returns-3 returns-4)

@@ -77,8 +77,7 @@ lent-behind-spec =
     tie.close
     (tie.spec
     (λ c κs. search needs)  -- octet-at-requires
-    returns
-    add-events-at
+    returns add-events-at
     (λ c κs. search needs) (λ c. search needs)  -- events-at-requires, enum-known-e
     (λ c κs. search needs)  -- octet-at-requires-2
     returns-2
@@ -86,5 +85,4 @@ lent-behind-spec =
     (λ c κs. search needs)  -- tally-by-requires
     add-t18
     (λ c. search needs)  -- enum-told
-    returns-3
-    returns-4)
+    returns-3 returns-4)

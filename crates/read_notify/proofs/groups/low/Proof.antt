@@ -15,5 +15,4 @@ low-spec =
     tie.close
     (tie.spec
     (λ c. search needs)  -- cast-result
-    returns
-    returns-2)
+    returns returns-2)

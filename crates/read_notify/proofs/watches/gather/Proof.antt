@@ -85,21 +85,12 @@ loop-again c =
 pub gather-spec : {M : Type 1} → statement M
 gather-spec =
     tie.close
-    (tie.spec
-    Inv-loop
-    μ-loop
+    (tie.spec Inv-loop μ-loop
     (λ c κs. search needs) (λ c κs. search needs)  -- no-tally-requires, no-watch-requires
     (λ c κs. search needs)  -- keep-nothing-requires
     loop-holds
     (λ c κs. search needs) (λ c. search needs) (λ c. search needs)  -- lent-at-requires, enum-known-group, enum-told
     (λ c κs. search needs)  -- ungathered-requires
-    returns
-    add-keep-more
-    keep-more-requires
-    keep-group-requires
-    added-requires
+    returns add-keep-more keep-more-requires keep-group-requires added-requires
     (λ c κs. search needs) (λ c κs. search needs)  -- octet-at-requires, gathered-requires
-    returns-2
-    add-p
-    loop-less
-    loop-again)
+    returns-2 add-p loop-less loop-again)

@@ -60,7 +60,6 @@ keep-at-spec =
     (λ c κs. search needs)  -- unkept-requires
     returns-2
     (λ c κs. search needs) (λ c κs. search needs)  -- octet-at-requires, unkept-requires-2
-    returns-3
-    add-set-at
+    returns-3 add-set-at
     (λ c κs. search needs)  -- set-at-requires
     returns-4)

@@ -18,7 +18,6 @@ returns-2 c =
 pub keep-more-spec : {M : Type 1} → statement M
 keep-more-spec =
     tie.close
-    (tie.spec
-    returns
+    (tie.spec returns
     (λ c κs. search needs)  -- keep-filter-requires
     returns-2)

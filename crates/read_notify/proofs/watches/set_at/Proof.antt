@@ -43,8 +43,7 @@ set-at-spec =
     (λ c κs. search needs) (λ c. search needs)  -- run-end-requires, slice-aggregate-is-word
     (λ c κs. search needs) (λ c κs. search needs)  -- is-word-requires, octet-at-requires
     (λ c κs. search needs)  -- unkept-requires
-    returns
-    add-gather
+    returns add-gather
     (λ c κs. search needs) (λ c κs. search needs)  -- gather-requires, kept-with-requires
     returns-2
     (λ c κs. search needs) (λ c κs. search needs)  -- gather-requires-2, kept-with-requires-2

@@ -31,9 +31,6 @@ watch-by-spec =
     tie.close
     (tie.spec
     (λ c. search needs) (λ c κs. search needs) (λ c. search needs)  -- enum-told, silence-requires, enum-known-read
-    returns
-    returns-2
+    returns returns-2
     (λ c κs. search needs) (λ c. search needs)  -- settled-requires, enum-told-2
-    returns-3
-    returns-4
-    returns-5)
+    returns-3 returns-4 returns-5)

@@ -29,7 +29,6 @@ sources-at-spec =
     tie.close
     (tie.spec
     (λ c κs. search needs)  -- octet-at-requires
-    returns
-    add-sources-row
+    returns add-sources-row
     (λ c κs. search needs)  -- sources-row-requires
     returns-2)

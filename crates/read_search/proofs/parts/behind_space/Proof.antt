@@ -27,6 +27,4 @@ behind-space-spec =
     tie.close
     (tie.spec
     (λ c κs. search needs)  -- octet-at-requires
-    add-t5
-    returns
-    returns-2)
+    add-t5 returns returns-2)

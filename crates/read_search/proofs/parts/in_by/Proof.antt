@@ -45,5 +45,4 @@ in-by-spec =
     returns-2
     (λ c κs. search needs) (λ c. search needs)  -- behind-space-requires, enum-known-next
     (λ c. search needs)  -- enum-told-3
-    returns-3
-    returns-4)
+    returns-3 returns-4)

@@ -21,5 +21,4 @@ return-at-spec =
     (tie.spec
     (λ c. search needs) (λ c κs. search needs)  -- slice-aggregate-word-at, word-at-requires
     (λ c κs. search needs)  -- return-by-requires
-    returns
-    returns-2)
+    returns returns-2)

@@ -19,5 +19,4 @@ is-refused-spec =
     tie.close
     (tie.spec
     (λ c. search needs) (λ c. search needs)  -- returns, returns-2
-    returns-3
-    returns-4)
+    returns-3 returns-4)

@@ -38,9 +38,6 @@ reply-for-spec =
     tie.close
     (tie.spec
     (λ c κs. search needs)  -- is-refused-requires
-    returns
-    returns-2
-    returns-3
+    returns returns-2 returns-3
     (λ c κs. search needs)  -- is-too-large-requires
-    returns-4
-    returns-5)
+    returns-4 returns-5)

@@ -32,7 +32,6 @@ bound-at-spec =
     tie.close
     (tie.spec
     (λ c κs. search needs)  -- octet-at-requires
-    add-t5
-    returns
+    add-t5 returns
     (λ c κs. search needs)  -- positive-at-requires
     returns-2)

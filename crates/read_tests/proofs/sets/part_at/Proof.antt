@@ -60,7 +60,4 @@ part-at-spec =
     add-bound-at
     (λ c κs. search needs) (λ c. search needs) (λ c. search needs)  -- bound-at-requires-2, enum-known-upto, enum-told
     (λ c. search needs)  -- enum-told-2
-    returns
-    returns-2
-    returns-3
-    returns-4)
+    returns returns-2 returns-3 returns-4)

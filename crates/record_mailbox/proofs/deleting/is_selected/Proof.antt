@@ -13,7 +13,6 @@ returns-2 c = rw (ne-eqb _ 0 (c .before .if1 .left))
 pub is-selected-spec : {M : Type 1} → statement M
 is-selected-spec =
     tie.close
-    (tie.spec
-    returns
+    (tie.spec returns
     (λ c. search needs)  -- cast-result
     returns-2)

@@ -45,15 +45,11 @@ returns c =
 pub fields-at-spec : {M : Type 1} → statement M
 fields-at-spec =
     tie.close
-    (tie.spec
-    Inv-loop
-    μ-loop
-    loop-holds
+    (tie.spec Inv-loop μ-loop loop-holds
     (λ c. search needs) (λ c κs. search needs)  -- array-read-field-of, field-of-requires
     (λ c κs. search needs)  -- width-of-requires
     number-at-requires
     (λ c κs. search needs) (λ c κs. search needs) (λ c. search needs)  -- in-range-requires, both-requires, mul-values
     (λ c. search needs) (λ c. search needs) (λ c. search needs)  -- array-write-values, add-end, add-i
     (λ c. search needs)  -- loop-less
-    loop-again
-    returns)
+    loop-again returns)

@@ -13,7 +13,6 @@ returns-2 c = frame-long (c .before .before .before .args .o .now) (c .before .i
 pub is-framed-spec : {M : Type 1} → statement M
 is-framed-spec =
     tie.close
-    (tie.spec
-    returns
+    (tie.spec returns
     (λ c κs. search needs) (λ c. search needs)  -- little-requires, sub-result
     returns-2)

@@ -29,7 +29,6 @@ is-whole-spec =
     tie.close
     (tie.spec
     (λ c κs. search needs)  -- is-framed-requires
-    returns
-    returns-2
+    returns returns-2
     (λ c κs. search needs)  -- tail-ok-requires
     returns-3)

@@ -27,6 +27,4 @@ tail-ok-spec =
     (λ c. search needs) (λ c. search needs)  -- sub-is-valid, part-is-valid-start
     (λ c. search needs) (λ c κs. search needs)  -- part-is-valid-end, is-valid-requires
     (λ c. search needs) (λ c. search needs)  -- enum-told-3, sub-result-2
-    returns
-    returns-2
-    returns-3)
+    returns returns-2 returns-3)

@@ -55,16 +55,5 @@ in-range-spec =
     (λ c κs. search needs) (λ c. search needs) (λ c. search needs)  -- between-requires-3, enum-told-9, enum-told-10
     (λ c. search needs) (λ c. search needs) (λ c. search needs)  -- enum-told-11, enum-told-12, enum-told-13
     (λ c κs. search needs)  -- between-requires-4
-    returns
-    returns-2
-    returns-3
-    returns-4
-    returns-5
-    returns-6
-    returns-7
-    returns-8
-    returns-9
-    returns-10
-    returns-11
-    returns-12
-    returns-13)
+    returns returns-2 returns-3 returns-4 returns-5 returns-6 returns-7 returns-8 returns-9 returns-10 returns-11
+    returns-12 returns-13)

@@ -14,9 +14,7 @@ abbrev μ-loop : tie.MeasureT-loop
 pub alike-spec : {M : Type 1} → statement M
 alike-spec =
     tie.close
-    (tie.spec
-    Inv-loop
-    μ-loop
+    (tie.spec Inv-loop μ-loop
     (λ c. search needs) (λ c. search needs) (λ c. search needs)  -- loop-holds, returns, shared-slice-read-if2
     (λ c. search needs) (λ c. search needs) (λ c. search needs)  -- shared-slice-read-if2-2, returns-2, add-i
     (λ c. search needs) (λ c. search needs)  -- loop-less, loop-again

@@ -22,5 +22,4 @@ behind-word-spec =
     (tie.spec
     (λ c κs. search needs) (λ c. search needs)  -- tag-end-requires, add-verb-at
     (λ c κs. search needs) (λ c. search needs) (λ c. search needs)  -- verb-at-requires, enum-known-at, enum-told
-    returns
-    returns-2)
+    returns returns-2)

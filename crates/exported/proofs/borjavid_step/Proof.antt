@@ -1,6 +1,6 @@
 -- `exported::borjavid_step` meets its contract: a walk of its MIR, by hand, with six calls and no branch. All that it knows of its callees is that each meets its contract.
 -- The rows' borrow, the counts' and the session's are opened once. The rows are lent as a `&[Mailbox]` for a lifetime of the call of `served`, and passed on for good to `write_back`, as the words and the queue
--- are to `served`, which gets a copy of the record's reference. The counts and the session are read and written whole. Positions are written by a script (walkgen of the recipe).
+-- are to `served`, which gets a copy of the record's reference. The counts and the session are read and written whole. Positions were written by a script (tools/walkgen.py).
 -- Assumes nothing.
 use mathlib.Core.Path.{_≡_, refl, sym, ap, subst}
 use mathlib.Core.List.{[], _∷_, List}
@@ -200,7 +200,8 @@ module _ {M : Type 1} (𝓤 : URA M) (H : Heap 𝓤) (A : Atoms 𝓤) (W : Given
       (MutSlice (named 2) κ₄ u8 .own xq (sq ∷ [])) ∷ ‵ (ShrSlice (named 3) κ₅ u8 .own xr (sr ∷ [])) ∷ []))
       (Served 𝓤 H A at-mem run .pre (to-served ν δ))
   goes-served ν δ is-c is-h =
-      qed W (‵ (flft (ν ∷ []) fullShare) ∷ ‵ (flft κ₁ q₁) ∷ ‵ (flft κ₄ q₄) ∷ ‵ (flft κ₅ q₅) ∷ ‵ (ShrSlice (named 0) (ν ∷ []) T.the-row .own (x δ) (s ∷ [])) ∷ ‵ (MutSlice (named 1) κ₁ u64 .own xw (sw ∷ [])) ∷ ‵ (MutSlice (named 2) κ₄ u8 .own xq (sq ∷ [])) ∷ ‵ (ShrSlice (named 3) κ₅ u8 .own xr (sr ∷ [])) ∷ []) ∵
+      qed W (‵ (flft (ν ∷ []) fullShare) ∷ ‵ (flft κ₁ q₁) ∷ ‵ (flft κ₄ q₄) ∷ ‵ (flft κ₅ q₅) ∷ ‵ (ShrSlice (named 0) (ν ∷ []) T.the-row .own (x δ) (s ∷ []))
+      ∷ ‵ (MutSlice (named 1) κ₁ u64 .own xw (sw ∷ [])) ∷ ‵ (MutSlice (named 2) κ₄ u8 .own xq (sq ∷ [])) ∷ ‵ (ShrSlice (named 3) κ₅ u8 .own xr (sr ∷ [])) ∷ []) ∵
       nothing ! $ move ! (4 ∷ 0 ∷ []) $ join ! $ move ! (3 ∷ 0 ∷ []) $ join ! $ move ! (2 ∷ 0 ∷ []) $ join ! $ move ! (1 ∷ 0 ∷ []) $ join ! $
       nothing ! $ move ! (5 ∷ 0 ∷ []) $ fjoin ! $ move ! (4 ∷ 0 ∷ []) $ fjoin ! $ owned ! S.the-row (Is S.the-row)
       (LL.makes S.the-type S′.the-plain 𝓤 H A) h _ is-h $ fjoin ! $ owned ! N.the-row (Is N.the-row)
@@ -230,7 +231,8 @@ module _ {M : Type 1} (𝓤 : URA M) (H : Heap 𝓤) (A : Atoms 𝓤) (W : Given
   to-moved r k = ((tt, tt, tt, (r, (k, (n, tt))), (valO r ∷ [], (vint w64 k ∷ [], (vint w64 n ∷ [], tt)))), tt)
 
   goes-moved : (r : Came) (k : ℕ) → k < 2 ^ 64 → Is O.the-row r (valO r ∷ []) → ent 𝓤 (emp 𝓤) (MovedFrom 𝓤 H A at-mem run .pre (to-moved r k))
-  goes-moved r k k-fits is-r = qed W [] ∵ nothing ! $ owned ! usize (Is usize) (uint-makes 𝓤 H A W w64) n _ (refl, room .0) $ fjoin ! $ owned ! usize (Is usize) (uint-makes 𝓤 H A W w64) k _ (refl, k-fits) $ fjoin ! $ owned ! O.the-row (Is O.the-row) (LL.makes O.the-type O′.the-plain 𝓤 H A) r _ is-r $ fjoin ! $ nothing ! $ join ! $ frame ! $ done !
+  goes-moved r k k-fits is-r = qed W [] ∵ nothing ! $ owned ! usize (Is usize) (uint-makes 𝓤 H A W w64) n _ (refl, room .0) $ fjoin ! $ owned ! usize (Is usize) (uint-makes 𝓤 H A W w64) k _ (refl, k-fits) $ fjoin ! $
+      owned ! O.the-row (Is O.the-row) (LL.makes O.the-type O′.the-plain 𝓤 H A) r _ is-r $ fjoin ! $ nothing ! $ join ! $ frame ! $ done !
 
   moved-of : (r : Came) (k : ℕ) (j : ℕ) → ent 𝓤 (ensured 𝓤 H A moved-from-fn.ended (moved-from-fn.clauses 𝓤 H A at-mem run) tt (r, (k, (n, tt))) tt j) (fact 𝓤 (j ≡ movedFrom r k n))
   moved-of r k j = exE 𝓤 _ (λ ls. snd∗ 𝓤 (sem 𝓤 H A (lasts moved-from-fn.ended tt (r, (k, (n, tt))) ls)) (fact 𝓤 (j ≡ movedFrom r k n)))
@@ -270,13 +272,18 @@ module _ {M : Type 1} (𝓤 : URA M) (H : Heap 𝓤) (A : Atoms 𝓤) (W : Given
   numbers-of r d = exE 𝓤 _ (λ ls. snd∗ 𝓤 (sem 𝓤 H A (lasts numbers-fn.ended tt (r, tt) ls)) (fact 𝓤 (d ≡ numbersOf (r .answer))))
 
   -- ---- the exit
-  exits : (r : Came) (zs : List Mailbox) (vs vq : List ℕ) (d : Answered) → CallsOf (lentAs ys ws cs h xs) us d (lentAs zs vs (r .counts) (r .session) vq) → length zs ≡ n → length vs ≡ length ws → length vq ≡ length xs → Is D.the-row d (valD d ∷ [])
-      → ent 𝓤 (⋆ 𝓤 H A (‵ (flft κ q) ∷ ‵ (flft κ₁ q₁) ∷ ‵ (flft κ₂ q₂) ∷ ‵ (flft κ₃ q₃) ∷ ‵ (flft κ₄ q₄) ∷ ‵ (flft κ₅ q₅) ∷ ‵ (finally T.the-row γ zs) ∷ ‵ (finally u64 γ₁ vs)
-      ∷ ‵ (fobs γ₂ (N.the-row .coded .code (r .counts))) ∷ ‵ (fbor κ₂ (Body (mem N.the-row) b₂ o₂ γ₂)) ∷ ‵ (fobs γ₃ (S.the-row .coded .code (r .session))) ∷ ‵ (fbor κ₃ (Body (mem S.the-row) b₃ o₃ γ₃)) ∷ ‵ (finally u8 γ₄ vq) ∷ ‵ OwnR ∷ [])) (Post (valD d))
+  exits : (r : Came) (zs : List Mailbox) (vs vq : List ℕ) (d : Answered) → CallsOf (lentAs ys ws cs h xs) us d (lentAs zs vs (r .counts) (r .session) vq) → length zs ≡ n → length vs ≡ length ws → length vq ≡ length xs
+      → Is D.the-row d (valD d ∷ [])
+      → ent 𝓤 (⋆ 𝓤 H A (‵ (flft κ q) ∷ ‵ (flft κ₁ q₁) ∷ ‵ (flft κ₂ q₂) ∷ ‵ (flft κ₃ q₃) ∷ ‵ (flft κ₄ q₄) ∷ ‵ (flft κ₅ q₅) ∷ ‵ (finally T.the-row γ zs)
+      ∷ ‵ (finally u64 γ₁ vs)
+      ∷ ‵ (fobs γ₂ (N.the-row .coded .code (r .counts))) ∷ ‵ (fbor κ₂ (Body (mem N.the-row) b₂ o₂ γ₂)) ∷ ‵ (fobs γ₃ (S.the-row .coded .code (r .session)))
+      ∷ ‵ (fbor κ₃ (Body (mem S.the-row) b₃ o₃ γ₃)) ∷ ‵ (finally u8 γ₄ vq) ∷ ‵ OwnR ∷ [])) (Post (valD d))
   exits r zs vs vq d called lz lw lq is =
       qed W (‵ (flft κ q) ∷ ‵ (flft κ₁ q₁) ∷ ‵ (flft κ₂ q₂) ∷ ‵ (flft κ₃ q₃) ∷ ‵ (flft κ₄ q₄) ∷ ‵ (flft κ₅ q₅) ∷ ‵ (finally T.the-row γ zs) ∷ ‵ (finally u64 γ₁ vs)
-      ∷ ‵ (fobs γ₂ (N.the-row .coded .code (r .counts))) ∷ ‵ (fbor κ₂ (Body (mem N.the-row) b₂ o₂ γ₂)) ∷ ‵ (fobs γ₃ (S.the-row .coded .code (r .session))) ∷ ‵ (fbor κ₃ (Body (mem S.the-row) b₃ o₃ γ₃)) ∷ ‵ (finally u8 γ₄ vq) ∷ ‵ OwnR ∷ []) ∵
-      suffices ! _ (ends-at 𝓤 H A f.ended stayed (f.clauses 𝓤 H A at-mem run) W (((κ, (κ₁, (κ₂, (κ₃, (κ₄, (κ₅, tt)))))), (q, (q₁, (q₂, (q₃, (q₄, (q₅, tt)))))), bounds, a, at), tt) (valD d) d (zs, (vs, (r .counts, (r .session, (vq, (tt, tt)))))) (lz, (lw, (tt, (tt, (lq, (tt, tt))))))) $ says ! called $
+      ∷ ‵ (fobs γ₂ (N.the-row .coded .code (r .counts))) ∷ ‵ (fbor κ₂ (Body (mem N.the-row) b₂ o₂ γ₂)) ∷ ‵ (fobs γ₃ (S.the-row .coded .code (r .session)))
+      ∷ ‵ (fbor κ₃ (Body (mem S.the-row) b₃ o₃ γ₃)) ∷ ‵ (finally u8 γ₄ vq) ∷ ‵ OwnR ∷ []) ∵
+      suffices ! _ (ends-at 𝓤 H A f.ended stayed (f.clauses 𝓤 H A at-mem run) W (((κ, (κ₁, (κ₂, (κ₃, (κ₄, (κ₅, tt)))))), (q, (q₁, (q₂, (q₃, (q₄, (q₅, tt)))))), bounds, a, at), tt) (valD d) d
+      (zs, (vs, (r .counts, (r .session, (vq, (tt, tt)))))) (lz, (lw, (tt, (tt, (lq, (tt, tt))))))) $ says ! called $
       nothing ! $ move ! (6 ∷ 0 ∷ []) $ join ! $ move ! (5 ∷ 0 ∷ []) $ join ! $ move ! (4 ∷ 0 ∷ []) $ join ! $ move ! (3 ∷ 0 ∷ []) $ join ! $ move !
       (2 ∷ 0 ∷ []) $ join ! $ move ! (1 ∷ 0 ∷ []) $ join ! $ frame ! $ nothing ! $ move ! (8 ∷ 0 ∷ []) $ fjoin ! $ move !
       (7 ∷ 0 ∷ []) $ fjoin ! $ move ! (5 ∷ 6 ∷ []) $ feqI ! (List Val) (vptr b₃ o₃ ∷ []) (vptr b₃ o₃ ∷ []) refl $ fjoin3 ! $ move !
@@ -288,7 +295,8 @@ module _ {M : Type 1} (𝓤 : URA M) (H : Heap 𝓤) (A : Atoms 𝓤) (W : Given
       (k₂ : Triple 𝓤 (C #lent-answer·put-at) (PutAt 𝓤 H A at-mem run)) (k₃ : Triple 𝓤 (C #lent-answer·moved-from) (MovedFrom 𝓤 H A at-mem run))
       (k₄ : Triple 𝓤 (C #lent-answer·left-row) (LeftRow 𝓤 H A at-mem run)) (k₅ : Triple 𝓤 (C #lent-rows·write-back) (WriteBack 𝓤 H A at-mem run))
       (k₆ : Triple 𝓤 (C #lent-answer·numbers) (Numbers 𝓤 H A at-mem run)) where
-    walk : ent 𝓤 (onEntry 𝓤 H A f.signature (κ, (κ₁, (κ₂, (κ₃, (κ₄, (κ₅, tt)))))) (q, (q₁, (q₂, (q₃, (q₄, (q₅, tt)))))) a at) (WpFn 𝓤 H C Λ code.function (s ∷ sw ∷ vptr b₂ o₂ ∷ vptr b₃ o₃ ∷ sq ∷ sr ∷ []) Post)
+    walk : ent 𝓤 (onEntry 𝓤 H A f.signature (κ, (κ₁, (κ₂, (κ₃, (κ₄, (κ₅, tt)))))) (q, (q₁, (q₂, (q₃, (q₄, (q₅, tt)))))) a at) (WpFn 𝓤 H C Λ code.function (s ∷ sw ∷ vptr b₂ o₂ ∷ vptr b₃ o₃
+        ∷ sq ∷ sr ∷ []) Post)
     walk =
         qed W ((‵ (flft κ q) ⊛ ‵ (flft κ₁ q₁) ⊛ ‵ (flft κ₂ q₂) ⊛ ‵ (flft κ₃ q₃) ⊛ ‵ (flft κ₄ q₄) ⊛ ‵
         (flft κ₅ q₅) ⊛ ‵ ftrue) ∷ ‵ (owns (MutSlice (named 0) κ T.the-row ∷ MutSlice (named 1) κ₁ u64 ∷ MutRef
@@ -309,81 +317,43 @@ module _ {M : Type 1} (𝓤 : URA M) (H : Heap 𝓤) (A : Atoms 𝓤) (W : Given
         pass1 ! (init ! 32 refl (tt, (tt, (record { fits = room₅ .0 }, tt)))) $
         pass0 ! $
         -- the rows, the counts and the session are opened; what the other slices own is kept whole, and the record's twice
-        move ! (47 ∷ []) $
-        fsplit ! $
-        fsplit ! $
-        move ! (1 ∷ []) $
-        fsplit ! $
-        move ! (3 ∷ []) $
-        fsplit ! $
-        move ! (1 ∷ []) $
-        fsplit ! $
+        move ! (47 ∷ []) $ fsplit ! $ fsplit ! $ move ! (1 ∷ []) $ fsplit ! $ move ! (3 ∷ []) $ fsplit ! $ move ! (1 ∷ []) $ fsplit ! $
         fsplit3 ! $
-        move ! (3 ∷ []) $
-        fsplit ! $
+        move ! (3 ∷ []) $ fsplit ! $
         fsplit3 ! $
-        move ! (3 ∷ []) $
-        fsplit ! $
-        move ! (1 ∷ []) $
-        fsplit ! $
-        move ! (0 ∷ []) $
+        move ! (3 ∷ []) $ fsplit ! $ move ! (1 ∷ []) $ fsplit ! $ move ! (0 ∷ []) $
         use1 W (‵ OwnR ⊛ ‵ OwnR) (shr-slice-copy 𝓤 H A W (named 5) κ₅ u8 .twice xr (sr ∷ [])) $ split ! $
-        move ! (60 ∷ []) $
-        split ! $
-        move ! (1 ∷ []) $
-        split ! $
-        move ! (1 ∷ []) $
-        split ! $
-        move ! (1 ∷ []) $
-        split ! $
-        move ! (1 ∷ []) $
-        split ! $
-        move ! (1 ∷ []) $
-        split ! $
-        move ! (15 ∷ 16 ∷ 4 ∷ []) $
+        move ! (60 ∷ []) $ split ! $ move ! (1 ∷ []) $ split ! $ move ! (1 ∷ []) $ split ! $ move ! (1 ∷ []) $ split ! $ move ! (1 ∷ []) $ split ! $ move ! (1 ∷ []) $ split ! $ move ! (15 ∷ 16 ∷ 4 ∷ []) $
         opens ! tt N.the-row {h = cs} b₂ o₂ (λ u₂.
         spelt ! N.the-row (Is N.the-row) (shows 𝓤 H A N.the-row) (LL.vals N.the-type N′.the-laws) (LL.tells N.the-type N′.the-laws) fullShare cs u₂ b₂ o₂ $
         move ! (1 ∷ []) $
         peeks ! N.the-row (Is N.the-row) (shows 𝓤 H A N.the-row) cs (valN cs ∷ []) (λ is-c.
-        move ! (0 ∷ []) $
-        drop ! $
-        move ! (15 ∷ 16 ∷ 7 ∷ []) $
+        move ! (0 ∷ []) $ drop ! $ move ! (15 ∷ 16 ∷ 7 ∷ []) $
         opens ! tt S.the-row {h = h} b₃ o₃ (λ u₃.
         spelt ! S.the-row (Is S.the-row) (shows 𝓤 H A S.the-row) (LL.vals S.the-type S′.the-laws) (LL.tells S.the-type S′.the-laws) fullShare h u₃ b₃ o₃ $
         move ! (1 ∷ []) $
         peeks ! S.the-row (Is S.the-row) (shows 𝓤 H A S.the-row) h (valS h ∷ []) (λ is-h.
-        move ! (0 ∷ []) $
-        drop ! $
-        move ! (20 ∷ 21 ∷ 12 ∷ []) $
+        move ! (0 ∷ []) $ drop ! $ move ! (20 ∷ 21 ∷ 12 ∷ []) $
         opens-slice ! tt T.the-row ys b o $
         assigns ! (of-opd ! (load ! (from ! (fld ! refl (stop !))) (look-in ! 66 (sub ! 1 refl (whole !))))) (from ! (stop !)) (init ! 54 refl (tt, record { fits = room .0 })) $
         assigns ! (of-opd ! (load ! (from ! (hop ! (look ! 62 refl) (stop !))) (look-raw ! 8 refl))) (from ! (stop !)) (init ! 52 refl (LL.lawful N.the-type N′.the-laws 𝓤 H A W .typed cs _ is-c .0)) $
         assigns ! (addr ! (from ! (fld ! refl (hop ! (look-in ! 66 (sub ! 0 refl (whole !))) (stop !))))) (from ! (stop !)) (init ! 42 refl (tt, tt)) $
-        assigns ! (agg ! (and-then ! (load ! (from ! (stop !)) (look ! 42 refl)) (and-then ! (load ! (from ! (fld ! refl (stop !))) (look-in ! 66 (sub ! 1 refl (whole !)))) (no-more !)))) (from ! (stop !)) (init ! 40 refl (tt, (tt, (record { fits = room .0 }, tt)))) $
+        assigns ! (agg ! (and-then ! (load ! (from ! (stop !)) (look ! 42 refl)) (and-then ! (load ! (from ! (fld ! refl (stop !))) (look-in ! 66 (sub ! 1 refl (whole !)))) (no-more !)))) (from ! (stop !))
+        (init ! 40 refl (tt, (tt, (record { fits = room .0 }, tt)))) $
         assigns ! (addr ! (from ! (fld ! refl (hop ! (look-in ! 64 (sub ! 0 refl (whole !))) (stop !))))) (from ! (stop !)) (init ! 38 refl (tt, tt)) $
-        assigns ! (agg ! (and-then ! (load ! (from ! (stop !)) (look ! 38 refl)) (and-then ! (load ! (from ! (fld ! refl (stop !))) (look-in ! 64 (sub ! 1 refl (whole !)))) (no-more !)))) (from ! (stop !)) (init ! 36 refl (tt, (tt, (record { fits = room₁ .0 }, tt)))) $
+        assigns ! (agg ! (and-then ! (load ! (from ! (stop !)) (look ! 38 refl)) (and-then ! (load ! (from ! (fld ! refl (stop !))) (look-in ! 64 (sub ! 1 refl (whole !)))) (no-more !)))) (from ! (stop !))
+        (init ! 36 refl (tt, (tt, (record { fits = room₁ .0 }, tt)))) $
         assigns ! (of-opd ! (load ! (from ! (hop ! (look ! 60 refl) (stop !))) (look-raw ! 4 refl))) (from ! (stop !)) (init ! 34 refl (LL.lawful S.the-type S′.the-laws 𝓤 H A W .typed h _ is-h .0)) $
         assigns ! (addr ! (from ! (fld ! refl (hop ! (look-in ! 58 (sub ! 0 refl (whole !))) (stop !))))) (from ! (stop !)) (init ! 32 refl (tt, tt)) $
-        assigns ! (agg ! (and-then ! (load ! (from ! (stop !)) (look ! 32 refl)) (and-then ! (load ! (from ! (fld ! refl (stop !))) (look-in ! 58 (sub ! 1 refl (whole !)))) (no-more !)))) (from ! (stop !)) (init ! 30 refl (tt, (tt, (record { fits = room₄ .0 }, tt)))) $
+        assigns ! (agg ! (and-then ! (load ! (from ! (stop !)) (look ! 32 refl)) (and-then ! (load ! (from ! (fld ! refl (stop !))) (look-in ! 58 (sub ! 1 refl (whole !)))) (no-more !)))) (from ! (stop !))
+        (init ! 30 refl (tt, (tt, (record { fits = room₄ .0 }, tt)))) $
         -- `served`: the rows are lent for a lifetime of the call; the words and the queue go to it for good
         lft-new ! tt (λ ν.
         move ! (1 ∷ []) $
-        use1 W (later (some (λ (δ : GName). ‵ (ShrSlice (named 0) (ν ∷ []) T.the-row .own (x δ) (s ∷ [])) ⊛ ‵ (LentShared T.the-row (ν ∷ []) ys b o)))) (lends-shared T.the-row (ν ∷ []) ys b o 𝓤 H A W (named 0) room) $ await ! tt $ pick ! (λ δ.
-        split ! $
-        move ! (21 ∷ 18 ∷ []) $
-        join ! $
-        move ! (23 ∷ 0 ∷ []) $
-        join ! $
-        move ! (1 ∷ 0 ∷ []) $
-        join ! $
-        move ! (14 ∷ 0 ∷ []) $
-        join ! $
-        move ! (15 ∷ 0 ∷ []) $
-        join ! $
-        move ! (15 ∷ 0 ∷ []) $
-        join ! $
-        move ! (2 ∷ 0 ∷ []) $
-        join ! $
+        use1 W (later (some (λ (δ : GName). ‵ (ShrSlice (named 0) (ν ∷ []) T.the-row .own (x δ) (s ∷ [])) ⊛ ‵ (LentShared T.the-row (ν ∷ []) ys b o)))) (lends-shared T.the-row (ν ∷ []) ys b o 𝓤 H A W (named 0) room) $
+        await ! tt $ pick ! (λ δ.
+        split ! $ move ! (21 ∷ 18 ∷ []) $ join ! $ move ! (23 ∷ 0 ∷ []) $ join ! $ move ! (1 ∷ 0 ∷ []) $ join ! $ move ! (14 ∷ 0 ∷ []) $ join ! $ move ! (15 ∷ 0 ∷ []) $ join ! $ move ! (15 ∷ 0 ∷ []) $ join ! $
+        move ! (2 ∷ 0 ∷ []) $ join ! $
         use1 W (raw (Served 𝓤 H A at-mem run .pre (to-served ν δ))) (goes-served ν δ is-c is-h) $
         calls-at ! fm (Served 𝓤 H A at-mem run) k₁ (to-served ν δ)
         (and-then ! (load ! (from ! (stop !)) (look ! 35 refl))
@@ -395,50 +365,27 @@ module _ {M : Type 1} (𝓤 : URA M) (H : Heap 𝓤) (A : Atoms 𝓤) (W : Given
         (flft κ₅ q₅) ⊛ ‵ ftrue) ⊛ ‵ (O.the-row .own r (w₁ ∷ []))) ⊛ raw
         (ensured 𝓤 H A served-fn.ended (served-fn.clauses 𝓤 H A at-mem run) (ν ∷ [], (κ₁, (κ₄, (κ₅, tt))))
         (x δ, (xw, (cs, (h, (xq, (xr, tt)))))) tt r)))) (id⊢ 𝓤 _) $ await ! tt $ pick ! (λ r.
-        split ! $
-        move ! (1 ∷ []) $
-        use1 W (some (λ (ls : Unit {0} × (List ℕ × (Unit {0} × (Unit {0} × (List ℕ × (Unit {0} × Unit {0})))))). ‵ (lasts served-fn.ended (ν ∷ [], (κ₁, (κ₄, (κ₅, tt)))) (x δ, (xw, (cs, (h, (xq, (xr, tt)))))) ls) ⊛ raw (fact 𝓤 (ServedSays r (ls .1 .0) (ls .1 .1 .1 .1 .0))))) (id⊢ 𝓤 _) $ pick ! (λ ls.
-        split ! $
-        move ! (1 ∷ []) $
+        split ! $ move ! (1 ∷ []) $
+        use1 W (some (λ (ls : Unit {0} × (List ℕ × (Unit {0} × (Unit {0} × (List ℕ × (Unit {0} × Unit {0})))))). ‵ (lasts served-fn.ended (ν ∷ [], (κ₁, (κ₄, (κ₅, tt)))) (x δ, (xw, (cs, (h, (xq, (xr, tt)))))) ls)
+        ⊛ raw (fact 𝓤 (ServedSays r (ls .1 .0) (ls .1 .1 .1 .1 .0))))) (id⊢ 𝓤 _) $ pick ! (λ ls.
+        split ! $ move ! (1 ∷ []) $
         heard ! (ServedSays r (ls .1 .0) (ls .1 .1 .1 .1 .0)) (λ e₁.
-        fsplit ! $ drop ! $
-        fsplit ! $
-        fsplit ! $
-        move ! (1 ∷ []) $
+        fsplit ! $ drop ! $ fsplit ! $ fsplit ! $ move ! (1 ∷ []) $
         feqL ! (λ lw.
-        move ! (1 ∷ []) $
-        fsplit ! $ drop ! $ fsplit ! $ drop ! $
-        fsplit ! $
-        fsplit ! $
-        move ! (1 ∷ []) $
+        move ! (1 ∷ []) $ fsplit ! $ drop ! $ fsplit ! $ drop ! $ fsplit ! $ fsplit ! $ move ! (1 ∷ []) $
         feqL ! (λ lq.
-        move ! (1 ∷ []) $
-        drop ! $
-        move ! (2 ∷ []) $
-        split ! $
-        move ! (1 ∷ []) $
+        move ! (1 ∷ []) $ drop ! $ move ! (2 ∷ []) $ split ! $ move ! (1 ∷ []) $
         peeks ! O.the-row (Is O.the-row) (shows 𝓤 H A O.the-row) r (w₁ ∷ []) (λ is₁. let is-r = of-outcome r w₁ is₁ in let fields = LL.owed O.the-type O′.the-laws r _ is₁ in
         land ! (from ! (stop !)) (init ! 48 refl (LL.lawful O.the-type O′.the-laws 𝓤 H A W .typed r _ is₁ .0)) $
         rewrite ! 48 (λ (v : Val). ‵ (fat fullShare O′.mir l₉ 0 v)) (ap only (LL.tells O.the-type O′.the-laws r _ is₁)) refl $
-        move ! (0 ∷ []) $
-        drop ! $
-        move ! (0 ∷ []) $
-        split ! $
-        move ! (1 ∷ []) $
-        split ! $
-        move ! (1 ∷ []) $
-        split ! $
-        move ! (1 ∷ []) $
-        split ! $
-        move ! (1 ∷ []) $
-        drop ! $
-        move ! (3 ∷ []) $
-        lft-end ! tt $
+        move ! (0 ∷ []) $ drop ! $ move ! (0 ∷ []) $ split ! $ move ! (1 ∷ []) $ split ! $ move ! (1 ∷ []) $ split ! $ move ! (1 ∷ []) $ split ! $ move ! (1 ∷ []) $ drop ! $ move ! (3 ∷ []) $ lft-end ! tt $
         move ! (0 ∷ 6 ∷ []) $
         use2 W (later (‵ (row T.the-row fullShare ys b o))) (shared-back T.the-row (ν ∷ []) ys b o 𝓤 H A W) $ await ! tt $
         -- the counts and the session are written, and their borrows are closed
-        assigns ! (of-opd ! (load ! (from ! (fld ! refl (stop !))) (look-in ! 49 (sub ! 4 refl (whole !))))) (from ! (hop ! (look ! 61 refl) (stop !))) (store-raw ! 13 refl (LL.lawful N.the-type N′.the-laws 𝓤 H A W .typed (r .counts) _ (fields .1 .1 .1 .1 .0) .0)) $
-        assigns ! (of-opd ! (load ! (from ! (fld ! refl (stop !))) (look-in ! 49 (sub ! 5 refl (whole !))))) (from ! (hop ! (look ! 59 refl) (stop !))) (store-raw ! 9 refl (LL.lawful S.the-type S′.the-laws 𝓤 H A W .typed (r .session) _ (fields .1 .1 .1 .1 .1 .0) .0)) $
+        assigns ! (of-opd ! (load ! (from ! (fld ! refl (stop !))) (look-in ! 49 (sub ! 4 refl (whole !))))) (from ! (hop ! (look ! 61 refl) (stop !))) (store-raw ! 13 refl (LL.lawful N.the-type N′.the-laws 𝓤 H A W .typed (r .counts) _
+        (fields .1 .1 .1 .1 .0) .0)) $
+        assigns ! (of-opd ! (load ! (from ! (fld ! refl (stop !))) (look-in ! 49 (sub ! 5 refl (whole !))))) (from ! (hop ! (look ! 59 refl) (stop !))) (store-raw ! 9 refl (LL.lawful S.the-type S′.the-laws 𝓤 H A W .typed (r .session) _
+        (fields .1 .1 .1 .1 .1 .0) .0)) $
         owned ! N.the-row (Is N.the-row) (LL.makes N.the-type N′.the-plain 𝓤 H A) (r .counts) _ (fields .1 .1 .1 .1 .0) $
         move ! (14 ∷ 0 ∷ 15 ∷ 16 ∷ 17 ∷ []) $
         closes ! tt N.the-row (r .counts) (valN (r .counts) ∷ []) b₂ o₂ $
@@ -447,105 +394,82 @@ module _ {M : Type 1} (𝓤 : URA M) (H : Heap 𝓤) (A : Atoms 𝓤) (W : Given
         closes ! tt S.the-row (r .session) (valS (r .session) ∷ []) b₃ o₃ $
         -- `put_at`
         use0 W (raw (PutAt 𝓤 H A at-mem run .pre (to-put r))) (goes-put r is-c is-r) $
-        calls-at ! fm (PutAt 𝓤 H A at-mem run) k₂ (to-put r) (and-then ! (load ! (from ! (stop !)) (look ! 48 refl)) (and-then ! (load ! (from ! (fld ! refl (stop !))) (look-in ! 50 (sub ! 0 refl (whole !)))) (and-then ! (load ! (from ! (stop !)) (look ! 52 refl)) (no-more !)))) (λ w₂.
-        use1 W (later (some (λ (k : ℕ). (‵ ftrue ⊛ ‵ (usize .own k (w₂ ∷ []))) ⊛ raw (ensured 𝓤 H A put-at-fn.ended (put-at-fn.clauses 𝓤 H A at-mem run) tt (r, (cs .mailboxes, (n, tt))) tt k)))) (id⊢ 𝓤 _) $ await ! tt $ pick ! (λ k.
-        split ! $
-        move ! (1 ∷ []) $
+        calls-at ! fm (PutAt 𝓤 H A at-mem run) k₂ (to-put r) (and-then ! (load ! (from ! (stop !)) (look ! 48 refl)) (and-then ! (load ! (from ! (fld ! refl (stop !))) (look-in ! 50 (sub ! 0 refl (whole !))))
+        (and-then ! (load ! (from ! (stop !)) (look ! 52 refl)) (no-more !)))) (λ w₂.
+        use1 W (later (some (λ (k : ℕ). (‵ ftrue ⊛ ‵ (usize .own k (w₂ ∷ []))) ⊛ raw (ensured 𝓤 H A put-at-fn.ended (put-at-fn.clauses 𝓤 H A at-mem run) tt (r, (cs .mailboxes, (n, tt))) tt k)))) (id⊢ 𝓤 _) $
+        await ! tt $ pick ! (λ k.
+        split ! $ move ! (1 ∷ []) $
         use1 W (raw (fact 𝓤 (k ≡ putAt r (cs .mailboxes) n))) (put-of r k) $ heard ! (k ≡ putAt r (cs .mailboxes) n) (λ e₂.
-        split ! $
-        move ! (0 ∷ []) $
-        drop ! $
-        move ! (0 ∷ []) $
+        split ! $ move ! (0 ∷ []) $ drop ! $ move ! (0 ∷ []) $
         peeks ! usize (Is usize) (shows 𝓤 H A usize) k (w₂ ∷ []) (λ is₂.
         land ! (from ! (stop !)) (init ! 46 refl (uint-lawful 𝓤 H A W w64 .typed k _ is₂ .0)) $
         rewrite ! 46 (λ (v : Val). ‵ (fat fullShare (tyInt w64) l₁₀ 0 v)) (ap only (is₂ .0)) refl $
-        move ! (0 ∷ []) $
-        drop ! $
+        move ! (0 ∷ []) $ drop ! $
         -- `moved_from`
         use0 W (raw (MovedFrom 𝓤 H A at-mem run .pre (to-moved r k))) (goes-moved r k (is₂ .1) is-r) $
-        calls-at ! fm (MovedFrom 𝓤 H A at-mem run) k₃ (to-moved r k) (and-then ! (load ! (from ! (stop !)) (look ! 48 refl)) (and-then ! (load ! (from ! (stop !)) (look ! 46 refl)) (and-then ! (load ! (from ! (stop !)) (look ! 52 refl)) (no-more !)))) (λ w₃.
-        use1 W (later (some (λ (j : ℕ). (‵ ftrue ⊛ ‵ (usize .own j (w₃ ∷ []))) ⊛ raw (ensured 𝓤 H A moved-from-fn.ended (moved-from-fn.clauses 𝓤 H A at-mem run) tt (r, (k, (n, tt))) tt j)))) (id⊢ 𝓤 _) $ await ! tt $ pick ! (λ j.
-        split ! $
-        move ! (1 ∷ []) $
+        calls-at ! fm (MovedFrom 𝓤 H A at-mem run) k₃ (to-moved r k) (and-then ! (load ! (from ! (stop !)) (look ! 48 refl)) (and-then ! (load ! (from ! (stop !)) (look ! 46 refl)) (and-then ! (load ! (from ! (stop !))
+        (look ! 52 refl)) (no-more !)))) (λ w₃.
+        use1 W (later (some (λ (j : ℕ). (‵ ftrue ⊛ ‵ (usize .own j (w₃ ∷ []))) ⊛ raw (ensured 𝓤 H A moved-from-fn.ended (moved-from-fn.clauses 𝓤 H A at-mem run) tt (r, (k, (n, tt))) tt j)))) (id⊢ 𝓤 _) $
+        await ! tt $ pick ! (λ j.
+        split ! $ move ! (1 ∷ []) $
         use1 W (raw (fact 𝓤 (j ≡ movedFrom r k n))) (moved-of r k j) $ heard ! (j ≡ movedFrom r k n) (λ e₃.
-        split ! $
-        move ! (0 ∷ []) $
-        drop ! $
-        move ! (0 ∷ []) $
+        split ! $ move ! (0 ∷ []) $ drop ! $ move ! (0 ∷ []) $
         peeks ! usize (Is usize) (shows 𝓤 H A usize) j (w₃ ∷ []) (λ is₃.
         land ! (from ! (stop !)) (init ! 44 refl (uint-lawful 𝓤 H A W w64 .typed j _ is₃ .0)) $
         rewrite ! 44 (λ (v : Val). ‵ (fat fullShare (tyInt w64) l₁₁ 0 v)) (ap only (is₃ .0)) refl $
-        move ! (0 ∷ []) $
-        drop ! $
+        move ! (0 ∷ []) $ drop ! $
         -- `left_row`
         use0 W (raw (LeftRow 𝓤 H A at-mem run .pre (to-row r))) (goes-row r is-r) $
         calls-at ! fm (LeftRow 𝓤 H A at-mem run) k₄ (to-row r) (and-then ! (load ! (from ! (stop !)) (look ! 48 refl)) (no-more !)) (λ w₄.
-        use1 W (later (some (λ (d : Mailbox). (‵ ftrue ⊛ ‵ (T.the-row .own d (w₄ ∷ []))) ⊛ raw (ensured 𝓤 H A left-row-fn.ended (left-row-fn.clauses 𝓤 H A at-mem run) tt (r, tt) tt d)))) (id⊢ 𝓤 _) $ await ! tt $ pick ! (λ d.
-        split ! $
-        move ! (1 ∷ []) $
+        use1 W (later (some (λ (d : Mailbox). (‵ ftrue ⊛ ‵ (T.the-row .own d (w₄ ∷ []))) ⊛ raw (ensured 𝓤 H A left-row-fn.ended (left-row-fn.clauses 𝓤 H A at-mem run) tt (r, tt) tt d)))) (id⊢ 𝓤 _) $ await ! tt $
+        pick ! (λ d.
+        split ! $ move ! (1 ∷ []) $
         use1 W (raw (fact 𝓤 (d ≡ leftRow r))) (row-of r d) $ heard ! (d ≡ leftRow r) (λ e₄.
-        split ! $
-        move ! (0 ∷ []) $
-        drop ! $
-        move ! (0 ∷ []) $
+        split ! $ move ! (0 ∷ []) $ drop ! $ move ! (0 ∷ []) $
         peeks ! T.the-row (Is T.the-row) (shows 𝓤 H A T.the-row) d (w₄ ∷ []) (λ is₄.
         land ! (from ! (stop !)) (init ! 42 refl (LL.lawful T.the-type T′.the-laws 𝓤 H A W .typed d _ is₄ .0)) $
         rewrite ! 42 (λ (v : Val). ‵ (fat fullShare T′.mir l₁₂ 0 v)) (ap only (LL.tells T.the-type T′.the-laws d _ is₄)) refl $
-        move ! (0 ∷ []) $
-        drop ! $
+        move ! (0 ∷ []) $ drop ! $
         -- `write_back`: the rows go to it for good
         assigns ! (addr ! (from ! (fld ! refl (hop ! (look-in ! 63 (sub ! 0 refl (whole !))) (stop !))))) (from ! (stop !)) (init ! 23 refl (tt, tt)) $
-        assigns ! (agg ! (and-then ! (load ! (from ! (stop !)) (look ! 23 refl)) (and-then ! (load ! (from ! (fld ! refl (stop !))) (look-in ! 63 (sub ! 1 refl (whole !)))) (no-more !)))) (from ! (stop !)) (init ! 21 refl (tt, (tt, (record { fits = room .0 }, tt)))) $
+        assigns ! (agg ! (and-then ! (load ! (from ! (stop !)) (look ! 23 refl)) (and-then ! (load ! (from ! (fld ! refl (stop !))) (look-in ! 63 (sub ! 1 refl (whole !)))) (no-more !)))) (from ! (stop !))
+        (init ! 21 refl (tt, (tt, (record { fits = room .0 }, tt)))) $
         move ! (6 ∷ 12 ∷ 13 ∷ 14 ∷ []) $
         closes-slice ! tt T.the-row ys ys refl b o $
         fjoin ! $
         pureI ! (at-slice T.the-row (x γ) (s ∷ [])) (tt, (tt, tt)) (refl, room) $
-        fjoin ! $
-        move ! (1 ∷ 0 ∷ []) $
+        fjoin ! $ move ! (1 ∷ 0 ∷ []) $
         use2 W (raw (WriteBack 𝓤 H A at-mem run .pre (to-back j k d))) (goes-back j k d (is₃ .1) (is₂ .1) (of-row d w₄ is₄) (fits-moved r j k e₃)) $
-        calls-at ! fm (WriteBack 𝓤 H A at-mem run) k₅ (to-back j k d) (and-then ! (load ! (from ! (stop !)) (look ! 18 refl)) (and-then ! (load ! (from ! (stop !)) (look ! 40 refl)) (and-then ! (load ! (from ! (stop !)) (look ! 42 refl)) (and-then ! (load ! (from ! (stop !)) (look ! 38 refl)) (no-more !))))) (λ w₅.
-        use1 W (later (some (λ (u : Unit {0}). ((‵ (flft κ q) ⊛ ‵ ftrue) ⊛ ‵ (Nothing .own u (w₅ ∷ []))) ⊛ raw (ensured 𝓤 H A write-back-fn.ended (write-back-fn.clauses 𝓤 H A at-mem run) (κ, tt) (x γ, (j, (k, (d, tt)))) tt u)))) (id⊢ 𝓤 _) $ await ! tt $ pick ! (λ u.
-        split ! $
-        move ! (1 ∷ []) $
-        use1 W (some (λ (zs : List Mailbox × (Unit {0} × (Unit {0} × (Unit {0} × Unit {0})))). ‵ (lasts write-back-fn.ended (κ, tt) (x γ, (j, (k, (d, tt)))) zs) ⊛ raw (fact 𝓤 (zs .0 ≡ set (over (without j ys) ys k) k d)))) (id⊢ 𝓤 _) $ pick ! (λ zs.
-        split ! $
-        move ! (1 ∷ []) $
+        calls-at ! fm (WriteBack 𝓤 H A at-mem run) k₅ (to-back j k d) (and-then ! (load ! (from ! (stop !)) (look ! 18 refl)) (and-then ! (load ! (from ! (stop !)) (look ! 40 refl)) (and-then ! (load ! (from ! (stop !))
+        (look ! 42 refl)) (and-then ! (load ! (from ! (stop !)) (look ! 38 refl)) (no-more !))))) (λ w₅.
+        use1 W (later (some (λ (u : Unit {0}). ((‵ (flft κ q) ⊛ ‵ ftrue) ⊛ ‵ (Nothing .own u (w₅ ∷ []))) ⊛ raw (ensured 𝓤 H A write-back-fn.ended (write-back-fn.clauses 𝓤 H A at-mem run) (κ, tt)
+        (x γ, (j, (k, (d, tt)))) tt u)))) (id⊢ 𝓤 _) $ await ! tt $ pick ! (λ u.
+        split ! $ move ! (1 ∷ []) $
+        use1 W (some (λ (zs : List Mailbox × (Unit {0} × (Unit {0} × (Unit {0} × Unit {0})))). ‵ (lasts write-back-fn.ended (κ, tt) (x γ, (j, (k, (d, tt)))) zs) ⊛ raw (fact 𝓤 (zs .0 ≡ set (over (without j ys) ys k) k d))))
+        (id⊢ 𝓤 _) $ pick ! (λ zs.
+        split ! $ move ! (1 ∷ []) $
         heard ! (zs .0 ≡ set (over (without j ys) ys k) k d) (λ e₅.
-        fsplit ! $
-        fsplit ! $
-        move ! (1 ∷ []) $
+        fsplit ! $ fsplit ! $ move ! (1 ∷ []) $
         feqL ! (λ lz.
-        move ! (1 ∷ []) $
-        drop ! $
-        move ! (1 ∷ []) $
-        split ! $
-        move ! (1 ∷ []) $
+        move ! (1 ∷ []) $ drop ! $ move ! (1 ∷ []) $ split ! $ move ! (1 ∷ []) $
         peeks ! Nothing (Is Nothing) (shows 𝓤 H A Nothing) u (w₅ ∷ []) (λ is₅.
         land ! (from ! (stop !)) (init ! 24 refl (nothing-lawful 𝓤 H A W .typed u _ is₅ .0)) $
-        move ! (0 ∷ []) $
-        drop ! $
-        move ! (0 ∷ []) $
-        split ! $
-        move ! (1 ∷ []) $
-        drop ! $
+        move ! (0 ∷ []) $ drop ! $ move ! (0 ∷ []) $ split ! $ move ! (1 ∷ []) $ drop ! $
         -- `numbers`
         use0 W (raw (Numbers 𝓤 H A at-mem run .pre (to-numbers r))) (goes-numbers r is-r) $
         calls-at ! fm (Numbers 𝓤 H A at-mem run) k₆ (to-numbers r) (and-then ! (load ! (from ! (stop !)) (look ! 46 refl)) (no-more !)) (λ w₆.
-        use1 W (later (some (λ (e : Answered). (‵ ftrue ⊛ ‵ (D.the-row .own e (w₆ ∷ []))) ⊛ raw (ensured 𝓤 H A numbers-fn.ended (numbers-fn.clauses 𝓤 H A at-mem run) tt (r, tt) tt e)))) (id⊢ 𝓤 _) $ await ! tt $ pick ! (λ e.
-        split ! $
-        move ! (1 ∷ []) $
+        use1 W (later (some (λ (e : Answered). (‵ ftrue ⊛ ‵ (D.the-row .own e (w₆ ∷ []))) ⊛ raw (ensured 𝓤 H A numbers-fn.ended (numbers-fn.clauses 𝓤 H A at-mem run) tt (r, tt) tt e)))) (id⊢ 𝓤 _) $ await ! tt $
+        pick ! (λ e.
+        split ! $ move ! (1 ∷ []) $
         use1 W (raw (fact 𝓤 (e ≡ numbersOf (r .answer)))) (numbers-of r e) $ heard ! (e ≡ numbersOf (r .answer)) (λ e₆.
-        split ! $
-        move ! (0 ∷ []) $
-        drop ! $
-        move ! (0 ∷ []) $
+        split ! $ move ! (0 ∷ []) $ drop ! $ move ! (0 ∷ []) $
         peeks ! D.the-row (Is D.the-row) (shows 𝓤 H A D.the-row) e (w₆ ∷ []) (λ is₆.
         land ! (from ! (stop !)) (init ! 64 refl (LL.lawful D.the-type D′.the-laws 𝓤 H A W .typed e _ is₆ .0)) $
         rewrite ! 64 (λ (v : Val). ‵ (fat fullShare D′.mir l₀ 0 v)) (ap only (LL.tells D.the-type D′.the-laws e _ is₆)) refl $
-        move ! (0 ∷ []) $
-        drop ! $
+        move ! (0 ∷ []) $ drop ! $
         returns ! (look ! 63 refl) $
-        forget ! 19 refl $ forget ! 21 refl $ forget ! 23 refl $ forget ! 25 refl $ forget ! 27 refl $ forget ! 29 refl $ forget ! 31 refl $ forget ! 33 refl $ forget ! 35 refl $ forget ! 37 refl $ forget ! 39 refl $ forget ! 41 refl $ forget ! 43 refl $ forget ! 45 refl $ forget ! 47 refl $ forget ! 49 refl $ forget ! 51 refl $ forget ! 53 refl $ forget ! 55 refl $ forget ! 57 refl $ forget ! 59 refl $ forget ! 61 refl $ forget ! 63 refl $
+        forget ! 19 refl $ forget ! 21 refl $ forget ! 23 refl $ forget ! 25 refl $ forget ! 27 refl $ forget ! 29 refl $ forget ! 31 refl $ forget ! 33 refl $ forget ! 35 refl $ forget ! 37 refl $ forget ! 39 refl $ forget ! 41 refl $
+        forget ! 43 refl $ forget ! 45 refl $ forget ! 47 refl $ forget ! 49 refl $ forget ! 51 refl $ forget ! 53 refl $ forget ! 55 refl $ forget ! 57 refl $ forget ! 59 refl $ forget ! 61 refl $ forget ! 63 refl $
         move ! (63 ∷ 64 ∷ []) $ free1 ! $ move ! (61 ∷ 62 ∷ []) $ free1 ! $ move ! (59 ∷ 60 ∷ []) $ free1 ! $ move ! (57 ∷ 58 ∷ []) $ free1 ! $ move !
         (55 ∷ 56 ∷ []) $ free1 ! $ move ! (53 ∷ 54 ∷ []) $ free1 ! $ move ! (51 ∷ 52 ∷ []) $ free1 ! $ move ! (49 ∷ 50 ∷ []) $ free1 ! $ move !
         (47 ∷ 48 ∷ []) $ free1 ! $ move ! (45 ∷ 46 ∷ []) $ free1 ! $ move ! (43 ∷ 44 ∷ []) $ free1 ! $ move ! (41 ∷ 42 ∷ []) $ free1 ! $ move !
@@ -553,7 +477,8 @@ module _ {M : Type 1} (𝓤 : URA M) (H : Heap 𝓤) (A : Atoms 𝓤) (W : Given
         (31 ∷ 32 ∷ []) $ free1 ! $ move ! (29 ∷ 30 ∷ []) $ free1 ! $ move ! (27 ∷ 28 ∷ []) $ free1 ! $ move ! (25 ∷ 26 ∷ []) $ free1 ! $ move !
         (23 ∷ 24 ∷ []) $ free1 ! $ move ! (21 ∷ 22 ∷ []) $ free1 ! $ move ! (19 ∷ 20 ∷ []) $ free1 ! $ free0 ! $
         keep ! (0 ∷ 10 ∷ 7 ∷ 4 ∷ 9 ∷ 8 ∷ 1 ∷ 12 ∷ 5 ∷ 6 ∷ 2 ∷ 3 ∷ 11 ∷ 14 ∷ []) $
-        by ! (exits r (zs .0) (ls .1 .0) (ls .1 .1 .1 .1 .0) e (calls-of ys ws cs h xs us r (ls .1 .0) (ls .1 .1 .1 .1 .0) (zs .0) k j d e e₁ e₂ e₃ e₄ e₅ e₆) lz lw lq (of-answered e w₆ is₆))))))))))))))))))))))))))))))))))))))))))))))))))))))))))))
+        by ! (exits r (zs .0) (ls .1 .0) (ls .1 .1 .1 .1 .0) e (calls-of ys ws cs h xs us r (ls .1 .0) (ls .1 .1 .1 .1 .0) (zs .0) k j d e e₁ e₂ e₃ e₄ e₅ e₆) lz lw lq
+        (of-answered e w₆ is₆))))))))))))))))))))))))))))))))))))))))))))))))))))))))))))
 
 module _ {M : Type 1} (𝓤 : URA M) (H : Heap 𝓤) (A : Atoms 𝓤) (W : Given 𝓤 H A) where
   walks : (at-mem : Memory → SProp 𝓤) (run : Routine → Fun 𝓤) (𝓣 : Tables 𝓤 H) → Triple 𝓤 (𝓣 .C #step-lent·served) (Served 𝓤 H A at-mem run)
@@ -579,7 +504,8 @@ meets : {M : Type 1} (𝓤 : URA M) (H : Heap 𝓤) (A : Atoms 𝓤) (W : Given 
     → Triple 𝓤 (𝓣 .C #lent-answer·left-row) (LeftRow 𝓤 H A at-mem run) → Triple 𝓤 (𝓣 .C #lent-rows·write-back) (WriteBack 𝓤 H A at-mem run)
     → Triple 𝓤 (𝓣 .C #lent-answer·numbers) (Numbers 𝓤 H A at-mem run)
     → Meets 𝓤 H A f.signature (WpFn 𝓤 H (𝓣 .C) (𝓣 .Λ) code.function) (f.spec 𝓤 H A at-mem run)
-meets 𝓤 H A W at-mem run 𝓣 k₁ k₂ k₃ k₄ k₅ k₆ = walk-meets 𝓤 H A f.ended stayed W (goes 𝓤 H A W) (f.clauses 𝓤 H A at-mem run) (WpFn 𝓤 H (𝓣 .C) (𝓣 .Λ) code.function) (WpFn-mono 𝓤 H (W .laws) 𝓣 code.function) (walks 𝓤 H A W at-mem run 𝓣 k₁ k₂ k₃ k₄ k₅ k₆)
+meets 𝓤 H A W at-mem run 𝓣 k₁ k₂ k₃ k₄ k₅ k₆ = walk-meets 𝓤 H A f.ended stayed W (goes 𝓤 H A W) (f.clauses 𝓤 H A at-mem run) (WpFn 𝓤 H (𝓣 .C) (𝓣 .Λ) code.function)
+    (WpFn-mono 𝓤 H (W .laws) 𝓣 code.function) (walks 𝓤 H A W at-mem run 𝓣 k₁ k₂ k₃ k₄ k₅ k₆)
 
 pub borjavid-step-spec : {M : Type 1} → stated.statement M
 unfolding code.routine tablesOf

@@ -214,7 +214,8 @@ module _ {M : Type 1} (𝓤 : URA M) (H : Heap 𝓤) (A : Atoms 𝓤) (W : Given
   unfolding zeros
   seen m c e lays = record {
     long = loaded-length ys;
-    stands = stands-loaded ys used (subst (λ (k : ℕ). Lays ys k (replicate 64 0) (replicate 64 0) (replicate 64 0) (replicate 64 0) (replicate 64 0) (replicate 64 0) (replicate 4096 0) (c .0) (c .1 .0) (c .1 .1 .0) (c .1 .1 .1 .0) (c .1 .1 .1 .1 .0) (c .1 .1 .1 .1 .1 .0) (c .1 .1 .1 .1 .1 .1)) e lays);
+    stands = stands-loaded ys used (subst (λ (k : ℕ). Lays ys k (replicate 64 0) (replicate 64 0) (replicate 64 0) (replicate 64 0) (replicate 64 0) (replicate 64 0) (replicate 4096 0) (c .0) (c .1 .0) (c .1 .1 .0) (c .1 .1 .1 .0)
+        (c .1 .1 .1 .1 .0) (c .1 .1 .1 .1 .1 .0) (c .1 .1 .1 .1 .1 .1)) e lays);
   }
 
   module _ (l ν : Seven) (δ : Names) where
@@ -264,7 +265,8 @@ module _ {M : Type 1} (𝓤 : URA M) (H : Heap 𝓤) (A : Atoms 𝓤) (W : Given
 
       lay-gives : (w : Val) → ent 𝓤 (Lay 𝓤 H A at-mem run .post to-lay w)
           (mean 𝓤 H A (later (some (λ (u : Unit {0}). ((‵ (flft κ q) ⊛ ‵ (Toks ν ftrue)) ⊛ ‵ (Nothing .own u (w ∷ [])))
-          ⊛ raw (ensured 𝓤 H A lay-fn.ended (lay-fn.clauses 𝓤 H A at-mem run) (κ, ((ν .0) ∷ [], ((ν .1 .0) ∷ [], ((ν .1 .1 .0) ∷ [], ((ν .1 .1 .1 .0) ∷ [], ((ν .1 .1 .1 .1 .0) ∷ [], ((ν .1 .1 .1 .1 .1 .0) ∷ [], ((ν .1 .1 .1 .1 .1 .1) ∷ [], tt)))))))) to-lay-args tt u)))))
+          ⊛ raw (ensured 𝓤 H A lay-fn.ended (lay-fn.clauses 𝓤 H A at-mem run)
+          (κ, ((ν .0) ∷ [], ((ν .1 .0) ∷ [], ((ν .1 .1 .0) ∷ [], ((ν .1 .1 .1 .0) ∷ [], ((ν .1 .1 .1 .1 .0) ∷ [], ((ν .1 .1 .1 .1 .1 .0) ∷ [], ((ν .1 .1 .1 .1 .1 .1) ∷ [], tt)))))))) to-lay-args tt u)))))
       unfolding Toks
       lay-gives w = id⊢ 𝓤 _
 
@@ -284,10 +286,12 @@ module _ {M : Type 1} (𝓤 : URA M) (H : Heap 𝓤) (A : Atoms 𝓤) (W : Given
           ) to-lay-args ls))
           (sem 𝓤 H A (Ends δ (laid ls)))
       unfolding Ends
-      lay-ends ls = qed W (‵ (lasts lay-fn.ended (κ, ((ν .0) ∷ [], ((ν .1 .0) ∷ [], ((ν .1 .1 .0) ∷ [], ((ν .1 .1 .1 .0) ∷ [], ((ν .1 .1 .1 .1 .0) ∷ [], ((ν .1 .1 .1 .1 .1 .0) ∷ [], ((ν .1 .1 .1 .1 .1 .1) ∷ [], tt)))))))) to-lay-args ls) ∷ []) ∵ fsplit ! $ drop ! $ fsplit ! $ drop ! $ done !
+      lay-ends ls = qed W (‵ (lasts lay-fn.ended
+          (κ, ((ν .0) ∷ [], ((ν .1 .0) ∷ [], ((ν .1 .1 .0) ∷ [], ((ν .1 .1 .1 .0) ∷ [], ((ν .1 .1 .1 .1 .0) ∷ [], ((ν .1 .1 .1 .1 .1 .0) ∷ [], ((ν .1 .1 .1 .1 .1 .1) ∷ [], tt)))))))) to-lay-args ls) ∷ []) ∵ fsplit ! $ drop ! $ fsplit ! $ drop ! $ done !
 
     module _ (c : Columns) where
-      abbrev to-decide-args : ℕ × (RefT (List ℕ) × (RefT (List ℕ) × (RefT (List ℕ) × (RefT (List ℕ) × (RefT (List ℕ) × (RefT (List ℕ) × (RefT (List ℕ) × (RefT (List ℕ) × (Counts × (Session × (RefT (List ℕ) × (RefT (List ℕ) × (Unit {0})))))))))))))
+      abbrev to-decide-args : ℕ × (RefT (List ℕ) × (RefT (List ℕ) × (RefT (List ℕ) × (RefT (List ℕ) × (RefT (List ℕ) × (RefT (List ℕ) × (RefT (List ℕ) × (RefT (List ℕ) × (Counts × (Session × (RefT
+          (List ℕ) × (RefT (List ℕ) × (Unit {0})))))))))))))
       to-decide-args = (
         n,
         (
@@ -327,7 +331,8 @@ module _ {M : Type 1} (𝓤 : URA M) (H : Heap 𝓤) (A : Atoms 𝓤) (W : Given
       abbrev Decided : Came → List ℕ → List ℕ → Type 0
       Decided r vs vq = (rows : List Mailbox) → Seen rows cs (c .0) (c .1 .0) (c .1 .1 .0) (c .1 .1 .1 .0) (c .1 .1 .1 .1 .0) (c .1 .1 .1 .1 .1 .0) (c .1 .1 .1 .1 .1 .1) → Stepped rows n ws cs h xs us r vs vq
 
-      goes-decide : Seen (loaded ys) cs (c .0) (c .1 .0) (c .1 .1 .0) (c .1 .1 .1 .0) (c .1 .1 .1 .1 .0) (c .1 .1 .1 .1 .1 .0) (c .1 .1 .1 .1 .1 .1) → ent 𝓤 (⋆ 𝓤 H A (‵ (Toks ν Q) ∷ ‵ (Shrs l ν δ c P) ∷ [])) (Decide 𝓤 H A at-mem run .pre to-decide)
+      goes-decide : Seen (loaded ys) cs (c .0) (c .1 .0) (c .1 .1 .0) (c .1 .1 .1 .0) (c .1 .1 .1 .1 .0) (c .1 .1 .1 .1 .1 .0) (c .1 .1 .1 .1 .1 .1) → ent 𝓤 (⋆ 𝓤 H A (‵ (Toks ν Q) ∷ ‵ (Shrs l ν δ c P) ∷ []))
+          (Decide 𝓤 H A at-mem run .pre to-decide)
       unfolding Toks Shrs P Q
       goes-decide e =
           qed W (‵ (Toks ν Q) ∷ ‵ (Shrs l ν δ c P) ∷ []) ∵ says ! (loaded ys, e) $ move ! (1 ∷ []) $
@@ -335,17 +340,20 @@ module _ {M : Type 1} (𝓤 : URA M) (H : Heap 𝓤) (A : Atoms 𝓤) (W : Given
 
       decide-gives : (w : Val) → ent 𝓤 (Decide 𝓤 H A at-mem run .post to-decide w)
           (mean 𝓤 H A (later (some (λ (r : Came). (‵ (Toks ν Q) ⊛ ‵ (O.the-row .own r (w ∷ [])))
-          ⊛ raw (ensured 𝓤 H A decide-fn.ended (decide-fn.clauses 𝓤 H A at-mem run) ((ν .0) ∷ [], ((ν .1 .0) ∷ [], ((ν .1 .1 .0) ∷ [], ((ν .1 .1 .1 .0) ∷ [], ((ν .1 .1 .1 .1 .0) ∷ [], ((ν .1 .1 .1 .1 .1 .0) ∷ [], ((ν .1 .1 .1 .1 .1 .1) ∷ [], (κ₁, (κ₂, (κ₃, tt)))))))))) to-decide-args tt r)))))
+          ⊛ raw (ensured 𝓤 H A decide-fn.ended (decide-fn.clauses 𝓤 H A at-mem run)
+          ((ν .0) ∷ [], ((ν .1 .0) ∷ [], ((ν .1 .1 .0) ∷ [], ((ν .1 .1 .1 .0) ∷ [], ((ν .1 .1 .1 .1 .0) ∷ [], ((ν .1 .1 .1 .1 .1 .0) ∷ [], ((ν .1 .1 .1 .1 .1 .1) ∷ [], (κ₁, (κ₂, (κ₃, tt)))))))))) to-decide-args tt r)))))
       unfolding Toks Q
       decide-gives w = id⊢ 𝓤 _
 
       -- the words and the queue at last
       decided-lasts : (ls : Unit {0} × (Unit {0} × (Unit {0} × (Unit {0} × (Unit {0} × (Unit {0} × (Unit {0} × (Unit {0} × (List ℕ × (Unit {0} × (Unit {0} × (List ℕ × (Unit {0} × (Unit {0}))))))))))))))
-          → ent 𝓤 (sem 𝓤 H A (lasts decide-fn.ended ((ν .0) ∷ [], ((ν .1 .0) ∷ [], ((ν .1 .1 .0) ∷ [], ((ν .1 .1 .1 .0) ∷ [], ((ν .1 .1 .1 .1 .0) ∷ [], ((ν .1 .1 .1 .1 .1 .0) ∷ [], ((ν .1 .1 .1 .1 .1 .1) ∷ [], (κ₁, (κ₂, (κ₃, tt)))))))))) to-decide-args ls))
+          → ent 𝓤 (sem 𝓤 H A (lasts decide-fn.ended
+          ((ν .0) ∷ [], ((ν .1 .0) ∷ [], ((ν .1 .1 .0) ∷ [], ((ν .1 .1 .1 .0) ∷ [], ((ν .1 .1 .1 .1 .0) ∷ [], ((ν .1 .1 .1 .1 .1 .0) ∷ [], ((ν .1 .1 .1 .1 .1 .1) ∷ [], (κ₁, (κ₂, (κ₃, tt)))))))))) to-decide-args ls))
           (guard 𝓤 (length (ls .1 .1 .1 .1 .1 .1 .1 .1 .0) ≡ length ws) (guard 𝓤 (length (ls .1 .1 .1 .1 .1 .1 .1 .1 .1 .1 .1 .0) ≡ length xs)
           (sem 𝓤 H A (fsep (finally u64 γ₁ (ls .1 .1 .1 .1 .1 .1 .1 .1 .0)) (finally u8 γ₂ (ls .1 .1 .1 .1 .1 .1 .1 .1 .1 .1 .1 .0))))))
       decided-lasts ls =
-          qed W (‵ (lasts decide-fn.ended ((ν .0) ∷ [], ((ν .1 .0) ∷ [], ((ν .1 .1 .0) ∷ [], ((ν .1 .1 .1 .0) ∷ [], ((ν .1 .1 .1 .1 .0) ∷ [], ((ν .1 .1 .1 .1 .1 .0) ∷ [], ((ν .1 .1 .1 .1 .1 .1) ∷ [], (κ₁, (κ₂, (κ₃, tt)))))))))) to-decide-args ls) ∷ []) ∵
+          qed W (‵ (lasts decide-fn.ended
+          ((ν .0) ∷ [], ((ν .1 .0) ∷ [], ((ν .1 .1 .0) ∷ [], ((ν .1 .1 .1 .0) ∷ [], ((ν .1 .1 .1 .1 .0) ∷ [], ((ν .1 .1 .1 .1 .1 .0) ∷ [], ((ν .1 .1 .1 .1 .1 .1) ∷ [], (κ₁, (κ₂, (κ₃, tt)))))))))) to-decide-args ls) ∷ []) ∵
           fsplit ! $ drop ! $ fsplit ! $ drop ! $ fsplit ! $ drop ! $ fsplit ! $ drop ! $ fsplit ! $ drop ! $ fsplit ! $ drop ! $ fsplit ! $ drop ! $ fsplit ! $ drop ! $
           fsplit ! $ fsplit ! $ move ! (1 ∷ []) $ feqL ! (λ lw. move ! (1 ∷ []) $ fsplit ! $ drop ! $ fsplit ! $ drop ! $
           fsplit ! $ fsplit ! $ move ! (1 ∷ []) $ feqL ! (λ lq. move ! (1 ∷ []) $ drop ! $ check ! lw $ check ! lq $ move ! (1 ∷ 0 ∷ []) $ done !))
@@ -375,13 +383,9 @@ module _ {M : Type 1} (𝓤 : URA M) (H : Heap 𝓤) (A : Atoms 𝓤) (W : Given
         pass1 ! (init ! 58 refl (tt, (tt, (record { fits = room₂ .0 }, tt)))) $
         pass1 ! (init ! 56 refl (tt, (tt, (record { fits = room₃ .0 }, tt)))) $
         pass0 ! $
-        move ! (71 ∷ []) $
-        fsplit ! $
-        move ! (1 ∷ []) $
+        move ! (71 ∷ []) $ fsplit ! $ move ! (1 ∷ []) $
         use1 W (‵ P ⊛ ‵ OwnR) copied $ split ! $
-        move ! (73 ∷ []) $
-        split ! $
-        move ! (1 ∷ []) $
+        move ! (73 ∷ []) $ split ! $ move ! (1 ∷ []) $
         use1 W (‵ Q) tokens-are $
         assigns ! (of-opd ! (load ! (from ! (fld ! refl (stop !))) (look-in ! 71 (sub ! 1 refl (whole !))))) (from ! (stop !)) (init ! 59 refl (tt, record { fits = room .0 })) $
         -- `used_rows`
@@ -390,18 +394,13 @@ module _ {M : Type 1} (𝓤 : URA M) (H : Heap 𝓤) (A : Atoms 𝓤) (W : Given
         (and-then ! (load ! (from ! (fld ! refl (stop !))) (look-in ! 68 (sub ! 0 refl (whole !)))) (and-then ! (load ! (from ! (stop !)) (look ! 60 refl)) (no-more !))) (λ w₁.
         use1 W (later (some (λ (m : ℕ). (‵ ftrue ⊛ ‵ (usize .own m (w₁ ∷ []))) ⊛ raw (ensured 𝓤 H A used-fn.ended (used-fn.clauses 𝓤 H A at-mem run) tt (used, (n, tt)) tt m))))
         (id⊢ 𝓤 _) $ await ! tt $ pick ! (λ m.
-        split ! $
-        move ! (1 ∷ []) $
+        split ! $ move ! (1 ∷ []) $
         use1 W (raw (fact 𝓤 (m ≡ within used n))) (used-of m) $ heard ! (m ≡ within used n) (λ e₁.
-        split ! $
-        move ! (0 ∷ []) $
-        drop ! $
-        move ! (0 ∷ []) $
+        split ! $ move ! (0 ∷ []) $ drop ! $ move ! (0 ∷ []) $
         peeks ! usize (Is usize) (shows 𝓤 H A usize) m (w₁ ∷ []) (λ is₁.
         land ! (from ! (stop !)) (init ! 58 refl (uint-lawful 𝓤 H A W w64 .typed m _ is₁ .0)) $
         rewrite ! 58 (λ (v : Val). ‵ (fat fullShare (tyInt w64) l₈ 0 v)) (ap only (is₁ .0)) refl $
-        move ! (0 ∷ []) $
-        drop ! $
+        move ! (0 ∷ []) $ drop ! $
         -- the columns, all zeros
         assigns ! (rep ! 64 (lit ! tt)) (from ! (stop !)) (init ! 55 refl (array-lawful 𝓤 H A W u64 (uint-lawful 𝓤 H A W w64) 64 .typed (replicate 64 0) _ (repeated u64 0 (vint w64 0) (refl, lit< tt) 64) .0)) $
         rewrite ! 55 (λ (v : Val). ‵ (fat fullShare (tyArray (tyInt w64) 64) l₉ 0 v)) (zeros-val w64 64) refl $
@@ -429,14 +428,11 @@ module _ {M : Type 1} (𝓤 : URA M) (H : Heap 𝓤) (A : Atoms 𝓤) (W : Given
         use1 W (‵ Own ⊛ ‵ Own) (shr-slice-copy 𝓤 H A W (named 0) κ T.the-row .twice xt (s ∷ [])) $ split ! $
         move ! (56 ∷ 54 ∷ 52 ∷ 50 ∷ 48 ∷ 46 ∷ 44 ∷ []) $
         use7 W (‵ (Lie (l₉, (l₁₀, (l₁₁, (l₁₂, (l₁₃, (l₁₄, l₁₅)))))) nothing-laid)) (zeros-lie 𝓤 H A W (l₉, (l₁₀, (l₁₁, (l₁₂, (l₁₃, (l₁₄, l₁₅))))))) $
-        nothing ! $ nothing ! $
-        move ! (2 ∷ 0 ∷ 1 ∷ []) $
-        use3 W (later (some (λ (t : Seven × Names). ‵ (Toks (t .0) ftrue) ⊛ ‵ (Muts (l₉, (l₁₀, (l₁₁, (l₁₂, (l₁₃, (l₁₄, l₁₅)))))) (t .0) (t .1) nothing-laid ftrue) ⊛ ‵ (Lent (l₉, (l₁₀, (l₁₁, (l₁₂, (l₁₃, (l₁₄, l₁₅)))))) (t .0) (t .1)))))
+        nothing ! $ nothing ! $ move ! (2 ∷ 0 ∷ 1 ∷ []) $
+        use3 W (later (some (λ (t : Seven × Names). ‵ (Toks (t .0) ftrue) ⊛ ‵ (Muts (l₉, (l₁₀, (l₁₁, (l₁₂, (l₁₃, (l₁₄, l₁₅)))))) (t .0) (t .1) nothing-laid ftrue)
+        ⊛ ‵ (Lent (l₉, (l₁₀, (l₁₁, (l₁₂, (l₁₃, (l₁₄, l₁₅)))))) (t .0) (t .1)))))
         (lend 𝓤 H A W (l₉, (l₁₀, (l₁₁, (l₁₂, (l₁₃, (l₁₄, l₁₅)))))) nothing-laid ftrue ftrue) $ await ! tt $ pick ! (λ t.
-        split ! $
-        move ! (1 ∷ []) $
-        split ! $
-        move ! (6 ∷ 2 ∷ 4 ∷ 0 ∷ []) $
+        split ! $ move ! (1 ∷ []) $ split ! $ move ! (6 ∷ 2 ∷ 4 ∷ 0 ∷ []) $
         use4 W (raw (Lay 𝓤 H A at-mem run .pre (to-lay (l₉, (l₁₀, (l₁₁, (l₁₂, (l₁₃, (l₁₄, l₁₅)))))) (t .0) (t .1) m)))
         (goes-lay (l₉, (l₁₀, (l₁₁, (l₁₂, (l₁₃, (l₁₄, l₁₅)))))) (t .0) (t .1) m (is₁ .1) (few m e₁)) $
         calls-at ! fm (Lay 𝓤 H A at-mem run) k₂ (to-lay (l₉, (l₁₀, (l₁₁, (l₁₂, (l₁₃, (l₁₄, l₁₅)))))) (t .0) (t .1) m)
@@ -462,8 +458,7 @@ module _ {M : Type 1} (𝓤 : URA M) (H : Heap 𝓤) (A : Atoms 𝓤) (W : Given
         ))
         (to-lay-args (l₉, (l₁₀, (l₁₁, (l₁₂, (l₁₃, (l₁₄, l₁₅)))))) (t .0) (t .1) m) tt u))))
         (lay-gives (l₉, (l₁₀, (l₁₁, (l₁₂, (l₁₃, (l₁₄, l₁₅)))))) (t .0) (t .1) m w₂) $ await ! tt $ pick ! (λ u.
-        split ! $
-        move ! (1 ∷ []) $
+        split ! $ move ! (1 ∷ []) $
         use1 W (some (λ (ls : Unit {0} × (Unit {0} × (List ℕ × (List ℕ × (List ℕ × (List ℕ × (List ℕ × (List ℕ × (List ℕ × (Unit {0})))))))))).
         ‵ (lasts lay-fn.ended (let ν = t .0 in (
           κ,
@@ -480,23 +475,16 @@ module _ {M : Type 1} (𝓤 : URA M) (H : Heap 𝓤) (A : Atoms 𝓤) (W : Given
         ))
         (to-lay-args (l₉, (l₁₀, (l₁₁, (l₁₂, (l₁₃, (l₁₄, l₁₅)))))) (t .0) (t .1) m) ls) ⊛ raw (fact 𝓤 (Laid-out m (laid ls)))))
         (id⊢ 𝓤 _) $ pick ! (λ ls.
-        split ! $
-        move ! (1 ∷ []) $
+        split ! $ move ! (1 ∷ []) $
         heard ! (Laid-out m (laid ls)) (λ e₂.
         use1 W (‵ (Ends (t .1) (laid ls))) (lay-ends (l₉, (l₁₀, (l₁₁, (l₁₂, (l₁₃, (l₁₄, l₁₅)))))) (t .0) (t .1) m ls) $
-        move ! (1 ∷ []) $
-        split ! $
-        move ! (1 ∷ []) $
+        move ! (1 ∷ []) $ split ! $ move ! (1 ∷ []) $
         peeks ! Nothing (Is Nothing) (shows 𝓤 H A Nothing) u (w₂ ∷ []) (λ is₂.
         land ! (from ! (stop !)) (init ! 44 refl (nothing-lawful 𝓤 H A W .typed u _ is₂ .0)) $
-        move ! (0 ∷ []) $
-        drop ! $
-        move ! (0 ∷ []) $
-        split ! $
-        move ! (1 ∷ 3 ∷ 2 ∷ []) $
-        use3 W (later (‵ ftrue ⊛ ‵ (Lie (l₉, (l₁₀, (l₁₁, (l₁₂, (l₁₃, (l₁₄, l₁₅)))))) (laid ls)))) (back 𝓤 H A W (l₉, (l₁₀, (l₁₁, (l₁₂, (l₁₃, (l₁₄, l₁₅)))))) (t .0) (t .1) (laid ls) ftrue) $ await ! tt $ split ! $
-        move ! (0 ∷ []) $
-        drop ! $
+        move ! (0 ∷ []) $ drop ! $ move ! (0 ∷ []) $ split ! $ move ! (1 ∷ 3 ∷ 2 ∷ []) $
+        use3 W (later (‵ ftrue ⊛ ‵ (Lie (l₉, (l₁₀, (l₁₁, (l₁₂, (l₁₃, (l₁₄, l₁₅)))))) (laid ls)))) (back 𝓤 H A W (l₉, (l₁₀, (l₁₁, (l₁₂, (l₁₃, (l₁₄, l₁₅)))))) (t .0) (t .1)
+        (laid ls) ftrue) $ await ! tt $ split ! $
+        move ! (0 ∷ []) $ drop ! $
         assigns ! (addr ! (from ! (stop !))) (from ! (stop !)) (init ! 26 refl (tt, tt)) $
         assigns ! (addr ! (from ! (stop !))) (from ! (stop !)) (init ! 24 refl (tt, tt)) $
         assigns ! (addr ! (from ! (stop !))) (from ! (stop !)) (init ! 22 refl (tt, tt)) $
@@ -505,17 +493,17 @@ module _ {M : Type 1} (𝓤 : URA M) (H : Heap 𝓤) (A : Atoms 𝓤) (W : Given
         assigns ! (addr ! (from ! (stop !))) (from ! (stop !)) (init ! 16 refl (tt, tt)) $
         assigns ! (addr ! (from ! (stop !))) (from ! (stop !)) (init ! 14 refl (tt, tt)) $
         assigns ! (addr ! (from ! (fld ! refl (hop ! (look-in ! 63 (sub ! 0 refl (whole !))) (stop !))))) (from ! (stop !)) (init ! 12 refl (tt, tt)) $
-        assigns ! (agg ! (and-then ! (load ! (from ! (stop !)) (look ! 12 refl)) (and-then ! (load ! (from ! (fld ! refl (stop !))) (look-in ! 63 (sub ! 1 refl (whole !)))) (no-more !)))) (from ! (stop !)) (init ! 10 refl (tt, (tt, (record { fits = room₁ .0 }, tt)))) $
+        assigns ! (agg ! (and-then ! (load ! (from ! (stop !)) (look ! 12 refl)) (and-then ! (load ! (from ! (fld ! refl (stop !))) (look-in ! 63 (sub ! 1 refl (whole !)))) (no-more !)))) (from ! (stop !))
+        (init ! 10 refl (tt, (tt, (record { fits = room₁ .0 }, tt)))) $
         assigns ! (addr ! (from ! (fld ! refl (hop ! (look-in ! 57 (sub ! 0 refl (whole !))) (stop !))))) (from ! (stop !)) (init ! 8 refl (tt, tt)) $
-        assigns ! (agg ! (and-then ! (load ! (from ! (stop !)) (look ! 8 refl)) (and-then ! (load ! (from ! (fld ! refl (stop !))) (look-in ! 57 (sub ! 1 refl (whole !)))) (no-more !)))) (from ! (stop !)) (init ! 6 refl (tt, (tt, (record { fits = room₂ .0 }, tt)))) $
+        assigns ! (agg ! (and-then ! (load ! (from ! (stop !)) (look ! 8 refl)) (and-then ! (load ! (from ! (fld ! refl (stop !))) (look-in ! 57 (sub ! 1 refl (whole !)))) (no-more !)))) (from ! (stop !))
+        (init ! 6 refl (tt, (tt, (record { fits = room₂ .0 }, tt)))) $
         -- `step::decide`: they are lent again, to be read; the words and the queue go to it for good
         move ! (0 ∷ 3 ∷ 4 ∷ []) $
-        use3 W (later (some (λ (t′ : Seven × Names). ‵ (Toks (t′ .0) Q) ⊛ ‵ (Shrs (l₉, (l₁₀, (l₁₁, (l₁₂, (l₁₃, (l₁₄, l₁₅)))))) (t′ .0) (t′ .1) (laid ls) P) ⊛ ‵ (Kept (l₉, (l₁₀, (l₁₁, (l₁₂, (l₁₃, (l₁₄, l₁₅)))))) (t′ .0) (laid ls)))))
+        use3 W (later (some (λ (t′ : Seven × Names). ‵ (Toks (t′ .0) Q) ⊛ ‵ (Shrs (l₉, (l₁₀, (l₁₁, (l₁₂, (l₁₃, (l₁₄, l₁₅)))))) (t′ .0) (t′ .1) (laid ls) P)
+        ⊛ ‵ (Kept (l₉, (l₁₀, (l₁₁, (l₁₂, (l₁₃, (l₁₄, l₁₅)))))) (t′ .0) (laid ls)))))
         (lend-read 𝓤 H A W (l₉, (l₁₀, (l₁₁, (l₁₂, (l₁₃, (l₁₄, l₁₅)))))) (laid ls) Q P) $ await ! tt $ pick ! (λ t′.
-        split ! $
-        move ! (1 ∷ []) $
-        split ! $
-        move ! (2 ∷ 0 ∷ []) $
+        split ! $ move ! (1 ∷ []) $ split ! $ move ! (2 ∷ 0 ∷ []) $
         use2 W (raw (Decide 𝓤 H A at-mem run .pre (to-decide (l₉, (l₁₀, (l₁₁, (l₁₂, (l₁₃, (l₁₄, l₁₅)))))) (t′ .0) (t′ .1) (laid ls))))
         (goes-decide (l₉, (l₁₀, (l₁₁, (l₁₂, (l₁₃, (l₁₄, l₁₅)))))) (t′ .0) (t′ .1) (laid ls) (seen m (laid ls) e₁ e₂)) $
         calls-at ! fm (Decide 𝓤 H A at-mem run) k₃ (to-decide (l₉, (l₁₀, (l₁₁, (l₁₂, (l₁₃, (l₁₄, l₁₅)))))) (t′ .0) (t′ .1) (laid ls))
@@ -548,8 +536,7 @@ module _ {M : Type 1} (𝓤 : URA M) (H : Heap 𝓤) (A : Atoms 𝓤) (W : Given
         ))
         (to-decide-args (l₉, (l₁₀, (l₁₁, (l₁₂, (l₁₃, (l₁₄, l₁₅)))))) (t′ .0) (t′ .1) (laid ls)) tt r))))
         (decide-gives (l₉, (l₁₀, (l₁₁, (l₁₂, (l₁₃, (l₁₄, l₁₅)))))) (t′ .0) (t′ .1) (laid ls) w₃) $ await ! tt $ pick ! (λ r.
-        split ! $
-        move ! (1 ∷ []) $
+        split ! $ move ! (1 ∷ []) $
         use1 W (some (λ (vs : Unit {0} × (Unit {0} × (Unit {0} × (Unit {0} × (Unit {0} × (Unit {0} × (Unit {0} × (Unit {0} × (List ℕ × (Unit {0} × (Unit {0} × (List ℕ × (Unit {0} × (Unit {0})))))))))))))).
         ‵ (lasts decide-fn.ended (let ν = t′ .0 in (
           (ν .0) ∷ [],
@@ -567,25 +554,26 @@ module _ {M : Type 1} (𝓤 : URA M) (H : Heap 𝓤) (A : Atoms 𝓤) (W : Given
         (to-decide-args (l₉, (l₁₀, (l₁₁, (l₁₂, (l₁₃, (l₁₄, l₁₅)))))) (t′ .0) (t′ .1) (laid ls)) vs) ⊛ raw
         (fact 𝓤 (Decided (l₉, (l₁₀, (l₁₁, (l₁₂, (l₁₃, (l₁₄, l₁₅)))))) (t′ .0) (t′ .1) (laid ls) r (vs .1 .1 .1 .1 .1 .1 .1 .1 .0)
         (vs .1 .1 .1 .1 .1 .1 .1 .1 .1 .1 .1 .0))))) (id⊢ 𝓤 _) $ pick ! (λ vs.
-        split ! $
-        move ! (1 ∷ []) $
+        split ! $ move ! (1 ∷ []) $
         heard ! (Decided (l₉, (l₁₀, (l₁₁, (l₁₂, (l₁₃, (l₁₄, l₁₅)))))) (t′ .0) (t′ .1) (laid ls) r (vs .1 .1 .1 .1 .1 .1 .1 .1 .0) (vs .1 .1 .1 .1 .1 .1 .1 .1 .1 .1 .1 .0)) (λ e₃.
-        use1 W (given (length (vs .1 .1 .1 .1 .1 .1 .1 .1 .0) ≡ length ws) (given (length (vs .1 .1 .1 .1 .1 .1 .1 .1 .1 .1 .1 .0) ≡ length xs) (‵ (finally u64 γ₁ (vs .1 .1 .1 .1 .1 .1 .1 .1 .0)) ⊛ ‵ (finally u8 γ₂ (vs .1 .1 .1 .1 .1 .1 .1 .1 .1 .1 .1 .0)))))
+        use1 W (given (length (vs .1 .1 .1 .1 .1 .1 .1 .1 .0) ≡ length ws) (given (length (vs .1 .1 .1 .1 .1 .1 .1 .1 .1 .1 .1 .0) ≡ length xs) (‵ (finally u64 γ₁ (vs .1 .1 .1 .1 .1 .1 .1 .1 .0))
+        ⊛ ‵ (finally u8 γ₂ (vs .1 .1 .1 .1 .1 .1 .1 .1 .1 .1 .1 .0)))))
         (decided-lasts (l₉, (l₁₀, (l₁₁, (l₁₂, (l₁₃, (l₁₄, l₁₅)))))) (t′ .0) (t′ .1) (laid ls) vs) $ learn ! (λ lw. learn ! (λ lq.
-        split ! $
-        move ! (2 ∷ []) $
-        split ! $
-        move ! (1 ∷ []) $
+        split ! $ move ! (2 ∷ []) $ split ! $ move ! (1 ∷ []) $
         peeks ! O.the-row (Is O.the-row) (shows 𝓤 H A O.the-row) r (w₃ ∷ []) (λ is₃.
         land ! (from ! (stop !)) (init ! 69 refl (LL.lawful O.the-type O′.the-laws 𝓤 H A W .typed r _ is₃ .0)) $
         -- the columns come back, and their locals are given back
         move ! (1 ∷ 4 ∷ []) $
-        use2 W (later (‵ Q ⊛ ‵ (Rooms (l₉, (l₁₀, (l₁₁, (l₁₂, (l₁₃, (l₁₄, l₁₅))))))))) (done-reading 𝓤 H A W (l₉, (l₁₀, (l₁₁, (l₁₂, (l₁₃, (l₁₄, l₁₅)))))) (t′ .0) (laid ls) Q) $ await ! tt $ split ! $
+        use2 W (later (‵ Q ⊛ ‵ (Rooms (l₉, (l₁₀, (l₁₁, (l₁₂, (l₁₃, (l₁₄, l₁₅))))))))) (done-reading 𝓤 H A W (l₉, (l₁₀, (l₁₁, (l₁₂, (l₁₃, (l₁₄, l₁₅)))))) (t′ .0) (laid ls) Q) $
+        await ! tt $ split ! $
         move ! (1 ∷ []) $
-        into8 W (‵ (froom (tyArray (tyInt w64) 64) l₉ 0)) (‵ (froom (tyArray (tyInt w8) 64) l₁₀ 0)) (‵ (froom (tyArray (tyInt w8) 64) l₁₁ 0)) (‵ (froom (tyArray (tyInt w64) 64) l₁₂ 0)) (‵ (froom (tyArray (tyInt w64) 64) l₁₃ 0)) (‵ (froom (tyArray (tyInt w64) 64) l₁₄ 0)) (‵ (froom (tyArray (tyInt w8) 4096) l₁₅ 0)) (‵ ftrue)
+        into8 W (‵ (froom (tyArray (tyInt w64) 64) l₉ 0)) (‵ (froom (tyArray (tyInt w8) 64) l₁₀ 0)) (‵ (froom (tyArray (tyInt w8) 64) l₁₁ 0)) (‵ (froom (tyArray (tyInt w64) 64) l₁₂ 0))
+        (‵ (froom (tyArray (tyInt w64) 64) l₁₃ 0)) (‵ (froom (tyArray (tyInt w64) 64) l₁₄ 0)) (‵ (froom (tyArray (tyInt w8) 4096) l₁₅ 0)) (‵ ftrue)
         (rooms-apart 𝓤 H A W (l₉, (l₁₀, (l₁₁, (l₁₂, (l₁₃, (l₁₄, l₁₅))))))) $
         returns ! (look ! 76 refl) $
-        forget ! 15 refl $ forget ! 17 refl $ forget ! 19 refl $ forget ! 21 refl $ forget ! 23 refl $ forget ! 25 refl $ forget ! 27 refl $ forget ! 29 refl $ forget ! 31 refl $ forget ! 33 refl $ forget ! 35 refl $ forget ! 37 refl $ forget ! 39 refl $ forget ! 41 refl $ forget ! 43 refl $ forget ! 45 refl $ forget ! 47 refl $ forget ! 49 refl $ forget ! 51 refl $ forget ! 60 refl $ forget ! 62 refl $ forget ! 64 refl $ forget ! 66 refl $ forget ! 68 refl $ forget ! 70 refl $ forget ! 72 refl $ forget ! 74 refl $ forget ! 76 refl $
+        forget ! 15 refl $ forget ! 17 refl $ forget ! 19 refl $ forget ! 21 refl $ forget ! 23 refl $ forget ! 25 refl $ forget ! 27 refl $ forget ! 29 refl $ forget ! 31 refl $ forget ! 33 refl $ forget ! 35 refl $ forget ! 37 refl $
+        forget ! 39 refl $ forget ! 41 refl $ forget ! 43 refl $ forget ! 45 refl $ forget ! 47 refl $ forget ! 49 refl $ forget ! 51 refl $ forget ! 60 refl $ forget ! 62 refl $ forget ! 64 refl $ forget ! 66 refl $ forget ! 68 refl $
+        forget ! 70 refl $ forget ! 72 refl $ forget ! 74 refl $ forget ! 76 refl $
         move ! (76 ∷ 77 ∷ []) $ free1 ! $ move ! (74 ∷ 75 ∷ []) $ free1 ! $ move ! (72 ∷ 73 ∷ []) $ free1 ! $ move ! (70 ∷ 71 ∷ []) $ free1 ! $ move !
         (68 ∷ 69 ∷ []) $ free1 ! $ move ! (66 ∷ 67 ∷ []) $ free1 ! $ move ! (64 ∷ 65 ∷ []) $ free1 ! $ move ! (62 ∷ 63 ∷ []) $ free1 ! $ move !
         (60 ∷ 61 ∷ []) $ free1 ! $ move ! (0 ∷ 59 ∷ []) $ free1 ! $ move ! (0 ∷ 57 ∷ []) $ free1 ! $ move ! (0 ∷ 55 ∷ []) $ free1 ! $ move !
@@ -599,7 +587,8 @@ module _ {M : Type 1} (𝓤 : URA M) (H : Heap 𝓤) (A : Atoms 𝓤) (W : Given
         by ! (exits r (vs .1 .1 .1 .1 .1 .1 .1 .1 .0) (vs .1 .1 .1 .1 .1 .1 .1 .1 .1 .1 .1 .0) w₃ (e₃ (loaded ys) (seen m (laid ls) e₁ e₂)) lw lq))))))))))))))))))))))))))))))))))))))))))))))))))))))
 
 module _ {M : Type 1} (𝓤 : URA M) (H : Heap 𝓤) (A : Atoms 𝓤) (W : Given 𝓤 H A) where
-  walks : (at-mem : Memory → SProp 𝓤) (run : Routine → Fun 𝓤) (𝓣 : Tables 𝓤 H) → Triple 𝓤 (𝓣 .C #lent-rows·used-rows) (Used 𝓤 H A at-mem run) → Triple 𝓤 (𝓣 .C #lent-rows·lay) (Lay 𝓤 H A at-mem run) → Triple 𝓤 (𝓣 .C #step·decide) (Decide 𝓤 H A at-mem run)
+  walks : (at-mem : Memory → SProp 𝓤) (run : Routine → Fun 𝓤) (𝓣 : Tables 𝓤 H) → Triple 𝓤 (𝓣 .C #lent-rows·used-rows) (Used 𝓤 H A at-mem run) → Triple 𝓤 (𝓣 .C #lent-rows·lay) (Lay 𝓤 H A at-mem run)
+      → Triple 𝓤 (𝓣 .C #step·decide) (Decide 𝓤 H A at-mem run)
       → Walks 𝓤 H A f.ended stayed (WpFn 𝓤 H (𝓣 .C) (𝓣 .Λ) code.function) (f.clauses 𝓤 H A at-mem run)
   walks at-mem run 𝓣 k₁ k₂ k₃ = walked 𝓤 H A f.ended stayed (f.clauses 𝓤 H A at-mem run) (WpFn 𝓤 H (𝓣 .C) (𝓣 .Λ) code.function)
       (λ κs. (slice-vals, (slice-vals, (LL.vals N.the-type N′.the-laws, (LL.vals S.the-type S′.the-laws, (slice-vals, (slice-vals, tt)))))))

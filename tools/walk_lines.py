@@ -10,7 +10,7 @@ import sys
 from pathlib import Path
 
 WIDTH = 240
-STEP = r'(?:move ! \([^()]*\)|split !|join !|drop !|fsplit !|fjoin !|free1 !|free0 !|lft-end ! tt|nothing !|frame !|forget ! \d+ refl)'
+STEP = r'(?:(?:move|keep) ! \([^()]*\)|(?:split|join|drop|f?split3|f?join3|fsplit|fjoin|free1|free0|nothing|frame|updating|at-once|pass0) !|lft-end ! tt|forget ! \d+ refl)'
 # what begins a line within a walk; any other begins a declaration, and what follows is set in
 WITHIN = re.compile(r' +(\w+[\w\-]* ! |[∷⊛→(]|use\d W |into\d W |qed W |\(λ )')
 SMALL = re.compile(r'( *)(%s \$ ?)+$' % STEP)

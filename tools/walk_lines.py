@@ -1,7 +1,7 @@
 #!/usr/bin/env python3
 """Lays out the lines of a walk: steps that only bring something to the front, join it or split it share a line, and a line
-above the width is broken behind `$`, before `∷`, `⊛` or `→`, or before an argument in brackets. Within a tuple nothing is
-broken: the formatter would put each element on a line of its own.
+above the width is broken behind `$` or `in`, before `∷`, `⊛` or `→`, or before an argument in brackets. Within a tuple nothing
+is broken: the formatter would put each element on a line of its own.
 
     walk_lines.py FILE..        then `rt fmt`
 """
@@ -46,7 +46,7 @@ def places(line):
     depth = []
     for i, c in enumerate(line):
         free = not tuples.intersection(depth)
-        if free and line[i - 2:i + 1] == ' $ ':
+        if free and (line[i - 2:i + 1] == ' $ ' or line[i - 3:i + 1] == ' in '):
             yield i + 1, 0
         elif free and c in '∷⊛→' and line[i - 1] == ' ' and not line.startswith('∷ []', i):
             yield i, 1 + len(depth)
@@ -81,7 +81,13 @@ def laid_out(text):
     return '\n'.join(out)
 
 
-if __name__ == '__main__':
+def main():
     for name in sys.argv[1:]:
-        path = Path(name)
-        path.write_text(laid_out(path.read_text()))
+        text = Path(name).read_text()
+        laid = laid_out(text)
+        Path(name).write_text(laid)
+        print(f'{name}: {laid.count(chr(10))} lines, {text.count(chr(10))} before')
+
+
+if __name__ == '__main__':
+    main()

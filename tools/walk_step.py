@@ -5,7 +5,7 @@ import sys
 from pathlib import Path
 
 from walk_lines import laid_out
-from walkgen import Walk, dash, fld, nested, opd, opds, product, sub, symbol, uses
+from walkgen import RUN, Walk, cites, fld, knows, nested, opd, opds, product, sub, uses
 
 HEAD = """-- `borjavid_step`: the rows are lent to `served` to be read; what it answers of counts and session is written through their references, what
 -- it changed of the rows by `write_back`, where `to_write` says, and `numbers` says the answer; the contracts of these four make the
@@ -91,7 +91,6 @@ LENT_ROWS, LENT_WORDS, READ_SESSION, LENT_QUEUE, UNIT_BACK, BACK_ROWS, LOCALS = 
 
 REF = "RefT (List ℕ)"
 UNIT = "Unit {0}"
-RUN = "𝓤 H A at-mem run"
 SIX = range(6)
 KS = nested(["κ"] + [f"κ{sub(i)}" for i in SIX[1:]])
 QS = nested(["q"] + [f"q{sub(i)}" for i in SIX[1:]])
@@ -582,12 +581,6 @@ def landed(w, local, row, x, is_x):
     w.emit(f"rewrite ! @_{local} (λ (v : Val). ‵ (fat fullShare {row}′.mir l{sub(local)} 0 v)) (ap only (LL.tells {row}.the-type {row}′.the-laws {x} _ {is_x})) refl $")
 
 
-def knows(table, arrows):
-    out = [(f"(k{sub(i + 1)} : Triple 𝓤 ({table} {symbol(c, fn)}) ({s} {RUN}))" if not arrows else f"Triple 𝓤 ({table} {symbol(c, fn)}) ({s} {RUN})")
-           for i, (c, fn, s) in enumerate(CALLEES)]
-    return (" → " if arrows else " ").join(out)
-
-
 def rest():
     A = lambda k: f"a{' .1' * k} .0"
     K = lambda k: f"κs{' .1' * k} .0"
@@ -598,17 +591,14 @@ def rest():
     go = ["goes-gave-slice 𝓤 H A W 6 0 tt (plain (λ _. T.the-row))", "goes-gave-slice 𝓤 H A W 6 1 tt (plain (λ _. u64))", "goes-ref 𝓤 H A W 6 2 tt (plain (λ _. N.the-row))",
           "goes-ref 𝓤 H A W 6 3 tt (plain (λ _. S.the-row))", "goes-gave-slice 𝓤 H A W 6 4 tt (plain (λ _. u8))", "goes-none-slice 𝓤 H A W 6 (5 ∷ []) tt (plain (λ _. u8)) yes"]
     known = " ".join(f"k{sub(i + 1)}" for i in range(len(CALLEES)))
-    cited = "\n".join(
-        f"    (cited 𝓤 H ({s} 𝓤 H (𝓖 .A) (𝓜 .mem) (𝓡 .run)) 𝓜 𝓡 code.env {symbol(c, fn)} {s.lower()}-def.routine\n"
-        f"    code.calls-{dash(c)}·{dash(fn)} ({s.lower()}-thm.met 𝓤 H 𝓜 𝓖 𝓡))" for c, fn, s in CALLEES)
     return f"""  module _ (C : Calls 𝓤 H) (Λ : Loops 𝓤 H) (fm : FmC 𝓤 H (W .laws) C)
-      {knows('C', False)} where
+      {knows(CALLEES, 'C', True)} where
     walk : ent 𝓤 (onEntry 𝓤 H A f.signature {KS} {QS} a at) (WpFn 𝓤 H C Λ code.function {VALUES} Post)
     walk =
         qed W Entry ∵ enter ! C Λ code.function {VALUES} _ $
 {walk()}
 module _ {{M : Type 1}} (𝓤 : URA M) (H : Heap 𝓤) (A : Atoms 𝓤) (W : Given 𝓤 H A) where
-  walks : (at-mem : Memory → SProp 𝓤) (run : Routine → Fun 𝓤) (𝓣 : Tables 𝓤 H) → {knows('𝓣 .C', True)}
+  walks : (at-mem : Memory → SProp 𝓤) (run : Routine → Fun 𝓤) (𝓣 : Tables 𝓤 H) → {knows(CALLEES, '𝓣 .C', False)}
       → Walks 𝓤 H A f.ended stayed (WpFn 𝓤 H (𝓣 .C) (𝓣 .Λ) code.function) (f.clauses {RUN})
   walks at-mem run 𝓣 {known} = walked 𝓤 H A f.ended stayed (f.clauses {RUN}) (WpFn 𝓤 H (𝓣 .C) (𝓣 .Λ) code.function)
       (λ κs. {nested(["slice-vals", "slice-vals", "ptr-vals", "ptr-vals", "slice-vals", "slice-vals"])})
@@ -623,7 +613,7 @@ module _ {{M : Type 1}} (𝓤 : URA M) (H : Heap 𝓤) (A : Atoms 𝓤) (W : Giv
   goes = {nested(go)}
 
 meets : {{M : Type 1}} (𝓤 : URA M) (H : Heap 𝓤) (A : Atoms 𝓤) (W : Given 𝓤 H A) (at-mem : Memory → SProp 𝓤) (run : Routine → Fun 𝓤) (𝓣 : Tables 𝓤 H)
-    → {knows('𝓣 .C', True)}
+    → {knows(CALLEES, '𝓣 .C', False)}
     → Meets 𝓤 H A f.signature (WpFn 𝓤 H (𝓣 .C) (𝓣 .Λ) code.function) (f.spec {RUN})
 meets 𝓤 H A W at-mem run 𝓣 {known} = walk-meets 𝓤 H A f.ended stayed W (goes 𝓤 H A W) (f.clauses {RUN}) (WpFn 𝓤 H (𝓣 .C) (𝓣 .Λ) code.function)
     (WpFn-mono 𝓤 H (W .laws) 𝓣 code.function) (walks 𝓤 H A W at-mem run 𝓣 {known})
@@ -634,7 +624,7 @@ borjavid-step-spec 𝓤 H 𝓜 𝓖 𝓡 =
     entered 𝓤 H (tripleOf 𝓤 H (𝓖 .A) f.signature (f.spec 𝓤 H (𝓖 .A) (𝓜 .mem) (𝓡 .run)))
     (tables 𝓤 H 𝓜 𝓡 code.env .C) (tables 𝓤 H 𝓜 𝓡 code.env .Λ) #exported·borjavid-step code.function (code.unfolded 𝓤 H 𝓜 𝓡)
     (meets 𝓤 H (𝓖 .A) (givenOf 𝓤 H 𝓜 𝓖) (𝓜 .mem) (𝓡 .run) (tablesOf 𝓤 H 𝓜 (tables 𝓤 H 𝓜 𝓡 code.env))
-{cited})
+{cites(CALLEES)})
 """
 
 

@@ -43,10 +43,8 @@ pub extern "C" fn borjavid_step(
     let out = step_lent::served(rows, words, before, *session, queue, record);
     *counts = out.counts;
     *session = out.session;
-    let k = lent_answer::put_at(out, before.mailboxes, n);
-    let from = lent_answer::moved_from(out, k, n);
-    let x = lent_answer::left_row(out);
-    lent_rows::write_back(rows, from, k, x);
+    let w = lent_answer::to_write(out, before.mailboxes, n);
+    lent_rows::write_back(rows, w.from, w.at, w.row);
     lent_answer::numbers(out)
 }
 

@@ -79,7 +79,7 @@ fn last_row(used: u64, lent: usize) -> usize
 }
 
 // The row that is written: the place of one that is put, or the last used one, where one is taken out.
-pub fn put_at(out: Outcome, used: u64, lent: usize) -> usize
+fn put_at(out: Outcome, used: u64, lent: usize) -> usize
     ensures { λ r. ⌜ r ≡ putAt out used lent ⌝ }
 {
     let change = out.change;
@@ -91,7 +91,7 @@ pub fn put_at(out: Outcome, used: u64, lent: usize) -> usize
 }
 
 // Whence the rows move up as far as row k: from the one that is taken out.
-pub fn moved_from(out: Outcome, k: usize, lent: usize) -> usize
+fn moved_from(out: Outcome, k: usize, lent: usize) -> usize
     ensures { λ r. ⌜ r ≡ movedFrom out k lent ⌝ }
 {
     if lent <= k {
@@ -118,9 +118,28 @@ fn left_of(change: Change, row: Mailbox) -> Mailbox
 }
 
 // What is written there: the row that is put, or zeros, where one is taken out.
-pub fn left_row(out: Outcome) -> Mailbox
+fn left_row(out: Outcome) -> Mailbox
     ensures { λ r. ⌜ r ≡ leftRow out ⌝ }
 {
     let change = out.change;
     left_of(change, out.row)
+}
+
+// What is written back of the table: row `at` becomes `row`, when the rows behind `from` have moved up as far as it.
+pub struct WriteBack {
+    pub from: usize,
+    pub at: usize,
+    pub row: Mailbox,
+}
+
+// What an outcome leaves to be written back, where so many rows were used, of those that are lent.
+pub fn to_write(out: Outcome, used: u64, lent: usize) -> WriteBack
+    ensures { λ r. ⌜ (r .at ≡ putAt out used lent) × (r .from ≡ movedFrom out (r .at) lent) × (r .row ≡ leftRow out) ⌝ }
+{
+    let at = put_at(out, used, lent);
+    WriteBack {
+        from: moved_from(out, at, lent),
+        at: at,
+        row: left_row(out),
+    }
 }

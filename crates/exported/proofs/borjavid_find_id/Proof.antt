@@ -88,7 +88,8 @@ module _ {M : Type 1} (𝓤 : URA M) (H : Heap 𝓤) (A : Atoms 𝓤) (at-mem : 
   abbrev Find : Contract 𝓤
   Find = tripleOf 𝓤 H A find-id-fn.signature (find-id-fn.spec 𝓤 H A at-mem run)
 
-module _ {M : Type 1} (𝓤 : URA M) (H : Heap 𝓤) (A : Atoms 𝓤) (W : Given 𝓤 H A) (at-mem : Memory → SProp 𝓤) (run : Routine → Fun 𝓤) (κ : Lft) (q : Share) (b o : ℕ) (γ : GName) (ys : List Mailbox) (room : Room T.the-row (length ys)) (k : ℕ) (k-fits : k < 2 ^ 64) (j : ℕ) (j-fits : j < 2 ^ 16) where
+module _ {M : Type 1} (𝓤 : URA M) (H : Heap 𝓤) (A : Atoms 𝓤) (W : Given 𝓤 H A) (at-mem : Memory → SProp 𝓤) (run : Routine → Fun 𝓤) (κ : Lft) (q : Share) (b o : ℕ) (γ : GName) (ys : List Mailbox)
+    (room : Room T.the-row (length ys)) (k : ℕ) (k-fits : k < 2 ^ 64) (j : ℕ) (j-fits : j < 2 ^ 16) where
   abbrev n : ℕ
   n = length ys
 
@@ -125,7 +126,8 @@ module _ {M : Type 1} (𝓤 : URA M) (H : Heap 𝓤) (A : Atoms 𝓤) (W : Given
   to-reach = ((tt, tt, tt, (k, (n, tt)), (vint w64 k ∷ [], (vint w64 n ∷ [], tt))), tt)
 
   goes-reach : ent 𝓤 (emp 𝓤) (Reach 𝓤 H A at-mem run .pre to-reach)
-  goes-reach = qed W [] ∵ nothing ! $ owned ! usize (Is usize) (uint-makes 𝓤 H A W w64) n _ (refl, room .0) $ fjoin ! $ owned ! usize (Is usize) (uint-makes 𝓤 H A W w64) k _ (refl, k-fits) $ fjoin ! $ nothing ! $ join ! $ frame ! $ done !
+  goes-reach = qed W [] ∵ nothing ! $ owned ! usize (Is usize) (uint-makes 𝓤 H A W w64) n _ (refl, room .0) $ fjoin ! $ owned ! usize (Is usize) (uint-makes 𝓤 H A W w64) k _ (refl, k-fits) $ fjoin ! $ nothing ! $ join ! $ frame ! $
+      done !
 
   reach-of : (m : ℕ) → ent 𝓤 (ensured 𝓤 H A reach-fn.ended (reach-fn.clauses 𝓤 H A at-mem run) tt (k, (n, tt)) tt m) (fact 𝓤 (m ≡ within k n))
   reach-of m = exE 𝓤 _ (λ ls. snd∗ 𝓤 (sem 𝓤 H A (lasts reach-fn.ended tt (k, (n, tt)) ls)) (fact 𝓤 (m ≡ within k n)))
@@ -156,7 +158,8 @@ module _ {M : Type 1} (𝓤 : URA M) (H : Heap 𝓤) (A : Atoms 𝓤) (W : Given
   found : (m : ℕ) (t : List Mailbox) (r : ℕ) → m ≡ within k n → t ≡ loaded ys → r ≡ place j (take m t) → r ≡ place j (take k (take 64 ys))
   found m t r e h g = g ∙ (ap (λ (i : ℕ). place j (take i t)) e ∙ (ap (λ (l : List Mailbox). place j (take (within k n) l)) h ∙ ap (place j) (taken-loaded k ys)))
 
-  module _ (C : Calls 𝓤 H) (Λ : Loops 𝓤 H) (fm : FmC 𝓤 H (W .laws) C) (k₁ : Triple 𝓤 (C #lent-rows·reach) (Reach 𝓤 H A at-mem run)) (k₂ : Triple 𝓤 (C #lent-rows·load) (Load 𝓤 H A at-mem run)) (k₃ : Triple 𝓤 (C #lent-rows·find-id) (Find 𝓤 H A at-mem run)) where
+  module _ (C : Calls 𝓤 H) (Λ : Loops 𝓤 H) (fm : FmC 𝓤 H (W .laws) C) (k₁ : Triple 𝓤 (C #lent-rows·reach) (Reach 𝓤 H A at-mem run)) (k₂ : Triple 𝓤 (C #lent-rows·load) (Load 𝓤 H A at-mem run))
+      (k₃ : Triple 𝓤 (C #lent-rows·find-id) (Find 𝓤 H A at-mem run)) where
     walk : ent 𝓤 (onEntry 𝓤 H A f.signature (κ, tt) (q, tt) x at) (WpFn 𝓤 H C Λ code.function (s ∷ vint w64 k ∷ vint w16 j ∷ []) Post)
     walk =
         qed W ((‵ (flft κ q) ⊛ ‵ ftrue) ∷ ‵ (owns (ShrSlice (named 0) κ T.the-row ∷ usize ∷ u16 ∷ []) x at) ∷ []) ∵ enter ! C Λ code.function (s ∷ vint w64 k ∷ vint w16 j ∷ []) _ $
@@ -174,37 +177,45 @@ module _ {M : Type 1} (𝓤 : URA M) (H : Heap 𝓤) (A : Atoms 𝓤) (W : Given
         -- `load`
         move ! (0 ∷ 3 ∷ []) $ use2 W (raw (Load 𝓤 H A at-mem run .pre to-load)) goes-load $
         calls-at ! fm (Load 𝓤 H A at-mem run) k₂ to-load (and-then ! (load ! (from ! (stop !)) (look ! 14 refl)) (no-more !)) (λ w₂.
-        use1 W (later (some (λ (t : List Mailbox). ((‵ (flft κ q) ⊛ ‵ ftrue) ⊛ ‵ (Array T.the-row 64 .own t (w₂ ∷ []))) ⊛ raw (ensured 𝓤 H A load-fn.ended (load-fn.clauses 𝓤 H A at-mem run) (κ, tt) (xs, tt) tt t)))) (id⊢ 𝓤 _) $ await ! tt $ pick ! (λ t.
+        use1 W (later (some (λ (t : List Mailbox). ((‵ (flft κ q) ⊛ ‵ ftrue) ⊛ ‵ (Array T.the-row 64 .own t (w₂ ∷ []))) ⊛ raw (ensured 𝓤 H A load-fn.ended (load-fn.clauses 𝓤 H A at-mem run) (κ, tt) (xs, tt) tt t))))
+        (id⊢ 𝓤 _) $ await ! tt $ pick ! (λ t.
         split ! $ move ! (1 ∷ []) $ use1 W (raw (fact 𝓤 (t ≡ loaded ys))) (load-of t) $ heard ! (t ≡ loaded ys) (λ e₂. split ! $ move ! (1 ∷ []) $
         peeks ! (Array T.the-row 64) (Is (Array T.the-row 64)) (shows 𝓤 H A (Array T.the-row 64)) t (w₂ ∷ []) (λ is₂.
         land ! (from ! (stop !)) (init ! 5 refl (array-lawful 𝓤 H A W T.the-row (LL.lawful T.the-type T′.the-laws 𝓤 H A W) 64 .typed t _ is₂ .0)) $
         rewrite ! 5 (λ (v : Val). ‵ (fat fullShare (tyArray T′.mir 64) l₆ 0 v)) (ap only (array-is t w₂ is₂)) refl $ move ! (0 ∷ []) $ drop ! $ move ! (0 ∷ []) $ split ! $
         -- `find_id`
         use0 W (raw (Find 𝓤 H A at-mem run .pre (to-find t m))) (goes-find t m (subst (Is (Array T.the-row 64) t) (array-is t w₂ is₂) is₂) (is₁ .1) (few m e₁)) $
-        calls-at ! fm (Find 𝓤 H A at-mem run) k₃ (to-find t m) (and-then ! (load ! (from ! (stop !)) (look ! 6 refl)) (and-then ! (load ! (from ! (stop !)) (look ! 8 refl)) (and-then ! (load ! (from ! (stop !)) (look ! 12 refl)) (no-more !)))) (λ w₃.
-        use1 W (later (some (λ (r : ℕ). (‵ ftrue ⊛ ‵ (usize .own r (w₃ ∷ []))) ⊛ raw (ensured 𝓤 H A find-id-fn.ended (find-id-fn.clauses 𝓤 H A at-mem run) tt (t, (m, (j, tt))) tt r)))) (id⊢ 𝓤 _) $ await ! tt $ pick ! (λ r.
+        calls-at ! fm (Find 𝓤 H A at-mem run) k₃ (to-find t m) (and-then ! (load ! (from ! (stop !)) (look ! 6 refl)) (and-then ! (load ! (from ! (stop !)) (look ! 8 refl)) (and-then ! (load ! (from ! (stop !)) (look ! 12 refl))
+        (no-more !)))) (λ w₃.
+        use1 W (later (some (λ (r : ℕ). (‵ ftrue ⊛ ‵ (usize .own r (w₃ ∷ []))) ⊛ raw (ensured 𝓤 H A find-id-fn.ended (find-id-fn.clauses 𝓤 H A at-mem run) tt (t, (m, (j, tt))) tt r)))) (id⊢ 𝓤 _) $ await ! tt $
+        pick ! (λ r.
         split ! $ move ! (1 ∷ []) $ use1 W (raw (fact 𝓤 (r ≡ place j (take m t)))) (find-of t m r) $ heard ! (r ≡ place j (take m t)) (λ e₃. split ! $ move ! (1 ∷ []) $
         peeks ! usize (Is usize) (shows 𝓤 H A usize) r (w₃ ∷ []) (λ is₃. land ! (from ! (stop !)) (init ! 19 refl (uint-lawful 𝓤 H A W w64 .typed r _ is₃ .0)) $
         rewrite ! 19 (λ (v : Val). ‵ (fat fullShare (tyInt w64) l₀ 0 v)) (ap only (is₃ .0)) refl $ move ! (0 ∷ []) $ drop ! $ returns ! (look ! 18 refl) $
         forget ! 6 refl $ forget ! 8 refl $ forget ! 10 refl $ forget ! 12 refl $ forget ! 14 refl $ forget ! 16 refl $ forget ! 18 refl $
-        move ! (18 ∷ 19 ∷ []) $ free1 ! $ move ! (16 ∷ 17 ∷ []) $ free1 ! $ move ! (14 ∷ 15 ∷ []) $ free1 ! $ move ! (12 ∷ 13 ∷ []) $ free1 ! $ move ! (10 ∷ 11 ∷ []) $ free1 ! $ move ! (8 ∷ 9 ∷ []) $ free1 ! $ move ! (6 ∷ 7 ∷ []) $ free1 ! $ free0 ! $
+        move ! (18 ∷ 19 ∷ []) $ free1 ! $ move ! (16 ∷ 17 ∷ []) $ free1 ! $ move ! (14 ∷ 15 ∷ []) $ free1 ! $ move ! (12 ∷ 13 ∷ []) $ free1 ! $ move ! (10 ∷ 11 ∷ []) $ free1 ! $ move ! (8 ∷ 9 ∷ []) $ free1 ! $
+        move ! (6 ∷ 7 ∷ []) $ free1 ! $ free0 ! $
         keep ! (1 ∷ 4 ∷ 5 ∷ []) $
         by ! (exits r (found m t r e₁ e₂ e₃) (is₃ .1)))))))))))))))))))))
 
 module _ {M : Type 1} (𝓤 : URA M) (H : Heap 𝓤) (A : Atoms 𝓤) (W : Given 𝓤 H A) where
-  walks : (at-mem : Memory → SProp 𝓤) (run : Routine → Fun 𝓤) (𝓣 : Tables 𝓤 H) → Triple 𝓤 (𝓣 .C #lent-rows·reach) (Reach 𝓤 H A at-mem run) → Triple 𝓤 (𝓣 .C #lent-rows·load) (Load 𝓤 H A at-mem run) → Triple 𝓤 (𝓣 .C #lent-rows·find-id) (Find 𝓤 H A at-mem run)
+  walks : (at-mem : Memory → SProp 𝓤) (run : Routine → Fun 𝓤) (𝓣 : Tables 𝓤 H) → Triple 𝓤 (𝓣 .C #lent-rows·reach) (Reach 𝓤 H A at-mem run) → Triple 𝓤 (𝓣 .C #lent-rows·load) (Load 𝓤 H A at-mem run)
+      → Triple 𝓤 (𝓣 .C #lent-rows·find-id) (Find 𝓤 H A at-mem run)
       → Walks 𝓤 H A f.ended stayed (WpFn 𝓤 H (𝓣 .C) (𝓣 .Λ) code.function) (f.clauses 𝓤 H A at-mem run)
   walks at-mem run 𝓣 k₁ k₂ k₃ = walked 𝓤 H A f.ended stayed (f.clauses 𝓤 H A at-mem run) (WpFn 𝓤 H (𝓣 .C) (𝓣 .Λ) code.function)
       (λ κs. (slice-vals, (uint-vals w64, (uint-vals w16, tt)))) (λ κs. (shr-slice-tells (named 0) (κs .0) T.the-row, (uint-tells w64, (uint-tells w16, tt))))
       (λ κs qs bounds a g are. via 𝓤 _ (fst∗ 𝓤 _ (emp 𝓤))
-      (walk 𝓤 H A W at-mem run (κs .0) (qs .0) (a .0 .ptr .0) (a .0 .ptr .1) (a .0 .name) (a .0 .now) (are .0 .0 .1) (a .1 .0) (are .1 .0 .1) (a .1 .1 .0) (are .1 .1 .0 .1) (𝓣 .C) (𝓣 .Λ) (fmOf 𝓤 H (W .laws) 𝓣) k₁ k₂ k₃))
+      (walk 𝓤 H A W at-mem run (κs .0) (qs .0) (a .0 .ptr .0) (a .0 .ptr .1) (a .0 .name) (a .0 .now) (are .0 .0 .1) (a .1 .0) (are .1 .0 .1) (a .1 .1 .0) (are .1 .1 .0 .1) (𝓣 .C) (𝓣 .Λ)
+      (fmOf 𝓤 H (W .laws) 𝓣) k₁ k₂ k₃))
 
   goes : AllGo 𝓤 H A W 1 (f.signature .params) (f.ended .kept) stayed
   goes = (goes-none-slice 𝓤 H A W 1 (0 ∷ []) tt (plain (λ _. T.the-row)) yes, (goes-none 𝓤 H A W 1 (λ _. usize) yes (λ κs x f. refl), (goes-none 𝓤 H A W 1 (λ _. u16) yes (λ κs x f. refl), tt)))
 
-meets : {M : Type 1} (𝓤 : URA M) (H : Heap 𝓤) (A : Atoms 𝓤) (W : Given 𝓤 H A) (at-mem : Memory → SProp 𝓤) (run : Routine → Fun 𝓤) (𝓣 : Tables 𝓤 H) → Triple 𝓤 (𝓣 .C #lent-rows·reach) (Reach 𝓤 H A at-mem run) → Triple 𝓤 (𝓣 .C #lent-rows·load) (Load 𝓤 H A at-mem run) → Triple 𝓤 (𝓣 .C #lent-rows·find-id) (Find 𝓤 H A at-mem run)
+meets : {M : Type 1} (𝓤 : URA M) (H : Heap 𝓤) (A : Atoms 𝓤) (W : Given 𝓤 H A) (at-mem : Memory → SProp 𝓤) (run : Routine → Fun 𝓤) (𝓣 : Tables 𝓤 H)
+    → Triple 𝓤 (𝓣 .C #lent-rows·reach) (Reach 𝓤 H A at-mem run) → Triple 𝓤 (𝓣 .C #lent-rows·load) (Load 𝓤 H A at-mem run) → Triple 𝓤 (𝓣 .C #lent-rows·find-id) (Find 𝓤 H A at-mem run)
     → Meets 𝓤 H A f.signature (WpFn 𝓤 H (𝓣 .C) (𝓣 .Λ) code.function) (f.spec 𝓤 H A at-mem run)
-meets 𝓤 H A W at-mem run 𝓣 k₁ k₂ k₃ = walk-meets 𝓤 H A f.ended stayed W (goes 𝓤 H A W) (f.clauses 𝓤 H A at-mem run) (WpFn 𝓤 H (𝓣 .C) (𝓣 .Λ) code.function) (WpFn-mono 𝓤 H (W .laws) 𝓣 code.function) (walks 𝓤 H A W at-mem run 𝓣 k₁ k₂ k₃)
+meets 𝓤 H A W at-mem run 𝓣 k₁ k₂ k₃ = walk-meets 𝓤 H A f.ended stayed W (goes 𝓤 H A W) (f.clauses 𝓤 H A at-mem run) (WpFn 𝓤 H (𝓣 .C) (𝓣 .Λ) code.function) (WpFn-mono 𝓤 H (W .laws) 𝓣 code.function)
+    (walks 𝓤 H A W at-mem run 𝓣 k₁ k₂ k₃)
 
 pub borjavid-find-id-spec : {M : Type 1} → stated.statement M
 unfolding code.routine tablesOf

@@ -136,7 +136,8 @@ module _ {M : Type 1} (𝓤 : URA M) (H : Heap 𝓤) (A : Atoms 𝓤) (W : Given
   to-reach = ((tt, tt, tt, (k, (n, tt)), (vint w64 k ∷ [], (vint w64 n ∷ [], tt))), tt)
 
   goes-reach : ent 𝓤 (emp 𝓤) (Reach 𝓤 H A at-mem run .pre to-reach)
-  goes-reach = qed W [] ∵ nothing ! $ owned ! usize (Is usize) (uint-makes 𝓤 H A W w64) n _ (refl, room .0) $ fjoin ! $ owned ! usize (Is usize) (uint-makes 𝓤 H A W w64) k _ (refl, k-fits) $ fjoin ! $ nothing ! $ join ! $ frame ! $ done !
+  goes-reach = qed W [] ∵ nothing ! $ owned ! usize (Is usize) (uint-makes 𝓤 H A W w64) n _ (refl, room .0) $ fjoin ! $ owned ! usize (Is usize) (uint-makes 𝓤 H A W w64) k _ (refl, k-fits) $ fjoin ! $ nothing ! $ join ! $ frame ! $
+      done !
 
   reach-of : (m : ℕ) → ent 𝓤 (ensured 𝓤 H A reach-fn.ended (reach-fn.clauses 𝓤 H A at-mem run) tt (k, (n, tt)) tt m) (fact 𝓤 (m ≡ within k n))
   reach-of m = exE 𝓤 _ (λ ls. snd∗ 𝓤 (sem 𝓤 H A (lasts reach-fn.ended tt (k, (n, tt)) ls)) (fact 𝓤 (m ≡ within k n)))
@@ -153,7 +154,8 @@ module _ {M : Type 1} (𝓤 : URA M) (H : Heap 𝓤) (A : Atoms 𝓤) (W : Given
   abbrev to-find : List Mailbox → ℕ → Find 𝓤 H A at-mem run .Ghost
   to-find t m = (((κ₁, tt), (q₁, tt), tt, (t, (m, (xr, tt))), (valA t ∷ [], (vint w64 m ∷ [], (sr ∷ [], tt)))), tt)
 
-  goes-find : (t : List Mailbox) (m : ℕ) → Is (Array T.the-row 64) t (valA t ∷ []) → m < 2 ^ 64 → m ≤ 64 → ent 𝓤 (sep 𝓤 (A .lft κ₁ q₁) (sem 𝓤 H A (ShrSlice (named 0) κ₁ u8 .own xr (sr ∷ [])))) (Find 𝓤 H A at-mem run .pre (to-find t m))
+  goes-find : (t : List Mailbox) (m : ℕ) → Is (Array T.the-row 64) t (valA t ∷ []) → m < 2 ^ 64 → m ≤ 64 → ent 𝓤 (sep 𝓤 (A .lft κ₁ q₁) (sem 𝓤 H A (ShrSlice (named 0) κ₁ u8 .own xr (sr ∷ []))))
+      (Find 𝓤 H A at-mem run .pre (to-find t m))
   goes-find t m is-t m-fits small = qed W (‵ (flft κ₁ q₁) ∷ ‵ (ShrSlice (named 0) κ₁ u8 .own xr (sr ∷ [])) ∷ []) ∵ says ! small $ nothing ! $ move !
       (1 ∷ 0 ∷ []) $ join ! $ nothing ! $ move ! (2 ∷ 0 ∷ []) $ fjoin ! $ owned ! usize (Is usize) (uint-makes 𝓤 H A W w64) m _
       (refl, m-fits) $ fjoin ! $ owned ! (Array T.the-row 64) (Is (Array T.the-row 64))
@@ -168,10 +170,12 @@ module _ {M : Type 1} (𝓤 : URA M) (H : Heap 𝓤) (A : Atoms 𝓤) (W : Given
   found : (m : ℕ) (t : List Mailbox) (r : ℕ) → m ≡ within k n → t ≡ loaded ys → r ≡ placeNamed us (take m t) → r ≡ placeNamed us (take k (take 64 ys))
   found m t r e h g = g ∙ (ap (λ (i : ℕ). placeNamed us (take i t)) e ∙ (ap (λ (l : List Mailbox). placeNamed us (take (within k n) l)) h ∙ ap (placeNamed us) (taken-loaded k ys)))
 
-  module _ (C : Calls 𝓤 H) (Λ : Loops 𝓤 H) (fm : FmC 𝓤 H (W .laws) C) (k₁ : Triple 𝓤 (C #lent-rows·reach) (Reach 𝓤 H A at-mem run)) (k₂ : Triple 𝓤 (C #lent-rows·load) (Load 𝓤 H A at-mem run)) (k₃ : Triple 𝓤 (C #lent-rows·find-name) (Find 𝓤 H A at-mem run)) where
+  module _ (C : Calls 𝓤 H) (Λ : Loops 𝓤 H) (fm : FmC 𝓤 H (W .laws) C) (k₁ : Triple 𝓤 (C #lent-rows·reach) (Reach 𝓤 H A at-mem run)) (k₂ : Triple 𝓤 (C #lent-rows·load) (Load 𝓤 H A at-mem run))
+      (k₃ : Triple 𝓤 (C #lent-rows·find-name) (Find 𝓤 H A at-mem run)) where
     walk : ent 𝓤 (onEntry 𝓤 H A f.signature (κ, (κ₁, tt)) (q, (q₁, tt)) x at) (WpFn 𝓤 H C Λ code.function (s ∷ vint w64 k ∷ sr ∷ []) Post)
     walk =
-        qed W ((‵ (flft κ q) ⊛ ‵ (flft κ₁ q₁) ⊛ ‵ ftrue) ∷ ‵ (owns (ShrSlice (named 0) κ T.the-row ∷ usize ∷ ShrSlice (named 1) κ₁ u8 ∷ []) x at) ∷ []) ∵ enter ! C Λ code.function (s ∷ vint w64 k ∷ sr ∷ []) _ $
+        qed W ((‵ (flft κ q) ⊛ ‵ (flft κ₁ q₁) ⊛ ‵ ftrue) ∷ ‵ (owns (ShrSlice (named 0) κ T.the-row ∷ usize ∷ ShrSlice (named 1) κ₁ u8 ∷ []) x at) ∷ []) ∵ enter ! C Λ code.function (s ∷ vint w64 k
+        ∷ sr ∷ []) _ $
         alloc1 ! (λ l₀. alloc1 ! (λ l₁. alloc1 ! (λ l₂. alloc1 ! (λ l₃. alloc1 ! (λ l₄. alloc1 ! (λ l₅. alloc1 ! (λ l₆. alloc0 ! $ params1 ! $
         pass1 ! (init ! 10 refl (tt, (tt, (record { fits = room .0 }, tt)))) $ pass1 ! (init ! 8 refl (tt, record { fits = k-fits })) $ pass1 ! (init ! 6 refl (tt, (tt, (record { fits = room₁ .0 }, tt)))) $
         pass0 ! $ move ! (15 ∷ []) $ fsplit ! $ use1 W (‵ Own ⊛ ‵ Own) (shr-slice-copy 𝓤 H A W (named 0) κ T.the-row .twice xs (s ∷ [])) $ split ! $ move ! (2 ∷ []) $ fsplit ! $ move ! (1 ∷ []) $ fsplit ! $
@@ -187,37 +191,45 @@ module _ {M : Type 1} (𝓤 : URA M) (H : Heap 𝓤) (A : Atoms 𝓤) (W : Given
         -- `load`
         move ! (2 ∷ 6 ∷ []) $ use2 W (raw (Load 𝓤 H A at-mem run .pre to-load)) goes-load $
         calls-at ! fm (Load 𝓤 H A at-mem run) k₂ to-load (and-then ! (load ! (from ! (stop !)) (look ! 16 refl)) (no-more !)) (λ w₂.
-        use1 W (later (some (λ (t : List Mailbox). ((‵ (flft κ q) ⊛ ‵ ftrue) ⊛ ‵ (Array T.the-row 64 .own t (w₂ ∷ []))) ⊛ raw (ensured 𝓤 H A load-fn.ended (load-fn.clauses 𝓤 H A at-mem run) (κ, tt) (xs, tt) tt t)))) (id⊢ 𝓤 _) $ await ! tt $ pick ! (λ t.
+        use1 W (later (some (λ (t : List Mailbox). ((‵ (flft κ q) ⊛ ‵ ftrue) ⊛ ‵ (Array T.the-row 64 .own t (w₂ ∷ []))) ⊛ raw (ensured 𝓤 H A load-fn.ended (load-fn.clauses 𝓤 H A at-mem run) (κ, tt) (xs, tt) tt t))))
+        (id⊢ 𝓤 _) $ await ! tt $ pick ! (λ t.
         split ! $ move ! (1 ∷ []) $ use1 W (raw (fact 𝓤 (t ≡ loaded ys))) (load-of t) $ heard ! (t ≡ loaded ys) (λ e₂. split ! $ move ! (1 ∷ []) $
         peeks ! (Array T.the-row 64) (Is (Array T.the-row 64)) (shows 𝓤 H A (Array T.the-row 64)) t (w₂ ∷ []) (λ is₂.
         land ! (from ! (stop !)) (init ! 7 refl (array-lawful 𝓤 H A W T.the-row (LL.lawful T.the-type T′.the-laws 𝓤 H A W) 64 .typed t _ is₂ .0)) $
         rewrite ! 7 (λ (v : Val). ‵ (fat fullShare (tyArray T′.mir 64) l₆ 0 v)) (ap only (array-is t w₂ is₂)) refl $ move ! (0 ∷ []) $ drop ! $ move ! (0 ∷ []) $ split ! $
         -- `find_name`
         move ! (2 ∷ 5 ∷ []) $ use2 W (raw (Find 𝓤 H A at-mem run .pre (to-find t m))) (goes-find t m (subst (Is (Array T.the-row 64) t) (array-is t w₂ is₂) is₂) (is₁ .1) (few m e₁)) $
-        calls-at ! fm (Find 𝓤 H A at-mem run) k₃ (to-find t m) (and-then ! (load ! (from ! (stop !)) (look ! 6 refl)) (and-then ! (load ! (from ! (stop !)) (look ! 8 refl)) (and-then ! (load ! (from ! (stop !)) (look ! 12 refl)) (no-more !)))) (λ w₃.
-        use1 W (later (some (λ (r : ℕ). ((‵ (flft κ₁ q₁) ⊛ ‵ ftrue) ⊛ ‵ (usize .own r (w₃ ∷ []))) ⊛ raw (ensured 𝓤 H A find-name-fn.ended (find-name-fn.clauses 𝓤 H A at-mem run) (κ₁, tt) (t, (m, (xr, tt))) tt r)))) (id⊢ 𝓤 _) $ await ! tt $ pick ! (λ r.
+        calls-at ! fm (Find 𝓤 H A at-mem run) k₃ (to-find t m) (and-then ! (load ! (from ! (stop !)) (look ! 6 refl)) (and-then ! (load ! (from ! (stop !)) (look ! 8 refl)) (and-then ! (load ! (from ! (stop !)) (look ! 12 refl))
+        (no-more !)))) (λ w₃.
+        use1 W (later (some (λ (r : ℕ). ((‵ (flft κ₁ q₁) ⊛ ‵ ftrue) ⊛ ‵ (usize .own r (w₃ ∷ []))) ⊛ raw (ensured 𝓤 H A find-name-fn.ended (find-name-fn.clauses 𝓤 H A at-mem run) (κ₁, tt)
+        (t, (m, (xr, tt))) tt r)))) (id⊢ 𝓤 _) $ await ! tt $ pick ! (λ r.
         split ! $ move ! (1 ∷ []) $ use1 W (raw (fact 𝓤 (r ≡ placeNamed us (take m t)))) (find-of t m r) $ heard ! (r ≡ placeNamed us (take m t)) (λ e₃. split ! $ move ! (1 ∷ []) $
         peeks ! usize (Is usize) (shows 𝓤 H A usize) r (w₃ ∷ []) (λ is₃. land ! (from ! (stop !)) (init ! 19 refl (uint-lawful 𝓤 H A W w64 .typed r _ is₃ .0)) $
         rewrite ! 19 (λ (v : Val). ‵ (fat fullShare (tyInt w64) l₀ 0 v)) (ap only (is₃ .0)) refl $ move ! (0 ∷ []) $ drop ! $ move ! (0 ∷ []) $ split ! $ returns ! (look ! 19 refl) $
         forget ! 7 refl $ forget ! 9 refl $ forget ! 11 refl $ forget ! 13 refl $ forget ! 15 refl $ forget ! 17 refl $ forget ! 19 refl $
-        move ! (19 ∷ 20 ∷ []) $ free1 ! $ move ! (17 ∷ 18 ∷ []) $ free1 ! $ move ! (15 ∷ 16 ∷ []) $ free1 ! $ move ! (13 ∷ 14 ∷ []) $ free1 ! $ move ! (11 ∷ 12 ∷ []) $ free1 ! $ move ! (9 ∷ 10 ∷ []) $ free1 ! $ move ! (7 ∷ 8 ∷ []) $ free1 ! $ free0 ! $
+        move ! (19 ∷ 20 ∷ []) $ free1 ! $ move ! (17 ∷ 18 ∷ []) $ free1 ! $ move ! (15 ∷ 16 ∷ []) $ free1 ! $ move ! (13 ∷ 14 ∷ []) $ free1 ! $ move ! (11 ∷ 12 ∷ []) $ free1 ! $ move ! (9 ∷ 10 ∷ []) $ free1 ! $
+        move ! (7 ∷ 8 ∷ []) $ free1 ! $ free0 ! $
         keep ! (2 ∷ 0 ∷ 6 ∷ 5 ∷ []) $
         by ! (exits r (found m t r e₁ e₂ e₃) (is₃ .1)))))))))))))))))))))
 
 module _ {M : Type 1} (𝓤 : URA M) (H : Heap 𝓤) (A : Atoms 𝓤) (W : Given 𝓤 H A) where
-  walks : (at-mem : Memory → SProp 𝓤) (run : Routine → Fun 𝓤) (𝓣 : Tables 𝓤 H) → Triple 𝓤 (𝓣 .C #lent-rows·reach) (Reach 𝓤 H A at-mem run) → Triple 𝓤 (𝓣 .C #lent-rows·load) (Load 𝓤 H A at-mem run) → Triple 𝓤 (𝓣 .C #lent-rows·find-name) (Find 𝓤 H A at-mem run)
+  walks : (at-mem : Memory → SProp 𝓤) (run : Routine → Fun 𝓤) (𝓣 : Tables 𝓤 H) → Triple 𝓤 (𝓣 .C #lent-rows·reach) (Reach 𝓤 H A at-mem run) → Triple 𝓤 (𝓣 .C #lent-rows·load) (Load 𝓤 H A at-mem run)
+      → Triple 𝓤 (𝓣 .C #lent-rows·find-name) (Find 𝓤 H A at-mem run)
       → Walks 𝓤 H A f.ended stayed (WpFn 𝓤 H (𝓣 .C) (𝓣 .Λ) code.function) (f.clauses 𝓤 H A at-mem run)
   walks at-mem run 𝓣 k₁ k₂ k₃ = walked 𝓤 H A f.ended stayed (f.clauses 𝓤 H A at-mem run) (WpFn 𝓤 H (𝓣 .C) (𝓣 .Λ) code.function)
       (λ κs. (slice-vals, (uint-vals w64, (slice-vals, tt)))) (λ κs. (shr-slice-tells (named 0) (κs .0) T.the-row, (uint-tells w64, (shr-slice-tells (named 1) (κs .1 .0) u8, tt))))
       (λ κs qs bounds a g are. via 𝓤 _ (fst∗ 𝓤 _ (emp 𝓤))
-      (walk 𝓤 H A W at-mem run (κs .0) (κs .1 .0) bounds (qs .0) (qs .1 .0) (a .0 .ptr .0) (a .0 .ptr .1) (a .0 .name) (a .0 .now) (are .0 .0 .1) (a .1 .0) (are .1 .0 .1) (a .1 .1 .0 .ptr .0) (a .1 .1 .0 .ptr .1) (a .1 .1 .0 .name) (a .1 .1 .0 .now) (are .1 .1 .0 .0 .1) (𝓣 .C) (𝓣 .Λ) (fmOf 𝓤 H (W .laws) 𝓣) k₁ k₂ k₃))
+      (walk 𝓤 H A W at-mem run (κs .0) (κs .1 .0) bounds (qs .0) (qs .1 .0) (a .0 .ptr .0) (a .0 .ptr .1) (a .0 .name) (a .0 .now) (are .0 .0 .1) (a .1 .0) (are .1 .0 .1) (a .1 .1 .0 .ptr .0) (a .1 .1 .0 .ptr .1) (a .1 .1 .0 .name)
+      (a .1 .1 .0 .now) (are .1 .1 .0 .0 .1) (𝓣 .C) (𝓣 .Λ) (fmOf 𝓤 H (W .laws) 𝓣) k₁ k₂ k₃))
 
   goes : AllGo 𝓤 H A W 2 (f.signature .params) (f.ended .kept) stayed
   goes = (goes-none-slice 𝓤 H A W 2 (0 ∷ []) tt (plain (λ _. T.the-row)) yes, (goes-none 𝓤 H A W 2 (λ _. usize) yes (λ κs x f. refl), (goes-none-slice 𝓤 H A W 2 (1 ∷ []) tt (plain (λ _. u8)) yes, tt)))
 
-meets : {M : Type 1} (𝓤 : URA M) (H : Heap 𝓤) (A : Atoms 𝓤) (W : Given 𝓤 H A) (at-mem : Memory → SProp 𝓤) (run : Routine → Fun 𝓤) (𝓣 : Tables 𝓤 H) → Triple 𝓤 (𝓣 .C #lent-rows·reach) (Reach 𝓤 H A at-mem run) → Triple 𝓤 (𝓣 .C #lent-rows·load) (Load 𝓤 H A at-mem run) → Triple 𝓤 (𝓣 .C #lent-rows·find-name) (Find 𝓤 H A at-mem run)
+meets : {M : Type 1} (𝓤 : URA M) (H : Heap 𝓤) (A : Atoms 𝓤) (W : Given 𝓤 H A) (at-mem : Memory → SProp 𝓤) (run : Routine → Fun 𝓤) (𝓣 : Tables 𝓤 H)
+    → Triple 𝓤 (𝓣 .C #lent-rows·reach) (Reach 𝓤 H A at-mem run) → Triple 𝓤 (𝓣 .C #lent-rows·load) (Load 𝓤 H A at-mem run) → Triple 𝓤 (𝓣 .C #lent-rows·find-name) (Find 𝓤 H A at-mem run)
     → Meets 𝓤 H A f.signature (WpFn 𝓤 H (𝓣 .C) (𝓣 .Λ) code.function) (f.spec 𝓤 H A at-mem run)
-meets 𝓤 H A W at-mem run 𝓣 k₁ k₂ k₃ = walk-meets 𝓤 H A f.ended stayed W (goes 𝓤 H A W) (f.clauses 𝓤 H A at-mem run) (WpFn 𝓤 H (𝓣 .C) (𝓣 .Λ) code.function) (WpFn-mono 𝓤 H (W .laws) 𝓣 code.function) (walks 𝓤 H A W at-mem run 𝓣 k₁ k₂ k₃)
+meets 𝓤 H A W at-mem run 𝓣 k₁ k₂ k₃ = walk-meets 𝓤 H A f.ended stayed W (goes 𝓤 H A W) (f.clauses 𝓤 H A at-mem run) (WpFn 𝓤 H (𝓣 .C) (𝓣 .Λ) code.function) (WpFn-mono 𝓤 H (W .laws) 𝓣 code.function)
+    (walks 𝓤 H A W at-mem run 𝓣 k₁ k₂ k₃)
 
 pub borjavid-find-name-spec : {M : Type 1} → stated.statement M
 unfolding code.routine tablesOf

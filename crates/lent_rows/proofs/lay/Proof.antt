@@ -1,5 +1,5 @@
 -- `lent_rows::lay` meets its contract: a walk of its MIR, by hand, with a call in a loop. The rows' borrow is looked into once, before the loop, and shut once, after it. Each turn reads one row and lends the seven columns
--- again for the call of `keep`, after which they come back at the lists that its contract says. The invariant: the columns have the first i rows. Positions are written by a script (walkgen of the recipe). Assumes nothing.
+-- again for the call of `keep`, after which they come back at the lists that its contract says. The invariant: the columns have the first i rows. Positions were written by a script (tools/walkgen.py). Assumes nothing.
 use mathlib.Core.Path.{_≡_, refl, sym, ap, subst}
 use mathlib.Core.Bool.{Bool, true, false, not}
 use mathlib.Core.List.{[], _∷_, List}
@@ -87,8 +87,65 @@ word = tyInt w64
 abbrev Columns : Type 0
 Columns = List ℕ × (List ℕ × (List ℕ × (List ℕ × (List ℕ × (List ℕ × List ℕ)))))
 
+abbrev col₁ : Columns → List ℕ
+col₁ c = c .0
+
+abbrev col₂ : Columns → List ℕ
+col₂ c = c .1 .0
+
+abbrev col₃ : Columns → List ℕ
+col₃ c = c .1 .1 .0
+
+abbrev col₄ : Columns → List ℕ
+col₄ c = c .1 .1 .1 .0
+
+abbrev col₅ : Columns → List ℕ
+col₅ c = c .1 .1 .1 .1 .0
+
+abbrev col₆ : Columns → List ℕ
+col₆ c = c .1 .1 .1 .1 .1 .0
+
+abbrev col₇ : Columns → List ℕ
+col₇ c = c .1 .1 .1 .1 .1 .1
+
+-- what `keep` leaves of its arguments, and the columns among it
+abbrev Left : Type 0
+Left = Unit {0} × (Unit {0} × (List ℕ × (List ℕ × (List ℕ × (List ℕ × (List ℕ × (List ℕ × (List ℕ × Unit {0}))))))))
+
+abbrev kept : Left → Columns
+kept zs = (zs .1 .1 .0, (zs .1 .1 .1 .0, (zs .1 .1 .1 .1 .0, (zs .1 .1 .1 .1 .1 .0, (zs .1 .1 .1 .1 .1 .1 .0, (zs .1 .1 .1 .1 .1 .1 .1 .0, zs .1 .1 .1 .1 .1 .1 .1 .1 .0))))))
+
+-- the lifetimes that the columns are lent again for
+abbrev Lives : Type 0
+Lives = Lft × (Lft × (Lft × (Lft × (Lft × (Lft × (Lft × Unit {0}))))))
+
+abbrev lives : ℕ → ℕ → ℕ → ℕ → ℕ → ℕ → ℕ → Lives
+lives ν₁ ν₂ ν₃ ν₄ ν₅ ν₆ ν₇ = (ν₁ ∷ [], (ν₂ ∷ [], (ν₃ ∷ [], (ν₄ ∷ [], (ν₅ ∷ [], (ν₆ ∷ [], (ν₇ ∷ [], tt)))))))
+
+-- references to columns: the types of those that are given and of those that are lent again, and what one owns
+abbrev givenTy : ℕ → RattleType → Ty
+givenTy k R = tyRef (named k) mut (pointee (R .written))
+
+abbrev lentTy : RattleType → Ty
+lentTy R = tyRef erased mut (pointee (R .written))
+
+abbrev ref : ℕ → ℕ → GName → List ℕ → RefT (List ℕ)
+ref b o δ l = record { ptr = (b, o); name = δ; now = l }
+
+abbrev wordsAt : ℕ → Lft → ℕ → ℕ → GName → List ℕ → Fml
+wordsAt k κ b o δ l = MutRef (named k) κ W64 .own (ref b o δ l) (vptr b o ∷ [])
+
+abbrev octetsAt : ℕ → Lft → ℕ → ℕ → GName → List ℕ → Fml
+octetsAt k κ b o δ l = MutRef (named k) κ O64 .own (ref b o δ l) (vptr b o ∷ [])
+
+abbrev namesAt : ℕ → Lft → ℕ → ℕ → GName → List ℕ → Fml
+namesAt k κ b o δ l = MutRef (named k) κ O4096 .own (ref b o δ l) (vptr b o ∷ [])
+
 abbrev stayed : Stays (f.ended .signature .params) (f.ended .kept)
-stayed = (stay-none-slice (0 ∷ []) tt (plain (λ _. T.the-row)) yes, (stay-none (λ _. usize) yes, (stay-ref (1 ∷ []) tt (plain (λ _. W64)), (stay-ref (2 ∷ []) tt (plain (λ _. O64)), (stay-ref (3 ∷ []) tt (plain (λ _. O64)), (stay-ref (4 ∷ []) tt (plain (λ _. W64)), (stay-ref (5 ∷ []) tt (plain (λ _. W64)), (stay-ref (6 ∷ []) tt (plain (λ _. W64)), (stay-ref (7 ∷ []) tt (plain (λ _. O4096)), tt)))))))))
+stayed = (
+  stay-none-slice (0 ∷ []) tt (plain (λ _. T.the-row)) yes,
+  (stay-none (λ _. usize) yes, (stay-ref (1 ∷ []) tt (plain (λ _. W64)), (stay-ref (2 ∷ []) tt (plain (λ _. O64)), (stay-ref (3 ∷ []) tt (plain (λ _. O64)), (stay-ref (4 ∷ []) tt (plain (λ _. W64)), (stay-ref (5 ∷ []) tt (plain (λ _. W64)), (stay-ref (6 ∷ []) tt (plain (λ _. W64)), (stay-ref (7 ∷ []) tt (plain (λ _. O4096)), tt)))))))),
+)
 
 -- the octets before element i, which the machine computes, fit
 fits-at : (i n : ℕ) → i < n → n * 84 < 2 ^ 63 → i * 84 < 2 ^ 64
@@ -102,10 +159,12 @@ module _ {M : Type 1} (𝓤 : URA M) (H : Heap 𝓤) (A : Atoms 𝓤) (at-mem : 
   abbrev Keep : Contract 𝓤
   Keep = tripleOf 𝓤 H A keep-fn.signature (keep-fn.spec 𝓤 H A at-mem run)
 
-module _ {M : Type 1} (𝓤 : URA M) (H : Heap 𝓤) (A : Atoms 𝓤) (W : Given 𝓤 H A) (at-mem : Memory → SProp 𝓤) (run : Routine → Fun 𝓤) (κ κ₁ κ₂ κ₃ κ₄ κ₅ κ₆ κ₇ : Lft) (bounds : AllOutlive 8 (f.signature .outlives) (κ, (κ₁, (κ₂, (κ₃, (κ₄, (κ₅, (κ₆, (κ₇, tt))))))))) (q q₁ q₂ q₃ q₄ q₅ q₆ q₇ : Share) (b o : ℕ) (γ : GName) (ys : List Mailbox) (room : Room T.the-row (length ys)) (m : ℕ) (m-fits : m < 2 ^ 64) (few : (m ≤ length ys) × (m ≤ 64)) (b₁ o₁ : ℕ) (γ₁ : GName) (c₁ : List ℕ) (b₂ o₂ : ℕ) (γ₂ : GName) (c₂ : List ℕ) (b₃ o₃ : ℕ) (γ₃ : GName) (c₃ : List ℕ) (b₄ o₄ : ℕ) (γ₄ : GName) (c₄ : List ℕ) (b₅ o₅ : ℕ) (γ₅ : GName) (c₅ : List ℕ) (b₆ o₆ : ℕ) (γ₆ : GName) (c₆ : List ℕ) (b₇ o₇ : ℕ) (γ₇ : GName) (c₇ : List ℕ) where
-  abbrev ref : ℕ → ℕ → GName → List ℕ → RefT (List ℕ)
-  ref b′ o′ δ l = record { ptr = (b′, o′); name = δ; now = l }
-
+module _ {M : Type 1} (𝓤 : URA M) (H : Heap 𝓤) (A : Atoms 𝓤) (W : Given 𝓤 H A) (at-mem : Memory → SProp 𝓤) (run : Routine
+    → Fun 𝓤) (κ κ₁ κ₂ κ₃ κ₄ κ₅ κ₆ κ₇ : Lft) (bounds : AllOutlive 8 (f.signature .outlives) (κ, (κ₁, (κ₂, (κ₃, (κ₄, (κ₅, (κ₆, (κ₇, tt)))))))))
+    (q q₁ q₂ q₃ q₄ q₅ q₆ q₇ : Share) (b o : ℕ) (γ : GName) (ys : List Mailbox) (room : Room T.the-row (length ys)) (m : ℕ) (m-fits : m < 2 ^ 64)
+    (few : (m ≤ length ys) × (m ≤ 64)) (b₁ o₁ : ℕ) (γ₁ : GName) (c₁ : List ℕ) (b₂ o₂ : ℕ) (γ₂ : GName) (c₂ : List ℕ) (b₃ o₃ : ℕ) (γ₃ : GName) (c₃ : List ℕ)
+    (b₄ o₄ : ℕ) (γ₄ : GName) (c₄ : List ℕ) (b₅ o₅ : ℕ) (γ₅ : GName) (c₅ : List ℕ) (b₆ o₆ : ℕ) (γ₆ : GName) (c₆ : List ℕ) (b₇ o₇ : ℕ) (γ₇ : GName)
+    (c₇ : List ℕ) where
   abbrev s : Val
   s = sliceVal (b, o) (length ys)
 
@@ -119,36 +178,59 @@ module _ {M : Type 1} (𝓤 : URA M) (H : Heap 𝓤) (A : Atoms 𝓤) (W : Given
   Own = ShrSlice (named 0) κ T.the-row .own (x .0) (s ∷ [])
 
   abbrev Post : Val → SProp 𝓤
-  Post = walkOf 𝓤 H A f.ended stayed (f.clauses 𝓤 H A at-mem run) .post (((κ, (κ₁, (κ₂, (κ₃, (κ₄, (κ₅, (κ₆, (κ₇, tt)))))))), (q, (q₁, (q₂, (q₃, (q₄, (q₅, (q₆, (q₇, tt)))))))), bounds, x, at), tt)
+  Post = walkOf 𝓤 H A f.ended stayed (f.clauses 𝓤 H A at-mem run) .post
+      (((κ, (κ₁, (κ₂, (κ₃, (κ₄, (κ₅, (κ₆, (κ₇, tt)))))))), (q, (q₁, (q₂, (q₃, (q₄, (q₅, (q₆, (q₇, tt)))))))), bounds, x, at), tt)
 
   -- the columns c have the first i rows, if those passed have a table's
   abbrev Laid-out : ℕ → Columns → Type 0
-  Laid-out i c = Lays ys i c₁ c₂ c₃ c₄ c₅ c₆ c₇ (c .0) (c .1 .0) (c .1 .1 .0) (c .1 .1 .1 .0) (c .1 .1 .1 .1 .0) (c .1 .1 .1 .1 .1 .0) (c .1 .1 .1 .1 .1 .1)
+  Laid-out i c = Lays ys i c₁ c₂ c₃ c₄ c₅ c₆ c₇ (col₁ c) (col₂ c) (col₃ c) (col₄ c) (col₅ c) (col₆ c) (col₇ c)
 
-  exits : (c : Columns) → Laid-out m c → ent 𝓤 (⋆ 𝓤 H A (‵ (flft κ q) ∷ ‵ (flft κ₁ q₁) ∷ ‵ (flft κ₂ q₂) ∷ ‵ (flft κ₃ q₃) ∷ ‵ (flft κ₄ q₄) ∷ ‵ (flft κ₅ q₅) ∷ ‵ (flft κ₆ q₆) ∷ ‵ (flft κ₇ q₇) ∷ ‵ Own ∷ ‵ (MutRef (named 1) κ₁ W64 .own (ref b₁ o₁ γ₁ (c .0)) (vptr b₁ o₁ ∷ [])) ∷ ‵ (MutRef (named 2) κ₂ O64 .own (ref b₂ o₂ γ₂ (c .1 .0)) (vptr b₂ o₂ ∷ [])) ∷ ‵ (MutRef (named 3) κ₃ O64 .own (ref b₃ o₃ γ₃ (c .1 .1 .0)) (vptr b₃ o₃ ∷ [])) ∷ ‵ (MutRef (named 4) κ₄ W64 .own (ref b₄ o₄ γ₄ (c .1 .1 .1 .0)) (vptr b₄ o₄ ∷ [])) ∷ ‵ (MutRef (named 5) κ₅ W64 .own (ref b₅ o₅ γ₅ (c .1 .1 .1 .1 .0)) (vptr b₅ o₅ ∷ [])) ∷ ‵ (MutRef (named 6) κ₆ W64 .own (ref b₆ o₆ γ₆ (c .1 .1 .1 .1 .1 .0)) (vptr b₆ o₆ ∷ [])) ∷ ‵ (MutRef (named 7) κ₇ O4096 .own (ref b₇ o₇ γ₇ (c .1 .1 .1 .1 .1 .1)) (vptr b₇ o₇ ∷ [])) ∷ [])) (Post vunit)
+  exits : (c : Columns) → Laid-out m c → ent 𝓤 (⋆ 𝓤 H A (‵ (flft κ q) ∷ ‵ (flft κ₁ q₁) ∷ ‵ (flft κ₂ q₂) ∷ ‵ (flft κ₃ q₃) ∷ ‵ (flft κ₄ q₄)
+      ∷ ‵ (flft κ₅ q₅) ∷ ‵ (flft κ₆ q₆) ∷ ‵ (flft κ₇ q₇) ∷ ‵ Own ∷ ‵ (wordsAt 1 κ₁ b₁ o₁ γ₁ (col₁ c))
+      ∷ ‵ (octetsAt 2 κ₂ b₂ o₂ γ₂ (col₂ c)) ∷ ‵ (octetsAt 3 κ₃ b₃ o₃ γ₃ (col₃ c)) ∷ ‵ (wordsAt 4 κ₄ b₄ o₄ γ₄ (col₄ c))
+      ∷ ‵ (wordsAt 5 κ₅ b₅ o₅ γ₅ (col₅ c)) ∷ ‵ (wordsAt 6 κ₆ b₆ o₆ γ₆ (col₆ c)) ∷ ‵ (namesAt 7 κ₇ b₇ o₇ γ₇ (col₇ c)) ∷ [])) (Post vunit)
   exits c e =
-      qed W (‵ (flft κ q) ∷ ‵ (flft κ₁ q₁) ∷ ‵ (flft κ₂ q₂) ∷ ‵ (flft κ₃ q₃) ∷ ‵ (flft κ₄ q₄) ∷ ‵ (flft κ₅ q₅) ∷ ‵ (flft κ₆ q₆) ∷ ‵ (flft κ₇ q₇) ∷ ‵ Own ∷ ‵ (MutRef (named 1) κ₁ W64 .own (ref b₁ o₁ γ₁ (c .0)) (vptr b₁ o₁ ∷ [])) ∷ ‵ (MutRef (named 2) κ₂ O64 .own (ref b₂ o₂ γ₂ (c .1 .0)) (vptr b₂ o₂ ∷ [])) ∷ ‵ (MutRef (named 3) κ₃ O64 .own (ref b₃ o₃ γ₃ (c .1 .1 .0)) (vptr b₃ o₃ ∷ [])) ∷ ‵ (MutRef (named 4) κ₄ W64 .own (ref b₄ o₄ γ₄ (c .1 .1 .1 .0)) (vptr b₄ o₄ ∷ [])) ∷ ‵ (MutRef (named 5) κ₅ W64 .own (ref b₅ o₅ γ₅ (c .1 .1 .1 .1 .0)) (vptr b₅ o₅ ∷ [])) ∷ ‵ (MutRef (named 6) κ₆ W64 .own (ref b₆ o₆ γ₆ (c .1 .1 .1 .1 .1 .0)) (vptr b₆ o₆ ∷ [])) ∷ ‵ (MutRef (named 7) κ₇ O4096 .own (ref b₇ o₇ γ₇ (c .1 .1 .1 .1 .1 .1)) (vptr b₇ o₇ ∷ [])) ∷ []) ∵
-      suffices ! _ (ends-at 𝓤 H A f.ended stayed (f.clauses 𝓤 H A at-mem run) W (((κ, (κ₁, (κ₂, (κ₃, (κ₄, (κ₅, (κ₆, (κ₇, tt)))))))), (q, (q₁, (q₂, (q₃, (q₄, (q₅, (q₆, (q₇, tt)))))))), bounds, x, at), tt) vunit tt (tt, (tt, (c .0, (c .1 .0, (c .1 .1 .0, (c .1 .1 .1 .0, (c .1 .1 .1 .1 .0, (c .1 .1 .1 .1 .1 .0, (c .1 .1 .1 .1 .1 .1, tt))))))))) (tt, (tt, (tt, (tt, (tt, (tt, (tt, (tt, (tt, tt)))))))))) $ says ! e $
-      nothing ! $ move ! (8 ∷ 0 ∷ []) $ join ! $ move ! (7 ∷ 0 ∷ []) $ join ! $ move ! (6 ∷ 0 ∷ []) $ join ! $ move ! (5 ∷ 0 ∷ []) $ join ! $ move ! (4 ∷ 0 ∷ []) $ join ! $ move ! (3 ∷ 0 ∷ []) $ join ! $ move ! (2 ∷ 0 ∷ []) $ join ! $ move ! (1 ∷ 0 ∷ []) $ join ! $ frame ! $
-      nothing ! $ move ! (8 ∷ 0 ∷ []) $ fjoin ! $ move ! (7 ∷ 0 ∷ []) $ fjoin ! $ move ! (6 ∷ 0 ∷ []) $ fjoin ! $ move ! (5 ∷ 0 ∷ []) $ fjoin ! $ move ! (4 ∷ 0 ∷ []) $ fjoin ! $ move ! (3 ∷ 0 ∷ []) $ fjoin ! $ move ! (2 ∷ 0 ∷ []) $ fjoin ! $ owned ! usize (Is usize) (uint-makes 𝓤 H A W w64) m _ (refl, m-fits) $ fjoin ! $ move ! (1 ∷ 0 ∷ []) $ fjoin ! $ frame ! $
+      qed W (‵ (flft κ q) ∷ ‵ (flft κ₁ q₁) ∷ ‵ (flft κ₂ q₂) ∷ ‵ (flft κ₃ q₃) ∷ ‵ (flft κ₄ q₄) ∷ ‵ (flft κ₅ q₅) ∷ ‵ (flft κ₆ q₆)
+      ∷ ‵ (flft κ₇ q₇) ∷ ‵ Own ∷ ‵ (wordsAt 1 κ₁ b₁ o₁ γ₁ (col₁ c)) ∷ ‵ (octetsAt 2 κ₂ b₂ o₂ γ₂ (col₂ c))
+      ∷ ‵ (octetsAt 3 κ₃ b₃ o₃ γ₃ (col₃ c)) ∷ ‵ (wordsAt 4 κ₄ b₄ o₄ γ₄ (col₄ c)) ∷ ‵ (wordsAt 5 κ₅ b₅ o₅ γ₅ (col₅ c))
+      ∷ ‵ (wordsAt 6 κ₆ b₆ o₆ γ₆ (col₆ c)) ∷ ‵ (namesAt 7 κ₇ b₇ o₇ γ₇ (col₇ c)) ∷ []) ∵
+      suffices ! _ (ends-at 𝓤 H A f.ended stayed (f.clauses 𝓤 H A at-mem run) W
+      (((κ, (κ₁, (κ₂, (κ₃, (κ₄, (κ₅, (κ₆, (κ₇, tt)))))))), (q, (q₁, (q₂, (q₃, (q₄, (q₅, (q₆, (q₇, tt)))))))), bounds, x, at), tt) vunit tt
+      (tt, (tt, (c .0, (c .1 .0, (c .1 .1 .0, (c .1 .1 .1 .0, (c .1 .1 .1 .1 .0, (c .1 .1 .1 .1 .1 .0, (c .1 .1 .1 .1 .1 .1, tt))))))))) (tt, (tt, (tt, (tt, (tt, (tt, (tt, (tt, (tt, tt)))))))))) $
+      says ! e $
+      nothing ! $ move ! (8 ∷ 0 ∷ []) $ join ! $ move ! (7 ∷ 0 ∷ []) $ join ! $ move ! (6 ∷ 0 ∷ []) $ join ! $ move ! (5 ∷ 0 ∷ []) $ join ! $ move ! (4 ∷ 0 ∷ []) $ join ! $
+      move ! (3 ∷ 0 ∷ []) $ join ! $ move ! (2 ∷ 0 ∷ []) $ join ! $ move ! (1 ∷ 0 ∷ []) $ join ! $ frame ! $
+      nothing ! $ move ! (8 ∷ 0 ∷ []) $ fjoin ! $ move ! (7 ∷ 0 ∷ []) $ fjoin ! $ move ! (6 ∷ 0 ∷ []) $ fjoin ! $ move ! (5 ∷ 0 ∷ []) $ fjoin ! $ move ! (4 ∷ 0 ∷ []) $ fjoin ! $
+      move ! (3 ∷ 0 ∷ []) $ fjoin ! $ move ! (2 ∷ 0 ∷ []) $ fjoin ! $ owned ! usize (Is usize) (uint-makes 𝓤 H A W w64) m _ (refl, m-fits) $ fjoin ! $ move ! (1 ∷ 0 ∷ []) $ fjoin ! $
+      frame ! $
       feqI ! (List Val) (vunit ∷ []) (vunit ∷ []) refl $ done !
 
   -- ---- what `keep`'s triple binds outside, that the caller has what it asks, and what its `ensured` says
   module _ (ν₁ ν₂ ν₃ ν₄ ν₅ ν₆ ν₇ : ℕ) (δ₁ δ₂ δ₃ δ₄ δ₅ δ₆ δ₇ : GName) (i : ℕ) (d : Mailbox) (c : Columns) where
     abbrev lent-to : Mailbox × (ℕ × (RefT (List ℕ) × (RefT (List ℕ) × (RefT (List ℕ) × (RefT (List ℕ) × (RefT (List ℕ) × (RefT (List ℕ) × (RefT (List ℕ) × Unit {0}))))))))
-    lent-to = (d, (i, (ref b₁ o₁ δ₁ (c .0), (ref b₂ o₂ δ₂ (c .1 .0), (ref b₃ o₃ δ₃ (c .1 .1 .0), (ref b₄ o₄ δ₄ (c .1 .1 .1 .0), (ref b₅ o₅ δ₅ (c .1 .1 .1 .1 .0), (ref b₆ o₆ δ₆ (c .1 .1 .1 .1 .1 .0), (ref b₇ o₇ δ₇ (c .1 .1 .1 .1 .1 .1), tt)))))))))
+    lent-to = (d, (i, (ref b₁ o₁ δ₁ (col₁ c), (ref b₂ o₂ δ₂ (col₂ c), (ref b₃ o₃ δ₃ (col₃ c), (ref b₄ o₄ δ₄ (col₄ c), (ref b₅ o₅ δ₅ (col₅ c), (ref b₆ o₆ δ₆ (col₆ c), (ref b₇ o₇ δ₇ (col₇ c), tt)))))))))
 
     abbrev to-keep : Keep 𝓤 H A at-mem run .Ghost
-    to-keep = (((ν₁ ∷ [], (ν₂ ∷ [], (ν₃ ∷ [], (ν₄ ∷ [], (ν₅ ∷ [], (ν₆ ∷ [], (ν₇ ∷ [], tt))))))), (fullShare, (fullShare, (fullShare, (fullShare, (fullShare, (fullShare, (fullShare, tt))))))), tt, lent-to, (val d ∷ [], (vint w64 i ∷ [], (vptr b₁ o₁ ∷ [], (vptr b₂ o₂ ∷ [], (vptr b₃ o₃ ∷ [], (vptr b₄ o₄ ∷ [], (vptr b₅ o₅ ∷ [], (vptr b₆ o₆ ∷ [], (vptr b₇ o₇ ∷ [], tt)))))))))), tt)
+    to-keep = (((lives ν₁ ν₂ ν₃ ν₄ ν₅ ν₆ ν₇), (fullShare, (fullShare, (fullShare, (fullShare, (fullShare, (fullShare, (fullShare, tt))))))), tt, lent-to, (val d ∷ [], (vint w64 i ∷ [], (vptr b₁ o₁ ∷ [], (vptr b₂ o₂ ∷ [], (vptr b₃ o₃ ∷ [], (vptr b₄ o₄ ∷ [], (vptr b₅ o₅ ∷ [], (vptr b₆ o₆ ∷ [], (vptr b₇ o₇ ∷ [], tt)))))))))), tt)
 
     abbrev Kept : Columns → Type 0
-    Kept e = Keeps i d (c .0) (c .1 .0) (c .1 .1 .0) (c .1 .1 .1 .0) (c .1 .1 .1 .1 .0) (c .1 .1 .1 .1 .1 .0) (c .1 .1 .1 .1 .1 .1) (e .0) (e .1 .0) (e .1 .1 .0) (e .1 .1 .1 .0) (e .1 .1 .1 .1 .0) (e .1 .1 .1 .1 .1 .0) (e .1 .1 .1 .1 .1 .1)
+    Kept e = Keeps i d (col₁ c) (col₂ c) (col₃ c) (col₄ c) (col₅ c) (col₆ c) (col₇ c) (col₁ e) (col₂ e) (col₃ e) (col₄ e) (col₅ e) (col₆ e) (col₇ e)
 
-    goes-keep : Is T.the-row d (val d ∷ []) → i < 2 ^ 64 → i < 64 → ent 𝓤 (⋆ 𝓤 H A (‵ (flft (ν₁ ∷ []) fullShare) ∷ ‵ (flft (ν₂ ∷ []) fullShare) ∷ ‵ (flft (ν₃ ∷ []) fullShare) ∷ ‵ (flft (ν₄ ∷ []) fullShare) ∷ ‵ (flft (ν₅ ∷ []) fullShare) ∷ ‵ (flft (ν₆ ∷ []) fullShare) ∷ ‵ (flft (ν₇ ∷ []) fullShare) ∷ ‵ (MutRef (named 0) (ν₁ ∷ []) W64 .own (ref b₁ o₁ δ₁ (c .0)) (vptr b₁ o₁ ∷ [])) ∷ ‵ (MutRef (named 1) (ν₂ ∷ []) O64 .own (ref b₂ o₂ δ₂ (c .1 .0)) (vptr b₂ o₂ ∷ [])) ∷ ‵ (MutRef (named 2) (ν₃ ∷ []) O64 .own (ref b₃ o₃ δ₃ (c .1 .1 .0)) (vptr b₃ o₃ ∷ [])) ∷ ‵ (MutRef (named 3) (ν₄ ∷ []) W64 .own (ref b₄ o₄ δ₄ (c .1 .1 .1 .0)) (vptr b₄ o₄ ∷ [])) ∷ ‵ (MutRef (named 4) (ν₅ ∷ []) W64 .own (ref b₅ o₅ δ₅ (c .1 .1 .1 .1 .0)) (vptr b₅ o₅ ∷ [])) ∷ ‵ (MutRef (named 5) (ν₆ ∷ []) W64 .own (ref b₆ o₆ δ₆ (c .1 .1 .1 .1 .1 .0)) (vptr b₆ o₆ ∷ [])) ∷ ‵ (MutRef (named 6) (ν₇ ∷ []) O4096 .own (ref b₇ o₇ δ₇ (c .1 .1 .1 .1 .1 .1)) (vptr b₇ o₇ ∷ [])) ∷ [])) (Keep 𝓤 H A at-mem run .pre to-keep)
+    goes-keep : Is T.the-row d (val d ∷ []) → i < 2 ^ 64 → i < 64 → ent 𝓤 (⋆ 𝓤 H A (‵ (flft (ν₁ ∷ []) fullShare) ∷ ‵ (flft (ν₂ ∷ []) fullShare)
+        ∷ ‵ (flft (ν₃ ∷ []) fullShare) ∷ ‵ (flft (ν₄ ∷ []) fullShare) ∷ ‵ (flft (ν₅ ∷ []) fullShare) ∷ ‵ (flft (ν₆ ∷ []) fullShare)
+        ∷ ‵ (flft (ν₇ ∷ []) fullShare) ∷ ‵ (wordsAt 0 (ν₁ ∷ []) b₁ o₁ δ₁ (col₁ c)) ∷ ‵ (octetsAt 1 (ν₂ ∷ []) b₂ o₂ δ₂ (col₂ c))
+        ∷ ‵ (octetsAt 2 (ν₃ ∷ []) b₃ o₃ δ₃ (col₃ c)) ∷ ‵ (wordsAt 3 (ν₄ ∷ []) b₄ o₄ δ₄ (col₄ c)) ∷ ‵ (wordsAt 4 (ν₅ ∷ []) b₅ o₅ δ₅ (col₅ c))
+        ∷ ‵ (wordsAt 5 (ν₆ ∷ []) b₆ o₆ δ₆ (col₆ c)) ∷ ‵ (namesAt 6 (ν₇ ∷ []) b₇ o₇ δ₇ (col₇ c)) ∷ [])) (Keep 𝓤 H A at-mem run .pre to-keep)
     goes-keep is fits within =
-        qed W (‵ (flft (ν₁ ∷ []) fullShare) ∷ ‵ (flft (ν₂ ∷ []) fullShare) ∷ ‵ (flft (ν₃ ∷ []) fullShare) ∷ ‵ (flft (ν₄ ∷ []) fullShare) ∷ ‵ (flft (ν₅ ∷ []) fullShare) ∷ ‵ (flft (ν₆ ∷ []) fullShare) ∷ ‵ (flft (ν₇ ∷ []) fullShare) ∷ ‵ (MutRef (named 0) (ν₁ ∷ []) W64 .own (ref b₁ o₁ δ₁ (c .0)) (vptr b₁ o₁ ∷ [])) ∷ ‵ (MutRef (named 1) (ν₂ ∷ []) O64 .own (ref b₂ o₂ δ₂ (c .1 .0)) (vptr b₂ o₂ ∷ [])) ∷ ‵ (MutRef (named 2) (ν₃ ∷ []) O64 .own (ref b₃ o₃ δ₃ (c .1 .1 .0)) (vptr b₃ o₃ ∷ [])) ∷ ‵ (MutRef (named 3) (ν₄ ∷ []) W64 .own (ref b₄ o₄ δ₄ (c .1 .1 .1 .0)) (vptr b₄ o₄ ∷ [])) ∷ ‵ (MutRef (named 4) (ν₅ ∷ []) W64 .own (ref b₅ o₅ δ₅ (c .1 .1 .1 .1 .0)) (vptr b₅ o₅ ∷ [])) ∷ ‵ (MutRef (named 5) (ν₆ ∷ []) W64 .own (ref b₆ o₆ δ₆ (c .1 .1 .1 .1 .1 .0)) (vptr b₆ o₆ ∷ [])) ∷ ‵ (MutRef (named 6) (ν₇ ∷ []) O4096 .own (ref b₇ o₇ δ₇ (c .1 .1 .1 .1 .1 .1)) (vptr b₇ o₇ ∷ [])) ∷ []) ∵ says ! within $
-        nothing ! $ move ! (7 ∷ 0 ∷ []) $ join ! $ move ! (6 ∷ 0 ∷ []) $ join ! $ move ! (5 ∷ 0 ∷ []) $ join ! $ move ! (4 ∷ 0 ∷ []) $ join ! $ move ! (3 ∷ 0 ∷ []) $ join ! $ move ! (2 ∷ 0 ∷ []) $ join ! $ move ! (1 ∷ 0 ∷ []) $ join ! $
-        nothing ! $ move ! (8 ∷ 0 ∷ []) $ fjoin ! $ move ! (7 ∷ 0 ∷ []) $ fjoin ! $ move ! (6 ∷ 0 ∷ []) $ fjoin ! $ move ! (5 ∷ 0 ∷ []) $ fjoin ! $ move ! (4 ∷ 0 ∷ []) $ fjoin ! $ move ! (3 ∷ 0 ∷ []) $ fjoin ! $ move ! (2 ∷ 0 ∷ []) $ fjoin ! $ owned ! usize (Is usize) (uint-makes 𝓤 H A W w64) i _ (refl, fits) $ fjoin ! $
+        qed W (‵ (flft (ν₁ ∷ []) fullShare) ∷ ‵ (flft (ν₂ ∷ []) fullShare) ∷ ‵ (flft (ν₃ ∷ []) fullShare) ∷ ‵ (flft (ν₄ ∷ []) fullShare)
+        ∷ ‵ (flft (ν₅ ∷ []) fullShare) ∷ ‵ (flft (ν₆ ∷ []) fullShare) ∷ ‵ (flft (ν₇ ∷ []) fullShare) ∷ ‵ (wordsAt 0 (ν₁ ∷ []) b₁ o₁ δ₁ (col₁ c))
+        ∷ ‵ (octetsAt 1 (ν₂ ∷ []) b₂ o₂ δ₂ (col₂ c)) ∷ ‵ (octetsAt 2 (ν₃ ∷ []) b₃ o₃ δ₃ (col₃ c)) ∷ ‵ (wordsAt 3 (ν₄ ∷ []) b₄ o₄ δ₄ (col₄ c))
+        ∷ ‵ (wordsAt 4 (ν₅ ∷ []) b₅ o₅ δ₅ (col₅ c)) ∷ ‵ (wordsAt 5 (ν₆ ∷ []) b₆ o₆ δ₆ (col₆ c))
+        ∷ ‵ (namesAt 6 (ν₇ ∷ []) b₇ o₇ δ₇ (col₇ c)) ∷ []) ∵ says ! within $
+        nothing ! $ move ! (7 ∷ 0 ∷ []) $ join ! $ move ! (6 ∷ 0 ∷ []) $ join ! $ move ! (5 ∷ 0 ∷ []) $ join ! $ move ! (4 ∷ 0 ∷ []) $ join ! $ move ! (3 ∷ 0 ∷ []) $ join ! $
+        move ! (2 ∷ 0 ∷ []) $ join ! $ move ! (1 ∷ 0 ∷ []) $ join ! $
+        nothing ! $ move ! (8 ∷ 0 ∷ []) $ fjoin ! $ move ! (7 ∷ 0 ∷ []) $ fjoin ! $ move ! (6 ∷ 0 ∷ []) $ fjoin ! $ move ! (5 ∷ 0 ∷ []) $ fjoin ! $ move ! (4 ∷ 0 ∷ []) $ fjoin ! $
+        move ! (3 ∷ 0 ∷ []) $ fjoin ! $ move ! (2 ∷ 0 ∷ []) $ fjoin ! $ owned ! usize (Is usize) (uint-makes 𝓤 H A W w64) i _ (refl, fits) $ fjoin ! $
         owned ! T.the-row (Is T.the-row) (LL.makes T.the-type T′.the-plain 𝓤 H A) d _ is $ fjoin ! $ move ! (1 ∷ 0 ∷ []) $ join ! $ done !
 
   -- ---- the invariant's facts, and the variant
@@ -185,10 +267,12 @@ module _ {M : Type 1} (𝓤 : URA M) (H : Heap 𝓤) (A : Atoms 𝓤) (W : Given
   abbrev nothing-yet : Upto
   nothing-yet = (0, ((c₁, (c₂, (c₃, (c₄, (c₅, (c₆, c₇)))))), (zero-le, nothing-laid)))
 
-  laid-next : (u : Upto) → u .0 < m → (c : Columns) → Keeps (u .0) (getD ys (u .0) noMailbox) (u .1 .0 .0) (u .1 .0 .1 .0) (u .1 .0 .1 .1 .0) (u .1 .0 .1 .1 .1 .0) (u .1 .0 .1 .1 .1 .1 .0) (u .1 .0 .1 .1 .1 .1 .1 .0) (u .1 .0 .1 .1 .1 .1 .1 .1) (c .0) (c .1 .0) (c .1 .1 .0) (c .1 .1 .1 .0) (c .1 .1 .1 .1 .0) (c .1 .1 .1 .1 .1 .0) (c .1 .1 .1 .1 .1 .1) → Laid-out (u .0 + 1) c
+  laid-next : (u : Upto) → u .0 < m → (c : Columns) → Keeps (u .0) (getD ys (u .0) noMailbox) (col₁ (u .1 .0)) (col₂ (u .1 .0)) (col₃ (u .1 .0)) (col₄ (u .1 .0)) (col₅ (u .1 .0))
+      (col₆ (u .1 .0)) (col₇ (u .1 .0)) (col₁ c) (col₂ c) (col₃ c) (col₄ c) (col₅ c) (col₆ c) (col₇ c) → Laid-out (u .0 + 1) c
   laid-next u l c kept = lays-next ys (u .0) (in-ys u l) (small u l) (u .1 .1 .1) kept
 
-  abbrev next : (u : Upto) → u .0 < m → (c : Columns) → Keeps (u .0) (getD ys (u .0) noMailbox) (u .1 .0 .0) (u .1 .0 .1 .0) (u .1 .0 .1 .1 .0) (u .1 .0 .1 .1 .1 .0) (u .1 .0 .1 .1 .1 .1 .0) (u .1 .0 .1 .1 .1 .1 .1 .0) (u .1 .0 .1 .1 .1 .1 .1 .1) (c .0) (c .1 .0) (c .1 .1 .0) (c .1 .1 .1 .0) (c .1 .1 .1 .1 .0) (c .1 .1 .1 .1 .1 .0) (c .1 .1 .1 .1 .1 .1) → Upto
+  abbrev next : (u : Upto) → u .0 < m → (c : Columns) → Keeps (u .0) (getD ys (u .0) noMailbox) (col₁ (u .1 .0)) (col₂ (u .1 .0)) (col₃ (u .1 .0)) (col₄ (u .1 .0)) (col₅ (u .1 .0))
+      (col₆ (u .1 .0)) (col₇ (u .1 .0)) (col₁ c) (col₂ c) (col₃ c) (col₄ c) (col₅ c) (col₆ c) (col₇ c) → Upto
   next u l c kept = (u .0 + 1, (c, (one-more u l, laid-next u l c kept)))
 
   nearer : (u : Upto) → u .0 < m → m - (u .0 + 1) < m - u .0
@@ -209,19 +293,32 @@ module _ {M : Type 1} (𝓤 : URA M) (H : Heap 𝓤) (A : Atoms 𝓤) (W : Given
 
     module _ (q′ : Share) (l₀ l₁ l₂ l₃ l₄ l₅ l₆ l₇ l₈ l₉ l₁₀ l₁₁ l₁₂ l₁₃ l₁₄ l₁₅ l₁₆ l₁₇ l₁₈ l₁₉ l₂₀ l₂₁ l₂₂ : ℕ) where
       abbrev E : Env 𝓤 H
-      E = (tyUnit, l₀) ∷ (slice, l₁) ∷ (word, l₂) ∷ ((tyRef (named 1) mut (pointee (W64 .written))), l₃) ∷ ((tyRef (named 2) mut (pointee (O64 .written))), l₄) ∷ ((tyRef (named 3) mut (pointee (O64 .written))), l₅) ∷ ((tyRef (named 4) mut (pointee (W64 .written))), l₆) ∷ ((tyRef (named 5) mut (pointee (W64 .written))), l₇) ∷ ((tyRef (named 6) mut (pointee (W64 .written))), l₈) ∷ ((tyRef (named 7) mut (pointee (O4096 .written))), l₉) ∷ (word, l₁₀) ∷ (tyBool, l₁₁) ∷ (tyUnit, l₁₂) ∷ (word, l₁₃) ∷ (tyPtr, l₁₄) ∷ (T′.mir, l₁₅) ∷ ((tyRef erased mut (pointee (W64 .written))), l₁₆) ∷ ((tyRef erased mut (pointee (O64 .written))), l₁₇) ∷ ((tyRef erased mut (pointee (O64 .written))), l₁₈) ∷ ((tyRef erased mut (pointee (W64 .written))), l₁₉) ∷ ((tyRef erased mut (pointee (W64 .written))), l₂₀) ∷ ((tyRef erased mut (pointee (W64 .written))), l₂₁) ∷ ((tyRef erased mut (pointee (O4096 .written))), l₂₂) ∷ []
+      E = (tyUnit, l₀) ∷ (slice, l₁) ∷ (word, l₂) ∷ ((givenTy 1 W64), l₃) ∷ ((givenTy 2 O64), l₄) ∷ ((givenTy 3 O64), l₅) ∷ ((givenTy 4 W64), l₆) ∷ ((givenTy 5 W64), l₇)
+          ∷ ((givenTy 6 W64), l₈) ∷ ((givenTy 7 O4096), l₉) ∷ (word, l₁₀) ∷ (tyBool, l₁₁) ∷ (tyUnit, l₁₂) ∷ (word, l₁₃) ∷ (tyPtr, l₁₄) ∷ (T′.mir, l₁₅)
+          ∷ ((lentTy W64), l₁₆) ∷ ((lentTy O64), l₁₇) ∷ ((lentTy O64), l₁₈) ∷ ((lentTy W64), l₁₉) ∷ ((lentTy W64), l₂₀) ∷ ((lentTy W64), l₂₁)
+          ∷ ((lentTy O4096), l₂₂) ∷ []
 
       abbrev At : Upto → List (Item 𝓤)
-      At u = ‵ (row T.the-row q′ ys b o) ∷ ‵ (fobor κ q (arr-parts (shares T.the-row) (length ys) .part q′ ys b o)) ∷ ‵ Own ∷ ‵ (flft κ₁ q₁) ∷ ‵ (MutRef (named 1) κ₁ W64 .own (ref b₁ o₁ γ₁ (u .1 .0 .0)) (vptr b₁ o₁ ∷ [])) ∷ ‵ (flft κ₂ q₂)
-          ∷ ‵ (MutRef (named 2) κ₂ O64 .own (ref b₂ o₂ γ₂ (u .1 .0 .1 .0)) (vptr b₂ o₂ ∷ [])) ∷ ‵ (flft κ₃ q₃) ∷ ‵ (MutRef (named 3) κ₃ O64 .own (ref b₃ o₃ γ₃ (u .1 .0 .1 .1 .0)) (vptr b₃ o₃ ∷ [])) ∷ ‵ (flft κ₄ q₄) ∷ ‵ (MutRef (named 4) κ₄ W64 .own (ref b₄ o₄ γ₄ (u .1 .0 .1 .1 .1 .0)) (vptr b₄ o₄ ∷ [])) ∷ ‵ (flft κ₅ q₅)
-          ∷ ‵ (MutRef (named 5) κ₅ W64 .own (ref b₅ o₅ γ₅ (u .1 .0 .1 .1 .1 .1 .0)) (vptr b₅ o₅ ∷ [])) ∷ ‵ (flft κ₆ q₆) ∷ ‵ (MutRef (named 6) κ₆ W64 .own (ref b₆ o₆ γ₆ (u .1 .0 .1 .1 .1 .1 .1 .0)) (vptr b₆ o₆ ∷ [])) ∷ ‵ (flft κ₇ q₇) ∷ ‵ (MutRef (named 7) κ₇ O4096 .own (ref b₇ o₇ γ₇ (u .1 .0 .1 .1 .1 .1 .1 .1)) (vptr b₇ o₇ ∷ [])) ∷ ‵ (froom (tyRef erased mut (pointee (O4096 .written))) l₂₂ 0)
-          ∷ ‵ (fdies (tyRef erased mut (pointee (O4096 .written))) l₂₂) ∷ ‵ (froom (tyRef erased mut (pointee (W64 .written))) l₂₁ 0) ∷ ‵ (fdies (tyRef erased mut (pointee (W64 .written))) l₂₁) ∷ ‵ (froom (tyRef erased mut (pointee (W64 .written))) l₂₀ 0) ∷ ‵ (fdies (tyRef erased mut (pointee (W64 .written))) l₂₀) ∷ ‵ (froom (tyRef erased mut (pointee (W64 .written))) l₁₉ 0)
-          ∷ ‵ (fdies (tyRef erased mut (pointee (W64 .written))) l₁₉) ∷ ‵ (froom (tyRef erased mut (pointee (O64 .written))) l₁₈ 0) ∷ ‵ (fdies (tyRef erased mut (pointee (O64 .written))) l₁₈) ∷ ‵ (froom (tyRef erased mut (pointee (O64 .written))) l₁₇ 0) ∷ ‵ (fdies (tyRef erased mut (pointee (O64 .written))) l₁₇) ∷ ‵ (froom (tyRef erased mut (pointee (W64 .written))) l₁₆ 0)
-          ∷ ‵ (fdies (tyRef erased mut (pointee (W64 .written))) l₁₆) ∷ ‵ (froom T′.mir l₁₅ 0) ∷ ‵ (fdies T′.mir l₁₅) ∷ ‵ (froom tyPtr l₁₄ 0) ∷ ‵ (fdies tyPtr l₁₄) ∷ ‵ (froom word l₁₃ 0)
-          ∷ ‵ (fdies word l₁₃) ∷ ‵ (froom tyUnit l₁₂ 0) ∷ ‵ (fdies tyUnit l₁₂) ∷ ‵ (froom tyBool l₁₁ 0) ∷ ‵ (fdies tyBool l₁₁) ∷ ‵ (fat fullShare word l₁₀ 0 (vint w64 (u .0)))
-          ∷ ‵ (fdies word l₁₀) ∷ ‵ (fat fullShare (tyRef (named 7) mut (pointee (O4096 .written))) l₉ 0 (vptr b₇ o₇)) ∷ ‵ (fdies (tyRef (named 7) mut (pointee (O4096 .written))) l₉) ∷ ‵ (fat fullShare (tyRef (named 6) mut (pointee (W64 .written))) l₈ 0 (vptr b₆ o₆)) ∷ ‵ (fdies (tyRef (named 6) mut (pointee (W64 .written))) l₈) ∷ ‵ (fat fullShare (tyRef (named 5) mut (pointee (W64 .written))) l₇ 0 (vptr b₅ o₅))
-          ∷ ‵ (fdies (tyRef (named 5) mut (pointee (W64 .written))) l₇) ∷ ‵ (fat fullShare (tyRef (named 4) mut (pointee (W64 .written))) l₆ 0 (vptr b₄ o₄)) ∷ ‵ (fdies (tyRef (named 4) mut (pointee (W64 .written))) l₆) ∷ ‵ (fat fullShare (tyRef (named 3) mut (pointee (O64 .written))) l₅ 0 (vptr b₃ o₃)) ∷ ‵ (fdies (tyRef (named 3) mut (pointee (O64 .written))) l₅) ∷ ‵ (fat fullShare (tyRef (named 2) mut (pointee (O64 .written))) l₄ 0 (vptr b₂ o₂))
-          ∷ ‵ (fdies (tyRef (named 2) mut (pointee (O64 .written))) l₄) ∷ ‵ (fat fullShare (tyRef (named 1) mut (pointee (W64 .written))) l₃ 0 (vptr b₁ o₁)) ∷ ‵ (fdies (tyRef (named 1) mut (pointee (W64 .written))) l₃) ∷ ‵ (fat fullShare word l₂ 0 (vint w64 m)) ∷ ‵ (fdies word l₂) ∷ ‵ (fat fullShare slice l₁ 0 s)
+      At u = ‵ (row T.the-row q′ ys b o) ∷ ‵ (fobor κ q (arr-parts (shares T.the-row) (length ys) .part q′ ys b o)) ∷ ‵ Own ∷ ‵ (flft κ₁ q₁)
+          ∷ ‵ (wordsAt 1 κ₁ b₁ o₁ γ₁ (col₁ (u .1 .0))) ∷ ‵ (flft κ₂ q₂)
+          ∷ ‵ (octetsAt 2 κ₂ b₂ o₂ γ₂ (col₂ (u .1 .0))) ∷ ‵ (flft κ₃ q₃) ∷ ‵ (octetsAt 3 κ₃ b₃ o₃ γ₃ (col₃ (u .1 .0))) ∷ ‵ (flft κ₄ q₄)
+          ∷ ‵ (wordsAt 4 κ₄ b₄ o₄ γ₄ (col₄ (u .1 .0))) ∷ ‵ (flft κ₅ q₅)
+          ∷ ‵ (wordsAt 5 κ₅ b₅ o₅ γ₅ (col₅ (u .1 .0))) ∷ ‵ (flft κ₆ q₆) ∷ ‵ (wordsAt 6 κ₆ b₆ o₆ γ₆ (col₆ (u .1 .0))) ∷ ‵ (flft κ₇ q₇)
+          ∷ ‵ (namesAt 7 κ₇ b₇ o₇ γ₇ (col₇ (u .1 .0))) ∷ ‵ (froom (lentTy O4096) l₂₂ 0)
+          ∷ ‵ (fdies (lentTy O4096) l₂₂) ∷ ‵ (froom (lentTy W64) l₂₁ 0) ∷ ‵ (fdies (lentTy W64) l₂₁) ∷ ‵ (froom (lentTy W64) l₂₀ 0) ∷ ‵ (fdies (lentTy W64) l₂₀)
+          ∷ ‵ (froom (lentTy W64) l₁₉ 0)
+          ∷ ‵ (fdies (lentTy W64) l₁₉) ∷ ‵ (froom (lentTy O64) l₁₈ 0) ∷ ‵ (fdies (lentTy O64) l₁₈) ∷ ‵ (froom (lentTy O64) l₁₇ 0) ∷ ‵ (fdies (lentTy O64) l₁₇)
+          ∷ ‵ (froom (lentTy W64) l₁₆ 0)
+          ∷ ‵ (fdies (lentTy W64) l₁₆) ∷ ‵ (froom T′.mir l₁₅ 0) ∷ ‵ (fdies T′.mir l₁₅) ∷ ‵ (froom tyPtr l₁₄ 0) ∷ ‵ (fdies tyPtr l₁₄)
+          ∷ ‵ (froom word l₁₃ 0)
+          ∷ ‵ (fdies word l₁₃) ∷ ‵ (froom tyUnit l₁₂ 0) ∷ ‵ (fdies tyUnit l₁₂) ∷ ‵ (froom tyBool l₁₁ 0) ∷ ‵ (fdies tyBool l₁₁)
+          ∷ ‵ (fat fullShare word l₁₀ 0 (vint w64 (u .0)))
+          ∷ ‵ (fdies word l₁₀) ∷ ‵ (fat fullShare (givenTy 7 O4096) l₉ 0 (vptr b₇ o₇)) ∷ ‵ (fdies (givenTy 7 O4096) l₉)
+          ∷ ‵ (fat fullShare (givenTy 6 W64) l₈ 0 (vptr b₆ o₆)) ∷ ‵ (fdies (givenTy 6 W64) l₈) ∷ ‵ (fat fullShare (givenTy 5 W64) l₇ 0 (vptr b₅ o₅))
+          ∷ ‵ (fdies (givenTy 5 W64) l₇) ∷ ‵ (fat fullShare (givenTy 4 W64) l₆ 0 (vptr b₄ o₄)) ∷ ‵ (fdies (givenTy 4 W64) l₆)
+          ∷ ‵ (fat fullShare (givenTy 3 O64) l₅ 0 (vptr b₃ o₃)) ∷ ‵ (fdies (givenTy 3 O64) l₅) ∷ ‵ (fat fullShare (givenTy 2 O64) l₄ 0 (vptr b₂ o₂))
+          ∷ ‵ (fdies (givenTy 2 O64) l₄) ∷ ‵ (fat fullShare (givenTy 1 W64) l₃ 0 (vptr b₁ o₁)) ∷ ‵ (fdies (givenTy 1 W64) l₃) ∷ ‵ (fat fullShare word l₂ 0 (vint w64 m))
+          ∷ ‵ (fdies word l₂) ∷ ‵ (fat fullShare slice l₁ 0 s)
           ∷ ‵ (fdies slice l₁) ∷ ‵ (froom tyUnit l₀ 0) ∷ ‵ (fdies tyUnit l₀) ∷ []
 
       -- a turn's postcondition: it ends nearer to m, or the loop is left and the rest of the body runs
@@ -239,7 +336,8 @@ module _ {M : Type 1} (𝓤 : URA M) (H : Heap 𝓤) (A : Atoms 𝓤) (W : Given
           rewrite ! 33 (λ (p : ℕ). ‵ (fat fullShare tyPtr l₁₄ 0 (vptr b p))) (sym (place-is 84 o (u .0))) refl $
           move ! (0 ∷ []) $
           elem-out ! T.the-row (Is T.the-row) (shows 𝓤 H A T.the-row) (LL.vals T.the-type T′.the-laws) (LL.tells T.the-type T′.the-laws) q′ ys (u .0) noMailbox b o (in-ys u l) (λ is.
-          assigns ! (of-opd ! (load ! (from ! (hop ! (look ! 35 refl) (stop !))) (look-raw ! 0 refl))) (from ! (stop !)) (init ! 33 refl (LL.lawful T.the-type T′.the-laws 𝓤 H A W .typed (getD ys (u .0) noMailbox) _ is .0)) $
+          assigns ! (of-opd ! (load ! (from ! (hop ! (look ! 35 refl) (stop !))) (look-raw ! 0 refl))) (from ! (stop !)) (init ! 33 refl (LL.lawful T.the-type T′.the-laws 𝓤 H A W .typed
+          (getD ys (u .0) noMailbox) _ is .0)) $
           elem-back ! T.the-row q′ ys (u .0) noMailbox (val (getD ys (u .0) noMailbox) ∷ []) b o (in-ys u l) $
           assigns ! (addr ! (from ! (hop ! (look ! 55 refl) (stop !)))) (from ! (stop !)) (init ! 29 refl (tt, tt)) $
           assigns ! (addr ! (from ! (hop ! (look ! 53 refl) (stop !)))) (from ! (stop !)) (init ! 27 refl (tt, tt)) $
@@ -251,133 +349,91 @@ module _ {M : Type 1} (𝓤 : URA M) (H : Heap 𝓤) (A : Atoms 𝓤) (W : Given
           -- `keep`: each column is lent again for a lifetime of the call
           lft-new ! tt (λ ν₁.
           move ! (5 ∷ 4 ∷ []) $
-          use2 W (later (some (λ (δ : GName). ‵ (MutRef (named 0) (ν₁ ∷ []) W64 .own (ref b₁ o₁ δ (u .1 .0 .0)) (vptr b₁ o₁ ∷ [])) ⊛ ‵ (LentAgain W64 κ₁ (ν₁ ∷ []) q₁ γ₁ b₁ o₁ δ (u .1 .0 .0))))) (lends-again 𝓤 H A W W64 (named 1) κ₁ (ν₁ ∷ []) q₁ γ₁ b₁ o₁ (named 0) (u .1 .0 .0)) $ await ! tt $ pick ! (λ δ₁.
+          use2 W (later (some (λ (δ : GName). ‵ (wordsAt 0 (ν₁ ∷ []) b₁ o₁ δ (col₁ (u .1 .0))) ⊛ ‵ (LentAgain W64 κ₁ (ν₁ ∷ []) q₁ γ₁ b₁ o₁ δ (col₁
+          (u .1 .0)))))) (lends-again 𝓤 H A W W64 (named 1) κ₁ (ν₁ ∷ []) q₁ γ₁ b₁ o₁ (named 0) (col₁ (u .1 .0))) $ await ! tt $ pick ! (λ δ₁.
           split ! $
           lft-new ! tt (λ ν₂.
           move ! (8 ∷ 7 ∷ []) $
-          use2 W (later (some (λ (δ : GName). ‵ (MutRef (named 1) (ν₂ ∷ []) O64 .own (ref b₂ o₂ δ (u .1 .0 .1 .0)) (vptr b₂ o₂ ∷ [])) ⊛ ‵ (LentAgain O64 κ₂ (ν₂ ∷ []) q₂ γ₂ b₂ o₂ δ (u .1 .0 .1 .0))))) (lends-again 𝓤 H A W O64 (named 2) κ₂ (ν₂ ∷ []) q₂ γ₂ b₂ o₂ (named 1) (u .1 .0 .1 .0)) $ await ! tt $ pick ! (λ δ₂.
+          use2 W (later (some (λ (δ : GName). ‵ (octetsAt 1 (ν₂ ∷ []) b₂ o₂ δ (col₂ (u .1 .0))) ⊛ ‵ (LentAgain O64 κ₂ (ν₂ ∷ []) q₂ γ₂ b₂ o₂ δ (col₂
+          (u .1 .0)))))) (lends-again 𝓤 H A W O64 (named 2) κ₂ (ν₂ ∷ []) q₂ γ₂ b₂ o₂ (named 1) (col₂ (u .1 .0))) $ await ! tt $ pick ! (λ δ₂.
           split ! $
           lft-new ! tt (λ ν₃.
           move ! (11 ∷ 10 ∷ []) $
-          use2 W (later (some (λ (δ : GName). ‵ (MutRef (named 2) (ν₃ ∷ []) O64 .own (ref b₃ o₃ δ (u .1 .0 .1 .1 .0)) (vptr b₃ o₃ ∷ [])) ⊛ ‵ (LentAgain O64 κ₃ (ν₃ ∷ []) q₃ γ₃ b₃ o₃ δ (u .1 .0 .1 .1 .0))))) (lends-again 𝓤 H A W O64 (named 3) κ₃ (ν₃ ∷ []) q₃ γ₃ b₃ o₃ (named 2) (u .1 .0 .1 .1 .0)) $ await ! tt $ pick ! (λ δ₃.
+          use2 W (later (some (λ (δ : GName). ‵ (octetsAt 2 (ν₃ ∷ []) b₃ o₃ δ (col₃ (u .1 .0))) ⊛ ‵ (LentAgain O64 κ₃ (ν₃ ∷ []) q₃ γ₃ b₃ o₃ δ (col₃
+          (u .1 .0)))))) (lends-again 𝓤 H A W O64 (named 3) κ₃ (ν₃ ∷ []) q₃ γ₃ b₃ o₃ (named 2) (col₃ (u .1 .0))) $ await ! tt $ pick ! (λ δ₃.
           split ! $
           lft-new ! tt (λ ν₄.
           move ! (14 ∷ 13 ∷ []) $
-          use2 W (later (some (λ (δ : GName). ‵ (MutRef (named 3) (ν₄ ∷ []) W64 .own (ref b₄ o₄ δ (u .1 .0 .1 .1 .1 .0)) (vptr b₄ o₄ ∷ [])) ⊛ ‵ (LentAgain W64 κ₄ (ν₄ ∷ []) q₄ γ₄ b₄ o₄ δ (u .1 .0 .1 .1 .1 .0))))) (lends-again 𝓤 H A W W64 (named 4) κ₄ (ν₄ ∷ []) q₄ γ₄ b₄ o₄ (named 3) (u .1 .0 .1 .1 .1 .0)) $ await ! tt $ pick ! (λ δ₄.
+          use2 W (later (some (λ (δ : GName). ‵ (wordsAt 3 (ν₄ ∷ []) b₄ o₄ δ (col₄ (u .1 .0))) ⊛ ‵ (LentAgain W64 κ₄ (ν₄ ∷ []) q₄ γ₄ b₄ o₄ δ (col₄
+          (u .1 .0)))))) (lends-again 𝓤 H A W W64 (named 4) κ₄ (ν₄ ∷ []) q₄ γ₄ b₄ o₄ (named 3) (col₄ (u .1 .0))) $ await ! tt $ pick ! (λ δ₄.
           split ! $
           lft-new ! tt (λ ν₅.
           move ! (17 ∷ 16 ∷ []) $
-          use2 W (later (some (λ (δ : GName). ‵ (MutRef (named 4) (ν₅ ∷ []) W64 .own (ref b₅ o₅ δ (u .1 .0 .1 .1 .1 .1 .0)) (vptr b₅ o₅ ∷ [])) ⊛ ‵ (LentAgain W64 κ₅ (ν₅ ∷ []) q₅ γ₅ b₅ o₅ δ (u .1 .0 .1 .1 .1 .1 .0))))) (lends-again 𝓤 H A W W64 (named 5) κ₅ (ν₅ ∷ []) q₅ γ₅ b₅ o₅ (named 4) (u .1 .0 .1 .1 .1 .1 .0)) $ await ! tt $ pick ! (λ δ₅.
+          use2 W (later (some (λ (δ : GName). ‵ (wordsAt 4 (ν₅ ∷ []) b₅ o₅ δ (col₅ (u .1 .0))) ⊛ ‵ (LentAgain W64 κ₅ (ν₅ ∷ []) q₅ γ₅ b₅ o₅ δ (col₅
+          (u .1 .0)))))) (lends-again 𝓤 H A W W64 (named 5) κ₅ (ν₅ ∷ []) q₅ γ₅ b₅ o₅ (named 4) (col₅ (u .1 .0))) $ await ! tt $ pick ! (λ δ₅.
           split ! $
           lft-new ! tt (λ ν₆.
           move ! (20 ∷ 19 ∷ []) $
-          use2 W (later (some (λ (δ : GName). ‵ (MutRef (named 5) (ν₆ ∷ []) W64 .own (ref b₆ o₆ δ (u .1 .0 .1 .1 .1 .1 .1 .0)) (vptr b₆ o₆ ∷ [])) ⊛ ‵ (LentAgain W64 κ₆ (ν₆ ∷ []) q₆ γ₆ b₆ o₆ δ (u .1 .0 .1 .1 .1 .1 .1 .0))))) (lends-again 𝓤 H A W W64 (named 6) κ₆ (ν₆ ∷ []) q₆ γ₆ b₆ o₆ (named 5) (u .1 .0 .1 .1 .1 .1 .1 .0)) $ await ! tt $ pick ! (λ δ₆.
+          use2 W (later (some (λ (δ : GName). ‵ (wordsAt 5 (ν₆ ∷ []) b₆ o₆ δ (col₆ (u .1 .0))) ⊛ ‵ (LentAgain W64 κ₆ (ν₆ ∷ []) q₆ γ₆ b₆ o₆ δ (col₆
+          (u .1 .0)))))) (lends-again 𝓤 H A W W64 (named 6) κ₆ (ν₆ ∷ []) q₆ γ₆ b₆ o₆ (named 5) (col₆ (u .1 .0))) $ await ! tt $ pick ! (λ δ₆.
           split ! $
           lft-new ! tt (λ ν₇.
           move ! (23 ∷ 22 ∷ []) $
-          use2 W (later (some (λ (δ : GName). ‵ (MutRef (named 6) (ν₇ ∷ []) O4096 .own (ref b₇ o₇ δ (u .1 .0 .1 .1 .1 .1 .1 .1)) (vptr b₇ o₇ ∷ [])) ⊛ ‵ (LentAgain O4096 κ₇ (ν₇ ∷ []) q₇ γ₇ b₇ o₇ δ (u .1 .0 .1 .1 .1 .1 .1 .1))))) (lends-again 𝓤 H A W O4096 (named 7) κ₇ (ν₇ ∷ []) q₇ γ₇ b₇ o₇ (named 6) (u .1 .0 .1 .1 .1 .1 .1 .1)) $ await ! tt $ pick ! (λ δ₇.
-          split ! $
-          move ! (3 ∷ 0 ∷ []) $
-          join ! $
-          move ! (5 ∷ 0 ∷ []) $
-          join ! $
-          move ! (7 ∷ 0 ∷ []) $
-          join ! $
-          move ! (9 ∷ 0 ∷ []) $
-          join ! $
-          move ! (11 ∷ 0 ∷ []) $
-          join ! $
-          move ! (13 ∷ 0 ∷ []) $
-          join ! $
-          move ! (2 ∷ 0 ∷ []) $
-          join ! $
-          move ! (3 ∷ 0 ∷ []) $
-          join ! $
-          move ! (4 ∷ 0 ∷ []) $
-          join ! $
-          move ! (5 ∷ 0 ∷ []) $
-          join ! $
-          move ! (6 ∷ 0 ∷ []) $
-          join ! $
-          move ! (7 ∷ 0 ∷ []) $
-          join ! $
-          move ! (8 ∷ 0 ∷ []) $
-          join ! $
-          use1 W (raw (Keep 𝓤 H A at-mem run .pre (to-keep ν₁ ν₂ ν₃ ν₄ ν₅ ν₆ ν₇ δ₁ δ₂ δ₃ δ₄ δ₅ δ₆ δ₇ (u .0) (getD ys (u .0) noMailbox) (u .1 .0)))) (goes-keep ν₁ ν₂ ν₃ ν₄ ν₅ ν₆ ν₇ δ₁ δ₂ δ₃ δ₄ δ₅ δ₆ δ₇ (u .0) (getD ys (u .0) noMailbox) (u .1 .0) is (fits u) (small u l)) $
-          calls-at ! fm (Keep 𝓤 H A at-mem run) known (to-keep ν₁ ν₂ ν₃ ν₄ ν₅ ν₆ ν₇ δ₁ δ₂ δ₃ δ₄ δ₅ δ₆ δ₇ (u .0) (getD ys (u .0) noMailbox) (u .1 .0)) (and-then ! (load ! (from ! (stop !)) (look ! 25 refl)) (and-then ! (load ! (from ! (stop !)) (look ! 35 refl)) (and-then ! (load ! (from ! (stop !)) (look ! 23 refl)) (and-then ! (load ! (from ! (stop !)) (look ! 21 refl)) (and-then ! (load ! (from ! (stop !)) (look ! 19 refl)) (and-then ! (load ! (from ! (stop !)) (look ! 17 refl)) (and-then ! (load ! (from ! (stop !)) (look ! 15 refl)) (and-then ! (load ! (from ! (stop !)) (look ! 13 refl)) (and-then ! (load ! (from ! (stop !)) (look ! 11 refl)) (no-more !)))))))))) (λ w₁.
-          use1 W (later (some (λ (r : Unit {0}). ((‵ (flft (ν₁ ∷ []) fullShare) ⊛ ‵ (flft (ν₂ ∷ []) fullShare) ⊛ ‵ (flft (ν₃ ∷ []) fullShare) ⊛ ‵ (flft (ν₄ ∷ []) fullShare) ⊛ ‵ (flft (ν₅ ∷ []) fullShare) ⊛ ‵ (flft (ν₆ ∷ []) fullShare) ⊛ ‵ (flft (ν₇ ∷ []) fullShare) ⊛ ‵ ftrue) ⊛ ‵ (Nothing .own r (w₁ ∷ []))) ⊛ raw (ensured 𝓤 H A keep-fn.ended (keep-fn.clauses 𝓤 H A at-mem run) (ν₁ ∷ [], (ν₂ ∷ [], (ν₃ ∷ [], (ν₄ ∷ [], (ν₅ ∷ [], (ν₆ ∷ [], (ν₇ ∷ [], tt))))))) (lent-to ν₁ ν₂ ν₃ ν₄ ν₅ ν₆ ν₇ δ₁ δ₂ δ₃ δ₄ δ₅ δ₆ δ₇ (u .0) (getD ys (u .0) noMailbox) (u .1 .0)) tt r)))) (id⊢ 𝓤 _) $ await ! tt $ pick ! (λ r.
-          split ! $
-          move ! (1 ∷ []) $
-          use1 W (some (λ (zs : Unit {0} × (Unit {0} × (List ℕ × (List ℕ × (List ℕ × (List ℕ × (List ℕ × (List ℕ × (List ℕ × Unit {0}))))))))). ‵ (lasts keep-fn.ended (ν₁ ∷ [], (ν₂ ∷ [], (ν₃ ∷ [], (ν₄ ∷ [], (ν₅ ∷ [], (ν₆ ∷ [], (ν₇ ∷ [], tt))))))) (lent-to ν₁ ν₂ ν₃ ν₄ ν₅ ν₆ ν₇ δ₁ δ₂ δ₃ δ₄ δ₅ δ₆ δ₇ (u .0) (getD ys (u .0) noMailbox) (u .1 .0)) zs) ⊛ raw (fact 𝓤 (Kept ν₁ ν₂ ν₃ ν₄ ν₅ ν₆ ν₇ δ₁ δ₂ δ₃ δ₄ δ₅ δ₆ δ₇ (u .0) (getD ys (u .0) noMailbox) (u .1 .0) ((zs .1 .1 .0), ((zs .1 .1 .1 .0), ((zs .1 .1 .1 .1 .0), ((zs .1 .1 .1 .1 .1 .0), ((zs .1 .1 .1 .1 .1 .1 .0), ((zs .1 .1 .1 .1 .1 .1 .1 .0), (zs .1 .1 .1 .1 .1 .1 .1 .1 .0))))))))))) (id⊢ 𝓤 _) $ pick ! (λ zs.
-          split ! $
-          move ! (1 ∷ []) $
-          heard ! (Kept ν₁ ν₂ ν₃ ν₄ ν₅ ν₆ ν₇ δ₁ δ₂ δ₃ δ₄ δ₅ δ₆ δ₇ (u .0) (getD ys (u .0) noMailbox) (u .1 .0) ((zs .1 .1 .0), ((zs .1 .1 .1 .0), ((zs .1 .1 .1 .1 .0), ((zs .1 .1 .1 .1 .1 .0), ((zs .1 .1 .1 .1 .1 .1 .0), ((zs .1 .1 .1 .1 .1 .1 .1 .0), (zs .1 .1 .1 .1 .1 .1 .1 .1 .0)))))))) (λ kept.
-          fsplit ! $ drop ! $ fsplit ! $ drop ! $
-          move ! (0 ∷ []) $
-          fsplit ! $
-          move ! (1 ∷ []) $
-          fsplit ! $
-          move ! (1 ∷ []) $
-          fsplit ! $
-          move ! (1 ∷ []) $
-          fsplit ! $
-          move ! (1 ∷ []) $
-          fsplit ! $
-          move ! (1 ∷ []) $
-          fsplit ! $
-          move ! (1 ∷ []) $
-          fsplit ! $
-          move ! (8 ∷ []) $
-          split ! $
-          move ! (1 ∷ []) $
+          use2 W (later (some (λ (δ : GName). ‵ (namesAt 6 (ν₇ ∷ []) b₇ o₇ δ (col₇ (u .1 .0))) ⊛ ‵ (LentAgain O4096 κ₇ (ν₇ ∷ []) q₇ γ₇ b₇ o₇ δ (col₇
+          (u .1 .0)))))) (lends-again 𝓤 H A W O4096 (named 7) κ₇ (ν₇ ∷ []) q₇ γ₇ b₇ o₇ (named 6) (col₇ (u .1 .0))) $ await ! tt $ pick ! (λ δ₇.
+          split ! $ move ! (3 ∷ 0 ∷ []) $ join ! $ move ! (5 ∷ 0 ∷ []) $ join ! $ move ! (7 ∷ 0 ∷ []) $ join ! $ move ! (9 ∷ 0 ∷ []) $ join ! $ move ! (11 ∷ 0 ∷ []) $ join ! $
+          move ! (13 ∷ 0 ∷ []) $ join ! $ move ! (2 ∷ 0 ∷ []) $ join ! $ move ! (3 ∷ 0 ∷ []) $ join ! $ move ! (4 ∷ 0 ∷ []) $ join ! $ move ! (5 ∷ 0 ∷ []) $ join ! $
+          move ! (6 ∷ 0 ∷ []) $ join ! $ move ! (7 ∷ 0 ∷ []) $ join ! $ move ! (8 ∷ 0 ∷ []) $ join ! $
+          use1 W (raw (Keep 𝓤 H A at-mem run .pre (to-keep ν₁ ν₂ ν₃ ν₄ ν₅ ν₆ ν₇ δ₁ δ₂ δ₃ δ₄ δ₅ δ₆ δ₇ (u .0) (getD ys (u .0) noMailbox) (u .1 .0))))
+          (goes-keep ν₁ ν₂ ν₃ ν₄ ν₅ ν₆ ν₇ δ₁ δ₂ δ₃ δ₄ δ₅ δ₆ δ₇ (u .0) (getD ys (u .0) noMailbox) (u .1 .0) is (fits u) (small u l)) $
+          calls-at ! fm (Keep 𝓤 H A at-mem run) known (to-keep ν₁ ν₂ ν₃ ν₄ ν₅ ν₆ ν₇ δ₁ δ₂ δ₃ δ₄ δ₅ δ₆ δ₇ (u .0) (getD ys (u .0) noMailbox) (u .1 .0))
+          (and-then ! (load ! (from ! (stop !)) (look ! 25 refl)) (and-then ! (load ! (from ! (stop !)) (look ! 35 refl)) (and-then ! (load ! (from ! (stop !)) (look ! 23 refl)) (and-then ! (load !
+          (from ! (stop !)) (look ! 21 refl)) (and-then ! (load ! (from ! (stop !)) (look ! 19 refl)) (and-then ! (load ! (from ! (stop !)) (look ! 17 refl)) (and-then ! (load ! (from ! (stop !))
+          (look ! 15 refl)) (and-then ! (load ! (from ! (stop !)) (look ! 13 refl)) (and-then ! (load ! (from ! (stop !)) (look ! 11 refl)) (no-more !)))))))))) (λ w₁.
+          use1 W (later (some (λ (r : Unit {0}). ((‵ (flft (ν₁ ∷ []) fullShare) ⊛ ‵ (flft (ν₂ ∷ []) fullShare) ⊛ ‵ (flft (ν₃ ∷ []) fullShare) ⊛ ‵ (flft
+          (ν₄ ∷ []) fullShare) ⊛ ‵ (flft (ν₅ ∷ []) fullShare) ⊛ ‵ (flft (ν₆ ∷ []) fullShare) ⊛ ‵ (flft (ν₇ ∷ []) fullShare) ⊛ ‵ ftrue)
+          ⊛ ‵ (Nothing .own r (w₁ ∷ []))) ⊛ raw (ensured 𝓤 H A keep-fn.ended (keep-fn.clauses 𝓤 H A at-mem run) (lives ν₁ ν₂ ν₃ ν₄ ν₅ ν₆ ν₇)
+          (lent-to ν₁ ν₂ ν₃ ν₄ ν₅ ν₆ ν₇ δ₁ δ₂ δ₃ δ₄ δ₅ δ₆ δ₇ (u .0) (getD ys (u .0) noMailbox) (u .1 .0)) tt r)))) (id⊢ 𝓤 _) $ await ! tt $ pick ! (λ r.
+          split ! $ move ! (1 ∷ []) $
+          use1 W (some (λ (zs : Left). ‵ (lasts keep-fn.ended (lives ν₁ ν₂ ν₃ ν₄ ν₅ ν₆ ν₇)
+          (lent-to ν₁ ν₂ ν₃ ν₄ ν₅ ν₆ ν₇ δ₁ δ₂ δ₃ δ₄ δ₅ δ₆ δ₇ (u .0) (getD ys (u .0) noMailbox) (u .1 .0)) zs)
+          ⊛ raw (fact 𝓤 (Kept ν₁ ν₂ ν₃ ν₄ ν₅ ν₆ ν₇ δ₁ δ₂ δ₃ δ₄ δ₅ δ₆ δ₇ (u .0) (getD ys (u .0) noMailbox) (u .1 .0) (kept zs))))) (id⊢ 𝓤 _) $
+          pick ! (λ zs.
+          split ! $ move ! (1 ∷ []) $
+          heard ! (Kept ν₁ ν₂ ν₃ ν₄ ν₅ ν₆ ν₇ δ₁ δ₂ δ₃ δ₄ δ₅ δ₆ δ₇ (u .0) (getD ys (u .0) noMailbox) (u .1 .0) (kept zs)) (λ fact-kept.
+          fsplit ! $ drop ! $ fsplit ! $ drop ! $ move ! (0 ∷ []) $ fsplit ! $ move ! (1 ∷ []) $ fsplit ! $ move ! (1 ∷ []) $ fsplit ! $ move ! (1 ∷ []) $ fsplit ! $ move ! (1 ∷ []) $
+          fsplit ! $ move ! (1 ∷ []) $ fsplit ! $ move ! (1 ∷ []) $ fsplit ! $ move ! (8 ∷ []) $ split ! $ move ! (1 ∷ []) $
           peeks ! Nothing (Is Nothing) (shows 𝓤 H A Nothing) r (w₁ ∷ []) (λ is₁.
           land ! (from ! (stop !)) (init ! 40 refl (nothing-lawful 𝓤 H A W .typed r _ is₁ .0)) $
-          move ! (1 ∷ []) $
-          split ! $
-          move ! (1 ∷ []) $
-          split ! $
-          move ! (1 ∷ []) $
-          split ! $
-          move ! (1 ∷ []) $
-          split ! $
-          move ! (1 ∷ []) $
-          split ! $
-          move ! (1 ∷ []) $
-          split ! $
-          move ! (1 ∷ []) $
-          split ! $
-          move ! (7 ∷ []) $
-          lft-end ! tt $
-          move ! (0 ∷ 23 ∷ 16 ∷ []) $
-          use3 W (later (‵ (MutRef (named 1) κ₁ W64 .own (ref b₁ o₁ γ₁ (zs .1 .1 .0)) (vptr b₁ o₁ ∷ [])) ⊛ ‵ (flft κ₁ q₁))) (comes-back 𝓤 H A W W64 (named 1) κ₁ (ν₁ ∷ []) q₁ γ₁ b₁ o₁ δ₁ (u .1 .0 .0) (zs .1 .1 .0)) $ await ! tt $ split ! $
-          move ! (8 ∷ []) $
-          lft-end ! tt $
-          move ! (0 ∷ 22 ∷ 16 ∷ []) $
-          use3 W (later (‵ (MutRef (named 2) κ₂ O64 .own (ref b₂ o₂ γ₂ (zs .1 .1 .1 .0)) (vptr b₂ o₂ ∷ [])) ⊛ ‵ (flft κ₂ q₂))) (comes-back 𝓤 H A W O64 (named 2) κ₂ (ν₂ ∷ []) q₂ γ₂ b₂ o₂ δ₂ (u .1 .0 .1 .0) (zs .1 .1 .1 .0)) $ await ! tt $ split ! $
-          move ! (9 ∷ []) $
-          lft-end ! tt $
-          move ! (0 ∷ 21 ∷ 16 ∷ []) $
-          use3 W (later (‵ (MutRef (named 3) κ₃ O64 .own (ref b₃ o₃ γ₃ (zs .1 .1 .1 .1 .0)) (vptr b₃ o₃ ∷ [])) ⊛ ‵ (flft κ₃ q₃))) (comes-back 𝓤 H A W O64 (named 3) κ₃ (ν₃ ∷ []) q₃ γ₃ b₃ o₃ δ₃ (u .1 .0 .1 .1 .0) (zs .1 .1 .1 .1 .0)) $ await ! tt $ split ! $
-          move ! (10 ∷ []) $
-          lft-end ! tt $
-          move ! (0 ∷ 20 ∷ 16 ∷ []) $
-          use3 W (later (‵ (MutRef (named 4) κ₄ W64 .own (ref b₄ o₄ γ₄ (zs .1 .1 .1 .1 .1 .0)) (vptr b₄ o₄ ∷ [])) ⊛ ‵ (flft κ₄ q₄))) (comes-back 𝓤 H A W W64 (named 4) κ₄ (ν₄ ∷ []) q₄ γ₄ b₄ o₄ δ₄ (u .1 .0 .1 .1 .1 .0) (zs .1 .1 .1 .1 .1 .0)) $ await ! tt $ split ! $
-          move ! (11 ∷ []) $
-          lft-end ! tt $
-          move ! (0 ∷ 19 ∷ 16 ∷ []) $
-          use3 W (later (‵ (MutRef (named 5) κ₅ W64 .own (ref b₅ o₅ γ₅ (zs .1 .1 .1 .1 .1 .1 .0)) (vptr b₅ o₅ ∷ [])) ⊛ ‵ (flft κ₅ q₅))) (comes-back 𝓤 H A W W64 (named 5) κ₅ (ν₅ ∷ []) q₅ γ₅ b₅ o₅ δ₅ (u .1 .0 .1 .1 .1 .1 .0) (zs .1 .1 .1 .1 .1 .1 .0)) $ await ! tt $ split ! $
-          move ! (12 ∷ []) $
-          lft-end ! tt $
-          move ! (0 ∷ 18 ∷ 16 ∷ []) $
-          use3 W (later (‵ (MutRef (named 6) κ₆ W64 .own (ref b₆ o₆ γ₆ (zs .1 .1 .1 .1 .1 .1 .1 .0)) (vptr b₆ o₆ ∷ [])) ⊛ ‵ (flft κ₆ q₆))) (comes-back 𝓤 H A W W64 (named 6) κ₆ (ν₆ ∷ []) q₆ γ₆ b₆ o₆ δ₆ (u .1 .0 .1 .1 .1 .1 .1 .0) (zs .1 .1 .1 .1 .1 .1 .1 .0)) $ await ! tt $ split ! $
-          move ! (12 ∷ []) $
-          lft-end ! tt $
-          move ! (0 ∷ 17 ∷ 15 ∷ []) $
-          use3 W (later (‵ (MutRef (named 7) κ₇ O4096 .own (ref b₇ o₇ γ₇ (zs .1 .1 .1 .1 .1 .1 .1 .1 .0)) (vptr b₇ o₇ ∷ [])) ⊛ ‵ (flft κ₇ q₇))) (comes-back 𝓤 H A W O4096 (named 7) κ₇ (ν₇ ∷ []) q₇ γ₇ b₇ o₇ δ₇ (u .1 .0 .1 .1 .1 .1 .1 .1) (zs .1 .1 .1 .1 .1 .1 .1 .1 .0)) $ await ! tt $ split ! $
+          move ! (1 ∷ []) $ split ! $ move ! (1 ∷ []) $ split ! $ move ! (1 ∷ []) $ split ! $ move ! (1 ∷ []) $ split ! $ move ! (1 ∷ []) $ split ! $ move ! (1 ∷ []) $ split ! $
+          move ! (1 ∷ []) $ split ! $ move ! (7 ∷ []) $ lft-end ! tt $ move ! (0 ∷ 23 ∷ 16 ∷ []) $
+          use3 W (later (‵ (wordsAt 1 κ₁ b₁ o₁ γ₁ (col₁ (kept zs))) ⊛ ‵ (flft κ₁ q₁))) (comes-back 𝓤 H A W W64 (named 1) κ₁ (ν₁ ∷ []) q₁ γ₁ b₁ o₁ δ₁
+          (col₁ (u .1 .0)) (col₁ (kept zs))) $ await ! tt $ split ! $
+          move ! (8 ∷ []) $ lft-end ! tt $ move ! (0 ∷ 22 ∷ 16 ∷ []) $
+          use3 W (later (‵ (octetsAt 2 κ₂ b₂ o₂ γ₂ (col₂ (kept zs))) ⊛ ‵ (flft κ₂ q₂))) (comes-back 𝓤 H A W O64 (named 2) κ₂ (ν₂ ∷ []) q₂ γ₂ b₂ o₂ δ₂
+          (col₂ (u .1 .0)) (col₂ (kept zs))) $ await ! tt $ split ! $
+          move ! (9 ∷ []) $ lft-end ! tt $ move ! (0 ∷ 21 ∷ 16 ∷ []) $
+          use3 W (later (‵ (octetsAt 3 κ₃ b₃ o₃ γ₃ (col₃ (kept zs))) ⊛ ‵ (flft κ₃ q₃))) (comes-back 𝓤 H A W O64 (named 3) κ₃ (ν₃ ∷ []) q₃ γ₃ b₃ o₃ δ₃
+          (col₃ (u .1 .0)) (col₃ (kept zs))) $ await ! tt $ split ! $
+          move ! (10 ∷ []) $ lft-end ! tt $ move ! (0 ∷ 20 ∷ 16 ∷ []) $
+          use3 W (later (‵ (wordsAt 4 κ₄ b₄ o₄ γ₄ (col₄ (kept zs))) ⊛ ‵ (flft κ₄ q₄))) (comes-back 𝓤 H A W W64 (named 4) κ₄ (ν₄ ∷ []) q₄ γ₄ b₄ o₄ δ₄
+          (col₄ (u .1 .0)) (col₄ (kept zs))) $ await ! tt $ split ! $
+          move ! (11 ∷ []) $ lft-end ! tt $ move ! (0 ∷ 19 ∷ 16 ∷ []) $
+          use3 W (later (‵ (wordsAt 5 κ₅ b₅ o₅ γ₅ (col₅ (kept zs))) ⊛ ‵ (flft κ₅ q₅))) (comes-back 𝓤 H A W W64 (named 5) κ₅ (ν₅ ∷ []) q₅ γ₅ b₅ o₅ δ₅
+          (col₅ (u .1 .0)) (col₅ (kept zs))) $ await ! tt $ split ! $
+          move ! (12 ∷ []) $ lft-end ! tt $ move ! (0 ∷ 18 ∷ 16 ∷ []) $
+          use3 W (later (‵ (wordsAt 6 κ₆ b₆ o₆ γ₆ (col₆ (kept zs))) ⊛ ‵ (flft κ₆ q₆))) (comes-back 𝓤 H A W W64 (named 6) κ₆ (ν₆ ∷ []) q₆ γ₆ b₆ o₆ δ₆
+          (col₆ (u .1 .0)) (col₆ (kept zs))) $ await ! tt $ split ! $
+          move ! (12 ∷ []) $ lft-end ! tt $ move ! (0 ∷ 17 ∷ 15 ∷ []) $
+          use3 W (later (‵ (namesAt 7 κ₇ b₇ o₇ γ₇ (col₇ (kept zs))) ⊛ ‵ (flft κ₇ q₇))) (comes-back 𝓤 H A W O4096 (named 7) κ₇ (ν₇ ∷ []) q₇ γ₇ b₇ o₇ δ₇
+          (col₇ (u .1 .0)) (col₇ (kept zs))) $ await ! tt $ split ! $
           assigns-last ! (bin ! (load ! (from ! (stop !)) (look ! 44 refl)) (lit ! tt) (record { fits = more-fits u l })) (from ! (stop !)) (store ! 44 refl (tt, record { fits = more-fits u l })) $
-          forget ! 42 refl $ forget ! 40 refl $ forget ! 38 refl $ forget ! 36 refl $ forget ! 34 refl $ forget ! 32 refl $ forget ! 30 refl $ forget ! 28 refl $ forget ! 26 refl $ forget ! 24 refl $ forget ! 22 refl $ forget ! 20 refl $
-          keep-only ! (17 ∷ 18 ∷ 19 ∷ 13 ∷ 12 ∷ 11 ∷ 10 ∷ 9 ∷ 8 ∷ 7 ∷ 6 ∷ 5 ∷ 4 ∷ 3 ∷ 2 ∷ 1 ∷ 0 ∷ 20 ∷ 21 ∷ 22 ∷ 23 ∷ 24 ∷ 25 ∷ 26 ∷ 27 ∷ 28 ∷ 29 ∷ 30 ∷ 31 ∷ 32 ∷ 33 ∷ 34 ∷ 35 ∷ 36 ∷ 37 ∷ 38 ∷ 39 ∷ 40 ∷ 41 ∷ 42 ∷ 43 ∷ 44 ∷ 45 ∷ 46 ∷ 47 ∷ 48 ∷ 49 ∷ 50 ∷ 51 ∷ 52 ∷ 53 ∷ 54 ∷ 55 ∷ 56 ∷ 57 ∷ 58 ∷ 59 ∷ 60 ∷ 61 ∷ 62 ∷ 63 ∷ 64 ∷ 65 ∷ []) $
-          again ! Nearer At u (next u l ((zs .1 .1 .0), ((zs .1 .1 .1 .0), ((zs .1 .1 .1 .1 .0), ((zs .1 .1 .1 .1 .1 .0), ((zs .1 .1 .1 .1 .1 .1 .0), ((zs .1 .1 .1 .1 .1 .1 .1 .0), (zs .1 .1 .1 .1 .1 .1 .1 .1 .0))))))) kept) (nearer u l)))))))))))))))))))))
+          forget ! 42 refl $ forget ! 40 refl $ forget ! 38 refl $ forget ! 36 refl $ forget ! 34 refl $ forget ! 32 refl $ forget ! 30 refl $ forget ! 28 refl $ forget ! 26 refl $ forget ! 24 refl $
+          forget ! 22 refl $ forget ! 20 refl $
+          keep-only ! (17 ∷ 18 ∷ 19 ∷ 13 ∷ 12 ∷ 11 ∷ 10 ∷ 9 ∷ 8 ∷ 7 ∷ 6 ∷ 5 ∷ 4 ∷ 3 ∷ 2 ∷ 1 ∷ 0 ∷ 20 ∷ 21 ∷ 22 ∷ 23 ∷ 24 ∷ 25 ∷ 26 ∷ 27 ∷ 28 ∷ 29
+          ∷ 30 ∷ 31 ∷ 32 ∷ 33 ∷ 34 ∷ 35 ∷ 36 ∷ 37 ∷ 38 ∷ 39 ∷ 40 ∷ 41 ∷ 42 ∷ 43 ∷ 44 ∷ 45 ∷ 46 ∷ 47 ∷ 48 ∷ 49 ∷ 50 ∷ 51 ∷ 52 ∷ 53 ∷ 54 ∷ 55 ∷ 56
+          ∷ 57 ∷ 58 ∷ 59 ∷ 60 ∷ 61 ∷ 62 ∷ 63 ∷ 64 ∷ 65 ∷ []) $
+          again ! Nearer At u (next u l (kept zs) fact-kept) (nearer u l)))))))))))))))))))))
 
       -- the turn that leaves the loop
       leaves : (u : Upto) → ltb (u .0) m ≡ false → Sq W (At u) (runs C Λ E body.turn-1 (anyQ (Turned u)))
@@ -388,8 +444,13 @@ module _ {M : Type 1} (𝓤 : URA M) (H : Heap 𝓤) (A : Atoms 𝓤) (W : Given
           shuts-slice ! tt T.the-row q′ ys b o $
           assigns ! (of-opd ! (unit-lit !)) (from ! (stop !)) (init ! 60 refl (tt, tt)) $
           returns ! (look ! 60 refl) $
-          forget ! 38 refl $ forget ! 40 refl $ forget ! 42 refl $ forget ! 44 refl $ forget ! 46 refl $ forget ! 48 refl $ forget ! 50 refl $ forget ! 52 refl $ forget ! 54 refl $ forget ! 56 refl $ forget ! 58 refl $ forget ! 60 refl $
-          move ! (60 ∷ 61 ∷ []) $ free1 ! $ move ! (58 ∷ 59 ∷ []) $ free1 ! $ move ! (56 ∷ 57 ∷ []) $ free1 ! $ move ! (54 ∷ 55 ∷ []) $ free1 ! $ move ! (52 ∷ 53 ∷ []) $ free1 ! $ move ! (50 ∷ 51 ∷ []) $ free1 ! $ move ! (48 ∷ 49 ∷ []) $ free1 ! $ move ! (46 ∷ 47 ∷ []) $ free1 ! $ move ! (44 ∷ 45 ∷ []) $ free1 ! $ move ! (42 ∷ 43 ∷ []) $ free1 ! $ move ! (40 ∷ 41 ∷ []) $ free1 ! $ move ! (38 ∷ 39 ∷ []) $ free1 ! $ move ! (36 ∷ 37 ∷ []) $ free1 ! $ move ! (34 ∷ 35 ∷ []) $ free1 ! $ move ! (32 ∷ 33 ∷ []) $ free1 ! $ move ! (30 ∷ 31 ∷ []) $ free1 ! $ move ! (28 ∷ 29 ∷ []) $ free1 ! $ move ! (26 ∷ 27 ∷ []) $ free1 ! $ move ! (24 ∷ 25 ∷ []) $ free1 ! $ move ! (22 ∷ 23 ∷ []) $ free1 ! $ move ! (20 ∷ 21 ∷ []) $ free1 ! $ move ! (18 ∷ 19 ∷ []) $ free1 ! $ move ! (16 ∷ 17 ∷ []) $ free1 ! $ free0 ! $
+          forget ! 38 refl $ forget ! 40 refl $ forget ! 42 refl $ forget ! 44 refl $ forget ! 46 refl $ forget ! 48 refl $ forget ! 50 refl $ forget ! 52 refl $ forget ! 54 refl $ forget ! 56 refl $
+          forget ! 58 refl $ forget ! 60 refl $
+          move ! (60 ∷ 61 ∷ []) $ free1 ! $ move ! (58 ∷ 59 ∷ []) $ free1 ! $ move ! (56 ∷ 57 ∷ []) $ free1 ! $ move ! (54 ∷ 55 ∷ []) $ free1 ! $ move ! (52 ∷ 53 ∷ []) $ free1 ! $
+          move ! (50 ∷ 51 ∷ []) $ free1 ! $ move ! (48 ∷ 49 ∷ []) $ free1 ! $ move ! (46 ∷ 47 ∷ []) $ free1 ! $ move ! (44 ∷ 45 ∷ []) $ free1 ! $ move ! (42 ∷ 43 ∷ []) $ free1 ! $
+          move ! (40 ∷ 41 ∷ []) $ free1 ! $ move ! (38 ∷ 39 ∷ []) $ free1 ! $ move ! (36 ∷ 37 ∷ []) $ free1 ! $ move ! (34 ∷ 35 ∷ []) $ free1 ! $ move ! (32 ∷ 33 ∷ []) $ free1 ! $
+          move ! (30 ∷ 31 ∷ []) $ free1 ! $ move ! (28 ∷ 29 ∷ []) $ free1 ! $ move ! (26 ∷ 27 ∷ []) $ free1 ! $ move ! (24 ∷ 25 ∷ []) $ free1 ! $ move ! (22 ∷ 23 ∷ []) $ free1 ! $
+          move ! (20 ∷ 21 ∷ []) $ free1 ! $ move ! (18 ∷ 19 ∷ []) $ free1 ! $ move ! (16 ∷ 17 ∷ []) $ free1 ! $ free0 ! $
           keep-only ! (0 ∷ 2 ∷ 4 ∷ 6 ∷ 8 ∷ 10 ∷ 12 ∷ 14 ∷ 1 ∷ 3 ∷ 5 ∷ 7 ∷ 9 ∷ 11 ∷ 13 ∷ 15 ∷ []) $
           by ! (exits (u .1 .0) (all-laid u (nltb→le (u .0) m (holds-as true (not (ltb (u .0) m)) (sym (ap not e)) tt))))
 
@@ -397,10 +458,17 @@ module _ {M : Type 1} (𝓤 : URA M) (H : Heap 𝓤) (A : Atoms 𝓤) (W : Given
       turn u true e = lays-row u e (ltb→lt (u .0) m (holds-as true (ltb (u .0) m) (sym e) tt))
       turn u false e = leaves u e
 
-    walk : ent 𝓤 (onEntry 𝓤 H A f.signature (κ, (κ₁, (κ₂, (κ₃, (κ₄, (κ₅, (κ₆, (κ₇, tt)))))))) (q, (q₁, (q₂, (q₃, (q₄, (q₅, (q₆, (q₇, tt)))))))) x at) (WpFn 𝓤 H C Λ code.function (s ∷ vint w64 m ∷ vptr b₁ o₁ ∷ vptr b₂ o₂ ∷ vptr b₃ o₃ ∷ vptr b₄ o₄ ∷ vptr b₅ o₅ ∷ vptr b₆ o₆ ∷ vptr b₇ o₇ ∷ []) Post)
+    walk : ent 𝓤 (onEntry 𝓤 H A f.signature (κ, (κ₁, (κ₂, (κ₃, (κ₄, (κ₅, (κ₆, (κ₇, tt)))))))) (q, (q₁, (q₂, (q₃, (q₄, (q₅, (q₆, (q₇, tt)))))))) x at)
+        (WpFn 𝓤 H C Λ code.function (s ∷ vint w64 m ∷ vptr b₁ o₁ ∷ vptr b₂ o₂ ∷ vptr b₃ o₃ ∷ vptr b₄ o₄ ∷ vptr b₅ o₅ ∷ vptr b₆ o₆
+        ∷ vptr b₇ o₇ ∷ []) Post)
     walk =
-        qed W ((‵ (flft κ q) ⊛ ‵ (flft κ₁ q₁) ⊛ ‵ (flft κ₂ q₂) ⊛ ‵ (flft κ₃ q₃) ⊛ ‵ (flft κ₄ q₄) ⊛ ‵ (flft κ₅ q₅) ⊛ ‵ (flft κ₆ q₆) ⊛ ‵ (flft κ₇ q₇) ⊛ ‵ ftrue) ∷ ‵ (owns (ShrSlice (named 0) κ T.the-row ∷ usize ∷ MutRef (named 1) κ₁ W64 ∷ MutRef (named 2) κ₂ O64 ∷ MutRef (named 3) κ₃ O64 ∷ MutRef (named 4) κ₄ W64 ∷ MutRef (named 5) κ₅ W64 ∷ MutRef (named 6) κ₆ W64 ∷ MutRef (named 7) κ₇ O4096 ∷ []) x at) ∷ []) ∵ enter ! C Λ code.function (s ∷ vint w64 m ∷ vptr b₁ o₁ ∷ vptr b₂ o₂ ∷ vptr b₃ o₃ ∷ vptr b₄ o₄ ∷ vptr b₅ o₅ ∷ vptr b₆ o₆ ∷ vptr b₇ o₇ ∷ []) _ $
-        alloc1 ! (λ l₀. alloc1 ! (λ l₁. alloc1 ! (λ l₂. alloc1 ! (λ l₃. alloc1 ! (λ l₄. alloc1 ! (λ l₅. alloc1 ! (λ l₆. alloc1 ! (λ l₇. alloc1 ! (λ l₈. alloc1 ! (λ l₉. alloc1 ! (λ l₁₀. alloc1 ! (λ l₁₁. alloc1 ! (λ l₁₂. alloc1 ! (λ l₁₃. alloc1 ! (λ l₁₄. alloc1 ! (λ l₁₅. alloc1 ! (λ l₁₆. alloc1 ! (λ l₁₇. alloc1 ! (λ l₁₈. alloc1 ! (λ l₁₉. alloc1 ! (λ l₂₀. alloc1 ! (λ l₂₁. alloc1 ! (λ l₂₂. alloc0 ! $ params1 ! $
+        qed W ((‵ (flft κ q) ⊛ ‵ (flft κ₁ q₁) ⊛ ‵ (flft κ₂ q₂) ⊛ ‵ (flft κ₃ q₃) ⊛ ‵ (flft κ₄ q₄) ⊛ ‵ (flft κ₅ q₅) ⊛ ‵ (flft κ₆ q₆)
+        ⊛ ‵ (flft κ₇ q₇) ⊛ ‵ ftrue) ∷ ‵ (owns (ShrSlice (named 0) κ T.the-row ∷ usize ∷ MutRef (named 1) κ₁ W64 ∷ MutRef (named 2) κ₂ O64 ∷ MutRef (named 3) κ₃ O64
+        ∷ MutRef (named 4) κ₄ W64 ∷ MutRef (named 5) κ₅ W64 ∷ MutRef (named 6) κ₆ W64 ∷ MutRef (named 7) κ₇ O4096 ∷ []) x at) ∷ []) ∵ enter ! C Λ code.function (s
+        ∷ vint w64 m ∷ vptr b₁ o₁ ∷ vptr b₂ o₂ ∷ vptr b₃ o₃ ∷ vptr b₄ o₄ ∷ vptr b₅ o₅ ∷ vptr b₆ o₆ ∷ vptr b₇ o₇ ∷ []) _ $
+        alloc1 ! (λ l₀. alloc1 ! (λ l₁. alloc1 ! (λ l₂. alloc1 ! (λ l₃. alloc1 ! (λ l₄. alloc1 ! (λ l₅. alloc1 ! (λ l₆. alloc1 ! (λ l₇. alloc1 ! (λ l₈. alloc1 !
+        (λ l₉. alloc1 ! (λ l₁₀. alloc1 ! (λ l₁₁. alloc1 ! (λ l₁₂. alloc1 ! (λ l₁₃. alloc1 ! (λ l₁₄. alloc1 ! (λ l₁₅. alloc1 ! (λ l₁₆. alloc1 !
+        (λ l₁₇. alloc1 ! (λ l₁₈. alloc1 ! (λ l₁₉. alloc1 ! (λ l₂₀. alloc1 ! (λ l₂₁. alloc1 ! (λ l₂₂. alloc0 ! $ params1 ! $
         pass1 ! (init ! 42 refl (tt, (tt, (record { fits = room .0 }, tt)))) $
         pass1 ! (init ! 40 refl (tt, record { fits = m-fits })) $
         pass1 ! (init ! 38 refl (tt, tt)) $
@@ -412,63 +480,65 @@ module _ {M : Type 1} (𝓤 : URA M) (H : Heap 𝓤) (A : Atoms 𝓤) (W : Given
         pass1 ! (init ! 26 refl (tt, tt)) $
         pass0 ! $
         assigns ! (of-opd ! (lit ! tt)) (from ! (stop !)) (init ! 24 refl (tt, record { fits = lit< tt })) $
-        move ! (47 ∷ []) $
-        fsplit ! $
-        move ! (1 ∷ []) $
-        fsplit ! $ drop ! $
-        move ! (0 ∷ []) $
-        fsplit ! $
-        move ! (1 ∷ []) $
-        fsplit ! $
-        move ! (1 ∷ []) $
-        fsplit ! $
-        move ! (1 ∷ []) $
-        fsplit ! $
-        move ! (1 ∷ []) $
-        fsplit ! $
-        move ! (1 ∷ []) $
-        fsplit ! $
-        move ! (1 ∷ []) $
-        fsplit ! $
+        move ! (47 ∷ []) $ fsplit ! $ move ! (1 ∷ []) $ fsplit ! $ drop ! $ move ! (0 ∷ []) $ fsplit ! $ move ! (1 ∷ []) $ fsplit ! $ move ! (1 ∷ []) $ fsplit ! $ move ! (1 ∷ []) $
+        fsplit ! $ move ! (1 ∷ []) $ fsplit ! $ move ! (1 ∷ []) $ fsplit ! $ move ! (1 ∷ []) $ fsplit ! $
         -- one copy of what the slice owns is kept, and of the other the fractured borrow, which is looked into for the whole loop
         move ! (8 ∷ []) $
         use1 W (‵ Own ⊛ ‵ Own) (shr-slice-copy 𝓤 H A W (named 0) κ T.the-row .twice (x .0) (s ∷ [])) $ split ! $
-        fsplit ! $ drop ! $ fsplit ! $ drop ! $
-        move ! (56 ∷ []) $
-        split ! $
-        move ! (1 ∷ []) $
-        split ! $
-        move ! (1 ∷ []) $
-        split ! $
-        move ! (1 ∷ []) $
-        split ! $
-        move ! (1 ∷ []) $
-        split ! $
-        move ! (1 ∷ []) $
-        split ! $
-        move ! (1 ∷ []) $
-        split ! $
-        move ! (1 ∷ []) $
-        split ! $
-        move ! (9 ∷ 8 ∷ []) $
-        looks-slice ! tt T.the-row (Is T.the-row) (shows 𝓤 H A T.the-row) (LL.vals T.the-type T′.the-laws) (LL.tells T.the-type T′.the-laws) (LL.copy T.the-type T′.the-copy 𝓤 H A W) ys b o (λ q′.
-        keep-only ! (0 ∷ 1 ∷ 11 ∷ 10 ∷ 19 ∷ 9 ∷ 18 ∷ 8 ∷ 17 ∷ 7 ∷ 16 ∷ 6 ∷ 15 ∷ 5 ∷ 14 ∷ 3 ∷ 12 ∷ 20 ∷ 21 ∷ 22 ∷ 23 ∷ 24 ∷ 25 ∷ 26 ∷ 27 ∷ 28 ∷ 29 ∷ 30 ∷ 31 ∷ 32 ∷ 33 ∷ 34 ∷ 35 ∷ 36 ∷ 37 ∷ 38 ∷ 39 ∷ 40 ∷ 41 ∷ 42 ∷ 43 ∷ 44 ∷ 45 ∷ 46 ∷ 47 ∷ 48 ∷ 49 ∷ 50 ∷ 51 ∷ 52 ∷ 53 ∷ 54 ∷ 55 ∷ 56 ∷ 57 ∷ 58 ∷ 59 ∷ 60 ∷ 61 ∷ 62 ∷ 63 ∷ 64 ∷ 65 ∷ []) $
-        first ! $ blocks ! $ loops ! 𝓣 Nearer Nearer-wf (At q′ l₀ l₁ l₂ l₃ l₄ l₅ l₆ l₇ l₈ l₉ l₁₀ l₁₁ l₁₂ l₁₃ l₁₄ l₁₅ l₁₆ l₁₇ l₁₈ l₁₉ l₂₀ l₂₁ l₂₂) (λ u. turn q′ l₀ l₁ l₂ l₃ l₄ l₅ l₆ l₇ l₈ l₉ l₁₀ l₁₁ l₁₂ l₁₃ l₁₄ l₁₅ l₁₆ l₁₇ l₁₈ l₁₉ l₂₀ l₂₁ l₂₂ u (ltb (u .0) m) refl) nothing-yet))))))))))))))))))))))))
+        fsplit ! $ drop ! $ fsplit ! $ drop ! $ move ! (56 ∷ []) $ split ! $ move ! (1 ∷ []) $ split ! $ move ! (1 ∷ []) $ split ! $ move ! (1 ∷ []) $ split ! $ move ! (1 ∷ []) $ split ! $
+        move ! (1 ∷ []) $ split ! $ move ! (1 ∷ []) $ split ! $ move ! (1 ∷ []) $ split ! $ move ! (9 ∷ 8 ∷ []) $
+        looks-slice ! tt T.the-row (Is T.the-row) (shows 𝓤 H A T.the-row) (LL.vals T.the-type T′.the-laws) (LL.tells T.the-type T′.the-laws) (LL.copy T.the-type T′.the-copy 𝓤 H A W) ys b o
+        (λ q′.
+        keep-only ! (0 ∷ 1 ∷ 11 ∷ 10 ∷ 19 ∷ 9 ∷ 18 ∷ 8 ∷ 17 ∷ 7 ∷ 16 ∷ 6 ∷ 15 ∷ 5 ∷ 14 ∷ 3 ∷ 12 ∷ 20 ∷ 21 ∷ 22 ∷ 23 ∷ 24 ∷ 25 ∷ 26 ∷ 27 ∷ 28 ∷ 29
+        ∷ 30 ∷ 31 ∷ 32 ∷ 33 ∷ 34 ∷ 35 ∷ 36 ∷ 37 ∷ 38 ∷ 39 ∷ 40 ∷ 41 ∷ 42 ∷ 43 ∷ 44 ∷ 45 ∷ 46 ∷ 47 ∷ 48 ∷ 49 ∷ 50 ∷ 51 ∷ 52 ∷ 53 ∷ 54 ∷ 55 ∷ 56
+        ∷ 57 ∷ 58 ∷ 59 ∷ 60 ∷ 61 ∷ 62 ∷ 63 ∷ 64 ∷ 65 ∷ []) $
+        first ! $ blocks ! $
+        loops ! 𝓣 Nearer Nearer-wf
+        (At q′ l₀ l₁ l₂ l₃ l₄ l₅ l₆ l₇ l₈ l₉ l₁₀ l₁₁ l₁₂ l₁₃ l₁₄ l₁₅ l₁₆ l₁₇ l₁₈ l₁₉ l₂₀ l₂₁ l₂₂)
+        (λ u. turn q′ l₀ l₁ l₂ l₃ l₄ l₅ l₆ l₇ l₈ l₉ l₁₀ l₁₁ l₁₂ l₁₃ l₁₄ l₁₅ l₁₆ l₁₇ l₁₈ l₁₉ l₂₀ l₂₁ l₂₂ u
+        (ltb (u .0) m) refl) nothing-yet))))))))))))))))))))))))
 
 module _ {M : Type 1} (𝓤 : URA M) (H : Heap 𝓤) (A : Atoms 𝓤) (W : Given 𝓤 H A) where
-  walks : (at-mem : Memory → SProp 𝓤) (run : Routine → Fun 𝓤) (𝓣 : Tables 𝓤 H) → Triple 𝓤 (𝓣 .C #lent-rows·columns·keep) (Keep 𝓤 H A at-mem run) → Walks 𝓤 H A f.ended stayed (WpFn 𝓤 H (𝓣 .C) (𝓣 .Λ) code.function) (f.clauses 𝓤 H A at-mem run)
+  walks : (at-mem : Memory → SProp 𝓤) (run : Routine → Fun 𝓤) (𝓣 : Tables 𝓤 H) → Triple 𝓤 (𝓣 .C #lent-rows·columns·keep) (Keep 𝓤 H A at-mem run)
+      → Walks 𝓤 H A f.ended stayed (WpFn 𝓤 H (𝓣 .C) (𝓣 .Λ) code.function) (f.clauses 𝓤 H A at-mem run)
   walks at-mem run 𝓣 known = walked 𝓤 H A f.ended stayed (f.clauses 𝓤 H A at-mem run) (WpFn 𝓤 H (𝓣 .C) (𝓣 .Λ) code.function)
       (λ κs. (slice-vals, (uint-vals w64, (ptr-vals, (ptr-vals, (ptr-vals, (ptr-vals, (ptr-vals, (ptr-vals, (ptr-vals, tt))))))))))
-      (λ κs. (shr-slice-tells (named 0) (κs .0) T.the-row, (uint-tells w64, (mut-tells (named 1) (κs .1 .0) W64, (mut-tells (named 2) (κs .1 .1 .0) O64, (mut-tells (named 3) (κs .1 .1 .1 .0) O64, (mut-tells (named 4) (κs .1 .1 .1 .1 .0) W64, (mut-tells (named 5) (κs .1 .1 .1 .1 .1 .0) W64, (mut-tells (named 6) (κs .1 .1 .1 .1 .1 .1 .0) W64, (mut-tells (named 7) (κs .1 .1 .1 .1 .1 .1 .1 .0) O4096, tt))))))))))
+      (λ κs. (
+        shr-slice-tells (named 0) (κs .0) T.the-row,
+        (uint-tells w64, (mut-tells (named 1) (κs .1 .0) W64, (mut-tells (named 2) (κs .1 .1 .0) O64, (mut-tells (named 3) (κs .1 .1 .1 .0) O64, (mut-tells (named 4) (κs .1 .1 .1 .1 .0) W64, (mut-tells (named 5) (κs .1 .1 .1 .1 .1 .0) W64, (mut-tells (named 6) (κs .1 .1 .1 .1 .1 .1 .0) W64, (mut-tells (named 7) (κs .1 .1 .1 .1 .1 .1 .1 .0) O4096, tt)))))))),
+      ))
       (λ κs qs bounds a g are. needs 𝓤 ((a .1 .0 ≤ length (a .0 .now)) × (a .1 .0 ≤ 64)) _ (λ asked.
-      walk 𝓤 H A W at-mem run (κs .0) (κs .1 .0) (κs .1 .1 .0) (κs .1 .1 .1 .0) (κs .1 .1 .1 .1 .0) (κs .1 .1 .1 .1 .1 .0) (κs .1 .1 .1 .1 .1 .1 .0) (κs .1 .1 .1 .1 .1 .1 .1 .0) bounds (qs .0) (qs .1 .0) (qs .1 .1 .0) (qs .1 .1 .1 .0) (qs .1 .1 .1 .1 .0) (qs .1 .1 .1 .1 .1 .0) (qs .1 .1 .1 .1 .1 .1 .0) (qs .1 .1 .1 .1 .1 .1 .1 .0) (a .0 .ptr .0) (a .0 .ptr .1) (a .0 .name) (a .0 .now) (are .0 .0 .1) (a .1 .0) (are .1 .0 .1) asked (a .1 .1 .0 .ptr .0) (a .1 .1 .0 .ptr .1) (a .1 .1 .0 .name) (a .1 .1 .0 .now) (a .1 .1 .1 .0 .ptr .0) (a .1 .1 .1 .0 .ptr .1) (a .1 .1 .1 .0 .name) (a .1 .1 .1 .0 .now) (a .1 .1 .1 .1 .0 .ptr .0) (a .1 .1 .1 .1 .0 .ptr .1) (a .1 .1 .1 .1 .0 .name) (a .1 .1 .1 .1 .0 .now) (a .1 .1 .1 .1 .1 .0 .ptr .0) (a .1 .1 .1 .1 .1 .0 .ptr .1) (a .1 .1 .1 .1 .1 .0 .name) (a .1 .1 .1 .1 .1 .0 .now) (a .1 .1 .1 .1 .1 .1 .0 .ptr .0) (a .1 .1 .1 .1 .1 .1 .0 .ptr .1) (a .1 .1 .1 .1 .1 .1 .0 .name) (a .1 .1 .1 .1 .1 .1 .0 .now) (a .1 .1 .1 .1 .1 .1 .1 .0 .ptr .0) (a .1 .1 .1 .1 .1 .1 .1 .0 .ptr .1) (a .1 .1 .1 .1 .1 .1 .1 .0 .name) (a .1 .1 .1 .1 .1 .1 .1 .0 .now) (a .1 .1 .1 .1 .1 .1 .1 .1 .0 .ptr .0) (a .1 .1 .1 .1 .1 .1 .1 .1 .0 .ptr .1) (a .1 .1 .1 .1 .1 .1 .1 .1 .0 .name) (a .1 .1 .1 .1 .1 .1 .1 .1 .0 .now) 𝓣 known))
+      walk 𝓤 H A W at-mem run (κs .0) (κs .1 .0) (κs .1 .1 .0) (κs .1 .1 .1 .0) (κs .1 .1 .1 .1 .0) (κs .1 .1 .1 .1 .1 .0) (κs .1 .1 .1 .1 .1 .1 .0) (κs .1 .1 .1 .1 .1 .1 .1 .0) bounds
+      (qs .0) (qs .1 .0) (qs .1 .1 .0) (qs .1 .1 .1 .0) (qs .1 .1 .1 .1 .0) (qs .1 .1 .1 .1 .1 .0) (qs .1 .1 .1 .1 .1 .1 .0) (qs .1 .1 .1 .1 .1 .1 .1 .0) (a .0 .ptr .0) (a .0 .ptr .1) (a .0 .name)
+      (a .0 .now) (are .0 .0 .1) (a .1 .0) (are .1 .0 .1) asked (a .1 .1 .0 .ptr .0) (a .1 .1 .0 .ptr .1) (a .1 .1 .0 .name) (a .1 .1 .0 .now) (a .1 .1 .1 .0 .ptr .0) (a .1 .1 .1 .0 .ptr .1)
+      (a .1 .1 .1 .0 .name) (a .1 .1 .1 .0 .now) (a .1 .1 .1 .1 .0 .ptr .0) (a .1 .1 .1 .1 .0 .ptr .1) (a .1 .1 .1 .1 .0 .name) (a .1 .1 .1 .1 .0 .now) (a .1 .1 .1 .1 .1 .0 .ptr .0)
+      (a .1 .1 .1 .1 .1 .0 .ptr .1) (a .1 .1 .1 .1 .1 .0 .name) (a .1 .1 .1 .1 .1 .0 .now) (a .1 .1 .1 .1 .1 .1 .0 .ptr .0) (a .1 .1 .1 .1 .1 .1 .0 .ptr .1) (a .1 .1 .1 .1 .1 .1 .0 .name)
+      (a .1 .1 .1 .1 .1 .1 .0 .now) (a .1 .1 .1 .1 .1 .1 .1 .0 .ptr .0) (a .1 .1 .1 .1 .1 .1 .1 .0 .ptr .1) (a .1 .1 .1 .1 .1 .1 .1 .0 .name) (a .1 .1 .1 .1 .1 .1 .1 .0 .now)
+      (a .1 .1 .1 .1 .1 .1 .1 .1 .0 .ptr .0) (a .1 .1 .1 .1 .1 .1 .1 .1 .0 .ptr .1) (a .1 .1 .1 .1 .1 .1 .1 .1 .0 .name) (a .1 .1 .1 .1 .1 .1 .1 .1 .0 .now) 𝓣 known))
 
   goes : AllGo 𝓤 H A W 8 (f.signature .params) (f.ended .kept) stayed
-  goes = (goes-none-slice 𝓤 H A W 8 (0 ∷ []) tt (plain (λ _. T.the-row)) yes, (goes-none 𝓤 H A W 8 (λ _. usize) yes (λ κs x f. refl), (goes-ref 𝓤 H A W 8 1 tt (plain (λ _. W64)), (goes-ref 𝓤 H A W 8 2 tt (plain (λ _. O64)), (goes-ref 𝓤 H A W 8 3 tt (plain (λ _. O64)), (goes-ref 𝓤 H A W 8 4 tt (plain (λ _. W64)), (goes-ref 𝓤 H A W 8 5 tt (plain (λ _. W64)), (goes-ref 𝓤 H A W 8 6 tt (plain (λ _. W64)), (goes-ref 𝓤 H A W 8 7 tt (plain (λ _. O4096)), tt)))))))))
+  goes = (
+    goes-none-slice 𝓤 H A W 8 (0 ∷ []) tt (plain (λ _. T.the-row)) yes,
+    (
+      goes-none 𝓤 H A W 8 (λ _. usize) yes (λ κs x f. refl),
+      (
+        goes-ref 𝓤 H A W 8 1 tt (plain (λ _. W64)),
+        (
+          goes-ref 𝓤 H A W 8 2 tt (plain (λ _. O64)),
+          (
+            goes-ref 𝓤 H A W 8 3 tt (plain (λ _. O64)),
+            (goes-ref 𝓤 H A W 8 4 tt (plain (λ _. W64)), (goes-ref 𝓤 H A W 8 5 tt (plain (λ _. W64)), (goes-ref 𝓤 H A W 8 6 tt (plain (λ _. W64)), (goes-ref 𝓤 H A W 8 7 tt (plain (λ _. O4096)), tt)))),
+          ),
+        ),
+      ),
+    ),
+  )
 
-meets : {M : Type 1} (𝓤 : URA M) (H : Heap 𝓤) (A : Atoms 𝓤) (W : Given 𝓤 H A) (at-mem : Memory → SProp 𝓤) (run : Routine → Fun 𝓤) (𝓣 : Tables 𝓤 H) → Triple 𝓤 (𝓣 .C #lent-rows·columns·keep) (Keep 𝓤 H A at-mem run)
+meets : {M : Type 1} (𝓤 : URA M) (H : Heap 𝓤) (A : Atoms 𝓤) (W : Given 𝓤 H A) (at-mem : Memory → SProp 𝓤) (run : Routine → Fun 𝓤) (𝓣 : Tables 𝓤 H)
+    → Triple 𝓤 (𝓣 .C #lent-rows·columns·keep) (Keep 𝓤 H A at-mem run)
     → Meets 𝓤 H A f.signature (WpFn 𝓤 H (𝓣 .C) (𝓣 .Λ) code.function) (f.spec 𝓤 H A at-mem run)
-meets 𝓤 H A W at-mem run 𝓣 known = walk-meets 𝓤 H A f.ended stayed W (goes 𝓤 H A W) (f.clauses 𝓤 H A at-mem run) (WpFn 𝓤 H (𝓣 .C) (𝓣 .Λ) code.function) (WpFn-mono 𝓤 H (W .laws) 𝓣 code.function) (walks 𝓤 H A W at-mem run 𝓣 known)
+meets 𝓤 H A W at-mem run 𝓣 known = walk-meets 𝓤 H A f.ended stayed W (goes 𝓤 H A W) (f.clauses 𝓤 H A at-mem run) (WpFn 𝓤 H (𝓣 .C) (𝓣 .Λ) code.function)
+    (WpFn-mono 𝓤 H (W .laws) 𝓣 code.function) (walks 𝓤 H A W at-mem run 𝓣 known)
 
 pub lay-spec : {M : Type 1} → stated.statement M
 unfolding code.routine tablesOf
@@ -476,4 +546,5 @@ lay-spec 𝓤 H 𝓜 𝓖 𝓡 =
     entered 𝓤 H (tripleOf 𝓤 H (𝓖 .A) f.signature (f.spec 𝓤 H (𝓖 .A) (𝓜 .mem) (𝓡 .run)))
     (tables 𝓤 H 𝓜 𝓡 code.env .C) (tables 𝓤 H 𝓜 𝓡 code.env .Λ) #lent-rows·lay code.function (code.unfolded 𝓤 H 𝓜 𝓡)
     (meets 𝓤 H (𝓖 .A) (givenOf 𝓤 H 𝓜 𝓖) (𝓜 .mem) (𝓡 .run) (tablesOf 𝓤 H 𝓜 (tables 𝓤 H 𝓜 𝓡 code.env))
-    (cited 𝓤 H (Keep 𝓤 H (𝓖 .A) (𝓜 .mem) (𝓡 .run)) 𝓜 𝓡 code.env #lent-rows·columns·keep keep-def.routine code.calls-lent-rows·columns·keep (keep-thm.met 𝓤 H 𝓜 𝓖 𝓡)))
+    (cited 𝓤 H (Keep 𝓤 H (𝓖 .A) (𝓜 .mem) (𝓡 .run)) 𝓜 𝓡 code.env #lent-rows·columns·keep keep-def.routine code.calls-lent-rows·columns·keep
+    (keep-thm.met 𝓤 H 𝓜 𝓖 𝓡)))

@@ -104,7 +104,8 @@ module _ {M : Type 1} (𝓤 : URA M) (H : Heap 𝓤) (A : Atoms 𝓤) (at-mem : 
   abbrev Blank : Contract 𝓤
   Blank = tripleOf 𝓤 H A blank-fn.signature (blank-fn.spec 𝓤 H A at-mem run)
 
-module _ {M : Type 1} (𝓤 : URA M) (H : Heap 𝓤) (A : Atoms 𝓤) (W : Given 𝓤 H A) (at-mem : Memory → SProp 𝓤) (run : Routine → Fun 𝓤) (κ : Lft) (q : Share) (b o : ℕ) (γ : GName) (ys : List Mailbox) (room : Room T.the-row (length ys)) where
+module _ {M : Type 1} (𝓤 : URA M) (H : Heap 𝓤) (A : Atoms 𝓤) (W : Given 𝓤 H A) (at-mem : Memory → SProp 𝓤) (run : Routine → Fun 𝓤) (κ : Lft) (q : Share) (b o : ℕ) (γ : GName) (ys : List Mailbox)
+    (room : Room T.the-row (length ys)) where
   abbrev x : RefT (List Mailbox)
   x = record { ptr = (b, o); name = γ; now = ys }
 
@@ -128,7 +129,8 @@ module _ {M : Type 1} (𝓤 : URA M) (H : Heap 𝓤) (A : Atoms 𝓤) (W : Given
   to-reach = ((tt, tt, tt, (64, (length ys, tt)), (vint w64 64 ∷ [], (vint w64 (length ys) ∷ [], tt))), tt)
 
   goes-reach : ent 𝓤 (emp 𝓤) (Reach 𝓤 H A at-mem run .pre to-reach)
-  goes-reach = qed W [] ∵ nothing ! $ owned ! usize (Is usize) (uint-makes 𝓤 H A W w64) (length ys) _ (refl, room .0) $ fjoin ! $ owned ! usize (Is usize) (uint-makes 𝓤 H A W w64) 64 _ (refl, lit< tt) $ fjoin ! $ nothing ! $ join ! $ frame ! $ done !
+  goes-reach = qed W [] ∵ nothing ! $ owned ! usize (Is usize) (uint-makes 𝓤 H A W w64) (length ys) _ (refl, room .0) $ fjoin ! $ owned ! usize (Is usize) (uint-makes 𝓤 H A W w64) 64 _ (refl, lit< tt) $ fjoin ! $ nothing ! $
+      join ! $ frame ! $ done !
 
   reach-of : (r : ℕ) → ent 𝓤 (ensured 𝓤 H A reach-fn.ended (reach-fn.clauses 𝓤 H A at-mem run) tt (64, (length ys, tt)) tt r) (fact 𝓤 (r ≡ within 64 (length ys)))
   reach-of r = exE 𝓤 _ (λ ws. snd∗ 𝓤 (sem 𝓤 H A (lasts reach-fn.ended tt (64, (length ys, tt)) ws)) (fact 𝓤 (r ≡ within 64 (length ys))))
@@ -158,9 +160,11 @@ module _ {M : Type 1} (𝓤 : URA M) (H : Heap 𝓤) (A : Atoms 𝓤) (W : Given
     abbrev fm : FmC 𝓤 H (W .laws) C
     fm = fmOf 𝓤 H (W .laws) 𝓣
 
-    module _ (q′ : Share) (l₀ l₁ l₂ l₃ l₄ l₅ l₆ l₇ l₈ l₉ l₁₀ l₁₁ l₁₂ l₁₃ : ℕ) (ts : List Mailbox) (is-t : Is (Array T.the-row 64) ts (valA ts ∷ [])) (m : ℕ) (m-fits : m < 2 ^ 64) (few : (m ≤ length ys) × (m ≤ 64)) (all : over ys ts m ≡ loaded ys) where
+    module _ (q′ : Share) (l₀ l₁ l₂ l₃ l₄ l₅ l₆ l₇ l₈ l₉ l₁₀ l₁₁ l₁₂ l₁₃ : ℕ) (ts : List Mailbox) (is-t : Is (Array T.the-row 64) ts (valA ts ∷ [])) (m : ℕ) (m-fits : m < 2 ^ 64)
+        (few : (m ≤ length ys) × (m ≤ 64)) (all : over ys ts m ≡ loaded ys) where
       abbrev E : Env 𝓤 H
-      E = ((tyArray T′.mir 64), l₀) ∷ (slice, l₁) ∷ (word, l₂) ∷ (word, l₃) ∷ ((tyArray T′.mir 64), l₄) ∷ (word, l₅) ∷ ((tyArray T′.mir 64), l₆) ∷ (tyBool, l₇) ∷ (word, l₈) ∷ (tyPtr, l₉) ∷ (T′.mir, l₁₀) ∷ (word, l₁₁) ∷ (tyPtr, l₁₂) ∷ (tyPtr, l₁₃) ∷ []
+      E = ((tyArray T′.mir 64), l₀) ∷ (slice, l₁) ∷ (word, l₂) ∷ (word, l₃) ∷ ((tyArray T′.mir 64), l₄) ∷ (word, l₅) ∷ ((tyArray T′.mir 64), l₆) ∷ (tyBool, l₇) ∷ (word, l₈) ∷ (tyPtr, l₉)
+          ∷ (T′.mir, l₁₀) ∷ (word, l₁₁) ∷ (tyPtr, l₁₂) ∷ (tyPtr, l₁₃) ∷ []
 
       -- ---- the invariant's facts, and the variant
       abbrev Upto : Type 0
@@ -210,10 +214,12 @@ module _ {M : Type 1} (𝓤 : URA M) (H : Heap 𝓤) (A : Atoms 𝓤) (W : Given
       onward i l = over-step ys ts (i .0) noMailbox (in-ys i l) (in-ts i l)
 
       abbrev At : Upto → List (Item 𝓤)
-      At i = ‵ (row T.the-row q′ ys b o) ∷ ‵ (fobor κ q (arr-parts (shares T.the-row) (length ys) .part q′ ys b o)) ∷ ‵ (row T.the-row fullShare (over ys ts (i .0)) l₄ 0) ∷ ‵ Own ∷ ‵ ftrue ∷ ‵ (froom tyPtr l₁₃ 0)
+      At i = ‵ (row T.the-row q′ ys b o) ∷ ‵ (fobor κ q (arr-parts (shares T.the-row) (length ys) .part q′ ys b o)) ∷ ‵ (row T.the-row fullShare (over ys ts (i .0)) l₄ 0) ∷ ‵ Own ∷ ‵ ftrue
+          ∷ ‵ (froom tyPtr l₁₃ 0)
           ∷ ‵ (fdies tyPtr l₁₃) ∷ ‵ (froom tyPtr l₁₂ 0) ∷ ‵ (fdies tyPtr l₁₂) ∷ ‵ (froom word l₁₁ 0) ∷ ‵ (fdies word l₁₁) ∷ ‵ (froom T′.mir l₁₀ 0)
           ∷ ‵ (fdies T′.mir l₁₀) ∷ ‵ (froom tyPtr l₉ 0) ∷ ‵ (fdies tyPtr l₉) ∷ ‵ (froom word l₈ 0) ∷ ‵ (fdies word l₈) ∷ ‵ (froom tyBool l₇ 0)
-          ∷ ‵ (fdies tyBool l₇) ∷ ‵ (fat fullShare (tyArray T′.mir 64) l₆ 0 (valA ts)) ∷ ‵ (fdies (tyArray T′.mir 64) l₆) ∷ ‵ (fat fullShare word l₅ 0 (vint w64 (i .0))) ∷ ‵ (fdies word l₅) ∷ ‵ (fdies (tyArray T′.mir 64) l₄)
+          ∷ ‵ (fdies tyBool l₇) ∷ ‵ (fat fullShare (tyArray T′.mir 64) l₆ 0 (valA ts)) ∷ ‵ (fdies (tyArray T′.mir 64) l₆) ∷ ‵ (fat fullShare word l₅ 0 (vint w64 (i .0))) ∷ ‵ (fdies word l₅)
+          ∷ ‵ (fdies (tyArray T′.mir 64) l₄)
           ∷ ‵ (fat fullShare word l₃ 0 (vint w64 m)) ∷ ‵ (fdies word l₃) ∷ ‵ (fat fullShare word l₂ 0 (vint w64 (length ys))) ∷ ‵ (fdies word l₂) ∷ ‵ (fat fullShare slice l₁ 0 s) ∷ ‵ (fdies slice l₁)
           ∷ ‵ (froom (tyArray T′.mir 64) l₀ 0) ∷ ‵ (fdies (tyArray T′.mir 64) l₀) ∷ []
 
@@ -251,34 +257,41 @@ module _ {M : Type 1} (𝓤 : URA M) (H : Heap 𝓤) (A : Atoms 𝓤) (W : Given
           assigns ! (bin ! (load ! (from ! (stop !)) (look ! 21 refl)) (load ! (from ! (stop !)) (look ! 24 refl)) tt) (from ! (stop !)) (init ! 17 refl (tt, tt)) $
           rewrite ! 17 (λ (t : Bool). ‵ (fat fullShare tyBool l₇ 0 (vbool t))) e refl $ leaves-loop ! (load ! (from ! (stop !)) (look ! 17 refl)) $ exec ! C Λ E body.t-7 (atRet E Post) $
           shuts-slice ! tt T.the-row q′ ys b o $ move ! (1 ∷ []) $
-          use1 W (given (Is (Array T.the-row 64) (over ys ts (i .0)) (valA (over ys ts (i .0)) ∷ [])) (‵ (fat fullShare (tyArray T′.mir 64) l₄ 0 (valA (over ys ts (i .0)))))) (local-whole 𝓤 H A W T.the-row 64 (over ys ts (i .0)) l₄ 0 (LL.vals T.the-type T′.the-laws) (LL.tells T.the-type T′.the-laws) (over-64 i)) $ learn ! (λ is.
+          use1 W (given (Is (Array T.the-row 64) (over ys ts (i .0)) (valA (over ys ts (i .0)) ∷ [])) (‵ (fat fullShare (tyArray T′.mir 64) l₄ 0 (valA (over ys ts (i .0)))))) (local-whole 𝓤 H A W T.the-row 64
+          (over ys ts (i .0)) l₄ 0 (LL.vals T.the-type T′.the-laws) (LL.tells T.the-type T′.the-laws) (over-64 i)) $ learn ! (λ is.
           assigns ! (of-opd ! (load ! (from ! (stop !)) (look ! 0 refl))) (from ! (stop !)) (init ! 29 refl (array-lawful 𝓤 H A W T.the-row (LL.lawful T.the-type T′.the-laws 𝓤 H A W) 64 .typed (over ys ts (i .0)) _ is .0)) $
           returns ! (look ! 29 refl) $ forget ! 16 refl $ forget ! 18 refl $ forget ! 20 refl $ forget ! 0 refl $ forget ! 23 refl $ forget ! 25 refl $ forget ! 27 refl $ forget ! 29 refl $
-          move ! (29 ∷ 30 ∷ []) $ free1 ! $ move ! (27 ∷ 28 ∷ []) $ free1 ! $ move ! (25 ∷ 26 ∷ []) $ free1 ! $ move ! (23 ∷ 24 ∷ []) $ free1 ! $ move ! (0 ∷ 22 ∷ []) $ free1 ! $ move ! (19 ∷ 20 ∷ []) $ free1 ! $ move ! (17 ∷ 18 ∷ []) $ free1 ! $ move ! (15 ∷ 16 ∷ []) $ free1 ! $ move ! (13 ∷ 14 ∷ []) $ free1 ! $ move ! (11 ∷ 12 ∷ []) $ free1 ! $ move ! (9 ∷ 10 ∷ []) $ free1 ! $ move ! (7 ∷ 8 ∷ []) $ free1 ! $ move ! (5 ∷ 6 ∷ []) $ free1 ! $ move ! (3 ∷ 4 ∷ []) $ free1 ! $ free0 ! $
+          move ! (29 ∷ 30 ∷ []) $ free1 ! $ move ! (27 ∷ 28 ∷ []) $ free1 ! $ move ! (25 ∷ 26 ∷ []) $ free1 ! $ move ! (23 ∷ 24 ∷ []) $ free1 ! $ move ! (0 ∷ 22 ∷ []) $ free1 ! $ move ! (19 ∷ 20 ∷ []) $ free1 ! $
+          move ! (17 ∷ 18 ∷ []) $ free1 ! $ move ! (15 ∷ 16 ∷ []) $ free1 ! $ move ! (13 ∷ 14 ∷ []) $ free1 ! $ move ! (11 ∷ 12 ∷ []) $ free1 ! $ move ! (9 ∷ 10 ∷ []) $ free1 ! $ move ! (7 ∷ 8 ∷ []) $ free1 ! $
+          move ! (5 ∷ 6 ∷ []) $ free1 ! $ move ! (3 ∷ 4 ∷ []) $ free1 ! $ free0 ! $
           keep ! (0 ∷ 1 ∷ 2 ∷ []) $
           by ! (exits (over ys ts (i .0)) (ap (over ys ts) (le-antisymm (i .1) (nltb→le (i .0) m (holds-as true (not (ltb (i .0) m)) (sym (ap not e)) tt))) ∙ all) is))
 
     walk : ent 𝓤 (onEntry 𝓤 H A f.signature (κ, tt) (q, tt) (x, tt) (s ∷ [], tt)) (WpFn 𝓤 H C Λ code.function (s ∷ []) Post)
     walk =
         qed W ((‵ (flft κ q) ⊛ ‵ ftrue) ∷ ‵ (owns (ShrSlice (named 0) κ T.the-row ∷ []) (x, tt) (s ∷ [], tt)) ∷ []) ∵ enter ! C Λ code.function (s ∷ []) _ $
-        alloc1 ! (λ l₀. alloc1 ! (λ l₁. alloc1 ! (λ l₂. alloc1 ! (λ l₃. alloc1 ! (λ l₄. alloc1 ! (λ l₅. alloc1 ! (λ l₆. alloc1 ! (λ l₇. alloc1 ! (λ l₈. alloc1 ! (λ l₉. alloc1 ! (λ l₁₀. alloc1 ! (λ l₁₁. alloc1 ! (λ l₁₂. alloc1 ! (λ l₁₃. alloc0 ! $ params1 ! $
+        alloc1 ! (λ l₀. alloc1 ! (λ l₁. alloc1 ! (λ l₂. alloc1 ! (λ l₃. alloc1 ! (λ l₄. alloc1 ! (λ l₅. alloc1 ! (λ l₆. alloc1 ! (λ l₇. alloc1 ! (λ l₈. alloc1 ! (λ l₉. alloc1 ! (λ l₁₀. alloc1 !
+        (λ l₁₁. alloc1 ! (λ l₁₂. alloc1 ! (λ l₁₃. alloc0 ! $ params1 ! $
         pass1 ! (init ! 24 refl (tt, (tt, (record { fits = room .0 }, tt)))) $ pass0 ! $
         assigns ! (of-opd ! (load ! (from ! (fld ! refl (stop !))) (look-in ! 24 (sub ! 1 refl (whole !))))) (from ! (stop !)) (init ! 22 refl (tt, record { fits = room .0 })) $
         -- `reach`
         use0 W (raw (Reach 𝓤 H A at-mem run .pre to-reach)) goes-reach $
         calls-at ! fm (Reach 𝓤 H A at-mem run) k₁ to-reach (and-then ! (lit ! tt) (and-then ! (load ! (from ! (stop !)) (look ! 23 refl)) (no-more !))) (λ w₁.
-        use1 W (later (some (λ (m : ℕ). (‵ ftrue ⊛ ‵ (usize .own m (w₁ ∷ []))) ⊛ raw (ensured 𝓤 H A reach-fn.ended (reach-fn.clauses 𝓤 H A at-mem run) tt (64, (length ys, tt)) tt m)))) (id⊢ 𝓤 _) $ await ! tt $ pick ! (λ m.
+        use1 W (later (some (λ (m : ℕ). (‵ ftrue ⊛ ‵ (usize .own m (w₁ ∷ []))) ⊛ raw (ensured 𝓤 H A reach-fn.ended (reach-fn.clauses 𝓤 H A at-mem run) tt (64, (length ys, tt)) tt m)))) (id⊢ 𝓤 _) $ await ! tt $
+        pick ! (λ m.
         split ! $ move ! (1 ∷ []) $ use1 W (raw (fact 𝓤 (m ≡ within 64 (length ys)))) (reach-of m) $ heard ! (m ≡ within 64 (length ys)) (λ e₁. split ! $ move ! (0 ∷ []) $ drop ! $ move ! (0 ∷ []) $
         peeks ! usize (Is usize) (shows 𝓤 H A usize) m (w₁ ∷ []) (λ is₁. land ! (from ! (stop !)) (init ! 21 refl (uint-lawful 𝓤 H A W w64 .typed m _ is₁ .0)) $
         rewrite ! 21 (λ (v : Val). ‵ (fat fullShare (tyInt w64) l₃ 0 v)) (ap only (is₁ .0)) refl $ move ! (0 ∷ []) $ drop ! $
         -- `blank`
         use0 W (raw (Blank 𝓤 H A at-mem run .pre to-blank)) goes-blank $ calls-at ! fm (Blank 𝓤 H A at-mem run) k₂ to-blank (no-more !) (λ w₂.
-        use1 W (later (some (λ (ts : List Mailbox). (‵ ftrue ⊛ ‵ (Array T.the-row 64 .own ts (w₂ ∷ []))) ⊛ raw (ensured 𝓤 H A blank-fn.ended (blank-fn.clauses 𝓤 H A at-mem run) tt tt tt ts)))) (id⊢ 𝓤 _) $ await ! tt $ pick ! (λ ts.
+        use1 W (later (some (λ (ts : List Mailbox). (‵ ftrue ⊛ ‵ (Array T.the-row 64 .own ts (w₂ ∷ []))) ⊛ raw (ensured 𝓤 H A blank-fn.ended (blank-fn.clauses 𝓤 H A at-mem run) tt tt tt ts)))) (id⊢ 𝓤 _) $
+        await ! tt $ pick ! (λ ts.
         split ! $ move ! (1 ∷ []) $ use1 W (raw (fact 𝓤 (ts ≡ replicate 64 noMailbox))) (blank-of ts) $ heard ! (ts ≡ replicate 64 noMailbox) (λ e₂. split ! $ move ! (0 ∷ []) $ drop ! $ move ! (0 ∷ []) $
         peeks ! (Array T.the-row 64) (Is (Array T.the-row 64)) (shows 𝓤 H A (Array T.the-row 64)) ts (w₂ ∷ []) (λ is₂.
         land ! (from ! (stop !)) (init ! 15 refl (array-lawful 𝓤 H A W T.the-row (LL.lawful T.the-type T′.the-laws 𝓤 H A W) 64 .typed ts _ is₂ .0)) $
         rewrite ! 15 (λ (v : Val). ‵ (fat fullShare (tyArray T′.mir 64) l₆ 0 v)) (ap only (array-is ts w₂ is₂)) refl $ move ! (0 ∷ []) $ drop ! $
-        assigns ! (of-opd ! (load ! (from ! (stop !)) (look ! 14 refl))) (from ! (stop !)) (init ! 18 refl (array-lawful 𝓤 H A W T.the-row (LL.lawful T.the-type T′.the-laws 𝓤 H A W) 64 .typed ts _ (subst (Is (Array T.the-row 64) ts) (array-is ts w₂ is₂) is₂) .0)) $
+        assigns ! (of-opd ! (load ! (from ! (stop !)) (look ! 14 refl))) (from ! (stop !)) (init ! 18 refl (array-lawful 𝓤 H A W T.the-row (LL.lawful T.the-type T′.the-laws 𝓤 H A W) 64 .typed ts _ (subst (Is (Array T.the-row 64) ts)
+        (array-is ts w₂ is₂) is₂) .0)) $
         assigns ! (of-opd ! (lit ! tt)) (from ! (stop !)) (init ! 16 refl (tt, record { fits = lit< tt })) $
         -- the local array, as a row of its elements
         move ! (18 ∷ []) $
@@ -289,7 +302,11 @@ module _ {M : Type 1} (𝓤 : URA M) (H : Heap 𝓤) (A : Atoms 𝓤) (W : Given
         move ! (2 ∷ 0 ∷ []) $
         looks-slice ! tt T.the-row (Is T.the-row) (shows 𝓤 H A T.the-row) (LL.vals T.the-type T′.the-laws) (LL.tells T.the-type T′.the-laws) (LL.copy T.the-type T′.the-copy 𝓤 H A W) ys b o (λ q′.
         keep ! (0 ∷ 1 ∷ 6 ∷ 4 ∷ 5 ∷ 7 ∷ 8 ∷ 9 ∷ 10 ∷ 11 ∷ 12 ∷ 13 ∷ 14 ∷ 15 ∷ 16 ∷ 17 ∷ 18 ∷ 19 ∷ 20 ∷ 21 ∷ 22 ∷ 23 ∷ 24 ∷ 25 ∷ 26 ∷ 27 ∷ 28 ∷ 29 ∷ 30 ∷ 31 ∷ 32 ∷ 33 ∷ []) $
-        first ! $ blocks ! $ loops ! 𝓣 (Nearer q′ l₀ l₁ l₂ l₃ l₄ l₅ l₆ l₇ l₈ l₉ l₁₀ l₁₁ l₁₂ l₁₃ ts (subst (Is (Array T.the-row 64) ts) (array-is ts w₂ is₂) is₂) m (is₁ .1) (reached m e₁) (all-of m ts e₁ e₂)) (Nearer-wf q′ l₀ l₁ l₂ l₃ l₄ l₅ l₆ l₇ l₈ l₉ l₁₀ l₁₁ l₁₂ l₁₃ ts (subst (Is (Array T.the-row 64) ts) (array-is ts w₂ is₂) is₂) m (is₁ .1) (reached m e₁) (all-of m ts e₁ e₂)) (At q′ l₀ l₁ l₂ l₃ l₄ l₅ l₆ l₇ l₈ l₉ l₁₀ l₁₁ l₁₂ l₁₃ ts (subst (Is (Array T.the-row 64) ts) (array-is ts w₂ is₂) is₂) m (is₁ .1) (reached m e₁) (all-of m ts e₁ e₂)) (λ i. turn q′ l₀ l₁ l₂ l₃ l₄ l₅ l₆ l₇ l₈ l₉ l₁₀ l₁₁ l₁₂ l₁₃ ts (subst (Is (Array T.the-row 64) ts) (array-is ts w₂ is₂) is₂) m (is₁ .1) (reached m e₁) (all-of m ts e₁ e₂) i (ltb (i .0) m) refl) (0, zero-le))))))))))))))))))))))))
+        first ! $ blocks ! $ loops ! 𝓣 (Nearer q′ l₀ l₁ l₂ l₃ l₄ l₅ l₆ l₇ l₈ l₉ l₁₀ l₁₁ l₁₂ l₁₃ ts (subst (Is (Array T.the-row 64) ts) (array-is ts w₂ is₂) is₂) m (is₁ .1) (reached m e₁)
+        (all-of m ts e₁ e₂)) (Nearer-wf q′ l₀ l₁ l₂ l₃ l₄ l₅ l₆ l₇ l₈ l₉ l₁₀ l₁₁ l₁₂ l₁₃ ts (subst (Is (Array T.the-row 64) ts) (array-is ts w₂ is₂) is₂) m (is₁ .1) (reached m e₁)
+        (all-of m ts e₁ e₂)) (At q′ l₀ l₁ l₂ l₃ l₄ l₅ l₆ l₇ l₈ l₉ l₁₀ l₁₁ l₁₂ l₁₃ ts (subst (Is (Array T.the-row 64) ts) (array-is ts w₂ is₂) is₂) m (is₁ .1) (reached m e₁)
+        (all-of m ts e₁ e₂)) (λ i. turn q′ l₀ l₁ l₂ l₃ l₄ l₅ l₆ l₇ l₈ l₉ l₁₀ l₁₁ l₁₂ l₁₃ ts (subst (Is (Array T.the-row 64) ts) (array-is ts w₂ is₂) is₂) m (is₁ .1) (reached m e₁)
+        (all-of m ts e₁ e₂) i (ltb (i .0) m) refl) (0, zero-le))))))))))))))))))))))))
 
 module _ {M : Type 1} (𝓤 : URA M) (H : Heap 𝓤) (A : Atoms 𝓤) (W : Given 𝓤 H A) where
   walks : (at-mem : Memory → SProp 𝓤) (run : Routine → Fun 𝓤) (𝓣 : Tables 𝓤 H) → Triple 𝓤 (𝓣 .C #lent-rows·reach) (Reach 𝓤 H A at-mem run) → Triple 𝓤 (𝓣 .C #lent-rows·blank) (Blank 𝓤 H A at-mem run)
@@ -302,9 +319,11 @@ module _ {M : Type 1} (𝓤 : URA M) (H : Heap 𝓤) (A : Atoms 𝓤) (W : Given
   goes : AllGo 𝓤 H A W 1 (f.signature .params) (f.ended .kept) stayed
   goes = (goes-none-slice 𝓤 H A W 1 (0 ∷ []) tt (plain (λ _. T.the-row)) yes, tt)
 
-meets : {M : Type 1} (𝓤 : URA M) (H : Heap 𝓤) (A : Atoms 𝓤) (W : Given 𝓤 H A) (at-mem : Memory → SProp 𝓤) (run : Routine → Fun 𝓤) (𝓣 : Tables 𝓤 H) → Triple 𝓤 (𝓣 .C #lent-rows·reach) (Reach 𝓤 H A at-mem run) → Triple 𝓤 (𝓣 .C #lent-rows·blank) (Blank 𝓤 H A at-mem run)
+meets : {M : Type 1} (𝓤 : URA M) (H : Heap 𝓤) (A : Atoms 𝓤) (W : Given 𝓤 H A) (at-mem : Memory → SProp 𝓤) (run : Routine → Fun 𝓤) (𝓣 : Tables 𝓤 H)
+    → Triple 𝓤 (𝓣 .C #lent-rows·reach) (Reach 𝓤 H A at-mem run) → Triple 𝓤 (𝓣 .C #lent-rows·blank) (Blank 𝓤 H A at-mem run)
     → Meets 𝓤 H A f.signature (WpFn 𝓤 H (𝓣 .C) (𝓣 .Λ) code.function) (f.spec 𝓤 H A at-mem run)
-meets 𝓤 H A W at-mem run 𝓣 k₁ k₂ = walk-meets 𝓤 H A f.ended stayed W (goes 𝓤 H A W) (f.clauses 𝓤 H A at-mem run) (WpFn 𝓤 H (𝓣 .C) (𝓣 .Λ) code.function) (WpFn-mono 𝓤 H (W .laws) 𝓣 code.function) (walks 𝓤 H A W at-mem run 𝓣 k₁ k₂)
+meets 𝓤 H A W at-mem run 𝓣 k₁ k₂ = walk-meets 𝓤 H A f.ended stayed W (goes 𝓤 H A W) (f.clauses 𝓤 H A at-mem run) (WpFn 𝓤 H (𝓣 .C) (𝓣 .Λ) code.function) (WpFn-mono 𝓤 H (W .laws) 𝓣 code.function)
+    (walks 𝓤 H A W at-mem run 𝓣 k₁ k₂)
 
 pub load-spec : {M : Type 1} → stated.statement M
 unfolding code.routine tablesOf

@@ -76,7 +76,8 @@ module _ {M : Type 1} (𝓤 : URA M) (H : Heap 𝓤) (A : Atoms 𝓤) (mem : Mem
   abbrev IsRow : Contract 𝓤
   IsRow = tripleOf 𝓤 H A is-row-fn.signature (is-row-fn.spec 𝓤 H A mem run)
 
-module _ {M : Type 1} (𝓤 : URA M) (H : Heap 𝓤) (A : Atoms 𝓤) (W : Given 𝓤 H A) (mem : Memory → SProp 𝓤) (run : Routine → Fun 𝓤) (κ : Lft) (q : Share) (b o : ℕ) (γ : GName) (ys : List Mailbox) (i : ℕ) (d : Mailbox) where
+module _ {M : Type 1} (𝓤 : URA M) (H : Heap 𝓤) (A : Atoms 𝓤) (W : Given 𝓤 H A) (mem : Memory → SProp 𝓤) (run : Routine → Fun 𝓤) (κ : Lft) (q : Share) (b o : ℕ) (γ : GName) (ys : List Mailbox) (i : ℕ)
+    (d : Mailbox) where
   abbrev x : List Mailbox → RefT (List Mailbox)
   x l = record { ptr = (b, o); name = γ; now = l }
 
@@ -110,7 +111,8 @@ module _ {M : Type 1} (𝓤 : URA M) (H : Heap 𝓤) (A : Atoms 𝓤) (W : Given
   to-is-row = ((tt, tt, tt, (i, (length ys, tt)), (vint w64 i ∷ [], (vint w64 (length ys) ∷ [], tt))), tt)
 
   goes-is-row : Room T.the-row (length ys) → i < 2 ^ 64 → ent 𝓤 (emp 𝓤) (IsRow 𝓤 H A mem run .pre to-is-row)
-  goes-is-row room gi = qed W [] ∵ nothing ! $ owned ! usize (Is usize) (uint-makes 𝓤 H A W w64) (length ys) _ (refl, room .0) $ fjoin ! $ owned ! usize (Is usize) (uint-makes 𝓤 H A W w64) i _ (refl, gi) $ fjoin ! $ nothing ! $ join ! $ frame ! $ done !
+  goes-is-row room gi = qed W [] ∵ nothing ! $ owned ! usize (Is usize) (uint-makes 𝓤 H A W w64) (length ys) _ (refl, room .0) $ fjoin ! $ owned ! usize (Is usize) (uint-makes 𝓤 H A W w64) i _ (refl, gi) $ fjoin ! $ nothing ! $
+      join ! $ frame ! $ done !
 
   is-row-of : (r : Bool) → ent 𝓤 (ensured 𝓤 H A is-row-fn.ended (is-row-fn.clauses 𝓤 H A mem run) tt (i, (length ys, tt)) tt r) (fact 𝓤 (r ≡ ltb i (length ys)))
   is-row-of r = exE 𝓤 _ (λ ws. snd∗ 𝓤 (sem 𝓤 H A (lasts is-row-fn.ended tt (i, (length ys, tt)) ws)) (fact 𝓤 (r ≡ ltb i (length ys))))
@@ -126,7 +128,8 @@ module _ {M : Type 1} (𝓤 : URA M) (H : Heap 𝓤) (A : Atoms 𝓤) (W : Given
     fm = fmOf 𝓤 H (W .laws) 𝓣
 
     abbrev E : ℕ → ℕ → ℕ → ℕ → ℕ → ℕ → ℕ → ℕ → Env 𝓤 H
-    E l₀ l₁ l₂ l₃ l₄ l₅ l₆ l₇ = (tyUnit, l₀) ∷ (sliceTy (tyRef (named 0) mut (pointee (T.the-row .written))), l₁) ∷ (tyInt w64, l₂) ∷ (T′.mir, l₃) ∷ (tyInt w64, l₄) ∷ (tyBool, l₅) ∷ (tyInt w64, l₆) ∷ (tyPtr, l₇) ∷ []
+    E l₀ l₁ l₂ l₃ l₄ l₅ l₆ l₇ = (tyUnit, l₀) ∷ (sliceTy (tyRef (named 0) mut (pointee (T.the-row .written))), l₁) ∷ (tyInt w64, l₂) ∷ (T′.mir, l₃) ∷ (tyInt w64, l₄) ∷ (tyBool, l₅)
+        ∷ (tyInt w64, l₆) ∷ (tyPtr, l₇) ∷ []
 
     walk : Room T.the-row (length ys) → i < 2 ^ 64 → Is T.the-row d (val d ∷ [])
         → ent 𝓤 (onEntry 𝓤 H A f.signature (κ, tt) (q, tt) a at) (WpFn 𝓤 H C Λ code.function (s ∷ vint w64 i ∷ val d ∷ []) Post)
@@ -138,7 +141,8 @@ module _ {M : Type 1} (𝓤 : URA M) (H : Heap 𝓤) (A : Atoms 𝓤) (W : Given
         assigns ! (of-opd ! (load ! (from ! (fld ! refl (stop !))) (look-in ! 12 (sub ! 1 refl (whole !))))) (from ! (stop !)) (init ! 6 refl (tt, record { fits = room .0 })) $
         use0 W (raw (IsRow 𝓤 H A mem run .pre to-is-row)) (goes-is-row room gi) $
         calls-at ! fm (IsRow 𝓤 H A mem run) known to-is-row (and-then ! (load ! (from ! (stop !)) (look ! 11 refl)) (and-then ! (load ! (from ! (stop !)) (look ! 7 refl)) (no-more !))) (λ w.
-        use1 W (later (some (λ (r : Bool). (‵ ftrue ⊛ ‵ (Boolean .own r (w ∷ []))) ⊛ raw (ensured 𝓤 H A is-row-fn.ended (is-row-fn.clauses 𝓤 H A mem run) tt (i, (length ys, tt)) tt r)))) (id⊢ 𝓤 _) $ await ! tt $ pick ! (λ r.
+        use1 W (later (some (λ (r : Bool). (‵ ftrue ⊛ ‵ (Boolean .own r (w ∷ []))) ⊛ raw (ensured 𝓤 H A is-row-fn.ended (is-row-fn.clauses 𝓤 H A mem run) tt (i, (length ys, tt)) tt r)))) (id⊢ 𝓤 _) $ await ! tt $
+        pick ! (λ r.
         split ! $ move ! (1 ∷ []) $ use1 W (raw (fact 𝓤 (r ≡ ltb i (length ys)))) (is-row-of r) $ heard ! (r ≡ ltb i (length ys)) (λ e. split ! $ move ! (0 ∷ []) $ drop ! $ move ! (0 ∷ []) $
         peeks ! Boolean (Is Boolean) (shows 𝓤 H A Boolean) r (w ∷ []) (λ told. land ! (from ! (stop !)) (init ! 5 refl (bool-lawful 𝓤 H A W .typed r _ told .0)) $
         rewrite ! 5 (λ (v : Val). ‵ (fat fullShare tyBool l₅ 0 v)) (ap only told) refl $ move ! (0 ∷ []) $ drop ! $
@@ -157,27 +161,33 @@ module _ {M : Type 1} (𝓤 : URA M) (H : Heap 𝓤) (A : Atoms 𝓤) (W : Given
         closes-slice ! tt T.the-row ys zs (length-set ys i d) b o $
         assigns ! (of-opd ! (unit-lit !)) (from ! (stop !)) (init ! 20 refl (tt, tt)) $
         returns ! (look ! 20 refl) $ forget ! 6 refl $ forget ! 8 refl $ forget ! 10 refl $ forget ! 12 refl $ forget ! 14 refl $ forget ! 16 refl $ forget ! 18 refl $ forget ! 20 refl $
-        move ! (20 ∷ 21 ∷ []) $ free1 ! $ move ! (18 ∷ 19 ∷ []) $ free1 ! $ move ! (16 ∷ 17 ∷ []) $ free1 ! $ move ! (14 ∷ 15 ∷ []) $ free1 ! $ move ! (12 ∷ 13 ∷ []) $ free1 ! $ move ! (10 ∷ 11 ∷ []) $ free1 ! $ move ! (8 ∷ 9 ∷ []) $ free1 ! $ move ! (6 ∷ 7 ∷ []) $ free1 ! $ free0 ! $
-        keep ! (0 ∷ 1 ∷ 2 ∷ 5 ∷ []) $ fjoin ! $ pureI ! (at-slice T.the-row (x zs) (s ∷ [])) (tt, (tt, tt)) (ap (λ (m : ℕ). sliceVal (b, o) m ∷ []) (sym (length-set ys i d)), subst (Room T.the-row) (sym (length-set ys i d)) room) $ fjoin ! $
+        move ! (20 ∷ 21 ∷ []) $ free1 ! $ move ! (18 ∷ 19 ∷ []) $ free1 ! $ move ! (16 ∷ 17 ∷ []) $ free1 ! $ move ! (14 ∷ 15 ∷ []) $ free1 ! $ move ! (12 ∷ 13 ∷ []) $ free1 ! $ move ! (10 ∷ 11 ∷ []) $ free1 ! $
+        move ! (8 ∷ 9 ∷ []) $ free1 ! $ move ! (6 ∷ 7 ∷ []) $ free1 ! $ free0 ! $
+        keep ! (0 ∷ 1 ∷ 2 ∷ 5 ∷ []) $ fjoin ! $
+        pureI ! (at-slice T.the-row (x zs) (s ∷ [])) (tt, (tt, tt)) (ap (λ (m : ℕ). sliceVal (b, o) m ∷ []) (sym (length-set ys i d)), subst (Room T.the-row) (sym (length-set ys i d)) room) $ fjoin ! $
         move ! (1 ∷ 0 ∷ 2 ∷ []) $ by ! (exits zs refl (length-set ys i d))))
         (λ t. skips ! $ exec ! C Λ (E l₀ l₁ l₂ l₃ l₄ l₅ l₆ l₇) body.t-4 (atRet (E l₀ l₁ l₂ l₃ l₄ l₅ l₆ l₇) Post) $
         assigns ! (of-opd ! (unit-lit !)) (from ! (stop !)) (init ! 14 refl (tt, tt)) $
         returns ! (look ! 14 refl) $ forget ! 4 refl $ forget ! 6 refl $ forget ! 8 refl $ forget ! 10 refl $ forget ! 12 refl $ forget ! 14 refl $
-        move ! (14 ∷ 15 ∷ []) $ free1 ! $ move ! (12 ∷ 13 ∷ []) $ free1 ! $ move ! (10 ∷ 11 ∷ []) $ free1 ! $ move ! (8 ∷ 9 ∷ []) $ free1 ! $ move ! (6 ∷ 7 ∷ []) $ free1 ! $ move ! (4 ∷ 5 ∷ []) $ free1 ! $ move ! (2 ∷ 3 ∷ []) $ free1 ! $ free1 ! $ free0 ! $
+        move ! (14 ∷ 15 ∷ []) $ free1 ! $ move ! (12 ∷ 13 ∷ []) $ free1 ! $ move ! (10 ∷ 11 ∷ []) $ free1 ! $ move ! (8 ∷ 9 ∷ []) $ free1 ! $ move ! (6 ∷ 7 ∷ []) $ free1 ! $ move ! (4 ∷ 5 ∷ []) $ free1 ! $
+        move ! (2 ∷ 3 ∷ []) $ free1 ! $ free1 ! $ free0 ! $
         split ! $ move ! (2 ∷ []) $ fsplit ! $ keep ! (2 ∷ 0 ∷ 1 ∷ []) $ by ! (exits ys (sym (set-out ys i d (nltb→le i (length ys) t))) refl))))))))))))))
 
 module _ {M : Type 1} (𝓤 : URA M) (H : Heap 𝓤) (A : Atoms 𝓤) (W : Given 𝓤 H A) (mem : Memory → SProp 𝓤) (run : Routine → Fun 𝓤) where
   walks : (𝓣 : Tables 𝓤 H) → Triple 𝓤 (𝓣 .C #lent-rows·is-row) (IsRow 𝓤 H A mem run) → Walks 𝓤 H A f.ended stayed (WpFn 𝓤 H (𝓣 .C) (𝓣 .Λ) code.function) (f.clauses 𝓤 H A mem run)
-  walks 𝓣 known = walked 𝓤 H A f.ended stayed (f.clauses 𝓤 H A mem run) (WpFn 𝓤 H (𝓣 .C) (𝓣 .Λ) code.function) (λ κs. (slice-vals, (uint-vals w64, (LL.vals T.the-type T′.the-laws, tt)))) (λ κs. (mut-slice-tells (named 0) (κs .0) T.the-row, (uint-tells w64, (LL.tells T.the-type T′.the-laws, tt))))
+  walks 𝓣 known = walked 𝓤 H A f.ended stayed (f.clauses 𝓤 H A mem run) (WpFn 𝓤 H (𝓣 .C) (𝓣 .Λ) code.function) (λ κs. (slice-vals, (uint-vals w64, (LL.vals T.the-type T′.the-laws, tt))))
+      (λ κs. (mut-slice-tells (named 0) (κs .0) T.the-row, (uint-tells w64, (LL.tells T.the-type T′.the-laws, tt))))
       (λ κs qs bounds a g are. via 𝓤 _ (fst∗ 𝓤 _ (emp 𝓤))
       (walk 𝓤 H A W mem run (κs .0) (qs .0) (a .0 .ptr .0) (a .0 .ptr .1) (a .0 .name) (a .0 .now) (a .1 .0) (a .1 .1 .0) 𝓣 known (are .0 .0 .1) (are .1 .0 .1) (are .1 .1 .0)))
 
   goes : AllGo 𝓤 H A W 1 (f.signature .params) (f.ended .kept) stayed
   goes = (goes-slice 𝓤 H A W 1 0 tt (plain (λ _. T.the-row)), (goes-none 𝓤 H A W 1 (λ _. usize) yes (λ κs x f. refl), (goes-none 𝓤 H A W 1 (λ _. T.the-row) yes (λ κs x f. refl), tt)))
 
-meets : {M : Type 1} (𝓤 : URA M) (H : Heap 𝓤) (A : Atoms 𝓤) → Given 𝓤 H A → (mem : Memory → SProp 𝓤) (run : Routine → Fun 𝓤) (𝓣 : Tables 𝓤 H) → Triple 𝓤 (𝓣 .C #lent-rows·is-row) (IsRow 𝓤 H A mem run)
+meets : {M : Type 1} (𝓤 : URA M) (H : Heap 𝓤) (A : Atoms 𝓤) → Given 𝓤 H A → (mem : Memory → SProp 𝓤) (run : Routine → Fun 𝓤) (𝓣 : Tables 𝓤 H)
+    → Triple 𝓤 (𝓣 .C #lent-rows·is-row) (IsRow 𝓤 H A mem run)
     → Meets 𝓤 H A f.signature (WpFn 𝓤 H (𝓣 .C) (𝓣 .Λ) code.function) (f.spec 𝓤 H A mem run)
-meets 𝓤 H A W mem run 𝓣 known = walk-meets 𝓤 H A f.ended stayed W (goes 𝓤 H A W mem run) (f.clauses 𝓤 H A mem run) (WpFn 𝓤 H (𝓣 .C) (𝓣 .Λ) code.function) (WpFn-mono 𝓤 H (W .laws) 𝓣 code.function) (walks 𝓤 H A W mem run 𝓣 known)
+meets 𝓤 H A W mem run 𝓣 known = walk-meets 𝓤 H A f.ended stayed W (goes 𝓤 H A W mem run) (f.clauses 𝓤 H A mem run) (WpFn 𝓤 H (𝓣 .C) (𝓣 .Λ) code.function) (WpFn-mono 𝓤 H (W .laws) 𝓣 code.function)
+    (walks 𝓤 H A W mem run 𝓣 known)
 
 pub set-row-spec : {M : Type 1} → stated.statement M
 unfolding code.routine tablesOf

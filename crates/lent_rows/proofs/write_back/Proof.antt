@@ -110,7 +110,8 @@ module _ {M : Type 1} (𝓤 : URA M) (H : Heap 𝓤) (A : Atoms 𝓤) (W : Given
   goes-move : (ν : ℕ) (δ : GName) → ent 𝓤 (sep 𝓤 (A .lft (ν ∷ []) fullShare) (sem 𝓤 H A (MutSlice (named 0) (ν ∷ []) T.the-row .own (xl δ ys) (s ∷ [])))) (MoveUp 𝓤 H A at-mem run .pre (to-move ν δ))
   goes-move ν δ =
       qed W (‵ (flft (ν ∷ []) fullShare) ∷ ‵ (MutSlice (named 0) (ν ∷ []) T.the-row .own (xl δ ys) (s ∷ [])) ∷ []) ∵ says ! asked $ nothing ! $ move ! (1 ∷ 0 ∷ []) $ join ! $
-      nothing ! $ owned ! usize (Is usize) (uint-makes 𝓤 H A W w64) k _ (refl, k-fits) $ fjoin ! $ owned ! usize (Is usize) (uint-makes 𝓤 H A W w64) j _ (refl, j-fits) $ fjoin ! $ move ! (2 ∷ 0 ∷ []) $ fjoin ! $ move ! (1 ∷ 0 ∷ []) $ join ! $ done !
+      nothing ! $ owned ! usize (Is usize) (uint-makes 𝓤 H A W w64) k _ (refl, k-fits) $ fjoin ! $ owned ! usize (Is usize) (uint-makes 𝓤 H A W w64) j _ (refl, j-fits) $ fjoin ! $ move ! (2 ∷ 0 ∷ []) $ fjoin ! $
+      move ! (1 ∷ 0 ∷ []) $ join ! $ done !
 
   abbrev to-set : List Mailbox → SetRow 𝓤 H A at-mem run .Ghost
   to-set us = (((κ, tt), (q, tt), tt, (xl γ us, (k, (d, tt))), (s ∷ [], (vint w64 k ∷ [], (val d ∷ [], tt)))), tt)
@@ -118,7 +119,8 @@ module _ {M : Type 1} (𝓤 : URA M) (H : Heap 𝓤) (A : Atoms 𝓤) (W : Given
   goes-set : (us : List Mailbox) → ent 𝓤 (sep 𝓤 (A .lft κ q) (sem 𝓤 H A (MutSlice (named 0) κ T.the-row .own (xl γ us) (s ∷ [])))) (SetRow 𝓤 H A at-mem run .pre (to-set us))
   goes-set us =
       qed W (‵ (flft κ q) ∷ ‵ (MutSlice (named 0) κ T.the-row .own (xl γ us) (s ∷ [])) ∷ []) ∵ nothing ! $ move ! (1 ∷ 0 ∷ []) $ join ! $
-      nothing ! $ owned ! T.the-row (Is T.the-row) (LL.makes T.the-type T′.the-plain 𝓤 H A) d _ is-d $ fjoin ! $ owned ! usize (Is usize) (uint-makes 𝓤 H A W w64) k _ (refl, k-fits) $ fjoin ! $ move ! (2 ∷ 0 ∷ []) $ fjoin ! $ move ! (1 ∷ 0 ∷ []) $ join ! $ frame ! $ done !
+      nothing ! $ owned ! T.the-row (Is T.the-row) (LL.makes T.the-type T′.the-plain 𝓤 H A) d _ is-d $ fjoin ! $ owned ! usize (Is usize) (uint-makes 𝓤 H A W w64) k _ (refl, k-fits) $ fjoin ! $ move ! (2 ∷ 0 ∷ []) $ fjoin ! $
+      move ! (1 ∷ 0 ∷ []) $ join ! $ frame ! $ done !
 
   module _ (C : Calls 𝓤 H) (Λ : Loops 𝓤 H) (fm : FmC 𝓤 H (W .laws) C) (k₁ : Triple 𝓤 (C #lent-rows·move-up) (MoveUp 𝓤 H A at-mem run)) (k₂ : Triple 𝓤 (C #lent-rows·set-row) (SetRow 𝓤 H A at-mem run)) where
     walk : ent 𝓤 (onEntry 𝓤 H A f.signature (κ, tt) (q, tt) x at) (WpFn 𝓤 H C Λ code.function (s ∷ vint w64 j ∷ vint w64 k ∷ val d ∷ []) Post)
@@ -130,89 +132,72 @@ module _ {M : Type 1} (𝓤 : URA M) (H : Heap 𝓤) (A : Atoms 𝓤) (W : Given
         pass1 ! (init ! 12 refl (tt, record { fits = k-fits })) $
         pass1 ! (init ! 10 refl (LL.lawful T.the-type T′.the-laws 𝓤 H A W .typed d _ is-d .0)) $
         pass0 ! $
-        move ! (21 ∷ []) $
-        fsplit ! $
-        fsplit ! $
-        move ! (1 ∷ []) $
-        fsplit ! $
-        move ! (24 ∷ []) $
-        split ! $
-        move ! (2 ∷ 3 ∷ 0 ∷ []) $
+        move ! (21 ∷ []) $ fsplit ! $ fsplit ! $ move ! (1 ∷ []) $ fsplit ! $ move ! (24 ∷ []) $ split ! $ move ! (2 ∷ 3 ∷ 0 ∷ []) $
         opens-slice ! tt T.the-row ys b o $
         assigns ! (addr ! (from ! (fld ! refl (hop ! (look-in ! 23 (sub ! 0 refl (whole !))) (stop !))))) (from ! (stop !)) (init ! 13 refl (tt, tt)) $
-        assigns ! (agg ! (and-then ! (load ! (from ! (stop !)) (look ! 13 refl)) (and-then ! (load ! (from ! (fld ! refl (stop !))) (look-in ! 23 (sub ! 1 refl (whole !)))) (no-more !)))) (from ! (stop !)) (init ! 11 refl (tt, (tt, (record { fits = room .0 }, tt)))) $
+        assigns ! (agg ! (and-then ! (load ! (from ! (stop !)) (look ! 13 refl)) (and-then ! (load ! (from ! (fld ! refl (stop !))) (look-in ! 23 (sub ! 1 refl (whole !)))) (no-more !)))) (from ! (stop !))
+        (init ! 11 refl (tt, (tt, (record { fits = room .0 }, tt)))) $
         -- `move_up`: the rows are lent for a lifetime of the call
         move ! (0 ∷ []) $
         use1 W (‵ (cells (mem T.the-row) ys b o)) (whole-in 𝓤 H A W T.the-row ys b o) $
         lft-new ! tt (λ ν.
         move ! (1 ∷ []) $
-        use1 W (later (some (λ (δ : GName). ‵ (MutSlice (named 0) (ν ∷ []) T.the-row .own (xl δ ys) (s ∷ [])) ⊛ ‵ (flent (ν ∷ []) (Held T.the-row (length ys) b o δ))))) (lends-slice 𝓤 H A W T.the-row (named 0) (ν ∷ []) ys b o room) $ await ! tt $ pick ! (λ δ.
-        split ! $
-        move ! (2 ∷ 0 ∷ []) $
+        use1 W (later (some (λ (δ : GName). ‵ (MutSlice (named 0) (ν ∷ []) T.the-row .own (xl δ ys) (s ∷ [])) ⊛ ‵ (flent (ν ∷ []) (Held T.the-row (length ys) b o δ))))) (lends-slice 𝓤 H A W T.the-row (named 0)
+        (ν ∷ []) ys b o room) $ await ! tt $ pick ! (λ δ.
+        split ! $ move ! (2 ∷ 0 ∷ []) $
         use2 W (raw (MoveUp 𝓤 H A at-mem run .pre (to-move ν δ))) (goes-move ν δ) $
-        calls-at ! fm (MoveUp 𝓤 H A at-mem run) k₁ (to-move ν δ) (and-then ! (load ! (from ! (stop !)) (look ! 12 refl)) (and-then ! (load ! (from ! (stop !)) (look ! 22 refl)) (and-then ! (load ! (from ! (stop !)) (look ! 20 refl)) (no-more !)))) (λ w₁.
-        use1 W (later (some (λ (u : Unit {0}). ((‵ (flft (ν ∷ []) fullShare) ⊛ ‵ ftrue) ⊛ ‵ (Nothing .own u (w₁ ∷ []))) ⊛ raw (ensured 𝓤 H A move-up-fn.ended (move-up-fn.clauses 𝓤 H A at-mem run) (ν ∷ [], tt) (xl δ ys, (j, (k, tt))) tt u)))) (id⊢ 𝓤 _) $ await ! tt $ pick ! (λ u.
-        split ! $
-        move ! (1 ∷ []) $
-        use1 W (some (λ (zs : List Mailbox × (Unit {0} × (Unit {0} × Unit {0}))). ‵ (lasts move-up-fn.ended (ν ∷ [], tt) (xl δ ys, (j, (k, tt))) zs) ⊛ raw (fact 𝓤 (zs .0 ≡ over (without j ys) ys k)))) (id⊢ 𝓤 _) $ pick ! (λ zs. let us = zs .0 in
-        split ! $
-        move ! (1 ∷ []) $
+        calls-at ! fm (MoveUp 𝓤 H A at-mem run) k₁ (to-move ν δ) (and-then ! (load ! (from ! (stop !)) (look ! 12 refl)) (and-then ! (load ! (from ! (stop !)) (look ! 22 refl)) (and-then ! (load ! (from ! (stop !)) (look ! 20 refl))
+        (no-more !)))) (λ w₁.
+        use1 W (later (some (λ (u : Unit {0}). ((‵ (flft (ν ∷ []) fullShare) ⊛ ‵ ftrue) ⊛ ‵ (Nothing .own u (w₁ ∷ []))) ⊛ raw (ensured 𝓤 H A move-up-fn.ended (move-up-fn.clauses 𝓤 H A at-mem run) (ν ∷ [], tt)
+        (xl δ ys, (j, (k, tt))) tt u)))) (id⊢ 𝓤 _) $ await ! tt $ pick ! (λ u.
+        split ! $ move ! (1 ∷ []) $
+        use1 W (some (λ (zs : List Mailbox × (Unit {0} × (Unit {0} × Unit {0}))). ‵ (lasts move-up-fn.ended (ν ∷ [], tt) (xl δ ys, (j, (k, tt))) zs) ⊛ raw (fact 𝓤 (zs .0 ≡ over (without j ys) ys k)))) (id⊢ 𝓤 _) $
+        pick ! (λ zs. let us = zs .0 in
+        split ! $ move ! (1 ∷ []) $
         heard ! (us ≡ over (without j ys) ys k) (λ e₁.
-        fsplit ! $
-        fsplit ! $
-        move ! (1 ∷ []) $
+        fsplit ! $ fsplit ! $ move ! (1 ∷ []) $
         feqL ! (λ n₁.
-        move ! (2 ∷ []) $
-        split ! $
-        move ! (1 ∷ []) $
+        move ! (2 ∷ []) $ split ! $ move ! (1 ∷ []) $
         peeks ! Nothing (Is Nothing) (shows 𝓤 H A Nothing) u (w₁ ∷ []) (λ is₁.
         land ! (from ! (stop !)) (init ! 19 refl (nothing-lawful 𝓤 H A W .typed u _ is₁ .0)) $
-        move ! (0 ∷ []) $
-        drop ! $
-        move ! (0 ∷ []) $
-        split ! $ lft-end ! tt $
-        move ! (0 ∷ 4 ∷ 2 ∷ []) $
-        use3 W (later (‵ (Arr (mem T.the-row) (length ys) .lies us b o))) (slice-back 𝓤 H A W T.the-row (ν ∷ []) δ us (length ys) b o) $ await ! tt $ fsplit ! $ drop ! $ use1 W (‵ (row T.the-row fullShare us b o)) (whole-out 𝓤 H A W T.the-row us b o) $
+        move ! (0 ∷ []) $ drop ! $ move ! (0 ∷ []) $ split ! $ lft-end ! tt $ move ! (0 ∷ 4 ∷ 2 ∷ []) $
+        use3 W (later (‵ (Arr (mem T.the-row) (length ys) .lies us b o))) (slice-back 𝓤 H A W T.the-row (ν ∷ []) δ us (length ys) b o) $ await ! tt $ fsplit ! $ drop ! $
+        use1 W (‵ (row T.the-row fullShare us b o)) (whole-out 𝓤 H A W T.the-row us b o) $
         -- `set_row`: they go to it for good
         assigns ! (addr ! (from ! (fld ! refl (hop ! (look-in ! 25 (sub ! 0 refl (whole !))) (stop !))))) (from ! (stop !)) (init ! 11 refl (tt, tt)) $
-        assigns ! (agg ! (and-then ! (load ! (from ! (stop !)) (look ! 11 refl)) (and-then ! (load ! (from ! (fld ! refl (stop !))) (look-in ! 25 (sub ! 1 refl (whole !)))) (no-more !)))) (from ! (stop !)) (init ! 9 refl (tt, (tt, (record { fits = room .0 }, tt)))) $
+        assigns ! (agg ! (and-then ! (load ! (from ! (stop !)) (look ! 11 refl)) (and-then ! (load ! (from ! (fld ! refl (stop !))) (look-in ! 25 (sub ! 1 refl (whole !)))) (no-more !)))) (from ! (stop !))
+        (init ! 9 refl (tt, (tt, (record { fits = room .0 }, tt)))) $
         move ! (0 ∷ 3 ∷ 4 ∷ 5 ∷ []) $
         closes-slice ! tt T.the-row ys us n₁ b o $
         fjoin ! $
         pureI ! (at-slice T.the-row (xl γ us) (s ∷ [])) (tt, (tt, tt)) (ap (λ (n : ℕ). sliceVal (b, o) n ∷ []) (sym n₁), subst (Room T.the-row) (sym n₁) room) $
-        fjoin ! $
-        move ! (1 ∷ 0 ∷ []) $
+        fjoin ! $ move ! (1 ∷ 0 ∷ []) $
         use2 W (raw (SetRow 𝓤 H A at-mem run .pre (to-set us))) (goes-set us) $
-        calls-at ! fm (SetRow 𝓤 H A at-mem run) k₂ (to-set us) (and-then ! (load ! (from ! (stop !)) (look ! 6 refl)) (and-then ! (load ! (from ! (stop !)) (look ! 18 refl)) (and-then ! (load ! (from ! (stop !)) (look ! 16 refl)) (no-more !)))) (λ w₂.
-        use1 W (later (some (λ (u′ : Unit {0}). ((‵ (flft κ q) ⊛ ‵ ftrue) ⊛ ‵ (Nothing .own u′ (w₂ ∷ []))) ⊛ raw (ensured 𝓤 H A set-row-fn.ended (set-row-fn.clauses 𝓤 H A at-mem run) (κ, tt) (xl γ us, (k, (d, tt))) tt u′)))) (id⊢ 𝓤 _) $ await ! tt $ pick ! (λ u′.
-        split ! $
-        move ! (1 ∷ []) $
+        calls-at ! fm (SetRow 𝓤 H A at-mem run) k₂ (to-set us) (and-then ! (load ! (from ! (stop !)) (look ! 6 refl)) (and-then ! (load ! (from ! (stop !)) (look ! 18 refl)) (and-then ! (load ! (from ! (stop !)) (look ! 16 refl))
+        (no-more !)))) (λ w₂.
+        use1 W (later (some (λ (u′ : Unit {0}). ((‵ (flft κ q) ⊛ ‵ ftrue) ⊛ ‵ (Nothing .own u′ (w₂ ∷ []))) ⊛ raw (ensured 𝓤 H A set-row-fn.ended (set-row-fn.clauses 𝓤 H A at-mem run) (κ, tt)
+        (xl γ us, (k, (d, tt))) tt u′)))) (id⊢ 𝓤 _) $ await ! tt $ pick ! (λ u′.
+        split ! $ move ! (1 ∷ []) $
         use1 W (some (λ (vs : List Mailbox × (Unit {0} × (Unit {0} × Unit {0}))). ‵ (lasts set-row-fn.ended (κ, tt) (xl γ us, (k, (d, tt))) vs) ⊛ raw (fact 𝓤 (vs .0 ≡ set us k d)))) (id⊢ 𝓤 _) $ pick ! (λ vs.
-        split ! $
-        move ! (1 ∷ []) $
+        split ! $ move ! (1 ∷ []) $
         heard ! (vs .0 ≡ set us k d) (λ e₂.
-        fsplit ! $
-        fsplit ! $
-        move ! (1 ∷ []) $
+        fsplit ! $ fsplit ! $ move ! (1 ∷ []) $
         feqL ! (λ n₂.
-        move ! (2 ∷ []) $
-        split ! $
-        move ! (1 ∷ []) $
+        move ! (2 ∷ []) $ split ! $ move ! (1 ∷ []) $
         peeks ! Nothing (Is Nothing) (shows 𝓤 H A Nothing) u′ (w₂ ∷ []) (λ is₂.
         land ! (from ! (stop !)) (store ! 17 refl (nothing-lawful 𝓤 H A W .typed u′ _ is₂ .0)) $
-        move ! (0 ∷ []) $
-        drop ! $
-        move ! (0 ∷ []) $
-        split ! $
+        move ! (0 ∷ []) $ drop ! $ move ! (0 ∷ []) $ split ! $
         assigns ! (of-opd ! (unit-lit !)) (from ! (stop !)) (init ! 27 refl (tt, tt)) $
         returns ! (look ! 27 refl) $
         forget ! 9 refl $ forget ! 11 refl $ forget ! 13 refl $ forget ! 15 refl $ forget ! 17 refl $ forget ! 19 refl $ forget ! 21 refl $ forget ! 23 refl $ forget ! 25 refl $ forget ! 27 refl $
-        move ! (27 ∷ 28 ∷ []) $ free1 ! $ move ! (25 ∷ 26 ∷ []) $ free1 ! $ move ! (23 ∷ 24 ∷ []) $ free1 ! $ move ! (21 ∷ 22 ∷ []) $ free1 ! $ move ! (19 ∷ 20 ∷ []) $ free1 ! $ move ! (17 ∷ 18 ∷ []) $ free1 ! $ move ! (15 ∷ 16 ∷ []) $ free1 ! $ move ! (13 ∷ 14 ∷ []) $ free1 ! $ move ! (11 ∷ 12 ∷ []) $ free1 ! $ move ! (9 ∷ 10 ∷ []) $ free1 ! $ free0 ! $
+        move ! (27 ∷ 28 ∷ []) $ free1 ! $ move ! (25 ∷ 26 ∷ []) $ free1 ! $ move ! (23 ∷ 24 ∷ []) $ free1 ! $ move ! (21 ∷ 22 ∷ []) $ free1 ! $ move ! (19 ∷ 20 ∷ []) $ free1 ! $ move ! (17 ∷ 18 ∷ []) $ free1 ! $
+        move ! (15 ∷ 16 ∷ []) $ free1 ! $ move ! (13 ∷ 14 ∷ []) $ free1 ! $ move ! (11 ∷ 12 ∷ []) $ free1 ! $ move ! (9 ∷ 10 ∷ []) $ free1 ! $ free0 ! $
         keep ! (0 ∷ 2 ∷ 8 ∷ []) $
         by ! (exits (vs .0) (e₂ ∙ ap (λ (v : List Mailbox). set v k d) e₁) (n₂ ∙ n₁))))))))))))))))))))))))))
 
 module _ {M : Type 1} (𝓤 : URA M) (H : Heap 𝓤) (A : Atoms 𝓤) (W : Given 𝓤 H A) where
-  walks : (at-mem : Memory → SProp 𝓤) (run : Routine → Fun 𝓤) (𝓣 : Tables 𝓤 H) → Triple 𝓤 (𝓣 .C #lent-rows·move-up) (MoveUp 𝓤 H A at-mem run) → Triple 𝓤 (𝓣 .C #lent-rows·set-row) (SetRow 𝓤 H A at-mem run)
+  walks : (at-mem : Memory → SProp 𝓤) (run : Routine → Fun 𝓤) (𝓣 : Tables 𝓤 H) → Triple 𝓤 (𝓣 .C #lent-rows·move-up) (MoveUp 𝓤 H A at-mem run)
+      → Triple 𝓤 (𝓣 .C #lent-rows·set-row) (SetRow 𝓤 H A at-mem run)
       → Walks 𝓤 H A f.ended stayed (WpFn 𝓤 H (𝓣 .C) (𝓣 .Λ) code.function) (f.clauses 𝓤 H A at-mem run)
   walks at-mem run 𝓣 k₁ k₂ = walked 𝓤 H A f.ended stayed (f.clauses 𝓤 H A at-mem run) (WpFn 𝓤 H (𝓣 .C) (𝓣 .Λ) code.function)
       (λ κs. (slice-vals, (uint-vals w64, (uint-vals w64, (LL.vals T.the-type T′.the-laws, tt)))))
@@ -224,9 +209,11 @@ module _ {M : Type 1} (𝓤 : URA M) (H : Heap 𝓤) (A : Atoms 𝓤) (W : Given
   goes : AllGo 𝓤 H A W 1 (f.signature .params) (f.ended .kept) stayed
   goes = (goes-gave-slice 𝓤 H A W 1 0 tt (plain (λ _. T.the-row)), (goes-none 𝓤 H A W 1 (λ _. usize) yes (λ κs x f. refl), (goes-none 𝓤 H A W 1 (λ _. usize) yes (λ κs x f. refl), (goes-none 𝓤 H A W 1 (λ _. T.the-row) yes (λ κs x f. refl), tt))))
 
-meets : {M : Type 1} (𝓤 : URA M) (H : Heap 𝓤) (A : Atoms 𝓤) (W : Given 𝓤 H A) (at-mem : Memory → SProp 𝓤) (run : Routine → Fun 𝓤) (𝓣 : Tables 𝓤 H) → Triple 𝓤 (𝓣 .C #lent-rows·move-up) (MoveUp 𝓤 H A at-mem run) → Triple 𝓤 (𝓣 .C #lent-rows·set-row) (SetRow 𝓤 H A at-mem run)
+meets : {M : Type 1} (𝓤 : URA M) (H : Heap 𝓤) (A : Atoms 𝓤) (W : Given 𝓤 H A) (at-mem : Memory → SProp 𝓤) (run : Routine → Fun 𝓤) (𝓣 : Tables 𝓤 H)
+    → Triple 𝓤 (𝓣 .C #lent-rows·move-up) (MoveUp 𝓤 H A at-mem run) → Triple 𝓤 (𝓣 .C #lent-rows·set-row) (SetRow 𝓤 H A at-mem run)
     → Meets 𝓤 H A f.signature (WpFn 𝓤 H (𝓣 .C) (𝓣 .Λ) code.function) (f.spec 𝓤 H A at-mem run)
-meets 𝓤 H A W at-mem run 𝓣 k₁ k₂ = walk-meets 𝓤 H A f.ended stayed W (goes 𝓤 H A W) (f.clauses 𝓤 H A at-mem run) (WpFn 𝓤 H (𝓣 .C) (𝓣 .Λ) code.function) (WpFn-mono 𝓤 H (W .laws) 𝓣 code.function) (walks 𝓤 H A W at-mem run 𝓣 k₁ k₂)
+meets 𝓤 H A W at-mem run 𝓣 k₁ k₂ = walk-meets 𝓤 H A f.ended stayed W (goes 𝓤 H A W) (f.clauses 𝓤 H A at-mem run) (WpFn 𝓤 H (𝓣 .C) (𝓣 .Λ) code.function) (WpFn-mono 𝓤 H (W .laws) 𝓣 code.function)
+    (walks 𝓤 H A W at-mem run 𝓣 k₁ k₂)
 
 pub write-back-spec : {M : Type 1} → stated.statement M
 unfolding code.routine tablesOf

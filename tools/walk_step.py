@@ -120,7 +120,7 @@ def typed(row, x, is_x):
 
 
 def lies(kind, offset):
-    """a field's type, and where it lies in its record"""
+    """a field's type, and where it lies in its record, which antt would else write out at length; its error says a wrong one"""
     return f"{{τ = {kind}}} {{d = {offset}}} "
 
 

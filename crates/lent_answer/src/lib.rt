@@ -61,6 +61,13 @@ pub fn numbers(out: Outcome) -> Answered
 
 // ---- what becomes of the table
 
+// What is written back: the rows behind `from` move up, as far as row `at`, which becomes `row`.
+pub struct WriteBack {
+    pub from: usize,
+    pub at: usize,
+    pub row: Mailbox,
+}
+
 // The last used row, if there are so many, and no more than 64; or the place behind the last lent row.
 fn last_row(used: u64, lent: usize) -> usize
     ensures { λ r. ⌜ r ≡ lastOf used lent ⌝ }
@@ -125,14 +132,7 @@ fn left_row(out: Outcome) -> Mailbox
     left_of(change, out.row)
 }
 
-// What is written back of the table: row `at` becomes `row`, when the rows behind `from` have moved up as far as it.
-pub struct WriteBack {
-    pub from: usize,
-    pub at: usize,
-    pub row: Mailbox,
-}
-
-// What an outcome leaves to be written back, where so many rows were used, of those that are lent.
+// What is to be written back after an outcome, where so many of the lent rows were used.
 pub fn to_write(out: Outcome, used: u64, lent: usize) -> WriteBack
     ensures { λ r. ⌜ (r .at ≡ putAt out used lent) × (r .from ≡ movedFrom out (r .at) lent) × (r .row ≡ leftRow out) ⌝ }
 {

@@ -72,51 +72,6 @@ module _ {a b : Scope} (e : a ≡ b) where
   pub grouped : Grouped a (groups b)
   grouped f g = sym (ap groups (g ∙ e)) ∙ groups-for f
 
--- ---- the word, one after another
-module _ (w : List ℕ) where
-  pub word-selected : is w "selected" ≡ true → Alone Selected ≡ wordFor (scopeOf w)
-  unfolding scopeOf
-  word-selected h = simp h
-
-  module _ (a : is w "selected" ≡ false) where
-    pub word-delayed : is w "selected-delayed" ≡ true → Alone Delayed ≡ wordFor (scopeOf w)
-    unfolding scopeOf
-    word-delayed h = simp (a, h)
-
-    module _ (b : is w "selected-delayed" ≡ false) where
-      pub word-inboxes : is w "inboxes" ≡ true → Alone Inboxes ≡ wordFor (scopeOf w)
-      unfolding scopeOf
-      word-inboxes h = simp (a, b, h)
-
-      module _ (c : is w "inboxes" ≡ false) where
-        pub word-personal : is w "personal" ≡ true → Alone Personal ≡ wordFor (scopeOf w)
-        unfolding scopeOf
-        word-personal h = simp (a, b, c, h)
-
-        module _ (d : is w "personal" ≡ false) where
-          pub word-subscribed : is w "subscribed" ≡ true → Alone Subscribed ≡ wordFor (scopeOf w)
-          unfolding scopeOf
-          word-subscribed h = simp (a, b, c, d, h)
-
-          module _ (e : is w "subscribed" ≡ false) where
-            pub word-subtree : is w "subtree" ≡ true → Named Subtree ≡ wordFor (scopeOf w)
-            unfolding scopeOf
-            word-subtree h = simp (a, b, c, d, e, h)
-
-            module _ (f : is w "subtree" ≡ false) where
-              pub word-one : is w "subtree-one" ≡ true → Named SubtreeOne ≡ wordFor (scopeOf w)
-              unfolding scopeOf
-              word-one h = simp (a, b, c, d, e, f, h)
-
-              module _ (g : is w "subtree-one" ≡ false) where
-                pub word-mailboxes : is w "mailboxes" ≡ true → Named Mailboxes ≡ wordFor (scopeOf w)
-                unfolding scopeOf
-                word-mailboxes h = simp (a, b, c, d, e, f, g, h)
-
-                pub word-unknown : is w "mailboxes" ≡ false → Unknown ≡ wordFor (scopeOf w)
-                unfolding scopeOf
-                word-unknown h = simp (a, b, c, d, e, f, g, h)
-
 -- a word that stands alone is of a filter without names
 either-way : (t : Bool) (x y : ScopeWord) → Plain x → Plain y → Plain (cond t x y)
 either-way true x y p q = p

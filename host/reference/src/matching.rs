@@ -7,22 +7,27 @@ use crate::names::{in_level, in_subtree, Name};
 /// attributes?
 pub fn meets(groups: &Groups, group: &Group, name: &Name, attributes: u8) -> bool {
     let has = |bits: u8| attributes & bits == bits;
-    let named = |test: fn(&[u8], &[u8]) -> bool| {
-        groups
-            .names_of(group)
-            .iter()
-            .any(|top| test(top.as_octets(), name.as_octets()))
-    };
     match group.selector {
         IS_PERSONAL => has(SELECTABLE | PERSONAL),
         IS_INBOXES => has(SELECTABLE | PERSONAL | DELIVERY),
         IS_SUBSCRIBED => has(SUBSCRIBED),
-        IS_SUBTREE => has(SELECTABLE) && named(in_subtree),
-        IS_LEVEL => has(SELECTABLE) && named(in_level),
-        // an empty name is in the list where the argument was none, and no mailbox has it
-        IS_MAILBOXES => named(|wanted, name| wanted == name),
+        IS_SUBTREE | IS_LEVEL => has(SELECTABLE) && names(groups, group, name),
+        IS_MAILBOXES => names(groups, group, name),
         _ => false,
     }
+}
+
+/// Is the name among those that a group lists, or beneath one where that counts?
+fn names(groups: &Groups, group: &Group, name: &Name) -> bool {
+    let test = match group.selector {
+        IS_SUBTREE => in_subtree,
+        IS_LEVEL => in_level,
+        // an empty name is in the list where the argument was none, and no mailbox or parent has it
+        IS_MAILBOXES => |wanted: &[u8], name: &[u8]| wanted == name,
+        _ => return false,
+    };
+    let mut listed = groups.names_of(group).iter();
+    listed.any(|top| test(top.as_octets(), name.as_octets()))
 }
 
 /// Is any of these events asked of such a mailbox by a group other than the selected one?
@@ -32,6 +37,15 @@ pub fn asked(session: &Session, events: u8, name: &Name, attributes: u8) -> bool
         .used()
         .iter()
         .any(|group| group.events & events != 0 && meets(groups, group, name, attributes))
+}
+
+/// The same of a mailbox of which the client may know nothing but the name.
+pub fn asked_by_name(session: &Session, events: u8, name: &Name) -> bool {
+    let groups = &session.groups;
+    groups
+        .used()
+        .iter()
+        .any(|group| group.events & events != 0 && names(groups, group, name))
 }
 
 /// The group about the selected mailbox, if one stands.

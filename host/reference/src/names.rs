@@ -1,4 +1,4 @@
-//! Mailbox names: what is valid, how INBOX is folded, what lies beneath what.
+//! Mailbox names: what is valid, how INBOX is folded, what lies beneath what and above it.
 
 use crate::octets;
 
@@ -44,6 +44,13 @@ impl Name {
             name.octets[..len].copy_from_slice(b"INBOX");
         }
         Some(name)
+    }
+
+    /// The name one level up, folded as any whole name; none where there is no slash.
+    pub fn parent(&self) -> Option<Name> {
+        let octets = self.as_octets();
+        let slash = octets.iter().rposition(|&octet| octet == b'/')?;
+        Name::read(&octets[..slash])
     }
 
     /// The name's own octets. A damaged length is cut, so that nothing here can panic.

@@ -5,7 +5,10 @@
 mod support;
 
 use reference::generate::pairs::{is_hidden, pair, Step, HIDDEN_IDS};
-use reference::memory::RIGHTS;
+use reference::matching::asked_by_name;
+use reference::memory::{MAILBOX_NAME, RIGHTS};
+use reference::names::Name;
+use reference::records::{read, Record};
 use reference::{call_trusting, Answer, Memory};
 use std::ops::AddAssign;
 use support::contains;
@@ -25,6 +28,8 @@ struct Seen {
     hidden_messages: usize,
     hidden_above_all: usize,
     results: usize,
+    hidden_parents: usize,
+    hidden_children: usize,
     differing: usize,
 }
 
@@ -41,6 +46,7 @@ impl AddAssign<&Run> for Seen {
         self.hidden_refused += run.hidden_refused;
         self.hidden_messages += run.hidden_messages;
         self.hidden_above_all += usize::from(run.hidden_above_all);
+        self.hidden_children += run.hidden_children;
     }
 }
 
@@ -55,6 +61,10 @@ struct Common {
 /// One stream run from the empty start.
 struct Run {
     common: Vec<Common>,
+    /// For each of these: is a parent told of that a hidden mailbox is?
+    told_above: Vec<bool>,
+    /// Hidden mailboxes that came or went beneath a name that a group asks for.
+    hidden_children: usize,
     hidden_taken: usize,
     hidden_refused: usize,
     hidden_messages: usize,
@@ -68,16 +78,40 @@ fn hidden_above_all(memory: &Memory) -> bool {
     memory.mailbox_count > 1 && highest.is_some_and(|row| HIDDEN_IDS.contains(&row.id))
 }
 
+/// The name above the mailbox of a record that makes it come or go.
+fn above(memory: &Memory, octets: &[u8]) -> Option<Name> {
+    match read(octets)? {
+        Record::Create { name, .. } => name.parent(),
+        Record::Delete { id, .. } | Record::Rights { id, .. } => memory.mailbox(id)?.name.parent(),
+        _ => None,
+    }
+}
+
+/// Is this the name of a hidden mailbox, and what was put in the queue tells of it?
+fn tells_of_hidden(memory: &Memory, parent: &Name, filled: usize) -> bool {
+    let row = memory.holder_of(parent);
+    let hidden = row.is_some_and(|row| HIDDEN_IDS.contains(&row.id));
+    let name = String::from_utf8_lossy(parent.as_octets());
+    let line = format!("* LIST (\\NonExistent) \"/\" \"{name}\"\r\n");
+    hidden && memory.filled > filled && contains(&memory.held()[filled..], &line)
+}
+
 fn run(sizes: (usize, usize, usize), steps: &[Step]) -> Run {
     let mut memory = Memory::new(sizes.0, sizes.1, sizes.2);
     let mut run = Run {
         common: Vec::new(),
+        told_above: Vec::new(),
+        hidden_children: 0,
         hidden_taken: 0,
         hidden_refused: 0,
         hidden_messages: 0,
         hidden_above_all: false,
     };
     for step in steps {
+        let filled = memory.filled;
+        let above = above(&memory, &step.octets);
+        let asked = |name: &Name| asked_by_name(&memory.session, MAILBOX_NAME, name);
+        let heard = above.as_ref().is_some_and(asked);
         let answer = call_trusting(&mut memory, &step.octets);
         assert_eq!(step.common, !is_hidden(&step.octets));
         for row in memory.rows() {
@@ -86,6 +120,8 @@ fn run(sizes: (usize, usize, usize), steps: &[Step]) -> Run {
         }
         if step.common {
             assert!(!matches!(answer.refusal, 4 | 7), "the premise");
+            let told = above.is_some_and(|parent| tells_of_hidden(&memory, &parent, filled));
+            run.told_above.push(told);
             run.common.push(Common {
                 record: step.octets.clone(),
                 answer,
@@ -93,6 +129,7 @@ fn run(sizes: (usize, usize, usize), steps: &[Step]) -> Run {
             });
         } else if answer.refusal == 0 {
             run.hidden_taken += 1;
+            run.hidden_children += usize::from(heard);
             run.hidden_messages += usize::from(step.octets.starts_with(b"ME"));
             run.hidden_above_all |= hidden_above_all(&memory);
         } else {
@@ -117,6 +154,8 @@ fn hidden_records_change_nothing_seen() {
         let differ = pair.first.len() != pair.second.len()
             || (pair.first.iter().zip(&pair.second)).any(|(one, two)| one.octets != two.octets);
         seen.differing += usize::from(differ);
+        let above = first.told_above.iter().zip(&second.told_above);
+        seen.hidden_parents += above.filter(|(one, two)| one != two).count();
         seen += &first;
     }
     println!("{seen:?}");
@@ -129,5 +168,8 @@ fn hidden_records_change_nothing_seen() {
     assert!(seen.hidden_refused > 10_000);
     assert!(seen.hidden_messages > 10_000);
     assert!(seen.hidden_above_all > 1_000);
+    // a parent told of as absent is hidden in the one stream and not there in the other
+    assert!(seen.hidden_parents > 1_000);
+    assert!(seen.hidden_children > 1_000);
     assert!(seen.differing > PAIRS as usize / 2);
 }

@@ -127,6 +127,10 @@ fn selectors() {
             } else {
                 ""
             };
+            // the parent is absent, so its name alone counts
+            let named = list && read && matches!(selector, "subtree a" | "mailboxes a");
+            let above = "* LIST (\\NonExistent) \"/\" \"a\"\r\n";
+            let wanted = format!("{wanted}{}", if named { above } else { "" });
             assert_eq!(told, wanted, "{attributes} {selector}");
         }
     }

@@ -20,6 +20,13 @@ pub(super) enum Due {
     Older(Vec<Vec<u8>>),
 }
 
+/// One line, and by which names and attributes a group can meet what it tells of.
+struct Notice {
+    names: Vec<Name>,
+    attributes: u8,
+    line: Vec<u8>,
+}
+
 impl Account {
     /// Takes in what a record changes. What the call wrote is asked for a command's acceptance
     /// alone, and the view is left to the lines.
@@ -93,7 +100,7 @@ impl Account {
             return Some(Due::Nothing(Rule::Quiet));
         }
         let line = line(|out| lines::renamed(out, lines::kind(attributes), &name, &old));
-        Some(self.notice(MAILBOX_NAME, &[old, name], attributes, line))
+        Some(self.notice(MAILBOX_NAME, vec![old, name], attributes, line))
     }
 
     fn subscribed(&mut self, id: u16, subscribed: bool, quiet: bool) -> Option<Due> {
@@ -109,7 +116,7 @@ impl Account {
         }
         let kind = if subscribed { "\\Subscribed" } else { "" };
         let line = line(|out| lines::list(out, kind, &name));
-        Some(self.notice(SUBSCRIPTION, &[name], attributes, line))
+        Some(self.notice(SUBSCRIPTION, vec![name], attributes, line))
     }
 
     /// Only l makes a mailbox appear or vanish; both rights count on the side where it is seen.
@@ -125,13 +132,39 @@ impl Account {
         }
     }
 
-    /// A mailbox's coming or going.
+    /// A mailbox's coming or going, which is an event of the mailbox above it too: the one's line, then the other's.
     fn listed(&self, quiet: bool, name: &Name, attributes: u8, kind: &str) -> Due {
         if quiet {
             return Due::Nothing(Rule::Quiet);
         }
-        let line = line(|out| lines::list(out, kind, name));
-        self.notice(MAILBOX_NAME, &[*name], attributes, line)
+        if attributes & RIGHTS != RIGHTS {
+            return Due::Nothing(Rule::RightMissing);
+        }
+        let own = Notice {
+            names: vec![*name],
+            attributes,
+            line: line(|out| lines::list(out, kind, name)),
+        };
+        let both = [own].into_iter().chain(self.above(name)).collect();
+        self.owed(MAILBOX_NAME, both)
+    }
+
+    /// The notice about the mailbox above. Where the client may not list it, whether it is there or not, it is made up as
+    /// selectable and nothing else: then no group but one that names it can meet it.
+    fn above(&self, name: &Name) -> Option<Notice> {
+        let parts: Vec<&[u8]> = name.as_octets().split(|&octet| octet == b'/').collect();
+        let (_, upper) = parts.split_last()?;
+        let above = Name::read(&upper.join(&b'/'))?;
+        let listed = |mailbox: &&Mailbox| mailbox.name == above && mailbox.attributes & LOOKUP != 0;
+        let (attributes, kind) = match self.mailboxes.values().find(listed) {
+            Some(mailbox) => (mailbox.attributes, lines::kind(mailbox.attributes)),
+            None => (SELECTABLE, "\\NonExistent"),
+        };
+        Some(Notice {
+            names: vec![above],
+            attributes,
+            line: line(|out| lines::list(out, kind, &above)),
+        })
     }
 
     /// The numbers of a mailbox that is not selected.
@@ -143,26 +176,40 @@ impl Account {
             FLAGS => lines::status_flags(out, name, mailbox.uid_validity, highest),
             _ => lines::status_later(out, name, mailbox.uid_next, messages, highest),
         });
-        Some(self.notice(event, &[*name], mailbox.attributes, line))
+        Some(self.notice(event, vec![*name], mailbox.attributes, line))
     }
 
-    /// A notice that any group but the selected one may ask for, by any of the names.
-    fn notice(&self, event: u8, names: &[Name], attributes: u8, line: Vec<u8>) -> Due {
+    /// A notice about one mailbox, by any of the names.
+    fn notice(&self, event: u8, names: Vec<Name>, attributes: u8, line: Vec<u8>) -> Due {
         if attributes & RIGHTS != RIGHTS {
             return Due::Nothing(Rule::RightMissing);
         }
-        let groups = self.groups.unwrap_or_default();
-        let meets = |group: &Group| {
-            let by = |name: &Name| meets(&groups, group, name, attributes);
-            names.iter().any(by)
+        let only = Notice {
+            names,
+            attributes,
+            line,
         };
-        let met: Vec<&Group> = groups.used().iter().filter(|group| meets(group)).collect();
-        if met.is_empty() {
-            Due::Nothing(Rule::NoGroup)
-        } else if met.iter().all(|group| group.events & event == 0) {
+        self.owed(event, vec![only])
+    }
+
+    /// Of these notices those that any group but the selected one asks for.
+    fn owed(&self, event: u8, notices: Vec<Notice>) -> Due {
+        let groups = self.groups.unwrap_or_default();
+        let met = |notice: &Notice, events: u8| {
+            let by = |group: &Group, name: &Name| meets(&groups, group, name, notice.attributes);
+            let asking = |group: &&Group| group.events & events == events;
+            let mut asking = groups.used().iter().filter(asking);
+            asking.any(|group| notice.names.iter().any(|name| by(group, name)))
+        };
+        if !notices.iter().any(|notice| met(notice, 0)) {
+            return Due::Nothing(Rule::NoGroup);
+        }
+        let asked = notices.into_iter().filter(|notice| met(notice, event));
+        let lines: Vec<Vec<u8>> = asked.map(|notice| notice.line).collect();
+        if lines.is_empty() {
             Due::Nothing(Rule::NotAsked)
         } else {
-            Due::Now(vec![line], None)
+            Due::Now(lines, None)
         }
     }
 

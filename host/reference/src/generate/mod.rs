@@ -3,6 +3,7 @@
 
 pub mod commands;
 pub mod counters;
+pub mod family;
 pub mod long;
 pub mod pairs;
 pub mod pools;
@@ -31,13 +32,17 @@ struct Lean {
     fills: bool,
     /// Selects a mailbox soon.
     eager: bool,
+    /// Is about parents: names beside those that are there, and groups that ask for them.
+    family: bool,
 }
 
 impl Lean {
     fn new(random: &mut Random) -> Lean {
         //             MB DL RN SB RT  ME  XP  FL SE CE  CM DR
         let plain = [6, 2, 4, 4, 7, 18, 12, 10, 5, 8, 14, 8];
+        let family = random.chance(18);
         let weights = match random.below(8) {
+            _ if family => [18, 10, 4, 3, 26, 2, 1, 1, 5, 1, 12, 3],
             0 => [3, 1, 1, 1, 8, 24, 18, 14, 3, 14, 8, 3],
             1 => [4, 1, 2, 2, 3, 10, 5, 4, 5, 3, 50, 20],
             2 => [14, 8, 14, 12, 14, 4, 2, 2, 2, 2, 14, 6],
@@ -53,6 +58,7 @@ impl Lean {
             whole_drains: random.pick(&[10, 50, 90]),
             fills: random.chance(35),
             eager: random.chance(60),
+            family,
         }
     }
 }
@@ -123,7 +129,12 @@ impl Generator {
         {
             return record("SE", &self.id(memory));
         }
-        let watched = memory.session.mode == SET && memory.session.selected != 0;
+        let unheard = memory.session.mode != SET && memory.mailbox_count > 0;
+        if self.lean.family && !self.hidden && unheard && self.random.chance(30) {
+            return record("CM", &family::notify(&mut self.random, memory));
+        }
+        let watched =
+            memory.session.mode == SET && (memory.session.selected != 0 || self.lean.family);
         if self.lean.fills
             && !self.hidden
             && watched
@@ -166,6 +177,9 @@ impl Generator {
             }
             8 => self.select(memory),
             9 => record("CE", &[self.random.below(2) as u8]),
+            10 if self.lean.family && self.random.chance(70) => {
+                record("CM", &family::notify(&mut self.random, memory))
+            }
             10 => record("CM", &commands::line(&mut self.random)),
             _ => self.drained(memory),
         }
@@ -211,6 +225,11 @@ impl Generator {
         }
         if self.wide && self.random.chance(80) {
             return wide_name(&mut self.random).into_bytes();
+        }
+        if self.random.chance(if self.lean.family { 60 } else { 15 }) {
+            if let Some(octets) = family::relative(&mut self.random, memory) {
+                return octets;
+            }
         }
         let mut text = name(&mut self.random);
         if self.random.chance(85) {

@@ -44,6 +44,7 @@ pub const NAMES: &[&str] = &[
     "back\\slash",
     "NONE",
     "abcdefghijklmnopqrstuvwxyz/abcdefghijklmnopqrstuvwxyz/0123456789",
+    "abcdefghijklmnopqrstuvwxyz/abcdefghijklmnopqrstuvwxyz",
 ];
 
 /// The names that come up most, so that records and commands often mean the same mailbox.

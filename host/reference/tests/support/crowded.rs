@@ -107,10 +107,10 @@ impl Crowded {
         let groups = match self.random.below(9) {
             0 => return "CM n NOTIFY NONE".to_string(),
             1 => "(selected NONE)".to_string(),
-            2 => format!("(personal {named})"),
+            2 => format!("(personal {named}) (mailboxes c (MailboxName))"),
             3 => format!("(mailboxes e (MailboxName)) (selected {two})"),
             4 => format!("(selected-delayed {with})"),
-            5 => format!("(selected-delayed {ALL}) (mailboxes (c/d e) {few})"),
+            5 => format!("(selected-delayed {ALL}) (mailboxes (c/d c e) {few})"),
             6 => format!("(selected {ALL}) (personal {named})"),
             _ => format!("(selected {with}) (inboxes {named})"),
         };

@@ -2,6 +2,7 @@
 #![allow(dead_code)]
 
 pub mod crowded;
+pub mod parents;
 pub mod wrong;
 
 use reference::records::{read, Record};

@@ -1,4 +1,5 @@
-//! Programs that go wrong about change counters, and how that is seen: by the cases, or in the memory beside what the records said.
+//! Programs that go wrong, about change counters above all, and how that is seen: by the cases, or in the memory beside what the
+//! records said.
 
 use reference::cases::{stored, text, Case};
 use reference::generate::Generator;
@@ -115,11 +116,17 @@ pub fn cases_that_differ(wrong: Wrong) -> Vec<String> {
     wrong.map(|case| case.name).collect()
 }
 
+/// A case whose name has one of these words notices it.
+#[track_caller]
+pub fn noticed_by(words: [&str; 2], wrong: Wrong) {
+    let names = cases_that_differ(wrong);
+    println!("{} cases: {:?}", names.len(), names.first());
+    let about = |name: &String| words.iter().any(|word| name.contains(word));
+    assert!(names.iter().any(about), "{names:?}");
+}
+
 /// A case about counters notices it.
 #[track_caller]
 pub fn noticed(wrong: Wrong) {
-    let names = cases_that_differ(wrong);
-    println!("{} cases: {:?}", names.len(), names.first());
-    let about_counters = |name: &String| name.contains("(Counters ") || name.contains("cr01/");
-    assert!(names.iter().any(about_counters), "{names:?}");
+    noticed_by(["(Counters ", "cr01/"], wrong)
 }

@@ -1,5 +1,6 @@
 pub mod Isolation
 pub mod Lasting
 pub mod Counted
+pub mod Parents
 pub mod Theorems
 pub mod Ledger

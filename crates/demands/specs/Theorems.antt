@@ -1,4 +1,4 @@
--- Demands 1 and 3 and the change counters, proved of the definitions. Assumes nothing.
+-- Demands 1 and 3, the change counters and the parent, proved of the definitions. Assumes nothing.
 -- Demand 1: a call is refused exactly where a refusal applies, by the lowest that does; a refused call changes nothing; memory stays lawful.
 -- Demand 3: Hidden.Demand3 holds, for any two starts.
 use mathlib.Core.Path.{_≡_, refl, sym, _∙_, ap, subst}
@@ -20,6 +20,7 @@ use Rattle.model.specs.Rules.{Outcome, endedAt, accepted}
 use Rattle.model.specs.Call.{applies, refuse, call}
 use Rattle.model.specs.Hidden.{Octets, Called, calls, Starts, Demand3}
 use Rattle.model.specs.Counters.{CounterHighest, CounterOwn}
+use Rattle.model.specs.Parents.{ParentThere, ParentOwed, ParentUnseen}
 use Rattle.demands.specs.Isolation.Streams.{demand}
 use Rattle.demands.specs.Lasting.Law.{law-out}
 use Rattle.demands.specs.Lasting.Calls.{keeps}
@@ -27,6 +28,9 @@ use Rattle.demands.specs.Lasting.Owing.{left-owed, left-counted}
 use Rattle.demands.specs.Counted.Taken.{unrefused}
 use Rattle.demands.specs.Counted.Highest.{last-highest}
 use Rattle.demands.specs.Counted.Own.{own-last}
+use Rattle.demands.specs.Parents.Names.{there}
+use Rattle.demands.specs.Parents.Owed.{owed-of-it}
+use Rattle.demands.specs.Parents.Unseen.{unseen}
 use Rattle.model.specs.declared.Refusal.{Refusal}
 use Rattle.model.specs.declared.Refusal.the-variants.{UnlawfulMemory, BadRecord, WrongId, NameHeld, WrongUid, WrongState, TableFull, NoRoom}
 use Rattle.model.specs.declared.Answer.{Answer}
@@ -42,6 +46,16 @@ counter-highest = last-highest
 
 pub counter-own : CounterOwn
 counter-own = own-last
+
+-- ---- THE PARENT (02, 2): what is told of it, and that a row without l shows nothing of itself
+pub parent-there : ParentThere
+parent-there = there
+
+pub parent-owed : ParentOwed
+parent-owed = owed-of-it
+
+pub parent-unseen : ParentUnseen
+parent-unseen = unseen
 
 -- ---- DEMAND 1
 -- the refusal applies, and none with a lower number does

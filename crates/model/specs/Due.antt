@@ -1,18 +1,18 @@
 -- What is owed, told from the account alone: what each change owes at once, later or not at all, and what the end of a command owes
--- (01, What is written; Who matches, 3 to 5; 02, 1). Events and View say it from memory; that both say the same is the clause `exact` of Account.Demand2. Assumes nothing.
+-- (01, What is written; Who matches, 3 to 5; 02, 1 and 2). Events and View say it from memory; that both say the same is the clause `exact` of Account.Demand2. Assumes nothing.
 use mathlib.Core.List.{List, [], _∷_, _++_}
 use mathlib.Core.Bool.{Bool, not, cond, _&&_, _||_}
 use Prim.Native.Nat.{ℕ, _+_}
 use lib.Dec.{eqb}
 use lib.ListN.{length}
-use Rattle.model.specs.Lists.{filterb, anyb}
-use Rattle.model.specs.Names.{Name}
+use Rattle.model.specs.Lists.{filterb, anyb, when}
+use Rattle.model.specs.Names.{Name, hasParent}
 use Rattle.model.specs.Records.{Record, create, delete, rename, subscribe, grant, arrive, expunge, reflag, select, ended, command, drained, noRecord}
 use Rattle.model.specs.Memory.{Memory, boxes, nameOf, subscribed as isSubscribed, mayList, bothRights, counterOf, withNext, withName, withCounter, theMailbox, selectedBox, isSelected, uidOf, isMessage, messagesOf}
 use Rattle.model.specs.Groups.{groupsOf, meets, asked, askedOf, isSelecting, selectedAsks, immediateAsks, asksNew, asksExpunge, asksFlags, asksName, asksSubscription}
 use Rattle.model.specs.Lines.{Line, StatusItem, status, mailItems, list, renamed, expunge as expungeLine, plain, nonExistent, subscribed}
 use Rattle.model.specs.View.{placeOf, flagsLine, existsLine, showsAny, newLines}
-use Rattle.model.specs.Events.{listMark, newBox, withSubscribed, withRights, message, changesOf}
+use Rattle.model.specs.Events.{listMark, parentRow, parentMark, parentAsked, newBox, withSubscribed, withRights, message, changesOf}
 use Rattle.model.specs.declared.Mailbox.{Mailbox}
 use Rattle.model.specs.declared.Message.{Message}
 use Rattle.model.specs.declared.Group.{Group}
@@ -70,9 +70,17 @@ isQuiet q = not (eqb q 0)
 abbrev pub met : Memory → ℕ → Name → ℕ → Bool
 met w i n a = anyb (λ (g : Group). (isSelecting (g .selector) && isSelected w i) || meets (w .session) n a (g .selector)) (groupsOf (w .session))
 
--- the line of a mailbox that appears or goes, with the rights, the name and the attributes of x, if MailboxName is asked (Written, 5 and 7)
+-- the lines of a mailbox that appears or goes, with the rights, the name and the attributes of x, and of its parent y, each if MailboxName is asked
+-- for it (Written, 5 and 7; 02, 2)
 abbrev pub nameDue : Memory → Mailbox → Line → Due
-nameDue w x l = notice (bothRights x) (met w (x .id) (nameOf x) (x .attributes)) (askedOf (w .session) x asksName) (atOnce (l ∷ []))
+nameDue w x l =
+    let y = parentRow (boxes w) x in
+    let own = askedOf (w .session) x asksName in
+    let upper = parentAsked (w .session) y x in
+    notice (bothRights x)
+    (met w (x .id) (nameOf x) (x .attributes) || (hasParent (nameOf x) && met w (y .id) (nameOf y) (y .attributes)))
+    (own || upper)
+    (atOnce (when own l ++ when upper (list (parentMark y) (nameOf y))))
 
 abbrev pub appears : Memory → Mailbox → Due
 appears w x = nameDue w x (list (listMark x) (nameOf x))

@@ -1,11 +1,11 @@
--- What a record about a mailbox or a message changes, and the lines that it owes at once (01, Written, 1 to 10, 14 to 19 and 22; Records, 4; Store, 3; 02, 1).
-use mathlib.Core.List.{List, [], _∷_}
+-- What a record about a mailbox or a message changes, and the lines that it owes at once (01, Written, 1 to 10, 14 to 19 and 22; Records, 4; Store, 3; 02, 1 and 2).
+use mathlib.Core.List.{List, [], _∷_, _++_}
 use mathlib.Core.Bool.{Bool, cond, _&&_, _||_}
 use Prim.Native.Nat.{ℕ, _+_, _*_, _/_, _%_}
 use lib.Dec.{eqb, ltb}
-use lib.ListN.{length}
-use Rattle.model.specs.Lists.{when}
-use Rattle.model.specs.Names.{Name}
+use lib.ListN.{length, getD}
+use Rattle.model.specs.Lists.{when, filterb, same}
+use Rattle.model.specs.Names.{Name, parentOf, hasParent}
 use Rattle.model.specs.Memory.{Memory, boxes, mails, nameOf, selectable, subscribed as isSubscribed, mayList, bothRights, withAttributes, withNext, withName, counterOf, stored, theMailbox, isSelected, inMailbox, isMessage, existing, withFlags, withStates, putBox, addBox, dropBox, addMail, dropMails, changeMails, withSession, silenced}
 use Rattle.model.specs.Groups.{asked, askedOf, asksNew, asksExpunge, asksFlags, asksName, asksSubscription}
 use Rattle.model.specs.Lines.{Line, StatusItem, status, mailItems, flagItems, list, renamed, expunge, overflow, ListMark, plain, noselect, nonExistent, subscribed}
@@ -38,18 +38,49 @@ deleteLines s x = when (bothRights x && askedOf s x asksName) (list nonExistent 
 abbrev pub newBox : ℕ → ℕ → ℕ → ℕ → Name → Mailbox
 newBox i a v c n = record { id = i; attributes = a; namelen = length n; uidvalidity = v; uidnext = 1; counterlow = c % 4294967296; counterhigh = c / 4294967296; name = stored n }
 
+-- ---- the direct parent, which a create and a delete affect too, whether it exists or not (02, 2)
+-- what stands for a parent that is absent or may not be listed: a row with its name, and selectable, so that `subtree` and `mailboxes` meet it by its
+-- name and no other group meets it
+abbrev pub standIn : Name → Mailbox
+standIn p = newBox 0 1 0 0 p
+
+-- the row with this name that may be listed, or the stand-in
+abbrev pub isListed : Name → Mailbox → Bool
+isListed p x = mayList x && same (nameOf x) p
+
+abbrev pub listedRow : Name → List Mailbox → Mailbox
+listedRow p l = getD (filterb (isListed p) l) 0 (standIn p)
+
+-- the parent of x, by the rows before the record
+abbrev pub parentRow : List Mailbox → Mailbox → Mailbox
+parentRow l x = listedRow (parentOf (nameOf x)) l
+
+abbrev pub parentMark : Mailbox → ListMark
+parentMark y = cond (mayList y) (listMark y) nonExistent
+
+-- its line, y being the parent of x, which appears or goes: with both rights on x, whatever r on y, if a group asks for y
+abbrev pub parentAsked : Session → Mailbox → Mailbox → Bool
+parentAsked s y x = hasParent (nameOf x) && askedOf s y asksName
+
+abbrev pub parentLines : Session → Mailbox → Mailbox → List Line
+parentLines s y x = when (bothRights x && parentAsked s y x) (list (parentMark y) (nameOf y))
+
 abbrev pub created : Memory → ℕ → ℕ → ℕ → ℕ → ℕ → Name → Event
-created m i a q v c n = record {
-  stored = addBox m (newBox i a v c n);
-  lines = loud q (createLines (m .session) (newBox i a v c n));
-}
+created m i a q v c n =
+    let x = newBox i a v c n in
+    record {
+      stored = addBox m x;
+      lines = loud q (createLines (m .session) x ++ parentLines (m .session) (parentRow (boxes m) x) x);
+    }
 
 -- its messages go with it
 abbrev pub deleted : Memory → ℕ → ℕ → Event
-deleted m i q = record {
-  stored = dropMails (dropBox m i) (inMailbox i);
-  lines = loud q (deleteLines (m .session) (theMailbox i (boxes m)));
-}
+deleted m i q =
+    let x = theMailbox i (boxes m) in
+    record {
+      stored = dropMails (dropBox m i) (inMailbox i);
+      lines = loud q (deleteLines (m .session) x ++ parentLines (m .session) (parentRow (boxes m) x) x);
+    }
 
 -- a rename is matched by the old name or the new one (Written, 8)
 abbrev pub renameLines : Session → Mailbox → Mailbox → List Line
@@ -82,11 +113,11 @@ subscribedTo m i b q =
       lines = loud q (subscriptionLines (m .session) x b);
     }
 
--- rights: the mailbox before and after. To gain l is a create, by the rights after; to lose it a delete, by those before (Written, 1 and 6)
-abbrev pub rightsLines : Session → Mailbox → Mailbox → List Line
-rightsLines s x y =
-    cond (mayList x) (cond (mayList y) [] (deleteLines s x))
-    (cond (mayList y) (createLines s y) [])
+-- rights: the mailbox before and after. To gain l is a create, by the rights after; to lose it a delete, by those before (Written, 1 and 6); p is the parent
+abbrev pub rightsLines : Session → Mailbox → Mailbox → Mailbox → List Line
+rightsLines s p x y =
+    cond (mayList x) (cond (mayList y) [] (deleteLines s x ++ parentLines s p x))
+    (cond (mayList y) (createLines s y ++ parentLines s p y) [])
 
 -- bits 4 and 5 become r's
 abbrev pub withRights : Mailbox → ℕ → Mailbox
@@ -97,7 +128,7 @@ granted m i r =
     let x = theMailbox i (boxes m) in
     record {
       stored = putBox m i (withRights x r);
-      lines = rightsLines (m .session) x (withRights x r);
+      lines = rightsLines (m .session) (parentRow (boxes m) x) x (withRights x r);
     }
 
 -- ---- message events. The mailbox's row has the record's counter already (Rules, `raised`)

@@ -10,3 +10,4 @@ pub mod Refusing
 pub mod Rfc
 pub mod Fates
 pub mod Counters
+pub mod Parent

@@ -30,6 +30,7 @@ pub mod Hidden
 pub mod Fates
 pub mod Seen
 pub mod Counters
+pub mod Parents
 pub mod Due
 pub mod Account
 pub mod Tally

@@ -1,4 +1,4 @@
--- Mailbox names (01, Records, 19 and 20; Commands, 4; Matches, 1 and 6).
+-- Mailbox names (01, Records, 19 and 20; Commands, 4; Matches, 1 and 6; 02, 2).
 use mathlib.Core.Bool.{Bool, true, false, not, cond, _&&_, _||_}
 use mathlib.Core.List.{List, [], _∷_}
 use Prim.Native.Nat.{ℕ, _+_}
@@ -37,6 +37,18 @@ fold n = cond (sameWord n inbox) inbox n
 -- a mailbox argument of a command: the name it gives, or the empty one, which no mailbox has (Commands, 4)
 abbrev pub argument : List ℕ → Name
 argument a = cond (valid a) (fold a) []
+
+-- the octets before the last `/`; none where there is no `/`
+unfoldable pub beforeSlash : Name → Name
+beforeSlash [] = []
+beforeSlash (b ∷ n) = let rest = b ∷ beforeSlash n in cond (anyb (eqb 47) n) rest []
+
+-- the direct parent's name, INBOX folded as in an argument; a name without `/` has none, which is the empty one (02, 2)
+abbrev pub parentOf : Name → Name
+parentOf n = argument (beforeSlash n)
+
+abbrev pub hasParent : Name → Bool
+hasParent n = not (eqb (length (parentOf n)) 0)
 
 -- n begins with top and `/`
 unfoldable pub leads : Name → Name → Bool

@@ -47,14 +47,14 @@ dark-rows H p h (x ∷ l) d = go (H (x .id)) refl (p x) refl (dark-rows H p h l 
 
 module _ (H : ℕ → Bool) (s t : Memory) (a : Alike H s t) (d : Dark H s) where
   -- the mailboxes that a test finds, which only one with a right passes
-  same-found-boxes : (p : Mailbox → Bool) → ((x : Mailbox) → p x ≡ true → visible x ≡ true) → filterb p (boxes t) ≡ filterb p (boxes s)
+  pub same-found-boxes : (p : Mailbox → Bool) → ((x : Mailbox) → p x ≡ true → visible x ≡ true) → filterb p (boxes t) ≡ filterb p (boxes s)
   same-found-boxes p h = ap (filterb p) (a .box) ∙ filter-within p (staysBox H) (boxes s) (dark-rows H p h (boxes s) d)
 
   -- and they stay
   found-stay : (p : Mailbox → Bool) → allb (staysBox H) (sorted byName (filterb p (boxes t))) ≡ true
   found-stay p = all-sorted (staysBox H) byName (filterb p (boxes t)) (all-filtered (staysBox H) p (boxes t) (rw (a .box) (all-passed (staysBox H) (boxes s))))
 
-  listed : (x : Mailbox) → mayList x ≡ true → visible x ≡ true
+  pub listed : (x : Mailbox) → mayList x ≡ true → visible x ≡ true
   listed x e = rw e
 
   readable : (x : Mailbox) → mayRead x ≡ true → visible x ≡ true

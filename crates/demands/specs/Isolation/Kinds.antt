@@ -161,11 +161,11 @@ module _ (H : ℕ → Bool) (h0 : H 0 ≡ false) (s t : Memory) (a : Alike H s t
 
   pub accepted-left : Dark H s → filled s ≤ length (s .queue) → (r : Record) → H (subject r) ≡ false → wrongState s r ≡ false → tableFull s r ≡ false → AlikeOutcome H (accepted s r) (accepted t r)
   unfolding accepted
-  accepted-left d f (create i at q v c n) h w full = told-left H h0 s t a _ (created-left H h0 s t a i h at q v c n (leb-false _ _ full)) (created-left H h0 (silence s) (silence t) hushed i h at q v c n (leb-false _ _ full))
-  accepted-left d f (delete i q) h w full = told-left H h0 s t a _ (deleted-left H h0 s t a i h q) (deleted-left H h0 (silence s) (silence t) hushed i h q)
+  accepted-left d f (create i at q v c n) h w full = told-left H h0 s t a _ (created-left H h0 s t a i h at q v c n d (leb-false _ _ full)) (created-left H h0 (silence s) (silence t) hushed i h at q v c n d (leb-false _ _ full))
+  accepted-left d f (delete i q) h w full = told-left H h0 s t a _ (deleted-left H h0 s t a i h q d) (deleted-left H h0 (silence s) (silence t) hushed i h q d)
   accepted-left d f (rename i q n) h w full = told-left H h0 s t a _ (renamed-left H h0 s t a i h q n) (renamed-left H h0 (silence s) (silence t) hushed i h q n)
   accepted-left d f (subscribe i b q) h w full = told-left H h0 s t a _ (subscribed-left H h0 s t a i h b q) (subscribed-left H h0 (silence s) (silence t) hushed i h b q)
-  accepted-left d f (grant i r) h w full = told-left H h0 s t a _ (granted-left H h0 s t a i h r) (granted-left H h0 (silence s) (silence t) hushed i h r)
+  accepted-left d f (grant i r) h w full = told-left H h0 s t a _ (granted-left H h0 s t a i h r d) (granted-left H h0 (silence s) (silence t) hushed i h r d)
   accepted-left d f (arrive i u g z c) h w full = told-raised i h c _ (λ k. arrived-left H h0 (raised s i c) (raised t i c) k i h u g z c (leb-false _ _ full)) (λ k. arrived-left H h0 (silence (raised s i c)) (silence (raised t i c)) k i h u g z c (leb-false _ _ full))
   accepted-left d f (expunge i u c) h w full = told-raised i h c _ (λ k. removed-left H h0 (raised s i c) (raised t i c) k i h u) (λ k. removed-left H h0 (silence (raised s i c)) (silence (raised t i c)) k i h u)
   accepted-left d f (reflag i u g c) h w full = told-raised i h c _ (λ k. reflagged-left H h0 (raised s i c) (raised t i c) k i h u g c) (λ k. reflagged-left H h0 (silence (raised s i c)) (silence (raised t i c)) k i h u g c)

@@ -1,25 +1,26 @@
 -- A record about an id that stays does the same to alike memories: each event. Assumes nothing.
 use mathlib.Core.Path.{_≡_, refl, _∙_, ap}
-use mathlib.Core.List.{[], _∷_}
+use mathlib.Core.List.{List, [], _∷_, _++_}
 use mathlib.Core.Bool.{Bool, true, false, not, cond, _&&_}
 use Prim.Native.Nat.{ℕ, _+_, _<_}
 use lib.Dec.{eqb, ltb}
-use lib.ListN.{length}
-use Rattle.model.specs.Lists.{filterb}
-use Rattle.model.specs.Laws.{tf}
-use Rattle.model.specs.Names.{Name}
-use Rattle.model.specs.Memory.{Memory, boxes, mails, withAttributes, withNext, withName, counterOf, withCounter, theMailbox, isSelected, inMailbox, isMessage, expunged, withFlags, withStates, silenced, putBox, dropBox, dropMails, changeMails}
+use lib.ListN.{length, getD}
+use Rattle.model.specs.Lists.{filterb, same}
+use Rattle.model.specs.Laws.{tf, and-l}
+use Rattle.model.specs.Names.{Name, parentOf}
+use Rattle.model.specs.Memory.{Memory, boxes, mails, withAttributes, withNext, withName, counterOf, withCounter, mayList, nameOf, theMailbox, isSelected, inMailbox, isMessage, expunged, withFlags, withStates, silenced, putBox, dropBox, dropMails, changeMails}
 use Rattle.model.specs.Groups.{askedOf, asksNew, asksExpunge, asksFlags}
 use Rattle.model.specs.Lines.{mailItems, expunge, overflow}
 use Rattle.model.specs.Queue.{fits}
 use Rattle.model.specs.View.{placeOf, expungeAtOnce, flagsAtOnce, flagsWait, flagsLine}
-use Rattle.model.specs.Events.{Event, loud, createLines, deleteLines, renameLines, subscriptionLines, rightsLines, newBox, created, deleted, renamedTo, withSubscribed, subscribedTo, withRights, granted, statusLines, countsOf, changesOf, message, withArrived, arrived, inView, expire, removed, reflag, mark, reflagged, silence, tellings, settled}
+use Rattle.model.specs.Events.{Event, loud, createLines, deleteLines, standIn, isListed, parentRow, parentLines, renameLines, subscriptionLines, rightsLines, newBox, created, deleted, renamedTo, withSubscribed, subscribedTo, withRights, granted, statusLines, countsOf, changesOf, message, withArrived, arrived, inView, expire, removed, reflag, mark, reflagged, silence, tellings, settled}
 use Rattle.model.specs.Rules.{Outcome, eventOutcome, raised}
 use Rattle.model.specs.declared.Mailbox.{Mailbox}
 use Rattle.model.specs.declared.Message.{Message}
 use Rattle.model.specs.declared.Group.{Group}
 use Rattle.demands.specs.Isolation.Erase.{box-stays}
 use Rattle.demands.specs.Isolation.Alike.{Alike, same-box, same-messages, alike-session, alike-put, alike-add, alike-drop, alike-add-mail, alike-drop-mails, alike-change}
+use Rattle.demands.specs.Isolation.Asked.{Dark, same-found-boxes, listed}
 use Rattle.demands.specs.Isolation.Spoken.{same-id, same-view, same-announcing, same-fits, same-new, same-expunge, same-flags, same-wait, alike-say}
 
 -- two events alike
@@ -74,16 +75,27 @@ module _ (H : ℕ → Bool) (h0 : H 0 ≡ false) where
     stays : H (theMailbox i (boxes s) .id) ≡ false
     stays = box-stays H h0 i hi (boxes s)
 
-    pub created-left : (at q v c : ℕ) (n : Name) → length (boxes s) < length (s .rows) → AlikeEvent H (created s i at q v c n) (created t i at q v c n)
-    created-left at q v c n room = record {
+    -- the rows by which a parent is found
+    same-listed : Dark H s → (p : Name) → filterb (isListed p) (boxes t) ≡ filterb (isListed p) (boxes s)
+    same-listed d p = same-found-boxes H s t a d (isListed p) (λ x e. listed H s t a d x (and-l (mayList x) (same (nameOf x) p) e))
+
+    -- the parent of a mailbox, and of this one
+    same-parent : Dark H s → (x : Mailbox) → parentRow (boxes t) x ≡ parentRow (boxes s) x
+    same-parent d x = ap (λ (l : List Mailbox). getD l 0 (standIn (parentOf (nameOf x)))) (same-listed d (parentOf (nameOf x)))
+
+    own-parent : Dark H s → parentRow (boxes t) (theMailbox i (boxes t)) ≡ parentRow (boxes s) (theMailbox i (boxes s))
+    own-parent d = ap (parentRow (boxes t)) own ∙ same-parent d (theMailbox i (boxes s))
+
+    pub created-left : (at q v c : ℕ) (n : Name) → Dark H s → length (boxes s) < length (s .rows) → AlikeEvent H (created s i at q v c n) (created t i at q v c n)
+    created-left at q v c n d room = record {
       stored = alike-add H s t a (newBox i at v c n) hi room;
-      lines = λ j. loud q (createLines (a .session j) (newBox i at v c n));
+      lines = λ j. loud q (createLines (a .session j) (newBox i at v c n) ++ parentLines (a .session j) (same-parent d (newBox i at v c n) j) (newBox i at v c n));
     }
 
-    pub deleted-left : (q : ℕ) → AlikeEvent H (deleted s i q) (deleted t i q)
-    deleted-left q = record {
+    pub deleted-left : (q : ℕ) → Dark H s → AlikeEvent H (deleted s i q) (deleted t i q)
+    deleted-left q d = record {
       stored = alike-drop-mails H (dropBox s i) (dropBox t i) (alike-drop H s t a i) (inMailbox i);
-      lines = λ j. loud q (deleteLines (a .session j) (own j));
+      lines = λ j. loud q (deleteLines (a .session j) (own j) ++ parentLines (a .session j) (own-parent d j) (own j));
     }
 
     pub renamed-left : (q : ℕ) (n : Name) → AlikeEvent H (renamedTo s i q n) (renamedTo t i q n)
@@ -99,10 +111,10 @@ module _ (H : ℕ → Bool) (h0 : H 0 ≡ false) where
       lines = λ j. loud q (subscriptionLines (a .session j) (own j) b);
     }
 
-    pub granted-left : (r : ℕ) → AlikeEvent H (granted s i r) (granted t i r)
-    granted-left r = record {
+    pub granted-left : (r : ℕ) → Dark H s → AlikeEvent H (granted s i r) (granted t i r)
+    granted-left r d = record {
       stored = alike-put H s t a i hi (withRights (theMailbox i (boxes s)) r) (withRights (theMailbox i (boxes t)) r) (λ j. withRights (own j) r) stays;
-      lines = λ j. rightsLines (a .session j) (own j) (withRights (own j) r);
+      lines = λ j. rightsLines (a .session j) (own-parent d j) (own j) (withRights (own j) r);
     }
 
   -- how many messages a mailbox that stays has

@@ -63,9 +63,12 @@ no-list x e = or-l (mayList x) (mayRead x) e
 no-loud : (q : ℕ) (ls : List Line) → ls ≡ [] → loud q ls ≡ []
 no-loud q ls e = ap (loud q) e ∙ cond-same (eqb q 0) []
 
--- a line that both rights are needed for
+-- a line that both rights are needed for, and two of them
 no-when : (x : Mailbox) (b : Bool) (l : Line) → visible x ≡ false → when (bothRights x && b) l ≡ []
 no-when x b l e = rw (no-list x e)
+
+no-two : (x : Mailbox) (b c : Bool) (l k : Line) → visible x ≡ false → when (bothRights x && b) l ++ when (bothRights x && c) k ≡ []
+no-two x b c l k e = rw (no-list x e)
 
 module _ (H : ℕ → Bool) (s t : Memory) (a : Alike H s t) where
   -- ---- a table changed where it is left out
@@ -182,12 +185,12 @@ module _ (H : ℕ → Bool) (h0 : H 0 ≡ false) (s t : Memory) (a : Alike H s t
       let z : anyb p (boxes s ++ (x ∷ [])) ≡ false = dim-after (λ (k : Memory). created k i at q v c n) (boxes s ++ (x ∷ [])) (boxes-with s (boxes s ++ (x ∷ []))) (boxes-with (silence s) (boxes s ++ (x ∷ []))) dark in
       let w : (eqb i i && visible x) ≡ false = or-r (anyb p (boxes s)) (p x) (rw (any-snoc p (boxes s) x) at z) in
       let e : visible x ≡ false = rw (eq-eqb i i refl) at w in
-      off-told H s t (λ (k : Memory). created k i at q v c n) (no-loud q _ (no-when x _ _ e))
+      off-told H s t (λ (k : Memory). created k i at q v c n) (no-loud q _ (no-two x _ _ _ _ e))
       (off-boxes H s t a (boxes s ++ (x ∷ [])) (filter-append (staysBox H) (boxes s) (x ∷ []) ∙ rw hi (append-nil (boxesOff H (boxes s))))
       (let m = length-append (boxes s) (x ∷ []) in omega arith))
 
   pub deleted-off : (q : ℕ) → Alike H (eventOutcome s (λ (k : Memory). deleted k i q) .after) t
-  deleted-off q = off-told H s t (λ (k : Memory). deleted k i q) (no-loud q _ (no-when (theMailbox i (boxes s)) _ _ dim))
+  deleted-off q = off-told H s t (λ (k : Memory). deleted k i q) (no-loud q _ (no-two (theMailbox i (boxes s)) _ _ _ _ dim))
       (off-drop-mails (dropBox s i)
       (off-boxes H s t a (filterb (λ (x : Mailbox). not (eqb (x .id) i)) (boxes s))
       (filter-filter (staysBox H) (λ (x : Mailbox). not (eqb (x .id) i)) (boxes s) (λ x k. ap not (other-box x k)))

@@ -30,7 +30,7 @@ use Rattle.demands.specs.Lasting.Spoken.{law-drop-mails, law-change, one
 
 -- ---- a row's own fields
 -- the row that an id has is in order
-row-ok : (i : ℕ) (l : List Mailbox) → known i l ≡ true → allb mailboxOk l ≡ true → mailboxOk (theMailbox i l) ≡ true
+pub row-ok : (i : ℕ) (l : List Mailbox) → known i l ≡ true → allb mailboxOk l ≡ true → mailboxOk (theMailbox i l) ≡ true
 unfolding place
 row-ok i [] k e = tf false k refl
 row-ok i (x ∷ l) k e = go (eqb (x .id) i) refl (row-ok i l)
@@ -40,7 +40,7 @@ row-ok i (x ∷ l) k e = go (eqb (x .id) i) refl (row-ok i l)
     go false g ih = rw g (ih (lt-ltb (place i l) (length l) (let z = ltb-true (suc (place i l)) (suc (length l)) (rw g at k) in omega arith)) (and-r (mailboxOk x) _ e))
 
 -- the fields of a row in order
-row-facts : (x : Mailbox) → mailboxOk x ≡ true → (leb 1 (x .id) ≡ true) × (leb (x .attributes) 63 ≡ true) × (leb 1 (x .uidvalidity) ≡ true) × (leb 1 (x .uidnext) ≡ true) × (counterOk (counterOf x) ≡ true) × (leb (x .namelen) 64 ≡ true) × (valid (nameOf x) ≡ true) × (same (fold (nameOf x)) (nameOf x) ≡ true) × (zeros (drop (x .namelen) (x .name)) ≡ true)
+pub row-facts : (x : Mailbox) → mailboxOk x ≡ true → (leb 1 (x .id) ≡ true) × (leb (x .attributes) 63 ≡ true) × (leb 1 (x .uidvalidity) ≡ true) × (leb 1 (x .uidnext) ≡ true) × (counterOk (counterOf x) ≡ true) × (leb (x .namelen) 64 ≡ true) × (valid (nameOf x) ≡ true) × (same (fold (nameOf x)) (nameOf x) ≡ true) × (zeros (drop (x .namelen) (x .name)) ≡ true)
 row-facts x h =
     let e = each (leb 1 (x .id) ∷ leb (x .attributes) 63 ∷ leb 1 (x .uidvalidity) ∷ leb 1 (x .uidnext) ∷ counterOk (counterOf x) ∷ leb (x .namelen) 64 ∷ valid (nameOf x) ∷ same (fold (nameOf x)) (nameOf x) ∷ zeros (drop (x .namelen) (x .name)) ∷ []) h in
     (e .0, e .1 .0, e .1 .1 .0, e .1 .1 .1 .0, e .1 .1 .1 .1 .0, e .1 .1 .1 .1 .1 .0, e .1 .1 .1 .1 .1 .1 .0, e .1 .1 .1 .1 .1 .1 .1 .0, e .1 .1 .1 .1 .1 .1 .1 .1 .0)

@@ -1,17 +1,17 @@
 -- Where no group stands, no event owes a line. Assumes nothing.
-use mathlib.Core.Path.{_≡_, refl, _∙_, ap}
-use mathlib.Core.List.{List, []}
+use mathlib.Core.Path.{_≡_, refl, _∙_, ap, ap₂}
+use mathlib.Core.List.{List, [], _++_}
 use mathlib.Core.Bool.{Bool, true, false, cond, _&&_}
 use Prim.Native.Nat.{ℕ}
 use lib.Dec.{eqb}
 use Rattle.model.specs.Lists.{when}
 use Rattle.model.specs.Laws.{and-false, cond-same}
-use Rattle.model.specs.Names.{Name}
+use Rattle.model.specs.Names.{Name, hasParent}
 use Rattle.model.specs.Memory.{Memory, boxes, nameOf, theMailbox, mayList, bothRights, isSelected, selectedBox, dropMails, isMessage}
 use Rattle.model.specs.Groups.{asked, askedOf, selectedAsks, asksNew, asksExpunge, asksFlags}
 use Rattle.model.specs.Lines.{Line, StatusItem}
 use Rattle.model.specs.View.{newAtOnce, expungeAtOnce, flagsAtOnce, flagsWait, announcing}
-use Rattle.model.specs.Events.{Event, loud, createLines, deleteLines, subscriptionLines, newBox, created, deleted, renamedTo, subscribedTo, withRights, granted, statusLines, countsOf, changesOf, withArrived, arrived, inView, removed, reflagged}
+use Rattle.model.specs.Events.{Event, loud, createLines, deleteLines, parentRow, parentLines, subscriptionLines, newBox, created, deleted, renamedTo, subscribedTo, withRights, granted, statusLines, countsOf, changesOf, withArrived, arrived, inView, removed, reflagged}
 use Rattle.model.specs.declared.Mailbox.{Mailbox}
 use Rattle.model.specs.declared.Group.{Group}
 
@@ -44,11 +44,14 @@ module _ (m : Memory) (e : m .session .groupcount ≡ 0) where
   no-delete : (x : Mailbox) → deleteLines (m .session) x ≡ []
   no-delete x = no-line (bothRights x) _ _ (nobody (nameOf x) (x .attributes) _)
 
+  no-parent : (y x : Mailbox) → parentLines (m .session) y x ≡ []
+  no-parent y x = no-line (bothRights x) _ _ (ap (λ (b : Bool). hasParent (nameOf x) && b) (nobody (nameOf y) (y .attributes) _) ∙ and-false (hasParent (nameOf x)))
+
   pub created-none : (i a q v c : ℕ) (n : Name) → created m i a q v c n .lines ≡ []
-  created-none i a q v c n = quiet q _ (no-create (newBox i a v c n))
+  created-none i a q v c n = quiet q _ (ap₂ _++_ (no-create (newBox i a v c n)) (no-parent (parentRow (boxes m) (newBox i a v c n)) (newBox i a v c n)))
 
   pub deleted-none : (i q : ℕ) → deleted m i q .lines ≡ []
-  deleted-none i q = quiet q _ (no-delete (theMailbox i (boxes m)))
+  deleted-none i q = quiet q _ (ap₂ _++_ (no-delete (theMailbox i (boxes m))) (no-parent (parentRow (boxes m) (theMailbox i (boxes m))) (theMailbox i (boxes m))))
 
   pub renamed-none : (i q : ℕ) (n : Name) → renamedTo m i q n .lines ≡ []
   renamed-none i q n = quiet q _ (no-line (bothRights (theMailbox i (boxes m))) _ _ (rw e))
@@ -59,10 +62,10 @@ module _ (m : Memory) (e : m .session .groupcount ≡ 0) where
   pub granted-none : (i r : ℕ) → granted m i r .lines ≡ []
   granted-none i r = go (mayList (theMailbox i (boxes m))) (mayList (withRights (theMailbox i (boxes m)) r))
     where
-      go : (b c : Bool) → cond b (cond c [] (deleteLines (m .session) (theMailbox i (boxes m)))) (cond c (createLines (m .session) (withRights (theMailbox i (boxes m)) r)) []) ≡ []
+      go : (b c : Bool) → cond b (cond c [] (deleteLines (m .session) (theMailbox i (boxes m)) ++ parentLines (m .session) (parentRow (boxes m) (theMailbox i (boxes m))) (theMailbox i (boxes m)))) (cond c (createLines (m .session) (withRights (theMailbox i (boxes m)) r) ++ parentLines (m .session) (parentRow (boxes m) (theMailbox i (boxes m))) (withRights (theMailbox i (boxes m)) r)) []) ≡ []
       go true true = refl
-      go true false = no-delete (theMailbox i (boxes m))
-      go false true = no-create (withRights (theMailbox i (boxes m)) r)
+      go true false = ap₂ _++_ (no-delete (theMailbox i (boxes m))) (no-parent (parentRow (boxes m) (theMailbox i (boxes m))) (theMailbox i (boxes m)))
+      go false true = ap₂ _++_ (no-create (withRights (theMailbox i (boxes m)) r)) (no-parent (parentRow (boxes m) (theMailbox i (boxes m))) (withRights (theMailbox i (boxes m)) r))
       go false false = refl
 
   no-new : newAtOnce m ≡ false

@@ -1,17 +1,17 @@
 -- One taken call: a record about a mailbox. Assumes nothing.
 use mathlib.Core.Path.{_≡_, refl, sym, _∙_, ap}
-use mathlib.Core.List.{List, [], _∷_, map}
+use mathlib.Core.List.{List, [], _∷_, _++_, map}
 use mathlib.Core.Bool.{Bool, true, false, not, cond, _&&_, _||_}
 use Prim.Native.Nat.{ℕ}
 use lib.Dec.{eqb}
 use Rattle.model.specs.Lists.{filterb, when}
 use Rattle.model.specs.Laws.{filter-map}
-use Rattle.model.specs.Names.{Name}
+use Rattle.model.specs.Names.{Name, hasParent}
 use Rattle.model.specs.Records.{Record, create, delete, rename, subscribe, grant}
 use Rattle.model.specs.Memory.{Memory, boxes, mails, nameOf, mayList, selectable, bothRights, known, theMailbox, isSelected, isMessage, inMailbox, withName, dropBox, dropMails}
 use Rattle.model.specs.Groups.{asked, askedOf, asksName, asksSubscription}
 use Rattle.model.specs.Lines.{Line, list, renamed, plain, noselect, nonExistent, subscribed}
-use Rattle.model.specs.Events.{Event, loud, createLines, deleteLines, renameLines, subscriptionLines, rightsLines, listMark, newBox, created, deleted, renamedTo, subscribedTo, granted, withSubscribed, withRights, silence}
+use Rattle.model.specs.Events.{Event, loud, createLines, deleteLines, parentRow, parentMark, parentAsked, parentLines, renameLines, subscriptionLines, rightsLines, listMark, newBox, created, deleted, renamedTo, subscribedTo, granted, withSubscribed, withRights, silence}
 use Rattle.model.specs.Rules.{rested, eventOutcome}
 use Rattle.demands.specs.Lasting.Law.{Law}
 use Rattle.demands.specs.Isolation.Alike.{mails-with}
@@ -49,19 +49,51 @@ plain-state false n = also ((refl, refl), refl) none
 
 -- ---- what each owes: the lines of the event, which are plain
 module _ (w : Memory) (x : Mailbox) where
-  name-lines : (l : Line) → when (bothRights x && askedOf (w .session) x asksName) l ≡ once (nameDue w x l)
-  name-lines l = notice-lines (bothRights x) (met w (x .id) (nameOf x) (x .attributes)) (askedOf (w .session) x asksName) l
+  abbrev y : Mailbox
+  y = parentRow (boxes w) x
+
+  abbrev upper : Line
+  upper = list (parentMark y) (nameOf y)
+
+  abbrev oneMet : Bool
+  oneMet = met w (x .id) (nameOf x) (x .attributes) || (hasParent (nameOf x) && met w (y .id) (nameOf y) (y .attributes))
+
+  abbrev oneAsked : Bool
+  oneAsked = askedOf (w .session) x asksName || parentAsked (w .session) y x
+
+  name-lines : (l : Line) → when (bothRights x && askedOf (w .session) x asksName) l ++ parentLines (w .session) y x ≡ once (nameDue w x l)
+  name-lines l = go (bothRights x) (askedOf (w .session) x asksName) (parentAsked (w .session) y x) oneMet
+    where
+      go : (r a b g : Bool) → when (r && a) l ++ when (r && b) upper ≡ once (notice r g (a || b) (atOnce (when a l ++ when b upper)))
+      go true true b g = refl
+      go true false true g = refl
+      go true false false g = refl
+      go false a b g = refl
+
+  plain-upper : All plainLine (upper ∷ [])
+  plain-upper = go (mayList y) (selectable y)
+    where
+      go : (c d : Bool) → All plainLine (list (cond c (cond d plain noselect) nonExistent) (nameOf y) ∷ [])
+      go true true = also ((refl, refl), refl) none
+      go true false = also ((refl, refl), refl) none
+      go false d = also ((refl, refl), refl) none
 
   name-plain : (l : Line) → All plainLine (l ∷ []) → Plain (nameDue w x l)
-  name-plain l p = plain-notice (bothRights x) (met w (x .id) (nameOf x) (x .attributes)) (askedOf (w .session) x asksName) (atOnce (l ∷ [])) p
+  name-plain l p = plain-notice (bothRights x) oneMet oneAsked _ (go (askedOf (w .session) x asksName) (parentAsked (w .session) y x) p plain-upper)
+    where
+      go : (a b : Bool) → All plainLine (l ∷ []) → All plainLine (upper ∷ []) → All plainLine (when a l ++ when b upper)
+      go true true (also h none) q = also h q
+      go true false h q = h
+      go false true h q = q
+      go false false h q = none
 
-  appears-lines : createLines (w .session) x ≡ once (appears w x)
+  appears-lines : createLines (w .session) x ++ parentLines (w .session) y x ≡ once (appears w x)
   appears-lines = name-lines (list (listMark x) (nameOf x))
 
   appears-plain : Plain (appears w x)
   appears-plain = name-plain (list (listMark x) (nameOf x)) (plain-mark x (nameOf x))
 
-  goes-lines : deleteLines (w .session) x ≡ once (goes w x)
+  goes-lines : deleteLines (w .session) x ++ parentLines (w .session) y x ≡ once (goes w x)
   goes-lines = name-lines (list nonExistent (nameOf x))
 
   goes-plain : Plain (goes w x)
@@ -111,14 +143,14 @@ module _ (w : Memory) (x y : Mailbox) where
       go false true = appears-plain w y
       go false false = tt
 
-  rights-lines : rightsLines (w .session) x y ≡ once (rightsDue w x y)
-  rights-lines = go (mayList x) (mayList y)
+  rights-lines : parentRow (boxes w) x ≡ parentRow (boxes w) y → rightsLines (w .session) (parentRow (boxes w) x) x y ≡ once (rightsDue w x y)
+  rights-lines e = go (mayList x) (mayList y)
     where
-      go : (c d : Bool) → cond c (cond d [] (deleteLines (w .session) x)) (cond d (createLines (w .session) y) [])
+      go : (c d : Bool) → cond c (cond d [] (deleteLines (w .session) x ++ parentLines (w .session) (parentRow (boxes w) x) x)) (cond d (createLines (w .session) y ++ parentLines (w .session) (parentRow (boxes w) x) y) [])
           ≡ once (cond c (cond d (nothing noEvent) (goes w x)) (cond d (appears w y) (nothing noEvent)))
       go true true = refl
       go true false = goes-lines w x
-      go false true = appears-lines w y
+      go false true = ap (λ (p : Mailbox). createLines (w .session) y ++ parentLines (w .session) p y) e ∙ appears-lines w y
       go false false = refl
 
 -- ---- the five records
@@ -160,7 +192,7 @@ module _ (m : Memory) (k : Law m) (a : Account) (b : Books m a) where
   unfolding due owedNow
   granted-step i r =
       let x = theMailbox i (boxes m) in
-      quietly (grant i r) (λ (h : Memory). granted h i r) (rights-lines (apparent m) x (withRights x r))
+      quietly (grant i r) (λ (h : Memory). granted h i r) (rights-lines (apparent m) x (withRights x r) refl)
       (λ w. let y = theMailbox i (boxes w) in rights-plain w y (withRights y r))
       (λ ls. refl) (λ d. refl) (unmoved m _ refl refl refl) (unmoved m _ refl refl refl) (λ f ls. b .kept) (λ f ls. b .kept)
 

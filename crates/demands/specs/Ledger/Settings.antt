@@ -15,10 +15,10 @@ use Rattle.model.specs.Commands.{tagOf, commandOf}
 use Rattle.model.specs.Records.{Record, create, delete, rename, subscribe, grant, arrive, expunge, reflag, select, ended, command, drained, noRecord, isRecord, recordOf}
 use Rattle.model.specs.Memory.{Memory, boxes, filled, nameOf, subscribed as isSubscribed, mayList, bothRights, known, theMailbox, place, isSelected, isMessage, withName, withNext, withAttributes, dropMails, changeMails}
 use Rattle.model.specs.Groups.{askedOf, asked, asksName, asksSubscription, asksNew, asksExpunge, asksFlags}
-use Rattle.model.specs.Lines.{Line, StatusItem, status, list, renamed, exists, expunge as expungeLine, fetch, found, overflow, answer, plain, nonExistent, subscribed, renderAll}
+use Rattle.model.specs.Lines.{Line, StatusItem, status, list, renamed, exists, expunge as expungeLine, fetch, found, overflow, answer, ListMark, plain, nonExistent, subscribed, renderAll}
 use Rattle.model.specs.Queue.{fits, enqueue, dequeue, unmark, showsFlags, effect, effects, say}
 use Rattle.model.specs.View.{view, unannounced, existsLine, newLines, newAtOnce, expungeAtOnce, flagsAtOnce, flagsWait, showsAny, announcing}
-use Rattle.model.specs.Events.{Event, loud, listMark, newBox, created, deleted, renamedTo, subscribedTo, granted, withSubscribed, withRights, withArrived, arrived, statusLines, countsOf, changesOf, inView, removed, reflagged, silence, tellings, settled}
+use Rattle.model.specs.Events.{Event, loud, listMark, parentRow, parentMark, parentAsked, parentLines, newBox, created, deleted, renamedTo, subscribedTo, granted, withSubscribed, withRights, withArrived, arrived, statusLines, countsOf, changesOf, inView, removed, reflagged, silence, tellings, settled}
 use Rattle.model.specs.Answering.{workLines, acceptedLines, isAccepted, reply, verb, verbOf, answerLines, sessionBy, withAsked, answered}
 use Rattle.model.specs.Answers.{numberOf}
 use Rattle.model.specs.Lawful.{lawful}
@@ -99,6 +99,14 @@ told-setting m event by h n = undrained (filled m) (length (renderAll (eventOutc
 when-none : (c : Bool) (l : Line) → isOverflow l ≡ false → anyb isOverflow (when c l) ≡ false
 when-none true l h = rw h
 when-none false l h = refl
+
+-- the two lines of a mailbox that appears or goes
+two-none : (c d : Bool) (k l : Line) → isOverflow k ≡ false → isOverflow l ≡ false → anyb isOverflow (when c k ++ when d l) ≡ false
+two-none true d k l g h = rw g (when-none d l h)
+two-none false d k l g h = when-none d l h
+
+name-none : (s : Session) (p x : Mailbox) (k : ListMark) → anyb isOverflow (when (bothRights x && askedOf s x asksName) (list k (nameOf x)) ++ parentLines s p x) ≡ false
+name-none s p x k = two-none (bothRights x && askedOf s x asksName) (bothRights x && parentAsked s p x) (list k (nameOf x)) (list (parentMark p) (nameOf p)) refl refl
 
 loud-none : (q : ℕ) (ls : List Line) → anyb isOverflow ls ≡ false → anyb isOverflow (loud q ls) ≡ false
 loud-none q ls h = go (eqb q 0)
@@ -221,10 +229,10 @@ kind-setting : (m : Memory) (r : Record) → wrongId m r ≡ false
 unfolding accepted renderAll
 kind-setting m (create i a q v c n) d = told-setting m (λ (k : Memory). created k i a q v c n) (λ (l : List Mailbox). l ++ (newBox i a v c n ∷ []))
     (λ k. ap (λ (l : List Mailbox). record { boxes = l; session = settingOf k .session; filled = filled k }) (boxes-with k (boxes k ++ (newBox i a v c n ∷ []))))
-    (loud-none q _ (when-none (bothRights (newBox i a v c n) && askedOf (m .session) (newBox i a v c n) asksName) (list (listMark (newBox i a v c n)) (nameOf (newBox i a v c n))) refl))
+    (loud-none q _ (name-none (m .session) (parentRow (boxes m) (newBox i a v c n)) (newBox i a v c n) (listMark (newBox i a v c n))))
 kind-setting m (delete i q) d = told-setting m (λ (k : Memory). deleted k i q) (filterb (λ (x : Mailbox). not (eqb (x .id) i)))
     (λ k. ap (λ (l : List Mailbox). record { boxes = l; session = settingOf k .session; filled = filled k }) (boxes-with k (filterb (λ (x : Mailbox). not (eqb (x .id) i)) (boxes k))))
-    (loud-none q _ (when-none (bothRights (theMailbox i (boxes m)) && askedOf (m .session) (theMailbox i (boxes m)) asksName) (list nonExistent (nameOf (theMailbox i (boxes m)))) refl))
+    (loud-none q _ (name-none (m .session) (parentRow (boxes m) (theMailbox i (boxes m))) (theMailbox i (boxes m)) nonExistent))
 kind-setting m (rename i q n) d = told-setting m (λ (k : Memory). renamedTo k i q n) (λ (l : List Mailbox). set l (place i l) (withName (theMailbox i l) n))
     (λ k. ap (λ (l : List Mailbox). record { boxes = l; session = settingOf k .session; filled = filled k }) (boxes-with k (set (boxes k) (place i (boxes k)) (withName (theMailbox i (boxes k)) n))))
     (loud-none q _ (when-none (bothRights (theMailbox i (boxes m)) &&
@@ -240,9 +248,8 @@ kind-setting m (subscribe i b q) d = told-setting m (λ (k : Memory). subscribed
 kind-setting m (grant i r) d = told-setting m (λ (k : Memory). granted k i r) (λ (l : List Mailbox). set l (place i l) (withRights (theMailbox i l) r))
     (λ k. ap (λ (l : List Mailbox). record { boxes = l; session = settingOf k .session; filled = filled k }) (boxes-with k (set (boxes k) (place i (boxes k)) (withRights (theMailbox i (boxes k)) r))))
     (rights-none (mayList (theMailbox i (boxes m))) (mayList (withRights (theMailbox i (boxes m)) r)) _ _
-    (when-none (bothRights (theMailbox i (boxes m)) && askedOf (m .session) (theMailbox i (boxes m)) asksName) (list nonExistent (nameOf (theMailbox i (boxes m)))) refl)
-    (when-none (bothRights (withRights (theMailbox i (boxes m)) r) && askedOf (m .session) (withRights (theMailbox i (boxes m)) r) asksName)
-    (list (listMark (withRights (theMailbox i (boxes m)) r)) (nameOf (withRights (theMailbox i (boxes m)) r))) refl))
+    (name-none (m .session) (parentRow (boxes m) (theMailbox i (boxes m))) (theMailbox i (boxes m)) nonExistent)
+    (name-none (m .session) (parentRow (boxes m) (theMailbox i (boxes m))) (withRights (theMailbox i (boxes m)) r) (listMark (withRights (theMailbox i (boxes m)) r))))
 kind-setting m (arrive i u f z c) d =
     let kn = not-false (known i (boxes m)) d in
     let k = raised m i c in

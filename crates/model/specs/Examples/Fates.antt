@@ -105,6 +105,18 @@ pub at-once-elsewhere : Became
 unfolding accounted
 at-once-elsewhere = refl
 
+-- of a mailbox and its parent, or of the parent alone (02, 2)
+pub at-once-above : Became
+    (cm "n NOTIFY SET (subtree a (MailboxName)) (mailboxes c (MailboxName))" ∷ mb 2 0x33 0 1 1 "a/b" ∷ mb 3 0x33 0 1 1 "c/d" ∷ dl 3 0 ∷ mb 3 0x33 0 1 1 "d/e" ∷ [])
+    (unowed noEvent ∷ reported 6 ∷ reported 7 ∷ reported 8 ∷ unowed unmet ∷ [])
+unfolding accounted
+at-once-above = refl
+
+pub at-once-above-exact : Written
+    (cm "n NOTIFY SET (subtree a (MailboxName)) (mailboxes c (MailboxName))" ∷ mb 2 0x33 0 1 1 "a/b" ∷ mb 3 0x33 0 1 1 "c/d" ∷ dl 3 0 ∷ [])
+unfolding accounted
+at-once-above-exact = refl
+
 -- of messages in the selected one; a delayed group lets the expunge wait
 pub at-once : Became
     (cm "n NOTIFY SET (selected (MessageNew MessageExpunge FlagChange))" ∷ me 1 3 0 0 4 ∷ fl 1 3 1 5 ∷ xp 1 1 6 ∷ [])
@@ -233,6 +245,13 @@ pub lost-elsewhere : Became
     (unowed quiet ∷ replicate 22 (unowed noEvent) ++ (lost ∷ unowed unmet ∷ []))
 unfolding accounted
 lost-elsewhere = refl
+
+-- a mailbox and its parent are told together or not at all: there is room for the 21 octets of its own line, and not for the parent's too
+pub lost-above : Became
+    (cm "n NOTIFY SET (subtree a (MailboxName))" ∷ filling ++ (dr 20 ∷ mb 2 0x33 0 1 1 "a/b" ∷ mb 3 0x33 0 1 1 "a/c" ∷ []))
+    (replicate 23 (unowed noEvent) ++ (lost ∷ unowed unmet ∷ []))
+unfolding accounted
+lost-above = refl
 
 -- a command end with room for EXPUNGE and EXISTS (13 and 12 octets), and not for the FETCH, which the next one tells
 pub told-in-part : Became

@@ -76,6 +76,37 @@ naming-alike = by-ids naming
     (record { gone = refl; kept = refl; left = refl; right = refl })
     (record { hides = refl; rest = refl; excepts = refl; unexcepts = refl; left = refl; right = refl })
 
+-- ---- parents that are hidden, and a hidden child: `Ops` is met by its name as if it were absent, `Vault` by nobody though it is personal (02, 2)
+abbrev pub parent : Pair
+parent = record {
+  queue = 1024;
+  rows = 6;
+  entries = 6;
+  left =
+      mb 9 0x0F 1 7 1 "Ops" ∷ mb 7 0x0F 1 7 1 "Vault"
+      ∷ cm "t NOTIFY SET (subtree Ops (MailboxName)) (personal (MailboxName))"
+      ∷ mb 8 0x0F 0 7 1 "Ops/h" ∷ mb 1 0x31 0 7 1 "Ops/a" ∷ mb 3 0x31 0 7 1 "Vault/b" ∷ dl 8 0 ∷ dl 9 0 ∷ dl 1 0
+      ∷ [];
+  right =
+      cm "t NOTIFY SET (subtree Ops (MailboxName)) (personal (MailboxName))"
+      ∷ mb 1 0x31 0 7 1 "Ops/a" ∷ mb 3 0x31 0 7 1 "Vault/b" ∷ dl 1 0
+      ∷ [];
+  gone = 7 ∷ 8 ∷ 9 ∷ [];
+  kept = 0 ∷ 1 ∷ 3 ∷ [];
+}
+
+pub parent-alike : Alike parent (
+    says ("t OK NOTIFY done" ∷ [])
+    ∷ says ("* LIST () \"/\" \"Ops/a\"" ∷ "* LIST (\\NonExistent) \"/\" \"Ops\"" ∷ [])
+    ∷ silent
+    ∷ says ("* LIST (\\NonExistent) \"/\" \"Ops/a\"" ∷ "* LIST (\\NonExistent) \"/\" \"Ops\"" ∷ [])
+    ∷ []
+    )
+unfolding computed
+parent-alike = by-ids parent
+    (record { gone = refl; kept = refl; left = refl; right = refl })
+    (record { hides = refl; rest = refl; excepts = refl; unexcepts = refl; left = refl; right = refl })
+
 -- ---- the limit of Q - 64 octets on an answer: two lines of ESEARCH are within it; with those of three hidden mailboxes it would be passed
 abbrev pub limit : Pair
 limit = record {

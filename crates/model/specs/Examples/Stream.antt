@@ -7,7 +7,7 @@ use Prim.Native.String.{String}
 use lib.ListN.{length}
 use Rattle.model.specs.Lists.{same, concatMap}
 use Rattle.model.specs.Text.{octets, decimal, digits, quoted, escape}
-use Rattle.model.specs.Names.{noPartEmpty, leads, before}
+use Rattle.model.specs.Names.{noPartEmpty, beforeSlash, leads, before}
 use Rattle.model.specs.Memory.{place}
 use Rattle.model.specs.Records.{recordOf}
 use Rattle.model.specs.Reading.{runLength, valueFrom, unquote, rowAt, numberAt, setAt, dateAt}
@@ -94,5 +94,5 @@ Prints os ts = pushrun (concatMap (λ (o : Octets). o) os) ≡ lines ts
 
 -- all that an example computes with: it says `unfolding computed`
 unfoldable pub computed : Unit {0}
-unfolding cut printed call accepted lawful answerLines answered tellings settled effects written shifted fitting renderAll render runsText decimal digits quoted escape same noPartEmpty leads before place recordOf runLength valueFrom unquote rowAt numberAt setAt dateAt sectionWord sectionAt labelOf attributeAt scopeOf filterAt eventOf eventsAt groupAt notifyAt keywordOf startAt keyAt returnsAt charsetAt searchAt commandOf tagOf someTest keyCount keyDepth expungeLines markedLines newLines holds matching
+unfolding cut printed call accepted lawful answerLines answered tellings settled effects written shifted fitting renderAll render runsText decimal digits quoted escape same noPartEmpty beforeSlash leads before place recordOf runLength valueFrom unquote rowAt numberAt setAt dateAt sectionWord sectionAt labelOf attributeAt scopeOf filterAt eventOf eventsAt groupAt notifyAt keywordOf startAt keyAt returnsAt charsetAt searchAt commandOf tagOf someTest keyCount keyDepth expungeLines markedLines newLines holds matching
 computed = tt

@@ -8,10 +8,10 @@ use lib.ListN.{length, getD, set, take}
 use lib.Seq.{length-take-le}
 use borrow.Author.Tests.{leb-true, leb-false, ltb-true, not-false}
 use Rattle.model.specs.Lists.{filterb}
-use Rattle.model.specs.Names.{Name, valid, fold, argument}
+use Rattle.model.specs.Names.{Name, valid, fold, argument, parentOf}
 use Rattle.model.specs.Memory.{Memory, boxes, filled, nameOf, noMailbox, noMessage, place, known, theMailbox, inMailbox, withAttributes, withName, refill, dropMails}
 use Rattle.model.specs.Lines.{list, renamed, nonExistent}
-use Rattle.model.specs.Events.{silence, created, deleted, renamedTo, subscribedTo, granted, withRights, withSubscribed, newBox, listMark}
+use Rattle.model.specs.Events.{silence, created, deleted, renamedTo, subscribedTo, granted, withRights, withSubscribed, newBox, listMark, listedRow, parentRow, parentLines}
 use Rattle.model.specs.Refusals.{tableFull}
 use Rattle.model.specs.Rules.{accepted}
 use Rattle.model.specs.Records.{create, delete, rename, subscribe, grant}
@@ -23,15 +23,17 @@ use Rattle.table_mailboxes.specs.Walks.{row-at}
 use Rattle.table_mailboxes.specs.Rows.{boxes-long, put-at, add-at}
 use Rattle.table_mailboxes.specs.Shift.{closed}
 use Rattle.line_put.specs.Heard.{Heard, After}
-use Rattle.event_mailbox.specs.Rights.{grantTold, grantMark, grantAfter, rights-when}
+use Rattle.match_parent.specs.Upper.{StandsFor}
+use Rattle.event_mailbox.specs.Appearing.{eitherTold, bothLines, both-ends, both-when}
+use Rattle.event_mailbox.specs.Rights.{grantRow, grantMark, grantAfter, grant-name, rights-by}
 use Rattle.event_mailbox.specs.Subscriptions.{subscribeTold, subscribeMark, subscribeAfter, loud-when}
-use Rattle.event_mailbox.specs.Creating.{createTold, createAfter}
+use Rattle.event_mailbox.specs.Creating.{createAfter}
 use Rattle.event_mailbox.specs.Renaming.{renameTold, renameAfter}
 use Rattle.event_mailbox.specs.Deleting.{deleteHeard}
 use Rattle.laws.specs.Room.{law-room}
-use Rattle.event_mailbox.specs.Free.{grant-free, subscribe-free, create-free, rename-free}
+use Rattle.event_mailbox.specs.Free.{both-free, subscribe-free, rename-free}
 use Rattle.event_mailbox.specs.Dropping.{drop-at}
-use Rattle.event_mailbox.specs.Telling.{told-made}
+use Rattle.event_mailbox.specs.Telling.{told-list, told-made}
 
 -- memory where row k is another, n rows are used, and something was heard
 abbrev pub left : Memory → ℕ → ℕ → After → Memory
@@ -83,28 +85,34 @@ module _ (m : Memory) (law : Law m) (i : ℕ) where
     the-row : theMailbox i (boxes m) ≡ x
     the-row = row-at i (m .rows) (m .counts .mailboxes) k fit at noMailbox within ∙ sym is
 
-    pub grant-accepted : (r : ℕ) → accepted m (grant i r) .after ≡ left m k (m .counts .mailboxes) (grantAfter (m .queue) (m .session) (filled m) x r)
+    -- y stands for its parent
+    pub grant-accepted : (r : ℕ) (y : Mailbox) → StandsFor (m .session) (boxes m) (nameOf x) y
+        → accepted m (grant i r) .after ≡ left m k (m .counts .mailboxes) (grantAfter (m .queue) (m .session) (filled m) y x r)
     unfolding accepted
-    grant-accepted r =
-        told-made m (λ (j : Memory). granted j i r) (λ (h : Heard). left m k (m .counts .mailboxes) (record { row = withRights x r; heard = h }))
-        (list (grantMark x (withRights x r)) (nameOf x))
-        (rw the-row (put-at m fit i k (withRights x r) at within))
-        (rw the-row (put-at (silence m) fit i k (withRights x r) at within))
+    grant-accepted r y st =
+        let z : Mailbox = withRights x r in
+        let w : Mailbox = grantRow x z in
+        let named : nameOf w ≡ nameOf x = grant-name x z refl in
+        told-list m (λ (j : Memory). granted j i r) (λ (h : Heard). left m k (m .counts .mailboxes) (record { row = z; heard = h }))
+        (rw the-row (put-at m fit i k z at within))
+        (rw the-row (put-at (silence m) fit i k z at within))
         (λ h t. refl)
-        (λ j. refl)
-        (grantTold (m .session) x (withRights x r))
-        (rw the-row (rights-when (m .session) x (withRights x r) refl))
-        (grant-free _ _ _ (law-room m law) x (withRights x r))
+        (bothLines (m .session) y w 0 (grantMark x z))
+        (both-ends (m .session) y w 0 (grantMark x z))
+        (eitherTold (m .session) y w 0)
+        (rw the-row (rights-by (m .session) (parentRow (boxes m) x) x z
+        ∙ both-when (m .session) y w 0 (grantMark x z) _ (st w named ∙ ap (λ (n : Name). parentLines (m .session) (listedRow (parentOf n) (boxes m)) w) named)))
+        (both-free _ _ _ (law-room m law) y w 0)
 
     pub subscribe-accepted : (b q : ℕ) → accepted m (subscribe i b q) .after ≡ left m k (m .counts .mailboxes) (subscribeAfter (m .queue) (m .session) (filled m) x b q)
     unfolding accepted
     subscribe-accepted b q =
         let y : Mailbox = withAttributes x (withSubscribed (x .attributes) b) in
         told-made m (λ (j : Memory). subscribedTo j i b q) (λ (h : Heard). left m k (m .counts .mailboxes) (record { row = y; heard = h }))
-        (list (subscribeMark b) (nameOf x))
         (rw the-row (put-at m fit i k y at within))
         (rw the-row (put-at (silence m) fit i k y at within))
         (λ h t. refl)
+        (list (subscribeMark b) (nameOf x))
         (λ j. refl)
         (subscribeTold (m .session) x b q)
         (rw the-row (loud-when q _ (list (subscribeMark b) (nameOf x))))
@@ -117,43 +125,45 @@ module _ (m : Memory) (law : Law m) (i : ℕ) where
         let y : Mailbox = withName x (fold n) in
         rw (valid-argument n v)
         (told-made m (λ (j : Memory). renamedTo j i q (fold n)) (λ (h : Heard). left m k (m .counts .mailboxes) (record { row = y; heard = h }))
-        (renamed (listMark x) (nameOf y) (nameOf x))
         (rw the-row (put-at m fit i k y at within))
         (rw the-row (put-at (silence m) fit i k y at within))
         (λ h t. refl)
+        (renamed (listMark x) (nameOf y) (nameOf x))
         (λ j. refl)
         (renameTold (m .session) x y q)
         (rw the-row (loud-when q _ (renamed (listMark x) (nameOf y) (nameOf x))))
         (rename-free _ _ _ (law-room m law) x y q))
 
     -- its messages go with it
-    pub delete-accepted : (q : ℕ) → accepted m (delete i q) .after ≡ leftWithout m i k (deleteHeard (m .queue) (m .session) (filled m) x q)
+    pub delete-accepted : (q : ℕ) (y : Mailbox) → StandsFor (m .session) (boxes m) (nameOf x) y
+        → accepted m (delete i q) .after ≡ leftWithout m i k (deleteHeard (m .queue) (m .session) (filled m) y x q)
     unfolding accepted
-    delete-accepted q =
+    delete-accepted q y st =
         let c = length-take-le (m .counts .messages) (m .entries) (leb-true _ _ (law .taken)) in
-        told-made m (λ (j : Memory). deleted j i q) (leftWithout m i k) (list nonExistent (nameOf x))
+        told-list m (λ (j : Memory). deleted j i q) (leftWithout m i k)
         (ap (λ (j : Memory). dropMails j (inMailbox i)) (drop-at m law i k at within) ∙ rw c)
         (ap (λ (j : Memory). dropMails j (inMailbox i)) (drop-at (silence m) (law-silence m law) i k at within) ∙ rw c)
         (λ h t. refl)
-        (λ j. refl)
-        (createTold (m .session) x q)
-        (rw the-row (loud-when q _ (list nonExistent (nameOf x))))
-        (create-free _ _ _ (law-room m law) x q)
+        (bothLines (m .session) y x q nonExistent)
+        (both-ends (m .session) y x q nonExistent)
+        (eitherTold (m .session) y x q)
+        (rw the-row (both-when (m .session) y x q nonExistent _ (st x refl)))
+        (both-free _ _ _ (law-room m law) y x q)
 
-  pub create-accepted : (a q v c : ℕ) (n : Name) → valid n ≡ true → tableFull m (create i a q v c (fold n)) ≡ false
-      → accepted m (create i a q v c (fold n)) .after ≡ left m (m .counts .mailboxes) (m .counts .mailboxes + 1) (createAfter (m .queue) (m .session) (filled m) (newBox i a v c (argument n)) q)
+  pub create-accepted : (a q v c : ℕ) (n : Name) (y : Mailbox) → valid n ≡ true → tableFull m (create i a q v c (fold n)) ≡ false → StandsFor (m .session) (boxes m) (nameOf (newBox i a v c (argument n))) y
+      → accepted m (create i a q v c (fold n)) .after ≡ left m (m .counts .mailboxes) (m .counts .mailboxes + 1) (createAfter (m .queue) (m .session) (filled m) y (newBox i a v c (argument n)) q)
   unfolding accepted
-  create-accepted a q v c n ok free =
+  create-accepted a q v c n y ok free st =
       let l = boxes-long m fit in
       let z = leb-false (length (m .rows)) (length (boxes m)) free in
       let x : Mailbox = newBox i a v c (fold n) in
       rw (valid-argument n ok)
-      (told-made m (λ (j : Memory). created j i a q v c (fold n)) (λ (h : Heard). left m (m .counts .mailboxes) (m .counts .mailboxes + 1) (record { row = x; heard = h }))
-      (list (listMark x) (nameOf x))
+      (told-list m (λ (j : Memory). created j i a q v c (fold n)) (λ (h : Heard). left m (m .counts .mailboxes) (m .counts .mailboxes + 1) (record { row = x; heard = h }))
       (add-at m fit x (omega arith))
       (add-at (silence m) fit x (omega arith))
       (λ h t. refl)
-      (λ j. refl)
-      (createTold (m .session) x q)
-      (loud-when q _ (list (listMark x) (nameOf x)))
-      (create-free _ _ _ (law-room m law) x q))
+      (bothLines (m .session) y x q (listMark x))
+      (both-ends (m .session) y x q (listMark x))
+      (eitherTold (m .session) y x q)
+      (both-when (m .session) y x q (listMark x) _ (st x (ap (λ (k : Name). nameOf (newBox i a v c k)) (sym (valid-argument n ok)))))
+      (both-free _ _ _ (law-room m law) y x q))

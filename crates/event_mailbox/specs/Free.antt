@@ -1,33 +1,26 @@
 -- Who is told of a mailbox finds the last 64 octets of the queue free, kind by kind. Assumes nothing.
 use mathlib.Core.Path.{_≡_, refl}
-use mathlib.Core.Bool.{Bool, true, false, _&&_, _||_}
+use mathlib.Core.Bool.{Bool, true, false, not, _&&_, _||_}
 use Prim.Native.Nat.{ℕ, _-_, _≤_}
 use lib.Dec.{eqb}
-use borrow.Author.Tests.{leb-true}
-use Rattle.model.specs.Laws.{and-r, tf}
-use Rattle.model.specs.Memory.{nameOf, mayList, bothRights}
+use Rattle.model.specs.Laws.{and-r}
+use Rattle.model.specs.Memory.{nameOf, bothRights}
 use Rattle.model.specs.Groups.{askedOf, asksName, asksSubscription}
 use Rattle.model.specs.Events.{withSubscribed}
 use Rattle.laws.specs.Room.{Room, asked-free}
 use Rattle.model.specs.declared.Mailbox.{Mailbox}
 use Rattle.model.specs.declared.Session.{Session}
-use Rattle.event_mailbox.specs.Rights.{byChange, grantTold}
+use Rattle.event_mailbox.specs.Appearing.{ownTold, upperTold, eitherTold}
 use Rattle.event_mailbox.specs.Subscriptions.{differs, subscribeTold}
-use Rattle.event_mailbox.specs.Creating.{createTold}
 use Rattle.event_mailbox.specs.Renaming.{renameTold}
 
 module _ (q f : ℕ) (s : Session) (room : Room q f s) where
-  pub create-free : (x : Mailbox) (quiet : ℕ) → createTold s x quiet ≡ true → f ≤ q - 64
-  create-free x quiet h = asked-free q f s room (nameOf x) (x .attributes) asksName (and-r (bothRights x) _ (and-r (eqb quiet 0) _ h))
-
-  pub grant-free : (x y : Mailbox) → grantTold s x y ≡ true → f ≤ q - 64
-  grant-free x y h = go (mayList x) (mayList y) h
+  pub both-free : (y x : Mailbox) (quiet : ℕ) → eitherTold s y x quiet ≡ true → f ≤ q - 64
+  both-free y x quiet h = go (ownTold s x quiet) refl h
     where
-      go : (a b : Bool) → byChange a b (bothRights x && askedOf s x asksName) (bothRights y && askedOf s y asksName) ≡ true → f ≤ q - 64
-      go true true e = leb-true _ _ (tf false e refl)
-      go true false e = asked-free q f s room (nameOf x) (x .attributes) asksName (and-r (bothRights x) _ e)
-      go false true e = asked-free q f s room (nameOf y) (y .attributes) asksName (and-r (bothRights y) _ e)
-      go false false e = leb-true _ _ (tf false e refl)
+      go : (a : Bool) → ownTold s x quiet ≡ a → (a || upperTold s y x quiet) ≡ true → f ≤ q - 64
+      go true e z = asked-free q f s room (nameOf x) (x .attributes) asksName (and-r (bothRights x) _ (and-r (eqb quiet 0) _ e))
+      go false e z = asked-free q f s room (nameOf y) (y .attributes) asksName (and-r (not (eqb (y .namelen) 0)) _ (and-r (bothRights x) _ (and-r (eqb quiet 0) _ z)))
 
   pub subscribe-free : (x : Mailbox) (b quiet : ℕ) → subscribeTold s x b quiet ≡ true → f ≤ q - 64
   subscribe-free x b quiet h =

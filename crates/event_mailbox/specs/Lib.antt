@@ -1,3 +1,4 @@
+pub mod Appearing
 pub mod Rights
 pub mod Subscriptions
 pub mod Creating

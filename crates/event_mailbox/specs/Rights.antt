@@ -1,70 +1,72 @@
 -- `RT`: who is told of a change of rights, and what it leaves. Assumes nothing.
 use mathlib.Core.Path.{_≡_, refl, ap, ap₂, sym, _∙_}
 use mathlib.Core.Bool.{Bool, true, false, cond, _&&_}
-use mathlib.Core.List.{List, []}
+use mathlib.Core.List.{List, [], _++_}
 use Prim.Native.Nat.{ℕ}
 use Rattle.model.specs.Lists.{when}
-use Rattle.model.specs.Memory.{nameOf, mayList, bothRights}
+use Rattle.model.specs.Memory.{nameOf, mayList, bothRights, withAttributes}
 use Rattle.model.specs.Groups.{askedOf, asksName}
-use Rattle.model.specs.Lines.{ListMark, nonExistent, list, render}
-use Rattle.model.specs.Events.{listMark, createLines, deleteLines, rightsLines, withRights}
+use Rattle.model.specs.Lines.{ListMark, nonExistent, list}
+use Rattle.model.specs.Events.{listMark, createLines, deleteLines, parentLines, rightsLines, withRights}
 use Rattle.model.specs.declared.Mailbox.{Mailbox}
 use Rattle.model.specs.declared.Session.{Session}
-use Rattle.line_put.specs.Heard.{After, heard, Hears, Leaves, leaves}
+use Rattle.line_put.specs.Heard.{After, Hears, Leaves, leaves}
+use Rattle.event_mailbox.specs.Appearing.{bothHeard}
 
--- l was lost, or gained: somebody asks for the mailbox as it was, or as it is
-abbrev pub byChange : (was is lost gained : Bool) → Bool
-byChange was is lost gained = cond was (cond is false lost) (cond is gained false)
+-- the row that counts: as it was, if l is lost; as it is, if l is gained; else one without rights, of which nobody is told
+abbrev pub counting : (was is : Bool) → Mailbox → Mailbox → Mailbox
+counting was is x z = cond was (cond is (withAttributes x 0) x) (cond is z (withAttributes x 0))
 
-abbrev pub grantTold : Session → Mailbox → Mailbox → Bool
-grantTold s x y = byChange (mayList x) (mayList y) (bothRights x && askedOf s x asksName) (bothRights y && askedOf s y asksName)
+abbrev pub grantRow : Mailbox → Mailbox → Mailbox
+grantRow x z = counting (mayList x) (mayList z) x z
 
 -- how it is listed: a mailbox without l is as one that does not exist
 abbrev pub grantMark : Mailbox → Mailbox → ListMark
-grantMark x y = cond (mayList x) nonExistent (listMark y)
+grantMark x z = cond (mayList x) nonExistent (listMark z)
 
--- the rule's line, if somebody is told
-pub rights-when : (s : Session) (x y : Mailbox) → nameOf x ≡ nameOf y → rightsLines s x y ≡ when (grantTold s x y) (list (grantMark x y) (nameOf x))
-rights-when s x y n = go (mayList x) (mayList y)
+-- the rule's lines by that row, p being the parent
+pub rights-by : (s : Session) (p x z : Mailbox)
+    → rightsLines s p x z ≡ when (bothRights (grantRow x z) && askedOf s (grantRow x z) asksName) (list (grantMark x z) (nameOf (grantRow x z))) ++ parentLines s p (grantRow x z)
+rights-by s p x z = go (mayList x) (mayList z)
   where
-    go : (a b : Bool) → cond a (cond b [] (deleteLines s x)) (cond b (createLines s y) [])
-        ≡ when (byChange a b (bothRights x && askedOf s x asksName) (bothRights y && askedOf s y asksName)) (list (cond a nonExistent (listMark y)) (nameOf x))
+    go : (a b : Bool) → cond a (cond b [] (deleteLines s x ++ parentLines s p x)) (cond b (createLines s z ++ parentLines s p z) [])
+        ≡ when (bothRights (counting a b x z) && askedOf s (counting a b x z) asksName) (list (cond a nonExistent (listMark z)) (nameOf (counting a b x z))) ++ parentLines s p (counting a b x z)
     go true true = refl
     go true false = refl
-    go false true = rw n
+    go false true = refl
     go false false = refl
 
--- what is left
-abbrev pub grantAfter : List ℕ → Session → ℕ → Mailbox → ℕ → After
-grantAfter q s at x r = record {
-  row = withRights x r;
-  heard = heard q s at (grantTold s x (withRights x r)) (render (list (grantMark x (withRights x r)) (nameOf x)));
-}
+-- its name is the mailbox's
+pub grant-name : (x z : Mailbox) → nameOf z ≡ nameOf x → nameOf (grantRow x z) ≡ nameOf x
+grant-name x z e = go (mayList x) (mayList z)
+  where
+    go : (a b : Bool) → nameOf (counting a b x z) ≡ nameOf x
+    go true true = refl
+    go true false = refl
+    go false true = e
+    go false false = refl
+
+-- what is left; y stands for the parent
+abbrev pub grantAfter : List ℕ → Session → ℕ → Mailbox → Mailbox → ℕ → After
+grantAfter q s at y x r = record { row = withRights x r; heard = bothHeard q s at y (grantRow x (withRights x r)) 0 (grantMark x (withRights x r)) }
 
 -- what the code leaves
-pub grant-leaves : (q : List ℕ) (s : Session) (at : ℕ) {q′ : List ℕ} {s′ : Session} {f : ℕ} (x : Mailbox) (r : ℕ) {y : Mailbox} {on : Bool} {k : ListMark}
-    → y ≡ withRights x r → on ≡ grantTold s x y → k ≡ grantMark x y
-    → Hears (heard q s at on (render (list k (nameOf x)))) q′ s′ f → Leaves (grantAfter q s at x r) y q′ s′ f
-grant-leaves q s at x r {y} {on} {k} e g h w =
-    leaves (grantAfter q s at x r) e
-    (ap₂ (λ (b : Bool) (j : ListMark). heard q s at b (render (list j (nameOf x)))) (g ∙ ap (grantTold s x) e) (h ∙ ap (grantMark x) e)) w
+pub grant-leaves : (q : List ℕ) (s : Session) (at : ℕ) {q′ : List ℕ} {s′ : Session} {f : ℕ} (y x : Mailbox) (r : ℕ) {z w : Mailbox} {k : ListMark}
+    → z ≡ withRights x r → w ≡ grantRow x z → k ≡ grantMark x z
+    → Hears (bothHeard q s at y w 0 k) q′ s′ f → Leaves (grantAfter q s at y x r) z q′ s′ f
+grant-leaves q s at y x r {z} {w} {k} e g h v =
+    leaves (grantAfter q s at y x r) e (ap₂ (λ (a : Mailbox) (b : ListMark). bothHeard q s at y a 0 b) (g ∙ ap (grantRow x) e) (h ∙ ap (grantMark x) e)) v
 
--- rung by rung
-module _ (s : Session) (x y : Mailbox) where
-  abbrev lost : Bool
-  lost = bothRights x && askedOf s x asksName
+-- case by case
+module _ (x z : Mailbox) where
+  pub counts-kept : mayList x ≡ true → mayList z ≡ true → withAttributes x 0 ≡ grantRow x z
+  counts-kept a b = sym (ap₂ (λ (c d : Bool). counting c d x z) a b)
 
-  abbrev gained : Bool
-  gained = bothRights y && askedOf s y asksName
+  pub counts-was : mayList x ≡ true → mayList z ≡ false → x ≡ grantRow x z
+  counts-was a b = sym (ap₂ (λ (c d : Bool). counting c d x z) a b)
 
-  pub grant-kept : mayList x ≡ true → mayList y ≡ true → false ≡ grantTold s x y
-  grant-kept a b = sym (ap₂ (λ (c d : Bool). byChange c d lost gained) a b)
+  pub counts-is : mayList x ≡ false → mayList z ≡ true → z ≡ grantRow x z
+  counts-is a b = sym (ap₂ (λ (c d : Bool). counting c d x z) a b)
 
-  pub grant-lost : mayList x ≡ true → mayList y ≡ false → (bothRights x && askedOf s x asksName) ≡ grantTold s x y
-  grant-lost a b = sym (ap₂ (λ (c d : Bool). byChange c d lost gained) a b)
-
-  pub grant-gained : mayList x ≡ false → mayList y ≡ true → (bothRights y && askedOf s y asksName) ≡ grantTold s x y
-  grant-gained a b = sym (ap₂ (λ (c d : Bool). byChange c d lost gained) a b)
-
-  pub grant-none : mayList x ≡ false → mayList y ≡ false → false ≡ grantTold s x y
-  grant-none a b = sym (ap₂ (λ (c d : Bool). byChange c d lost gained) a b)
+  pub counts-none : mayList x ≡ false → mayList z ≡ false → withAttributes x 0 ≡ grantRow x z
+  counts-none a b = sym (ap₂ (λ (c d : Bool). counting c d x z) a b)

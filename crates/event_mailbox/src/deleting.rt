@@ -8,11 +8,17 @@ ghost use Rattle.line_put.specs.Heard.{Hears};
 ghost use Rattle.laws.specs.Room.{Room};
 ghost use Rattle.event_mailbox.specs.Deleting.{deleteHeard};
 
-// What is said of row x before it goes: asked and allowed as a create is.
-pub fn delete(queue: &mut [u8], s: Session, filled: usize, x: Mailbox, quiet: u8) -> Kept
+// What is said of row x before it goes, and of its parent, for which y stands: asked and allowed as a create is.
+pub fn delete(
+    queue: &mut [u8],
+    s: Session,
+    filled: usize,
+    x: Mailbox,
+    y: Mailbox,
+    quiet: u8,
+) -> Kept
     requires { ⌜ Room (length (now queue)) filled s ⌝ }
-    ensures { λ r. ⌜ Hears (deleteHeard (now (queue .entry)) s filled x quiet) (now (queue .exit)) (r .session) (r .filled) ⌝ }
+    ensures { λ r. ⌜ Hears (deleteHeard (now (queue .entry)) s filled y x quiet) (now (queue .exit)) (r .session) (r .filled) ⌝ }
 {
-    let on = crate::creating::create_told(s, x, quiet);
-    crate::tell_row(queue, s, filled, on, Mark::NonExistent, x)
+    crate::tell_change(queue, s, filled, Mark::NonExistent, x, y, quiet)
 }

@@ -8,20 +8,21 @@ pub mod subscriptions;
 
 use line_mailbox::Mark;
 use line_put::Kept;
+use line_put::Said;
 use model::Mailbox;
 use model::Session;
 ghost use mathlib.Core.Path.{_≡_};
-ghost use mathlib.Core.Bool.{true, _&&_};
+ghost use mathlib.Core.Bool.{true, _||_};
 ghost use Prim.Native.Nat.{_-_, _≤_};
 ghost use lib.ListN.{length, take};
-ghost use Rattle.model.specs.Text.{bit};
-ghost use Rattle.model.specs.Memory.{nameOf, bothRights, withAttributes};
-ghost use Rattle.model.specs.Groups.{askedOf};
-ghost use Rattle.model.specs.Lines.{list, render};
-ghost use Rattle.model.specs.Events.{listMark};
-ghost use Rattle.match_groups.specs.Asking.{asksBit};
-ghost use Rattle.line_mailbox.specs.Texts.{markOf};
+ghost use Rattle.model.specs.Memory.{nameOf, withAttributes};
+ghost use Rattle.model.specs.Lines.{list, render, renderAll};
+ghost use Rattle.model.specs.Events.{listMark, parentMark};
+ghost use Rattle.laws.specs.Room.{Room};
+ghost use Rattle.line_mailbox.specs.Texts.{markOf, pair};
+ghost use Rattle.line_put.specs.Says.{Says};
 ghost use Rattle.line_put.specs.Heard.{Hears, heard};
+ghost use Rattle.event_mailbox.specs.Appearing.{ownTold, upperTold, bothHeard};
 
 // A row that has changed or is new, and what else is left.
 pub struct Changed {
@@ -74,16 +75,107 @@ pub fn tell_row(
     tell_list(queue, s, filled, on, mark, &o[..n])
 }
 
+// ---- a mailbox that appears or goes, and its parent
+
+// One or the other.
+fn either(a: bool, b: bool) -> bool
+    ensures { λ r. ⌜ r ≡ (a || b) ⌝ }
+{
+    if a {
+        return true;
+    }
+    b
+}
+
+// The lines of row x and of its parent y, each if somebody is told of it, or the overflow line.
+fn say_both(
+    queue: &mut [u8],
+    at: usize,
+    own: bool,
+    mark: Mark,
+    x: Mailbox,
+    upper: bool,
+    y: Mailbox,
+) -> Said
+    requires { ⌜ (64 ≤ length (now queue)) × (length (now queue) ≤ 65536) × (at ≤ length (now queue) - 64) ⌝ }
+    ensures { λ r. ⌜ Says (now (queue .entry)) at (renderAll (pair own (list (markOf mark) (nameOf x)) upper (list (parentMark y) (nameOf y)))) (now (queue .exit)) (r .fits) (r .end) ⌝ }
+{
+    let name = x.name;
+    let parent = y.name;
+    let n = table_mailboxes::row::name_end(x);
+    let p = table_mailboxes::row::name_end(y);
+    let above = parent_mark(y);
+    line_mailbox::say_pair(queue, at, own, mark, &name[..n], upper, above, &parent[..p])
+}
+
+// The same, if somebody is told of either.
+fn tell_both(
+    queue: &mut [u8],
+    s: Session,
+    filled: usize,
+    own: bool,
+    mark: Mark,
+    x: Mailbox,
+    upper: bool,
+    y: Mailbox,
+) -> Kept
+    requires { ⌜ (64 ≤ length (now queue)) × (length (now queue) ≤ 65536) × (filled ≤ 65536) × ((own || upper) ≡ true → filled ≤ length (now queue) - 64) ⌝ }
+    ensures { λ r. ⌜ Hears (heard (now (queue .entry)) s filled (own || upper) (renderAll (pair own (list (markOf mark) (nameOf x)) upper (list (parentMark y) (nameOf y))))) (now (queue .exit)) (r .session) (r .filled) ⌝ }
+{
+    if !either(own, upper) {
+        return Kept {
+            session: s,
+            filled: filled as u64,
+        };
+    }
+    let said = say_both(queue, filled, own, mark, x, upper, y);
+    line_put::hear(s, said)
+}
+
+// Row x, listed with this mark, appears or goes, and y stands for its parent.
+pub fn tell_change(
+    queue: &mut [u8],
+    s: Session,
+    filled: usize,
+    mark: Mark,
+    x: Mailbox,
+    y: Mailbox,
+    quiet: u8,
+) -> Kept
+    requires { ⌜ Room (length (now queue)) filled s ⌝ }
+    ensures { λ r. ⌜ Hears (bothHeard (now (queue .entry)) s filled y x quiet (markOf mark)) (now (queue .exit)) (r .session) (r .filled) ⌝ }
+{
+    let own = own_told(s, x, quiet);
+    let upper = upper_told(s, y, x, quiet);
+    tell_both(queue, s, filled, own, mark, x, upper, y)
+}
+
 // ---- who is told
 
-// Both rights, and a group asks for event k.
-fn noticed(s: Session, x: Mailbox, k: u8) -> bool
-    ensures { λ r. ⌜ r ≡ (bothRights x && askedOf s x (asksBit k)) ⌝ }
+// Whether somebody is told of row x, at its create or its delete.
+fn own_told(s: Session, x: Mailbox, quiet: u8) -> bool
+    ensures { λ r. ⌜ r ≡ ownTold s x quiet ⌝ }
 {
+    if quiet != 0 {
+        return false;
+    }
     if !table_mailboxes::row::has_rights(x.attributes) {
         return false;
     }
-    match_groups::is_asked_of(s, x, k)
+    match_groups::is_asked_of(s, x, 3)
+}
+
+// Whether somebody is told of its parent, for which y stands.
+fn upper_told(s: Session, y: Mailbox, x: Mailbox, quiet: u8) -> bool
+    ensures { λ r. ⌜ r ≡ upperTold s y x quiet ⌝ }
+{
+    if quiet != 0 {
+        return false;
+    }
+    if !table_mailboxes::row::has_rights(x.attributes) {
+        return false;
+    }
+    match_parent::is_asked(s, y)
 }
 
 // How a mailbox that stands is listed: one that cannot be selected is marked.
@@ -94,6 +186,16 @@ pub fn mark_of(x: Mailbox) -> Mark
         return Mark::Plain;
     }
     Mark::Noselect
+}
+
+// How a parent is listed: one that may not be is as one that does not exist.
+fn parent_mark(y: Mailbox) -> Mark
+    ensures { λ r. ⌜ markOf r ≡ parentMark y ⌝ }
+{
+    if !table_mailboxes::has(y.attributes, 4) {
+        return Mark::NonExistent;
+    }
+    mark_of(y)
 }
 
 // The row with other attributes.

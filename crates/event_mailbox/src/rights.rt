@@ -10,7 +10,7 @@ ghost use Rattle.model.specs.Events.{withRights};
 ghost use Rattle.line_mailbox.specs.Texts.{markOf};
 ghost use Rattle.line_put.specs.Heard.{Leaves};
 ghost use Rattle.laws.specs.Room.{Room};
-ghost use Rattle.event_mailbox.specs.Rights.{grantTold, grantMark, grantAfter};
+ghost use Rattle.event_mailbox.specs.Rights.{grantRow, grantMark, grantAfter};
 
 // The row with these rights.
 fn with_rights(x: Mailbox, rights: u8) -> Mailbox
@@ -20,44 +20,51 @@ fn with_rights(x: Mailbox, rights: u8) -> Mailbox
     crate::with_attributes(x, x.attributes % 16 + rights)
 }
 
-// Whether somebody is told that row x becomes y: by the rights before if l is lost, by those after if it is gained.
-fn grant_told(s: Session, x: Mailbox, y: Mailbox) -> bool
-    ensures { λ r. ⌜ r ≡ grantTold s x y ⌝ }
+// The row by whose rights somebody is told that x becomes z: x, if l is lost, z, if it is gained, else one without rights.
+fn grant_row(x: Mailbox, z: Mailbox) -> Mailbox
+    ensures { λ r. ⌜ r ≡ grantRow x z ⌝ }
 {
     if table_mailboxes::has(x.attributes, 4) {
-        if table_mailboxes::has(y.attributes, 4) {
-            return false;
+        if table_mailboxes::has(z.attributes, 4) {
+            return crate::with_attributes(x, 0);
         }
-        return crate::noticed(s, x, 3);
+        return x;
     }
-    if table_mailboxes::has(y.attributes, 4) {
-        return crate::noticed(s, y, 3);
+    if table_mailboxes::has(z.attributes, 4) {
+        return z;
     }
-    false
+    crate::with_attributes(x, 0)
 }
 
 // How the mailbox is listed then.
-fn grant_mark(x: Mailbox, y: Mailbox) -> Mark
-    ensures { λ r. ⌜ markOf r ≡ grantMark x y ⌝ }
+fn grant_mark(x: Mailbox, z: Mailbox) -> Mark
+    ensures { λ r. ⌜ markOf r ≡ grantMark x z ⌝ }
 {
     if table_mailboxes::has(x.attributes, 4) {
         return Mark::NonExistent;
     }
-    crate::mark_of(y)
+    crate::mark_of(z)
 }
 
-// The rights of row x change.
-pub fn grant(queue: &mut [u8], s: Session, filled: usize, x: Mailbox, rights: u8) -> Changed
+// The rights of row x change, and y stands for its parent.
+pub fn grant(
+    queue: &mut [u8],
+    s: Session,
+    filled: usize,
+    x: Mailbox,
+    y: Mailbox,
+    rights: u8,
+) -> Changed
     requires { ⌜ Room (length (now queue)) filled s × (rights ≤ 48) ⌝ }
-    ensures { λ r. ⌜ Leaves (grantAfter (now (queue .entry)) s filled x rights) (r .row) (now (queue .exit)) (r .session) (r .filled) ⌝ }
+    ensures { λ r. ⌜ Leaves (grantAfter (now (queue .entry)) s filled y x rights) (r .row) (now (queue .exit)) (r .session) (r .filled) ⌝ }
 {
-    let y = with_rights(x, rights);
-    let on = grant_told(s, x, y);
-    let mark = grant_mark(x, y);
-    let kept = crate::tell_row(queue, s, filled, on, mark, x);
+    let z = with_rights(x, rights);
+    let counting = grant_row(x, z);
+    let mark = grant_mark(x, z);
+    let kept = crate::tell_change(queue, s, filled, mark, counting, y, 0);
     let session = kept.session;
     Changed {
-        row: y,
+        row: z,
         session,
         filled: kept.filled,
     }

@@ -17,7 +17,7 @@ use Rattle.table_messages.specs.Taken.{shut}
 use Rattle.line_fetch.specs.declared.Shows.{Shows}
 use Rattle.line_message.specs.Counts.{countText, expungeWord}
 use Rattle.line_message.specs.Whole.{newsText}
-use Rattle.line_put.specs.Heard.{Heard, Hears, heard}
+use Rattle.line_put.specs.Heard.{Heard, Hears, heard, hears-said}
 
 pub record After : Type 0 where
   pub entries : List Message
@@ -29,11 +29,6 @@ pub record Leaves (x : After) (ws ws′ : List ℕ) (n : ℕ) (q : List ℕ) (s 
   pub words : ws′ ≡ laid ws (x .entries)
   pub used : n ≡ x .used
   pub heard : Hears (x .heard) q s f
-
--- a line and what it makes of the session
-pub hears-said : (q : List ℕ) (s : Session) (at : ℕ) (t q′ : List ℕ) (fits : Bool) (end f : ℕ) (s′ : Session) → Says q at t q′ fits end → s′ ≡ cond fits s (silenced s) → f ≡ end → Hears (heard q s at true t) q′ s′ f
-unfolding heard
-hears-said q s at t q′ fits end f s′ x e g = record { queue = x .is; session = e ∙ ap (λ (b : Bool). cond b s (silenced s)) (x .room); filled = g ∙ x .ends }
 
 -- the STATUS of a mailbox, counted in these entries
 abbrev pub statusText : Mailbox → List Message → List ℕ

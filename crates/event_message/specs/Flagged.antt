@@ -12,8 +12,8 @@ use Rattle.line_put.specs.Says.{hasRoom, Says}
 use Rattle.table_messages.specs.Words.{messages, stored}
 use Rattle.table_messages.specs.Laid.{laid}
 use Rattle.line_fetch.specs.Fetch.{fetchText}
-use Rattle.line_put.specs.Heard.{Hears, heard}
-use Rattle.event_message.specs.After.{After, Leaves, changeText, hears-said, put-one}
+use Rattle.line_put.specs.Heard.{Hears, heard, hears-said}
+use Rattle.event_message.specs.After.{After, Leaves, changeText, put-one}
 
 module _ (es : List Message) (used : ℕ) (q : List ℕ) (s : Session) (at : ℕ) where
   -- its line is written and ends a mark, or else the overflow line, and the change is told to nobody

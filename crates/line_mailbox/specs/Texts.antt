@@ -1,10 +1,12 @@
 -- The texts of the notices as they are written, piece by piece. Assumes nothing.
-use mathlib.Core.Path.{_≡_}
-use mathlib.Core.List.{List, [], _∷_, _++_, append-assoc}
+use mathlib.Core.Path.{_≡_, refl, sym}
+use mathlib.Core.Bool.{Bool, true, false}
+use mathlib.Core.List.{List, [], _∷_, _++_, append-nil, append-assoc}
 use Prim.Native.Nat.{ℕ}
+use Rattle.model.specs.Lists.{when}
 use Rattle.model.specs.Names.{Name}
 use Rattle.model.specs.Text.{octets, decimal, quoted}
-use Rattle.model.specs.Lines.{ListMark, plain, noselect, nonExistent, noAccess, subscribed, list, renamed, status, mailItems, flagItems, setItems, markText, render, crlf}
+use Rattle.model.specs.Lines.{Line, ListMark, plain, noselect, nonExistent, noAccess, subscribed, list, renamed, status, mailItems, flagItems, setItems, markText, render, renderAll, crlf}
 use Rattle.line_mailbox.specs.declared.Mark.{Mark}
 use Rattle.line_mailbox.specs.declared.Mark.the-variants.{Plain, Noselect, NonExistent, NoAccess, Subscribed}
 
@@ -14,6 +16,23 @@ markOf Noselect = noselect
 markOf NonExistent = nonExistent
 markOf NoAccess = noAccess
 markOf Subscribed = subscribed
+
+-- a line of a mailbox and one of its parent, each if it is wanted
+abbrev pub pair : Bool → Line → Bool → Line → List Line
+pair own l upper k = when own l ++ when upper k
+
+pub none-text : (on : Bool) (l : Line) → on ≡ false → [] ≡ renderAll (when on l)
+unfolding renderAll
+none-text on l e = rw e
+
+pub one-text : (on : Bool) (l : Line) → on ≡ true → render l ≡ renderAll (when on l)
+unfolding renderAll
+one-text on l e = rw e (sym (append-nil (render l)))
+
+pub pair-text : (own : Bool) (l : Line) (upper : Bool) (k : Line) → renderAll (when own l) ++ renderAll (when upper k) ≡ renderAll (pair own l upper k)
+unfolding renderAll
+pair-text true l upper k = rw (append-nil (render l))
+pair-text false l upper k = refl
 
 -- what every LIST line begins with
 unfoldable pub listed : ListMark → Name → List ℕ

@@ -3,11 +3,12 @@ use line_put::Said;
 ghost use mathlib.Core.List.{_++_};
 ghost use Prim.Native.Nat.{_+_, _*_, _-_, _≤_, _<_};
 ghost use lib.ListN.{length};
+ghost use Rattle.model.specs.Lists.{when};
 ghost use Rattle.model.specs.Text.{decimal};
-ghost use Rattle.model.specs.Lines.{list, renamed, status, mailItems, flagItems, setItems, markText, render};
+ghost use Rattle.model.specs.Lines.{list, renamed, status, mailItems, flagItems, setItems, markText, render, renderAll};
 ghost use Rattle.line_put.specs.Put.{Put};
 ghost use Rattle.line_put.specs.Says.{Says};
-ghost use Rattle.line_mailbox.specs.Texts.{markOf, listed, opening, ending};
+ghost use Rattle.line_mailbox.specs.Texts.{markOf, pair, listed, opening, ending};
 
 // The attribute of a LIST line.
 pub enum Mark {
@@ -48,6 +49,36 @@ pub fn put_list(queue: &mut [u8], at: usize, limit: usize, mark: Mark, name: &[u
 {
     let a = put_listed(queue, at, limit, mark, name);
     line_put::put(queue, a, limit, b"\r\n")
+}
+
+// A LIST line, if it is wanted.
+fn put_wanted(queue: &mut [u8], at: usize, limit: usize, on: bool, mark: Mark, name: &[u8]) -> usize
+    requires { ⌜ (limit ≤ length (now queue)) × (at ≤ 262144) × (length (now name) ≤ 64) ⌝ }
+    ensures { λ r. ⌜ (Put (now (queue .entry)) at limit (renderAll (when on (list (markOf mark) (now (name .entry))))) (now (queue .exit)) r) × (r ≤ at + 158) ⌝ }
+{
+    if !on {
+        return at;
+    }
+    put_list(queue, at, limit, mark, name)
+}
+
+// The line of a mailbox and then that of its parent, each if it is wanted.
+fn put_pair(
+    queue: &mut [u8],
+    at: usize,
+    limit: usize,
+    own: bool,
+    mark: Mark,
+    name: &[u8],
+    upper: bool,
+    above: Mark,
+    parent: &[u8],
+) -> usize
+    requires { ⌜ (limit ≤ length (now queue)) × (at ≤ 131072) × (length (now name) ≤ 64) × (length (now parent) ≤ 64) ⌝ }
+    ensures { λ r. ⌜ (Put (now (queue .entry)) at limit (renderAll (pair own (list (markOf mark) (now (name .entry))) upper (list (markOf above) (now (parent .entry))))) (now (queue .exit)) r) × (r ≤ at + 316) ⌝ }
+{
+    let a = put_wanted(queue, at, limit, own, mark, name);
+    put_wanted(queue, a, limit, upper, above, parent)
 }
 
 // With the name that it had before.
@@ -162,6 +193,29 @@ pub fn say_list(queue: &mut [u8], at: usize, mark: Mark, name: &[u8]) -> Said
     let end = put_list(queue, at, 0, mark, name);
     if end <= limit {
         let e = put_list(queue, at, limit, mark, name);
+        return Said { fits: true, end: e };
+    }
+    line_put::overflow(queue, at)
+}
+
+// The same of the lines of a mailbox and of its parent: both of those that are wanted, or the overflow line.
+pub fn say_pair(
+    queue: &mut [u8],
+    at: usize,
+    own: bool,
+    mark: Mark,
+    name: &[u8],
+    upper: bool,
+    above: Mark,
+    parent: &[u8],
+) -> Said
+    requires { ⌜ (64 ≤ length (now queue)) × (length (now queue) ≤ 65536) × (at ≤ length (now queue) - 64) × (length (now name) ≤ 64) × (length (now parent) ≤ 64) ⌝ }
+    ensures { λ r. ⌜ Says (now (queue .entry)) at (renderAll (pair own (list (markOf mark) (now (name .entry))) upper (list (markOf above) (now (parent .entry))))) (now (queue .exit)) (r .fits) (r .end) ⌝ }
+{
+    let limit = queue.len() - 64;
+    let end = put_pair(queue, at, 0, own, mark, name, upper, above, parent);
+    if end <= limit {
+        let e = put_pair(queue, at, limit, own, mark, name, upper, above, parent);
         return Said { fits: true, end: e };
     }
     line_put::overflow(queue, at)

@@ -1,5 +1,5 @@
 -- Queue, session and F where a line is told, or none is. Assumes nothing.
-use mathlib.Core.Path.{_≡_, refl, ap}
+use mathlib.Core.Path.{_≡_, refl, ap, _∙_}
 use mathlib.Core.Bool.{Bool, true, false, cond}
 use mathlib.Core.List.{List}
 use Prim.Native.Nat.{ℕ, _+_}
@@ -45,6 +45,11 @@ module _ (q : List ℕ) (s : Session) (at : ℕ) (on : Bool) (t : List ℕ) wher
   pub hears-over : (q′ : List ℕ) (end : ℕ) → on ≡ true → Says q at t q′ false end → Hears (heard q s at on t) q′ (silenced s) end
   unfolding heard
   hears-over q′ end e x = rw e (record { queue = x .is; session = ap (λ (b : Bool). cond b s (silenced s)) (x .room); filled = x .ends })
+
+-- a line and what it makes of the session
+pub hears-said : (q : List ℕ) (s : Session) (at : ℕ) (t q′ : List ℕ) (fits : Bool) (end f : ℕ) (s′ : Session) → Says q at t q′ fits end → s′ ≡ cond fits s (silenced s) → f ≡ end → Hears (heard q s at true t) q′ s′ f
+unfolding heard
+hears-said q s at t q′ fits end f s′ x e g = record { queue = x .is; session = e ∙ ap (λ (b : Bool). cond b s (silenced s)) (x .room); filled = g ∙ x .ends }
 
 -- a row, and what was heard
 pub record After : Type 0 where

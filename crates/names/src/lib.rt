@@ -1,12 +1,12 @@
 // Mailbox names: what a name is, how an argument is kept, which names are the same, beneath one another, and in what order.
 ghost use mathlib.Core.Path.{_≡_};
 ghost use mathlib.Core.Bool.{_&&_};
-ghost use lib.ListN.{length, drop};
+ghost use lib.ListN.{length, take, drop};
 ghost use Prim.Native.Nat.{_≤_, _<_};
 ghost use lib.Dec.{eqb};
 ghost use Rattle.model.specs.Lists.{same, anyb};
 ghost use Rattle.model.specs.Text.{upper, sameWord};
-ghost use Rattle.model.specs.Names.{valid, fold, inbox, leads, beneath, subtree, subtreeOne, before};
+ghost use Rattle.model.specs.Names.{valid, fold, inbox, leads, beneath, subtree, subtreeOne, before, beforeSlash, parentOf};
 ghost use Rattle.model.specs.Listing.{lendName};
 ghost use Rattle.model.specs.Lawful.{zeros};
 ghost use Rattle.names.specs.Kept.{keptName, nameBy};
@@ -260,6 +260,30 @@ pub fn stored(name: &[u8]) -> LentName
         return kept(b"INBOX");
     }
     kept(name)
+}
+
+// Where the octets before the last `/` end, looked for from the end; 0 where there is none.
+fn last_slash(name: &[u8]) -> usize
+    ensures { λ r. ⌜ (r ≤ length (now (name .entry))) × (take r (now (name .entry)) ≡ beforeSlash (now (name .entry))) ⌝ }
+{
+    let n = name.len();
+    let mut k = 0;
+    while k < n {
+        k += 1;
+        let at = n - k;
+        if name[at] == b'/' {
+            return at;
+        }
+    }
+    0
+}
+
+// The direct parent's name as it is kept, INBOX in any case as INBOX; the empty one where there is none.
+pub fn parent_of(name: &[u8]) -> LentName
+    ensures { λ r. ⌜ r ≡ keptName (parentOf (now (name .entry))) ⌝ }
+{
+    let end = last_slash(name);
+    stored(&name[..end])
 }
 
 // The first n octets are a valid name that is folded, and zeros stand behind it.

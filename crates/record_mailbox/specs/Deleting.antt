@@ -5,7 +5,7 @@ use mathlib.Core.List.{List}
 use Prim.Native.Nat.{ℕ, _-_, _<_, _≤_}
 use lib.Dec.{eqb}
 use lib.ListN.{length, take}
-use Rattle.model.specs.Memory.{Memory, filled, noMessage, refill, isSelected}
+use Rattle.model.specs.Memory.{Memory, boxes, filled, nameOf, noMessage, refill, isSelected}
 use Rattle.model.specs.Records.{delete}
 use Rattle.model.specs.Rules.{Outcome, accepted}
 use Rattle.model.specs.declared.Mailbox.{Mailbox}
@@ -19,6 +19,7 @@ use Rattle.table_messages.specs.Words.{messages}
 use Rattle.table_messages.specs.Laid.{laid}
 use Rattle.table_sweep.specs.Swept.{kept, kept-deleted}
 use Rattle.table_sweep.specs.declared.Sweep.the-variants.{Deleted}
+use Rattle.match_parent.specs.Upper.{StandsFor}
 use Rattle.line_put.specs.Heard.{Hears}
 use Rattle.event_mailbox.specs.Deleting.{deleteHeard}
 use Rattle.event_mailbox.specs.Accepted.{staying, leftWithout, delete-accepted}
@@ -26,7 +27,7 @@ use Rattle.record_outcome.specs.Coming.{Lends, Placed, Comes, changed, refusal,
 use Rattle.record_outcome.specs.Laws.{comes-refused, placed-row}
 use Rattle.record_outcome.specs.declared.Outcome.{Outcome as Came}
 use Rattle.record_outcome.specs.declared.Change.the-variants.{Taken}
-use Rattle.record_mailbox.specs.Putting.{here, nowhere}
+use Rattle.record_mailbox.specs.Putting.{here, nowhere, stands}
 
 -- the code's outcome of it: n messages are left
 abbrev pub taking : ℕ → Mailbox → ℕ → Counts → Session → ℕ → Came
@@ -39,16 +40,16 @@ taking at x n k s f = record {
   session = s;
 }
 
--- the row is taken out, its mailbox's messages go, and what is heard of it
-pub record TakenOut (ws q : List ℕ) (k : Counts) (s : Session) (at : ℕ) (x : Mailbox) (i g : ℕ) (ws′ q′ : List ℕ) (r : Came) : Type 0 where
+-- row x is taken out, its mailbox's messages go, and what is heard of it; y stands for its parent
+pub record TakenOut (ws q : List ℕ) (k : Counts) (s : Session) (at : ℕ) (y x : Mailbox) (i g : ℕ) (ws′ q′ : List ℕ) (r : Came) : Type 0 where
   pub is : r ≡ taking at x (length (staying i (k .messages) (messages ws))) k (r .session) (r .counts .filled)
   pub words : ws′ ≡ laid ws (refill noMessage (messages ws) (k .messages) (staying i (k .messages) (messages ws)))
-  pub heard : Hears (deleteHeard q s (k .filled) x g) q′ (r .session) (r .counts .filled)
+  pub heard : Hears (deleteHeard q s (k .filled) y x g) q′ (r .session) (r .counts .filled)
 
-pub taken-out : (ws q : List ℕ) (k : Counts) (s : Session) (at : ℕ) (x : Mailbox) (i g : ℕ) {ws′ q′ : List ℕ} (n : ℕ) (s′ : Session) (f : ℕ)
+pub taken-out : (ws q : List ℕ) (k : Counts) (s : Session) (at : ℕ) (y x : Mailbox) (i g : ℕ) {ws′ q′ : List ℕ} (n : ℕ) (s′ : Session) (f : ℕ)
     → (ws′ ≡ laid ws (refill noMessage (messages ws) (k .messages) (kept (Deleted i) (take (k .messages) (messages ws))))) × (n ≡ length (kept (Deleted i) (take (k .messages) (messages ws)))) × (n ≤ k .messages)
-    → Hears (deleteHeard q s (k .filled) x g) q′ s′ f → TakenOut ws q k s at x i g ws′ q′ (taking at x n k s′ f)
-taken-out ws q k s at x i g n s′ f w h =
+    → Hears (deleteHeard q s (k .filled) y x g) q′ s′ f → TakenOut ws q k s at y x i g ws′ q′ (taking at x n k s′ f)
+taken-out ws q k s at y x i g n s′ f w h =
     let e = kept-deleted i (take (k .messages) (messages ws)) in
     record {
       is = ap (λ (c : ℕ). taking at x c k s′ f) (w .1 ∙ ap length e);
@@ -70,16 +71,16 @@ module _ (m : Memory) (ws : List ℕ) (k : Counts) (s : Session) (q : List ℕ) 
   pub delete-selected : at < k .mailboxes → (not (eqb i 0) && eqb i (s .selected)) ≡ true → r ≡ refusal WrongState k s → Comes m (ladder m (delete i g)) r ws ws q
   delete-selected h d e = comes-refused m ws k s q lent WrongState (ladder m (delete i g)) r (rw (here m ws k s q lent law i at x w h, chosen true d)) e
 
-  pub delete-comes : {ws′ q′ : List ℕ} → at < k .mailboxes → (not (eqb i 0) && eqb i (s .selected)) ≡ false → TakenOut ws q k s at x i g ws′ q′ r → Comes m (ladder m (delete i g)) r ws ws′ q′
-  delete-comes h d y =
+  pub delete-comes : {ws′ q′ : List ℕ} (upper : Mailbox) → StandsFor s (boxes m) (nameOf x) upper → at < k .mailboxes → (not (eqb i 0) && eqb i (s .selected)) ≡ false → TakenOut ws q k s at upper x i g ws′ q′ r → Comes m (ladder m (delete i g)) r ws ws′ q′
+  delete-comes upper st h d y =
       let b = here m ws k s q lent law i at x w h in
       let c : m .counts .mailboxes ≡ k .mailboxes = ap (λ (j : Counts). j .mailboxes) (lent .counts) in
       let u : m .counts .messages ≡ k .messages = ap (λ (j : Counts). j .messages) (lent .counts) in
       let o : accepted m (delete i g) ≡ ladder m (delete i g) = rw (b, chosen false d) in
-      let t : ladder m (delete i g) .after ≡ leftWithout m i at (deleteHeard q s (k .filled) x g) =
+      let t : ladder m (delete i g) .after ≡ leftWithout m i at (deleteHeard q s (k .filled) upper x g) =
       ap (λ (j : Outcome). j .after) (sym o)
-      ∙ (delete-accepted m law i at x (w .at) (placed-row m law i at x w (rw c h)) (ap not b) g
-      ∙ ap (leftWithout m i at) (ap₂ (λ (p : List ℕ) (v : Session). deleteHeard p v (filled m) x g) (lent .queue) (lent .session) ∙ ap (λ (j : Counts). deleteHeard q s (j .filled) x g) (lent .counts))) in
+      ∙ (delete-accepted m law i at x (w .at) (placed-row m law i at x w (rw c h)) (ap not b) g upper (stands m ws k s q lent upper (nameOf x) st)
+      ∙ ap (leftWithout m i at) (ap₂ (λ (p : List ℕ) (v : Session). deleteHeard p v (filled m) upper x g) (lent .queue) (lent .session) ∙ ap (λ (j : Counts). deleteHeard q s (j .filled) upper x g) (lent .counts))) in
       let l : staying i (m .counts .messages) (m .entries) ≡ staying i (k .messages) (messages ws) = ap₂ (staying i) u (lent .entries) in
       record {
         answer = ap (λ (j : Came). j .answer) (y .is) ∙ (sym (answered m i g) ∙ ap (λ (j : Outcome). j .answer) o);

@@ -6,6 +6,7 @@ use Prim.Native.Nat.{ℕ, _<_, _≤_}
 use lib.Dec.{ltb}
 use lib.ListN.{length, set}
 use borrow.Author.Tests.{leb-true, lt-ltb, le-ltb}
+use Rattle.model.specs.Names.{Name}
 use Rattle.model.specs.Memory.{Memory, boxes, filled, known}
 use Rattle.model.specs.Rules.{Outcome}
 use Rattle.model.specs.declared.Mailbox.{Mailbox}
@@ -15,6 +16,7 @@ use Rattle.model.specs.declared.Answer.the-variants.{Done}
 use Rattle.demands.specs.Lasting.Law.{Law}
 use Rattle.table_mailboxes.specs.Rows.{boxes-long}
 use Rattle.table_messages.specs.Laid.{laid, laid-own}
+use Rattle.match_parent.specs.Upper.{StandsFor}
 use Rattle.line_put.specs.Heard.{After, Leaves}
 use Rattle.event_mailbox.specs.Accepted.{left}
 use Rattle.record_outcome.specs.Coming.{Lends, Placed, Comes, changed, putting}
@@ -33,6 +35,10 @@ module _ (m : Memory) (ws : List ℕ) (k : Counts) (s : Session) (q : List ℕ) 
 
     pub nowhere : k .mailboxes ≤ at → known i (boxes m) ≡ false
     nowhere h = sym (placed-known m law i at x w (known i (boxes m)) refl) ∙ (ap (λ (c : Counts). ltb at (c .mailboxes)) (lent .counts) ∙ le-ltb at (k .mailboxes) h)
+
+  -- a row that stands for a parent by the code's session
+  pub stands : (y : Mailbox) (n : Name) → StandsFor s (boxes m) n y → StandsFor (m .session) (boxes m) n y
+  stands y n st = rw (lent .session) st
 
   -- what a record leaves, by queue, session and F before it; n rows are used after it
   pub comes-put : (u o : Outcome) (at n : ℕ) (after : List ℕ → Session → ℕ → After) {row : Mailbox} {q′ : List ℕ} {s′ : Session} {f : ℕ} (r : Came)

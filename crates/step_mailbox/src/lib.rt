@@ -21,6 +21,7 @@ pub fn serve(
     x: Mailbox,
     lent: usize,
     ids: &[u64; 64],
+    attributes: &[u8; 64],
     lens: &[u8; 64],
     names: &[u8; 4096],
     words: &mut [u64],
@@ -30,7 +31,7 @@ pub fn serve(
     name: &[u8],
 ) -> Outcome
     requires { ⌜ Ready (now words) counts s (now queue) × InRange (mailboxKind kind) v × Follows (mailboxKind kind) (now name) ⌝ }
-    ensures { λ z. ⌜ ((m : Memory) → length (m .rows) ≡ lent → Column (λ (y : Mailbox). y .id) (boxes m) (now (ids .entry)) → Column (λ (y : Mailbox). y .namelen) (boxes m) (now (lens .entry)) → Names (boxes m) (now (names .entry)) → Serves m (mailboxKind kind) v (now (name .entry)) k x (now (words .entry)) counts s (now (queue .entry)) z (now (words .exit)) (now (queue .exit))) ⌝ }
+    ensures { λ z. ⌜ ((m : Memory) → length (m .rows) ≡ lent → Column (λ (y : Mailbox). y .id) (boxes m) (now (ids .entry)) → Column (λ (y : Mailbox). y .attributes) (boxes m) (now (attributes .entry)) → Column (λ (y : Mailbox). y .namelen) (boxes m) (now (lens .entry)) → Names (boxes m) (now (names .entry)) → Serves m (mailboxKind kind) v (now (name .entry)) k x (now (words .entry)) counts s (now (queue .entry)) z (now (words .exit)) (now (queue .exit))) ⌝ }
 {
     let a = v[0];
     let b = v[1];
@@ -44,6 +45,7 @@ pub fn serve(
             s,
             lent,
             ids,
+            attributes,
             lens,
             names,
             k,
@@ -54,7 +56,19 @@ pub fn serve(
             e,
             name,
         ),
-        OfMailbox::Delete => record_mailbox::deleting::delete(words, queue, counts, s, k, x, a, b),
+        OfMailbox::Delete => record_mailbox::deleting::delete(
+            words,
+            queue,
+            counts,
+            s,
+            attributes,
+            lens,
+            names,
+            k,
+            x,
+            a,
+            b,
+        ),
         OfMailbox::Rename => record_mailbox::renaming::rename(
             queue,
             counts,
@@ -78,6 +92,17 @@ pub fn serve(
             b,
             c,
         ),
-        OfMailbox::Grant => record_mailbox::rights::grant(queue, counts, s, k, x, a, b),
+        OfMailbox::Grant => record_mailbox::rights::grant(
+            queue,
+            counts,
+            s,
+            attributes,
+            lens,
+            names,
+            k,
+            x,
+            a,
+            b,
+        ),
     }
 }

@@ -62,10 +62,10 @@ module _ {kind : Kind} {v : List ℕ} {tail k : ℕ} {x : Mailbox} {lent : ℕ} 
 
   -- about mailboxes: whose rows are lent, and by which names they go
   pub placed-by : {j : Kind} {t ws′ q′ : List ℕ} → t ≡ drop tail o → kind ≡ j
-      → ((m : Memory) → length (m .rows) ≡ lent → Column (λ (y : Mailbox). y .id) (boxes m) ids → Column (λ (y : Mailbox). y .namelen) (boxes m) lens → Names (boxes m) names
+      → ((m : Memory) → length (m .rows) ≡ lent → Column (λ (y : Mailbox). y .id) (boxes m) ids → Column (λ (y : Mailbox). y .attributes) (boxes m) attributes → Column (λ (y : Mailbox). y .namelen) (boxes m) lens → Names (boxes m) names
       → Kindly m j v t k x ws counts s q z ws′ q′)
       → Serves kind v tail k x lent ids attributes lens validities nexts counters names ws counts s q o z ws′ q′
-  placed-by r e f = λ m lends law len w laid. rw (says .says, e, ← r) (f m len (laid .id) (laid .len) (laid .name) lends law (rw e at w))
+  placed-by r e f = λ m lends law len w laid. rw (says .says, e, ← r) (f m len (laid .id) (laid .attribute) (laid .len) (laid .name) lends law (rw e at w))
 
   pub answered : {t ws′ q′ : List ℕ} → t ≡ drop tail o → kind ≡ Command
       → ((m : Memory) → Lends m ws counts s q → Law m → Laid (boxes m) ids attributes lens validities nexts counters names → x ≡ selectedBox m → Comes m (ladder m (command t)) z ws ws′ q′)

@@ -53,6 +53,7 @@ fn dispatch(
             x,
             lent,
             ids,
+            attributes,
             lens,
             names,
             words,

@@ -8,8 +8,10 @@ use lib.Dec.{eqb}
 use lib.ListN.{length, take, drop, getD, set, length-set, length-append}
 use lib.Seq.{length-take-le, set-split}
 use Rattle.model.specs.Lists.{same}
+use Rattle.model.specs.Text.{bit}
 use Rattle.model.specs.Names.{Name}
 use Rattle.model.specs.Memory.{Memory, boxes, nameOf, noMailbox, refill, withBoxes, putBox, addBox, place}
+use Rattle.model.specs.Events.{isListed}
 use Rattle.model.specs.declared.Mailbox.{Mailbox}
 use Rattle.laws.specs.Changing.{refill-same, set-front}
 use Rattle.table_mailboxes.specs.Columns.{Column, Names, nameAt, name-at}
@@ -53,3 +55,8 @@ module _ (m : Memory) (fit : m .counts .mailboxes ≤ length (m .rows)) where
 pub holds-at : (l : List Mailbox) (ids lens names : List ℕ) (k i : ℕ) (n : Name) → Column (λ (x : Mailbox). x .id) l ids → Column (λ (x : Mailbox). x .namelen) l lens → Names l names → k < length l
     → (same (nameAt lens names k) n && not (eqb (getD ids k 0) i)) ≡ holds i n (getD l k noMailbox)
 holds-at l ids lens names k i n p q r h = ap₂ (λ (o : Name) (j : ℕ). same o n && not (eqb j i)) (name-at l lens names k q r h) (p k h)
+
+-- row k, by its columns, may be listed and has the name
+pub listed-at : (l : List Mailbox) (attributes lens names : List ℕ) (k : ℕ) (n : Name) → Column (λ (x : Mailbox). x .attributes) l attributes → Column (λ (x : Mailbox). x .namelen) l lens → Names l names → k < length l
+    → (bit 4 (getD attributes k 0) && same (nameAt lens names k) n) ≡ isListed n (getD l k noMailbox)
+listed-at l attributes lens names k n p q r h = ap₂ (λ (a : ℕ) (o : Name). bit 4 a && same o n) (p k h) (name-at l lens names k q r h)

@@ -10,7 +10,7 @@ use lib.Dec.{leb}
 use lib.ListN.{length, take, drop, getD, length-map, drop-of-length-le}
 use lib.Seq.{drop-cons, getD-take, length-take-le}
 use borrow.Author.Tests.{eq-eqb, ne-eqb, lt-ltb, le-ltb, le-leb}
-use Rattle.model.specs.Lists.{anyb, allb, apart, every}
+use Rattle.model.specs.Lists.{filterb, anyb, allb, apart, every}
 use Rattle.model.specs.Memory.{place, noMailbox, known, theMailbox}
 use Rattle.model.specs.Lawful.{counterOk}
 use Rattle.model.specs.declared.Mailbox.{Mailbox}
@@ -89,6 +89,17 @@ module _ {A : Type 0} where
 
     pub all-over : length l ≤ i → allb p (drop i l) ≡ true
     all-over h = rw (drop-of-length-le l {i = i} h)
+
+  -- the first that passes, or z
+  module _ (p : A → Bool) (l : List A) (i : ℕ) (z : A) where
+    pub first-found : (d : A) → i < length l → p (getD l i d) ≡ true → getD (filterb p (drop i l)) 0 z ≡ getD l i d
+    first-found d h e = rw (head-at l i d h, e)
+
+    pub first-on : (d : A) → i < length l → p (getD l i d) ≡ false → getD (filterb p (drop i l)) 0 z ≡ getD (filterb p (drop (i + 1) l)) 0 z
+    first-on d h e = rw (head-at l i d h, e)
+
+    pub first-over : length l ≤ i → getD (filterb p (drop i l)) 0 z ≡ z
+    first-over h = rw (drop-of-length-le l {i = i} h)
 
   module _ (like : A → A → Bool) (l : List A) (i : ℕ) where
     pub apart-broken : (d : A) → i < length l → anyb (λ (y : A). like (getD l i d) y) (drop (i + 1) l) ≡ true → apart like (drop i l) ≡ false

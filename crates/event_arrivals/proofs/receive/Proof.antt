@@ -8,8 +8,8 @@ use Rattle.model.specs.Memory.{bothRights, withNext}
 use Rattle.model.specs.Groups.{askedOf}
 use Rattle.table_messages.specs.Words.{messages}
 use Rattle.match_groups.specs.Asking.{asksBit}
-use Rattle.line_put.specs.Heard.{hears-none}
-use Rattle.event_message.specs.After.{put-one, hears-said, status-leaves, news-leaves}
+use Rattle.line_put.specs.Heard.{hears-none, hears-said}
+use Rattle.event_message.specs.After.{put-one, status-leaves, news-leaves}
 use Rattle.event_message.specs.Deciding.{told-some}
 use Rattle.event_message.specs.Receiving.{soon-some, receive-as}
 use Rattle.event_message.specs.Shown.{showsOf}

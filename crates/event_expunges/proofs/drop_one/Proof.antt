@@ -2,8 +2,8 @@
 use borrow.Author.Needs.{needs}
 use borrow.Author.Tests.{not-true, not-false}
 use Rattle.table_messages.specs.Words.{messages}
-use Rattle.line_put.specs.Heard.{hears-none}
-use Rattle.event_message.specs.After.{hears-said, drop-leaves}
+use Rattle.line_put.specs.Heard.{hears-none, hears-said}
+use Rattle.event_message.specs.After.{drop-leaves}
 use Rattle.event_expunges.proofs.drop_one.Statement.{statement}
 use Rattle.event_expunges.proofs.drop_one.Tie as tie
 

@@ -1,8 +1,7 @@
 -- `flag_kept`: the entry is changed, and the STATUS of a change is said, if somebody is told. Assumes nothing.
 use borrow.Author.Needs.{needs}
 use borrow.Author.Tests.{not-true, not-false}
-use Rattle.line_put.specs.Heard.{hears-none}
-use Rattle.event_message.specs.After.{hears-said}
+use Rattle.line_put.specs.Heard.{hears-none, hears-said}
 use Rattle.event_message.specs.Flagged.{kept-leaves}
 use Rattle.event_flags.proofs.flag_kept.Statement.{statement}
 use Rattle.event_flags.proofs.flag_kept.Tie as tie

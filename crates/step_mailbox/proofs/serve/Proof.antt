@@ -40,7 +40,7 @@ grant-requires c κs =
     let b = c .before in let told = ap mailboxKind (b .enum-told5 .given .1) in
     let b = b .before .before .before .before .before in let p = b .pre in
     let r = range-of Grant told (b .args .t2) (p .1) in
-    (p .0 .room, r .1 .0 .1)
+    (p .0 .room, p .0 .rows, r .1 .0 .1)
 
 returns : tie.Need-returns
 returns c =
@@ -48,15 +48,15 @@ returns c =
     let b = b .before .before in let told = ap mailboxKind (b .enum-told .given .1) in
     let b = b .before .before .before .before .before in let a = b .args in
     let name = follows-of Create told (a .name .now) (b .pre .2) in
-    λ m len ids lens names.
-    serves-of Create told (a .t2) (a .name .now) (λ lends law w. create .ensures m (a .words .now) (a .x) lends len law w ids lens names (name .0))
+    λ m len ids attributes lens names.
+    serves-of Create told (a .t2) (a .name .now) (λ lends law w. create .ensures m (a .words .now) (a .x) lends len law w ids attributes lens names (name .0))
 
 returns-2 : tie.Need-returns-2
 returns-2 c =
     let b = c .before .before .before .before in let delete = b .delete in
     let b = b .before .before .before in let told = ap mailboxKind (b .enum-told2 .given .1) in
     let b = b .before .before .before .before .before in let a = b .args in
-    λ m len ids lens names. serves-of Delete told (a .t2) (a .name .now) (delete .ensures m)
+    λ m len ids attributes lens names. serves-of Delete told (a .t2) (a .name .now) (λ lends law w. delete .ensures m lends law w attributes lens names)
 
 returns-3 : tie.Need-returns-3
 returns-3 c =
@@ -64,7 +64,7 @@ returns-3 c =
     let b = b .before .before in let told = ap mailboxKind (b .enum-told3 .given .1) in
     let b = b .before .before .before .before .before in let a = b .args in
     let name = follows-of Rename told (a .name .now) (b .pre .2) in
-    λ m len ids lens names.
+    λ m len ids attributes lens names.
     serves-of Rename told (a .t2) (a .name .now) (λ lends law w. rename .ensures m (a .words .now) lends law w ids lens names (name .0))
 
 returns-4 : tie.Need-returns-4
@@ -72,14 +72,14 @@ returns-4 c =
     let b = c .before .before in let subscribe = b .subscribe in
     let b = b .before .before in let told = ap mailboxKind (b .enum-told4 .given .1) in
     let b = b .before .before .before .before .before in let a = b .args in
-    λ m len ids lens names. serves-of Subscribe told (a .t2) (a .name .now) (subscribe .ensures m (a .words .now))
+    λ m len ids attributes lens names. serves-of Subscribe told (a .t2) (a .name .now) (subscribe .ensures m (a .words .now))
 
 returns-5 : tie.Need-returns-5
 returns-5 c =
     let b = c .before .before in let grant = b .grant in
     let b = b .before .before in let told = ap mailboxKind (b .enum-told5 .given .1) in
     let b = b .before .before .before .before .before in let a = b .args in
-    λ m len ids lens names. serves-of Grant told (a .t2) (a .name .now) (grant .ensures m (a .words .now))
+    λ m len ids attributes lens names. serves-of Grant told (a .t2) (a .name .now) (λ lends law w. grant .ensures m (a .words .now) lends law w attributes lens names)
 
 pub serve-spec : {M : Type 1} → statement M
 serve-spec =

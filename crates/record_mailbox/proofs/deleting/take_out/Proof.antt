@@ -9,7 +9,7 @@ returns c =
     let b = c .before .before .before .before in let settle = b .settle in
     let b = b .before .before .before .before in let delete = b .delete in
     let b = b .before .before .before .before in let a = b .args in
-    taken-out (a .words .now) (a .queue .now) (a .counts) (a .s) (a .k) (a .x) (a .id) (a .quiet) (settle .result) (delete .result .session) (delete .result .filled)
+    taken-out (a .words .now) (a .queue .now) (a .counts) (a .s) (a .k) (a .y) (a .x) (a .id) (a .quiet) (settle .result) (delete .result .session) (delete .result .filled)
     (settle .ensures) (delete .ensures)
 
 pub take-out-spec : {M : Type 1} → statement M

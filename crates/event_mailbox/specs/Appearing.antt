@@ -16,13 +16,17 @@ use Rattle.match_parent.specs.Upper.{upperAsked, upperLines}
 use Rattle.line_mailbox.specs.Texts.{pair}
 use Rattle.line_put.specs.Heard.{Heard, heard}
 
--- somebody is told of the mailbox: with both rights, if a group asks for it
-abbrev pub ownTold : Session → Mailbox → ℕ → Bool
-ownTold s x quiet = eqb quiet 0 && (bothRights x && askedOf s x asksName)
+-- anybody may hear of it: the record is not quiet, and both rights on the mailbox are held
+abbrev pub mayHear : Mailbox → ℕ → Bool
+mayHear x quiet = eqb quiet 0 && bothRights x
 
--- of its parent: with both rights on the mailbox, if a group asks for the parent
+-- somebody is told of the mailbox: a group asks for it
+abbrev pub ownTold : Session → Mailbox → ℕ → Bool
+ownTold s x quiet = mayHear x quiet && askedOf s x asksName
+
+-- of its parent
 abbrev pub upperTold : Session → Mailbox → Mailbox → ℕ → Bool
-upperTold s y x quiet = eqb quiet 0 && (bothRights x && upperAsked s y)
+upperTold s y x quiet = mayHear x quiet && upperAsked s y
 
 -- of either
 abbrev pub eitherTold : Session → Mailbox → Mailbox → ℕ → Bool
@@ -52,11 +56,12 @@ pub both-when : (s : Session) (y x : Mailbox) (quiet : ℕ) (k : ListMark) (abov
     → loud quiet (when (bothRights x && askedOf s x asksName) (list k (nameOf x)) ++ above) ≡ cond (eitherTold s y x quiet) (bothLines s y x quiet k) []
 both-when s y x quiet k above e =
     ap (λ (ls : List Line). loud quiet (when (bothRights x && askedOf s x asksName) (list k (nameOf x)) ++ ls)) (sym e)
-    ∙ go (eqb quiet 0) (bothRights x && askedOf s x asksName) (bothRights x && upperAsked s y)
+    ∙ go (eqb quiet 0) (bothRights x) (askedOf s x asksName) (upperAsked s y)
   where
-    go : (a b c : Bool) → cond a (when b (list k (nameOf x)) ++ when c (list (parentMark y) (nameOf y))) []
-        ≡ cond ((a && b) || (a && c)) (pair (a && b) (list k (nameOf x)) (a && c) (list (parentMark y) (nameOf y))) []
-    go true true c = refl
-    go true false true = refl
-    go true false false = refl
-    go false b c = refl
+    go : (a r b c : Bool) → cond a (when (r && b) (list k (nameOf x)) ++ when (r && c) (list (parentMark y) (nameOf y))) []
+        ≡ cond (((a && r) && b) || ((a && r) && c)) (pair ((a && r) && b) (list k (nameOf x)) ((a && r) && c) (list (parentMark y) (nameOf y))) []
+    go true true true c = refl
+    go true true false true = refl
+    go true true false false = refl
+    go true false b c = refl
+    go false r b c = refl

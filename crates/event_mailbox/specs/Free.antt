@@ -10,7 +10,7 @@ use Rattle.model.specs.Events.{withSubscribed}
 use Rattle.laws.specs.Room.{Room, asked-free}
 use Rattle.model.specs.declared.Mailbox.{Mailbox}
 use Rattle.model.specs.declared.Session.{Session}
-use Rattle.event_mailbox.specs.Appearing.{ownTold, upperTold, eitherTold}
+use Rattle.event_mailbox.specs.Appearing.{mayHear, ownTold, upperTold, eitherTold}
 use Rattle.event_mailbox.specs.Subscriptions.{differs, subscribeTold}
 use Rattle.event_mailbox.specs.Renaming.{renameTold}
 
@@ -19,8 +19,8 @@ module _ (q f : ℕ) (s : Session) (room : Room q f s) where
   both-free y x quiet h = go (ownTold s x quiet) refl h
     where
       go : (a : Bool) → ownTold s x quiet ≡ a → (a || upperTold s y x quiet) ≡ true → f ≤ q - 64
-      go true e z = asked-free q f s room (nameOf x) (x .attributes) asksName (and-r (bothRights x) _ (and-r (eqb quiet 0) _ e))
-      go false e z = asked-free q f s room (nameOf y) (y .attributes) asksName (and-r (not (eqb (y .namelen) 0)) _ (and-r (bothRights x) _ (and-r (eqb quiet 0) _ z)))
+      go true e z = asked-free q f s room (nameOf x) (x .attributes) asksName (and-r (mayHear x quiet) _ e)
+      go false e z = asked-free q f s room (nameOf y) (y .attributes) asksName (and-r (not (eqb (y .namelen) 0)) _ (and-r (mayHear x quiet) _ z))
 
   pub subscribe-free : (x : Mailbox) (b quiet : ℕ) → subscribeTold s x b quiet ≡ true → f ≤ q - 64
   subscribe-free x b quiet h =

@@ -22,7 +22,7 @@ ghost use Rattle.laws.specs.Room.{Room};
 ghost use Rattle.line_mailbox.specs.Texts.{markOf, pair};
 ghost use Rattle.line_put.specs.Says.{Says};
 ghost use Rattle.line_put.specs.Heard.{Hears, heard};
-ghost use Rattle.event_mailbox.specs.Appearing.{ownTold, upperTold, bothHeard};
+ghost use Rattle.event_mailbox.specs.Appearing.{mayHear, ownTold, upperTold, bothHeard};
 
 // A row that has changed or is new, and what else is left.
 pub struct Changed {
@@ -152,14 +152,21 @@ pub fn tell_change(
 
 // ---- who is told
 
-// Whether somebody is told of row x, at its create or its delete.
-fn own_told(s: Session, x: Mailbox, quiet: u8) -> bool
-    ensures { λ r. ⌜ r ≡ ownTold s x quiet ⌝ }
+// Whether anybody may hear that row x appears or goes: the record is not quiet, and both rights are held.
+fn may_hear(x: Mailbox, quiet: u8) -> bool
+    ensures { λ r. ⌜ r ≡ mayHear x quiet ⌝ }
 {
     if quiet != 0 {
         return false;
     }
-    if !table_mailboxes::row::has_rights(x.attributes) {
+    table_mailboxes::row::has_rights(x.attributes)
+}
+
+// Whether somebody is told of row x.
+fn own_told(s: Session, x: Mailbox, quiet: u8) -> bool
+    ensures { λ r. ⌜ r ≡ ownTold s x quiet ⌝ }
+{
+    if !may_hear(x, quiet) {
         return false;
     }
     match_groups::is_asked_of(s, x, 3)
@@ -169,10 +176,7 @@ fn own_told(s: Session, x: Mailbox, quiet: u8) -> bool
 fn upper_told(s: Session, y: Mailbox, x: Mailbox, quiet: u8) -> bool
     ensures { λ r. ⌜ r ≡ upperTold s y x quiet ⌝ }
 {
-    if quiet != 0 {
-        return false;
-    }
-    if !table_mailboxes::row::has_rights(x.attributes) {
+    if !may_hear(x, quiet) {
         return false;
     }
     match_parent::is_asked(s, y)

@@ -27,7 +27,7 @@ fn found(
 {
     let name = kept.octets;
     let end = table_mailboxes::clip(kept.len);
-    let bits = table_mailboxes::listed_bits(attributes, lens, names, n, &name[..end]);
+    let bits = table_mailboxes::listed::listed_bits(attributes, lens, names, n, &name[..end]);
     Mailbox {
         id: 0,
         attributes: bits,

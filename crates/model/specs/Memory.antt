@@ -72,7 +72,7 @@ mayList x = bit 4 (x .attributes)
 abbrev pub mayRead : Mailbox → Bool
 mayRead x = bit 5 (x .attributes)
 
--- both rights, which every notice needs (Written, 1)
+-- both rights, which every notice needs (Written, 1): a parent's needs them on the mailbox beneath it (02, 2)
 abbrev pub bothRights : Mailbox → Bool
 bothRights x = mayList x && mayRead x
 

@@ -56,7 +56,7 @@ impl Store {
         answer
     }
 
-    /// The rights come last: the client reads one LIST where one is owed, and not a STATUS for each message.
+    /// The rights come last: the client reads of the mailbox and its parent once, and not a STATUS for each message.
     fn hand_used(&self, state: &mut State, mailbox: &Mailbox, history: &[Vec<u8>]) {
         let rights = mailbox.bits(&state.user);
         let attributes = mailbox.attributes(&state.user) & !rights;

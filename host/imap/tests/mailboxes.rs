@@ -2,8 +2,9 @@
 
 mod support;
 
-use support::watch::Watch;
+use support::watch::{absent, there, Watch};
 
+/// `subtree` has its own name in it: `Shared`, which is the parent of most here and no mailbox, is told of as absent.
 const NAMES: &str = "(subtree Shared (MessageNew MessageExpunge MailboxName))";
 
 /// What the server answers to commands about a mailbox, without its name.
@@ -63,7 +64,7 @@ fn hidden_is_answered_as_absent() {
 }
 
 #[test]
-fn a_grant_is_one_line_and_a_revoke_another() {
+fn a_grant_is_told_once_and_so_is_a_revoke() {
     let mut watch = Watch::new(0, &[]);
     watch.alice.ok("CREATE Shared/Big");
     watch
@@ -76,8 +77,9 @@ fn a_grant_is_one_line_and_a_revoke_another() {
     watch.alice.ok("UNSELECT");
     watch.notify(NAMES);
     for turn in 0..5 {
+        // l is gained, so the parent is told of too; none of the messages is
         watch.alice.ok("SETACL Shared/Big bob lr");
-        assert_eq!(watch.heard(), ["* LIST () \"/\" \"Shared/Big\""]);
+        assert_eq!(watch.heard(), [there("Shared/Big"), absent("Shared")]);
         watch.alice.append("Shared/Big");
         let (next, messages) = (302 + 2 * turn, 300 + 2 * turn);
         let counts = format!(
@@ -88,11 +90,9 @@ fn a_grant_is_one_line_and_a_revoke_another() {
             watch.heard(),
             [format!("* STATUS \"Shared/Big\" ({counts})")]
         );
+        // both lines by the rights that he had; the record that takes it from the library is quiet
         watch.alice.ok("DELETEACL Shared/Big bob");
-        assert_eq!(
-            watch.heard(),
-            ["* LIST (\\NonExistent) \"/\" \"Shared/Big\""]
-        );
+        assert_eq!(watch.heard(), [absent("Shared/Big"), absent("Shared")]);
         watch.alice.append("Shared/Big");
         assert_eq!(watch.heard(), [""; 0]);
     }
@@ -101,7 +101,8 @@ fn a_grant_is_one_line_and_a_revoke_another() {
     watch.alice.ok("SETACL Shared/Big bob lr");
     watch.alice.append("Shared/Big");
     let status = "* STATUS \"Shared/Big\" (UIDNEXT 312 MESSAGES 310 HIGHESTMODSEQ 314)";
-    assert_eq!(watch.heard(), ["* LIST () \"/\" \"Shared/Big\"", status]);
+    let granted = [there("Shared/Big"), absent("Shared"), status.into()];
+    assert_eq!(watch.heard(), granted);
     watch.end();
 }
 
@@ -118,15 +119,12 @@ fn a_revoke_gives_the_room_back() {
         watch.alice.ok(&format!("CREATE {name}"));
         watch.alice.append_many((0..600).map(|_| name.into()));
         watch.alice.ok(&format!("SETACL {name} bob lr"));
-        assert_eq!(watch.heard(), [format!("* LIST () \"/\" \"{name}\"")]);
+        assert_eq!(watch.heard(), [there(name), absent("Shared")]);
         if select {
             watch.bob.ok(&format!("SELECT {name}"));
         }
         watch.alice.ok(&format!("SETACL {name} bob \"\""));
-        assert_eq!(
-            watch.heard(),
-            [format!("* LIST (\\NonExistent) \"/\" \"{name}\"")]
-        );
+        assert_eq!(watch.heard(), [absent(name), absent("Shared")]);
         if select {
             watch.bob.ok("UNSELECT");
         }
@@ -155,6 +153,7 @@ fn revoked_while_selected() {
         "(selected (MessageNew MessageExpunge FlagChange)) {NAMES}"
     ));
     watch.bob.ok("SELECT Shared/Open");
+    // r alone comes and goes: no event, so no parent either
     watch.alice.ok("SETACL Shared/Open bob l");
     watch.alice.append("Shared/Open");
     assert_eq!(watch.heard(), [""; 0]);
@@ -163,17 +162,14 @@ fn revoked_while_selected() {
     watch.alice.ok("SETACL Shared/Open bob lr");
     assert_eq!(watch.bob.ok("NOOP"), ["* 2 EXISTS"]);
     watch.alice.ok("DELETEACL Shared/Open bob");
-    assert_eq!(
-        watch.heard(),
-        ["* LIST (\\NonExistent) \"/\" \"Shared/Open\""]
-    );
+    assert_eq!(watch.heard(), [absent("Shared/Open"), absent("Shared")]);
     watch.alice.append("Shared/Open");
     assert_eq!(watch.bob.ok("NOOP"), [""; 0]);
     assert_eq!(watch.bob.answer("FETCH 1 (UID)"), "NO [NOPERM] denied");
     watch.bob.ok("SELECT INBOX");
     watch.alice.append("Shared/Open");
     watch.alice.ok("SETACL Shared/Open bob lr");
-    assert_eq!(watch.heard(), ["* LIST () \"/\" \"Shared/Open\""]);
+    assert_eq!(watch.heard(), [there("Shared/Open"), absent("Shared")]);
     assert!(watch
         .bob
         .ok("SELECT Shared/Open")
@@ -191,8 +187,9 @@ fn the_selected_mailbox_is_deleted() {
         watch.alice.ok("DELETE Shared/Open"),
         ["* OK [CLOSED] mailbox deleted"]
     );
-    let gone = "* LIST (\\NonExistent) \"/\" \"Shared/Open\"";
-    assert_eq!(watch.heard(), ["* OK [CLOSED] mailbox deleted", gone]);
+    let closed = "* OK [CLOSED] mailbox deleted".to_string();
+    let told = [closed, absent("Shared/Open"), absent("Shared")];
+    assert_eq!(watch.heard(), told);
     for client in [&mut watch.alice, &mut watch.bob] {
         assert_eq!(client.answer("FETCH 1 (UID)"), "BAD no mailbox selected");
         assert_eq!(client.ok("NOOP"), [""; 0]);
@@ -207,11 +204,17 @@ fn a_rename_takes_what_lies_beneath() {
     let mut watch = Watch::new(0, &[]);
     watch.notify(NAMES);
     watch.alice.ok("CREATE Shared/a/b/c");
-    for name in ["Shared/a", "Shared/a/b", "Shared/a/b/c"] {
+    // granted from the top, so each but the first has a parent that he may list by then
+    for (name, parent) in [
+        ("Shared/a", absent("Shared")),
+        ("Shared/a/b", there("Shared/a")),
+        ("Shared/a/b/c", there("Shared/a/b")),
+    ] {
         watch.alice.ok(&format!("SETACL {name} bob lr"));
-        assert_eq!(watch.heard(), [format!("* LIST () \"/\" \"{name}\"")]);
+        assert_eq!(watch.heard(), [there(name), parent]);
     }
     watch.alice.ok("CREATE Shared/ab");
+    // a rename affects no parent, old or new; Shared/new, which it makes, is alice's alone
     watch.alice.ok("RENAME Shared/a Shared/new/z");
     let renamed = "* LIST () \"/\" \"Shared/new/z\" (\"OLDNAME\" (\"Shared/a\"))";
     assert_eq!(watch.heard(), [renamed]);

@@ -2,8 +2,9 @@
 
 mod support;
 
-use support::watch::Watch;
+use support::watch::{absent, there, Watch};
 
+/// `subtree` has its own name in it: `Shared`, the parent, which is no mailbox.
 const NAMES: &str = "(subtree Shared (MessageNew MessageExpunge MailboxName))";
 const ALL: &str = "l r s w i p k x t e a";
 
@@ -48,7 +49,8 @@ fn what_anyone_has_all_have() {
     watch.alice.ok("SETACL Shared/All anyone lr");
     let acl = "* ACL \"Shared/All\" alice lrswipkxtea anyone lr";
     assert_eq!(watch.alice.ok("GETACL Shared/All"), [acl]);
-    assert_eq!(watch.heard(), ["* LIST () \"/\" \"Shared/All\""]);
+    // l is gained through anyone, and that is a grant as any other: the parent's line follows
+    assert_eq!(watch.heard(), [there("Shared/All"), absent("Shared")]);
     let rights = |watch: &mut Watch, wanted: &str| {
         let line = format!("* MYRIGHTS \"Shared/All\" {wanted}");
         assert_eq!(watch.bob.ok("MYRIGHTS Shared/All"), [line]);
@@ -62,7 +64,7 @@ fn what_anyone_has_all_have() {
     let status = "* STATUS \"Shared/All\" (UIDNEXT 3 MESSAGES 2 HIGHESTMODSEQ 3)";
     assert_eq!(stranger.line(), status);
     assert_eq!(watch.heard(), [status]);
-    // what one has besides is added, and taken away alone
+    // what one has besides is added, and taken away alone; l stays, so nobody is told
     watch.alice.ok("SETACL Shared/All bob w");
     rights(&mut watch, "lrw");
     watch.alice.ok("SETACL Shared/All bob +i");
@@ -72,8 +74,7 @@ fn what_anyone_has_all_have() {
     assert_eq!(watch.heard(), [""; 0]);
     rights(&mut watch, "lr");
     watch.alice.ok("DELETEACL Shared/All anyone");
-    let gone = "* LIST (\\NonExistent) \"/\" \"Shared/All\"";
-    assert_eq!(watch.heard(), [gone]);
+    assert_eq!(watch.heard(), [absent("Shared/All"), absent("Shared")]);
     let hidden = watch.bob.answer("SELECT Shared/All");
     assert_eq!(hidden, "NO [NONEXISTENT] no such mailbox");
     watch.end();

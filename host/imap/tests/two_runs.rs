@@ -11,6 +11,9 @@ const STEPS: usize = 80;
 /// The last lies beneath one that he may not see.
 const SEEN: [&str; 3] = ["Shared/Open", "Shared/Alarms", "Shared/Up/Sight"];
 
+/// The notice of that one, when Sight comes or goes: the same whether it is there or not.
+const PARENT: &str = "* LIST (\\NonExistent) \"/\" \"Shared/Up\"";
+
 /// What bob says of folders that may or may not be there.
 const PRYING: [&str; 30] = [
     "STATUS Shared/Hid1 (MESSAGES)",
@@ -218,7 +221,7 @@ fn run(seed: u64, hidden_seed: u64, most: usize) -> (String, usize) {
 
 #[test]
 fn hidden_commands_change_no_octet() {
-    let (mut commands, mut notices) = (0, 0);
+    let (mut commands, mut notices, mut parents) = (0, 0, 0);
     for seed in 0..PAIRS {
         let (first, none) = run(seed, seed, 0);
         let (second, some) = run(seed, PAIRS + seed, 3);
@@ -229,10 +232,12 @@ fn hidden_commands_change_no_octet() {
         commands += some;
         let is_notice = |line: &&str| line.contains("(UIDNEXT") || line.contains("EXPUNGE");
         notices += first.lines().filter(is_notice).count();
+        parents += first.lines().filter(|&line| line == PARENT).count();
     }
     assert!(
         commands > 100 * PAIRS as usize,
         "{commands} hidden commands"
     );
     assert!(notices > PAIRS as usize, "{notices} notices to bob");
+    assert!(parents > 10, "{parents} notices of a hidden parent");
 }

@@ -5,6 +5,16 @@ use super::{Client, Server};
 /// What marks the end of all that bob heard so far.
 const FENCE: &str = "Shared/Fence";
 
+/// The notice of a mailbox that is there.
+pub fn there(name: &str) -> String {
+    format!("* LIST () \"/\" \"{name}\"")
+}
+
+/// The notice of a name that is gone, that never was, or that the watcher may not list.
+pub fn absent(name: &str) -> String {
+    format!("* LIST (\\NonExistent) \"/\" \"{name}\"")
+}
+
 pub struct Watch {
     pub server: Server,
     pub alice: Client,

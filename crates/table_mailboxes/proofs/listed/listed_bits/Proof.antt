@@ -1,6 +1,6 @@
 -- `listed_bits`: the loop keeps that no row before i may be listed and has the name. Assumes nothing.
-use Rattle.table_mailboxes.proofs.listed_bits.Statement.{statement}
-use Rattle.table_mailboxes.proofs.listed_bits.Tie as tie
+use Rattle.table_mailboxes.proofs.listed.listed_bits.Statement.{statement}
+use Rattle.table_mailboxes.proofs.listed.listed_bits.Tie as tie
 use mathlib.Core.Path.{_≡_, refl, ap, sym, _∙_}
 use mathlib.Core.List.{List}
 use Prim.Native.Nat.{_≤_, _-_}

@@ -1,7 +1,7 @@
 -- `is_listed`: the name and the right, in this order. Assumes nothing.
 use borrow.Author.Needs.{needs}
-use Rattle.table_mailboxes.proofs.is_listed.Statement.{statement}
-use Rattle.table_mailboxes.proofs.is_listed.Tie as tie
+use Rattle.table_mailboxes.proofs.listed.is_listed.Statement.{statement}
+use Rattle.table_mailboxes.proofs.listed.is_listed.Tie as tie
 use borrow.Author.Tests.{not-true, not-false}
 use Rattle.model.specs.Laws.{and-true, and-false}
 

@@ -1,6 +1,6 @@
 -- Who is told of a mailbox finds the last 64 octets of the queue free, kind by kind. Assumes nothing.
 use mathlib.Core.Path.{_≡_, refl}
-use mathlib.Core.Bool.{Bool, true, false, not, _&&_, _||_}
+use mathlib.Core.Bool.{Bool, true, false, not, _||_}
 use Prim.Native.Nat.{ℕ, _-_, _≤_}
 use lib.Dec.{eqb}
 use Rattle.model.specs.Laws.{and-r}

@@ -1,5 +1,5 @@
 // The records about mailboxes, `MB DL RN SB RT`: what is stored, who is told, and the line or the overflow line. This file has what they
-// share: a row changes or is new, and a line about it is told or none is.
+// share: a row changes or is new, and a line about it is told or none is; a mailbox that appears or goes is told of with its parent.
 pub mod creating;
 pub mod deleting;
 pub mod renaming;
@@ -14,7 +14,7 @@ use model::Session;
 ghost use mathlib.Core.Path.{_≡_};
 ghost use mathlib.Core.Bool.{true, _||_};
 ghost use Prim.Native.Nat.{_-_, _≤_};
-ghost use lib.ListN.{length, take};
+ghost use lib.ListN.{length};
 ghost use Rattle.model.specs.Memory.{nameOf, withAttributes};
 ghost use Rattle.model.specs.Lines.{list, render, renderAll};
 ghost use Rattle.model.specs.Events.{listMark, parentMark};

@@ -2,11 +2,9 @@
 -- Assumes nothing.
 use mathlib.Core.Path.{_≡_, refl, ap, sym, _∙_}
 use mathlib.Core.List.{List, [], _∷_, map}
-use mathlib.Core.Bool.{Bool, true, false, not, cond, _&&_}
+use mathlib.Core.Bool.{Bool, true, false, cond, _&&_}
 use Prim.Native.Nat.{ℕ}
-use lib.Dec.{eqb}
 use lib.ListN.{length, take, getD}
-use borrow.Author.Tests.{eqb-true}
 use Rattle.model.specs.Lists.{keep, filterb, anyb, same, when}
 use Rattle.model.specs.Laws.{and-r, and-false}
 use Rattle.model.specs.Names.{Name, parentOf, hasParent}
@@ -14,7 +12,7 @@ use Rattle.model.specs.Text.{bit}
 use Rattle.model.specs.Memory.{nameOf, mayList, bothRights, noMailbox, stored}
 use Rattle.model.specs.Groups.{groupOf, meets, asked, askedOf, asksName}
 use Rattle.model.specs.Lines.{Line, list, plain, noselect, nonExistent}
-use Rattle.model.specs.Events.{standIn, isListed, listedRow, parentRow, parentLines}
+use Rattle.model.specs.Events.{standIn, isListed, listedRow, parentRow}
 use Rattle.model.specs.declared.Group.{Group}
 use Rattle.model.specs.declared.Mailbox.{Mailbox}
 use Rattle.model.specs.declared.Session.{Session}

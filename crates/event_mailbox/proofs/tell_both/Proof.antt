@@ -2,7 +2,7 @@
 use borrow.Author.Needs.{needs}
 use Rattle.event_mailbox.proofs.tell_both.Statement.{statement}
 use Rattle.event_mailbox.proofs.tell_both.Tie as tie
-use mathlib.Core.Path.{_≡_, sym, _∙_}
+use mathlib.Core.Path.{sym, _∙_}
 use native.Mathlib.Omega.{arith}
 use mathlib.Core.Bool.{_||_}
 use borrow.Author.Tests.{not-true, not-false}

@@ -2,7 +2,7 @@
 use borrow.Author.Needs.{needs}
 use Rattle.event_mailbox.proofs.tell_change.Statement.{statement}
 use Rattle.event_mailbox.proofs.tell_change.Tie as tie
-use mathlib.Core.Path.{_≡_, ap₂, sym, _∙_}
+use mathlib.Core.Path.{ap₂, sym, _∙_}
 use mathlib.Core.Bool.{_||_}
 use native.Mathlib.Omega.{arith}
 use Rattle.laws.specs.Room.{sizes}

@@ -2,7 +2,7 @@
 use borrow.Author.Needs.{needs}
 use Rattle.match_parent.proofs.parent.Statement.{statement}
 use Rattle.match_parent.proofs.parent.Tie as tie
-use mathlib.Core.Path.{_≡_, ap, sym, _∙_}
+use mathlib.Core.Path.{ap, sym, _∙_}
 use native.Mathlib.Omega.{arith}
 use lib.ListN.{take}
 use lib.Seq.{length-take-le}

@@ -37,15 +37,15 @@ pub named-row : (p : Name) (l : List Mailbox) → rowOf (length p) (stored p) (l
 named-row p l = ap (λ (q : Name). rowOf (length p) (stored p) (listedRow q l .attributes)) (name-stored p)
 
 -- what is told of a parent, by its name and attributes alone
-abbrev told : Session → (rights there : Bool) → Name → ℕ → List Line
-told s b e n a = when (b && (e && asked s n a asksName)) (list (cond (bit 4 a) (cond (bit 0 a) plain noselect) nonExistent) n)
+abbrev lineOf : Session → (rights there : Bool) → Name → ℕ → List Line
+lineOf s b e n a = when (b && (e && asked s n a asksName)) (list (cond (bit 4 a) (cond (bit 0 a) plain noselect) nonExistent) n)
 
 module _ (s : Session) (l : List Mailbox) (n : Name) where
   pub stands-found : (y : Mailbox) → y ≡ rowOf (length (parentOf n)) (stored (parentOf n)) (listedRow (parentOf n) l .attributes) → StandsFor s l n y
   stands-found y e x h =
       ap (λ (z : Mailbox). upperLines s z x) e
-      ∙ (ap (λ (p : Name). told s (bothRights x) (hasParent n) p (listedRow (parentOf n) l .attributes)) (name-stored (parentOf n) ∙ sym (listed-name (parentOf n) l))
-      ∙ ap (λ (k : Name). told s (bothRights x) (hasParent k) (nameOf (listedRow (parentOf k) l)) (listedRow (parentOf k) l .attributes)) (sym h))
+      ∙ (ap (λ (p : Name). lineOf s (bothRights x) (hasParent n) p (listedRow (parentOf n) l .attributes)) (name-stored (parentOf n) ∙ sym (listed-name (parentOf n) l))
+      ∙ ap (λ (k : Name). lineOf s (bothRights x) (hasParent k) (nameOf (listedRow (parentOf k) l)) (listedRow (parentOf k) l .attributes)) (sym h))
 
   -- where no group stands nobody is told of any
   pub stands-none : (y : Mailbox) → y ≡ noMailbox → s .groupcount ≡ 0 → StandsFor s l n y

@@ -44,7 +44,7 @@ newBox i a v c n = record { id = i; attributes = a; namelen = length n; uidvalid
 abbrev pub standIn : Name → Mailbox
 standIn p = newBox 0 1 0 0 p
 
--- the row with this name that may be listed, or the stand-in
+-- a row with this name that may be listed; of the rows the first such, or else the stand-in
 abbrev pub isListed : Name → Mailbox → Bool
 isListed p x = mayList x && same (nameOf x) p
 
@@ -55,6 +55,7 @@ listedRow p l = getD (filterb (isListed p) l) 0 (standIn p)
 abbrev pub parentRow : List Mailbox → Mailbox → Mailbox
 parentRow l x = listedRow (parentOf (nameOf x)) l
 
+-- how it is listed: as at a create of it, and as what does not exist where it may not be listed
 abbrev pub parentMark : Mailbox → ListMark
 parentMark y = cond (mayList y) (listMark y) nonExistent
 

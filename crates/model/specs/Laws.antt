@@ -1,4 +1,4 @@
--- Laws of the tests and list functions of Lists. Assumes nothing.
+-- Laws of the tests and list functions of Lists, and of a name's last slash. Assumes nothing.
 use mathlib.Core.Path.{_≡_, refl, _∙_, sym, ap, ap₂}
 use mathlib.Core.List.{List, [], _∷_, _++_, map}
 use mathlib.Core.Bool.{Bool, true, false, not, cond, _&&_, _||_}
@@ -8,6 +8,7 @@ use lib.Dec.{eqb}
 use lib.ListN.{length, take, drop, length-map}
 use lib.Seq.{take-all, take-nil}
 use Rattle.model.specs.Lists.{keep, filterb, anyb, allb, every, same, sorted, insert, concatMap}
+use Rattle.model.specs.Names.{Name, beforeSlash}
 
 -- ---- tests
 pub tf : {A : Type 0} (b : Bool) → b ≡ true → b ≡ false → A
@@ -284,3 +285,18 @@ module _ {A B : Type 0} where
   pub concat-same : (f g : A → List B) (p : A → Bool) → ((x : A) → p x ≡ true → f x ≡ g x) → (l : List A) → allb p l ≡ true → concatMap f l ≡ concatMap g l
   concat-same f g p e [] h = refl
   concat-same f g p e (x ∷ l) h = ap₂ _++_ (e x (and-l (p x) _ h)) (concat-same f g p e l (and-r (p x) _ h))
+
+-- ---- what stands before the last slash, and nothing where there is none
+slashed : (a t : Name) → anyb (eqb 47) (a ++ (47 ∷ t)) ≡ true
+slashed [] t = refl
+slashed (b ∷ a) t = rw (slashed a t) (or-true (eqb 47 b))
+
+pub before-last : (a t : Name) → anyb (eqb 47) t ≡ false → beforeSlash (a ++ (47 ∷ t)) ≡ a
+unfolding beforeSlash
+before-last [] t e = rw e
+before-last (b ∷ a) t e = rw (slashed a t) (ap (λ (l : Name). b ∷ l) (before-last a t e))
+
+pub before-none : (n : Name) → anyb (eqb 47) n ≡ false → beforeSlash n ≡ []
+unfolding beforeSlash
+before-none [] e = refl
+before-none (b ∷ n) e = rw (or-r (eqb 47 b) _ e)

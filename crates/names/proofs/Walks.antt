@@ -2,18 +2,18 @@
 use mathlib.Core.Path.{_≡_, refl, ap, sym, _∙_}
 use mathlib.Core.Bool.{Bool, true, false, cond}
 use mathlib.Core.List.{List, [], _∷_, _++_, map}
-use Prim.Native.Nat.{ℕ, zero, suc, _+_, _-_, _<_, _≤_}
+use Prim.Native.Nat.{ℕ, suc, _+_, _-_, _<_, _≤_}
 use native.Mathlib.Numerals.{add-one}
 use native.Mathlib.Omega.{arith}
 use lib.Dec.{eqb, ltb}
-use lib.ListN.{length, take, drop, getD, set, replicate, length-map, drop-of-length-le}
+use lib.ListN.{length, take, drop, getD, set, replicate, length-map, drop-of-length-le, take-append-drop}
 use lib.Seq.{drop-cons, take-suc, take-all, set-at, append-snoc, length-take-le}
 use borrow.Author.Tests.{eq-eqb, ne-eqb, le-ltb}
 use Rattle.model.specs.Lists.{same, anyb}
 use Rattle.model.specs.Text.{upper, sameWord}
 use Rattle.model.specs.Names.{leads, before, beforeSlash}
 use Rattle.model.specs.declared.LentName.{LentName}
-use Rattle.model.specs.Laws.{same-lengths, or-r, or-true}
+use Rattle.model.specs.Laws.{same-lengths, before-last}
 use Rattle.names.specs.Kept.{keptName}
 
 -- a test that fails whichever way it goes, and one that is its answer
@@ -89,27 +89,12 @@ module _ (n : List ℕ) (i : ℕ) where
   pub slash-past : length n ≤ i → anyb (eqb 47) (drop i n) ≡ false
   slash-past h = rw (drop-of-length-le n h)
 
--- ---- the last slash
-some-slash : (n : List ℕ) (i : ℕ) → i < length n → getD n i 0 ≡ 47 → anyb (eqb 47) n ≡ true
-some-slash [] i h e = absurd (omega arith)
-some-slash (b ∷ n) zero h e = rw (eq-eqb 47 b (sym e))
-some-slash (b ∷ n) (suc i) h e = rw (some-slash n i (omega arith) e) (or-true (eqb 47 b))
-
-last-place : (n : List ℕ) (i : ℕ) → i < length n → getD n i 0 ≡ 47 → anyb (eqb 47) (drop (suc i) n) ≡ false → take i n ≡ beforeSlash n
-unfolding beforeSlash
-last-place [] i h e f = absurd (omega arith)
-last-place (b ∷ n) zero h e f = rw f
-last-place (b ∷ n) (suc i) h e f = rw (some-slash n i (omega arith) e) (ap (λ (r : List ℕ). b ∷ r) (last-place n i (omega arith) e f))
-
-pub no-slash : (n : List ℕ) → anyb (eqb 47) n ≡ false → [] ≡ beforeSlash n
-unfolding beforeSlash
-no-slash [] e = refl
-no-slash (b ∷ n) e = rw (or-r (eqb 47 b) (anyb (eqb 47) n) e)
-
--- from place j on is no slash, and i is the place before it
+-- ---- the last slash: from place j on is no slash, and i is the place before it
 module _ (n : List ℕ) (i j : ℕ) (none : anyb (eqb 47) (drop j n) ≡ false) where
   pub last-here : getD n i 0 ≡ 47 → j ≡ i + 1 → i < length n → take i n ≡ beforeSlash n
-  last-here e s h = last-place n i h e (rw (s, add-one) at none)
+  last-here e s h =
+      let z : n ≡ take i n ++ (47 ∷ drop (suc i) n) = sym (take-append-drop i n) ∙ ap (λ (r : List ℕ). take i n ++ r) (drop-cons n i 0 h ∙ ap (λ (b : ℕ). b ∷ drop (suc i) n) e) in
+      sym (ap beforeSlash z ∙ before-last (take i n) (drop (suc i) n) (rw (s, add-one) at none))
 
   pub last-before : (getD n i 0 ≡ 47 → ⊥) → j ≡ i + 1 → i < length n → anyb (eqb 47) (drop i n) ≡ false
   last-before e s h = slash-next n i h e ∙ (rw s at none)

@@ -8,28 +8,12 @@ use borrow.Author.Tests.{leb-true, le-leb, eqb-true, ne-eqb}
 use lib.Dec.{eqb, leb}
 use lib.ListN.{length, length-append}
 use Rattle.model.specs.Lists.{anyb, allb}
-use Rattle.model.specs.Laws.{tf, or-r, or-true, or-false, and-l, and-r}
+use Rattle.model.specs.Laws.{tf, or-false, and-l, and-r, before-last, before-none}
 use Rattle.model.specs.Names.{Name, printable, noPartEmpty, valid, fold, argument, beforeSlash, parentOf, hasParent}
 use Rattle.model.specs.Parents.{IsParent, ParentThere}
 use Rattle.demands.specs.Lasting.NameLaws.{valid-short, fold-valid}
 
--- ---- the last slash
-slashed : (a t : Name) → anyb (eqb 47) (a ++ (47 ∷ t)) ≡ true
-slashed [] t = refl
-slashed (b ∷ a) t = rw (slashed a t) (or-true (eqb 47 b))
-
--- what stands before it, and nothing where there is none
-before-last : (a t : Name) → anyb (eqb 47) t ≡ false → beforeSlash (a ++ (47 ∷ t)) ≡ a
-unfolding beforeSlash
-before-last [] t e = rw e
-before-last (b ∷ a) t e = rw (slashed a t) (ap (λ (l : Name). b ∷ l) (before-last a t e))
-
-before-none : (n : Name) → anyb (eqb 47) n ≡ false → beforeSlash n ≡ []
-unfolding beforeSlash
-before-none [] e = refl
-before-none (b ∷ n) e = rw (or-r (eqb 47 b) _ e)
-
--- a name with a slash is cut there
+-- ---- a name with a slash is cut at the last
 cut : (n : Name) → anyb (eqb 47) n ≡ true → (p : Name) × IsParent p n
 cut [] e = tf false e refl
 cut (b ∷ n) e = go (anyb (eqb 47) n) refl (cut n)

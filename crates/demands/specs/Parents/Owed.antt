@@ -32,9 +32,9 @@ told-nothing m = rw leb·zero
 
 module _ (m : Memory) (o : Octets) (t : Taken m o (call m o)) where
   -- the lines of a record whose rule is an event
-  pub told : (event : Memory → Event) (r : Record) → recordOf o ≡ r → accepted m r ≡ eventOutcome m event → call m o .lines ≡ toldTogether m (event m .lines)
+  pub call-lines : (event : Memory → Event) (r : Record) → recordOf o ≡ r → accepted m r ≡ eventOutcome m event → call m o .lines ≡ toldTogether m (event m .lines)
   unfolding tellings
-  told event r e f = ap (λ (x : Outcome). x .lines) (t .is ∙ (ap (accepted m) e ∙ f))
+  call-lines event r e f = ap (λ (x : Outcome). x .lines) (t .is ∙ (ap (accepted m) e ∙ f))
 
   -- its mailbox is known, and has a valid name
   named : (i : ℕ) (r : Record) → recordOf o ≡ r → (wrongId m r ≡ false → known i (boxes m) ≡ true) → valid (nameOf (theMailbox i (boxes m))) ≡ true
@@ -58,20 +58,20 @@ module _ (m : Memory) (o : Octets) (t : Taken m o (call m o)) where
   unfolding accepted
   writes = record {
     created = λ i a v c n e.
-        affects (newBox i a v c n) _ (ap valid (name-stored n) ∙ subst InRange e (t .range) .4 .isValid) (told (λ (k : Memory). created k i a 0 v c n) _ e refl);
+        affects (newBox i a v c n) _ (ap valid (name-stored n) ∙ subst InRange e (t .range) .4 .isValid) (call-lines (λ (k : Memory). created k i a 0 v c n) _ e refl);
     deleted = λ i e.
-        affects (theMailbox i (boxes m)) _ (named i _ e (not-false _)) (told (λ (k : Memory). deleted k i 0) _ e refl);
+        affects (theMailbox i (boxes m)) _ (named i _ e (not-false _)) (call-lines (λ (k : Memory). deleted k i 0) _ e refl);
     gained = λ i b e f g.
         affects (withRights (theMailbox i (boxes m)) b) _ (named i _ e (not-false _))
-        (told (λ (k : Memory). granted k i b) _ e refl ∙ rw (f, g));
+        (call-lines (λ (k : Memory). granted k i b) _ e refl ∙ rw (f, g));
     lost = λ i b e f g.
         affects (theMailbox i (boxes m)) _ (named i _ e (not-false _))
-        (told (λ (k : Memory). granted k i b) _ e refl ∙ rw (f, g));
-    kept = λ i b e f. told (λ (k : Memory). granted k i b) _ e refl ∙ steady (mayList (theMailbox i (boxes m))) (mayList (withRights (theMailbox i (boxes m)) b)) _ _ f;
-    hushed = λ i a q v c n e f. told (λ (k : Memory). created k i a q v c n) _ e refl ∙ hush q _ f;
-    removed = λ i q e f. told (λ (k : Memory). deleted k i q) _ e refl ∙ hush q _ f;
-    renamed = λ i q n e. told (λ (k : Memory). renamedTo k i q n) _ e refl;
-    subscribed = λ i b q e. told (λ (k : Memory). subscribedTo k i b q) _ e refl;
+        (call-lines (λ (k : Memory). granted k i b) _ e refl ∙ rw (f, g));
+    kept = λ i b e f. call-lines (λ (k : Memory). granted k i b) _ e refl ∙ steady (mayList (theMailbox i (boxes m))) (mayList (withRights (theMailbox i (boxes m)) b)) _ _ f;
+    hushed = λ i a q v c n e f. call-lines (λ (k : Memory). created k i a q v c n) _ e refl ∙ hush q _ f;
+    removed = λ i q e f. call-lines (λ (k : Memory). deleted k i q) _ e refl ∙ hush q _ f;
+    renamed = λ i q n e. call-lines (λ (k : Memory). renamedTo k i q n) _ e refl;
+    subscribed = λ i b q e. call-lines (λ (k : Memory). subscribedTo k i b q) _ e refl;
   }
 
 pub owed-of-it : ParentOwed

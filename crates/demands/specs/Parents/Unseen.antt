@@ -19,7 +19,7 @@ use Rattle.model.specs.Hidden.{Octets}
 use Rattle.model.specs.Parents.{toldTogether, Without, Unseen, ParentUnseen}
 use Rattle.model.specs.declared.Mailbox.{Mailbox}
 use Rattle.demands.specs.Counted.Taken.{Taken, taken}
-use Rattle.demands.specs.Parents.Owed.{told}
+use Rattle.demands.specs.Parents.Owed.{call-lines}
 
 -- ---- one row more or less
 module _ (y : Mailbox) (back : List Mailbox) where
@@ -54,7 +54,7 @@ module _ (m k : Memory) (y : Mailbox) (hidden : mayList y ≡ false) (w : Withou
   module _ (o : Octets) (a : Taken m o (call m o)) (b : Taken k o (call k o)) where
     -- an event that owes the same lines in both
     alike : (event : Memory → Event) (r : Record) → recordOf o ≡ r → accepted m r ≡ eventOutcome m event → accepted k r ≡ eventOutcome k event → event k .lines ≡ event m .lines → call k o .lines ≡ call m o .lines
-    alike event r e f g h = told k o b event r e g ∙ (same-told (event m .lines) (event k .lines) h ∙ sym (told m o a event r e f))
+    alike event r e f g h = call-lines k o b event r e g ∙ (same-told (event m .lines) (event k .lines) h ∙ sym (call-lines m o a event r e f))
 
     shows-nothing : Unseen m k y o
     unfolding accepted

@@ -92,7 +92,12 @@ lines ts = concatMap (λ (t : String). octets t ++ crlf) ts
 abbrev pub Prints : List Octets → List String → Type 0
 Prints os ts = pushrun (concatMap (λ (o : Octets). o) os) ≡ lines ts
 
+-- all that a command is read with
+unfoldable pub reading : Unit {0}
+unfolding runLength valueFrom unquote rowAt numberAt setAt dateAt sectionWord sectionAt labelOf attributeAt scopeOf filterAt eventOf eventsAt groupAt notifyAt keywordOf startAt keyAt returnsAt charsetAt searchAt commandOf tagOf someTest keyCount keyDepth
+reading = tt
+
 -- all that an example computes with: it says `unfolding computed`
 unfoldable pub computed : Unit {0}
-unfolding cut printed call accepted lawful answerLines answered tellings settled effects written shifted fitting renderAll render runsText decimal digits quoted escape same noPartEmpty beforeSlash leads before place recordOf runLength valueFrom unquote rowAt numberAt setAt dateAt sectionWord sectionAt labelOf attributeAt scopeOf filterAt eventOf eventsAt groupAt notifyAt keywordOf startAt keyAt returnsAt charsetAt searchAt commandOf tagOf someTest keyCount keyDepth expungeLines markedLines newLines holds matching
+unfolding reading cut printed call accepted lawful answerLines answered tellings settled effects written shifted fitting renderAll render runsText decimal digits quoted escape same noPartEmpty beforeSlash leads before place recordOf expungeLines markedLines newLines holds matching
 computed = tt

@@ -1,14 +1,15 @@
 -- `names::last_slash` meets its contract. The invariant: among the last k octets is no slash. Assumes nothing.
 use Rattle.names.proofs.last_slash.Statement.{statement}
 use Rattle.names.proofs.last_slash.Tie as tie
-use mathlib.Core.Path.{_≡_}
+use mathlib.Core.Path.{_≡_, sym}
 use mathlib.Core.Bool.{false}
 use Prim.Native.Nat.{_-_, _≤_}
 use native.Mathlib.Omega.{arith}
 use lib.ListN.{length, drop}
 use lib.Dec.{eqb}
 use Rattle.model.specs.Lists.{anyb}
-use Rattle.names.proofs.Walks.{slash-past, no-slash, last-here, last-before}
+use Rattle.model.specs.Laws.{before-none}
+use Rattle.names.proofs.Walks.{slash-past, last-here, last-before}
 use borrow.Author.Needs.{needs}
 
 abbrev Inv-loop : tie.InvT-loop
@@ -34,7 +35,7 @@ returns-2 : tie.Need-returns-2 Inv-loop μ-loop
 returns-2 c =
     let b = c .before in let loop = b .loop in let b = b .before in let name = b .args .name .now in
     let all : length name - loop .k ≡ 0 = omega arith in
-    (search needs, no-slash name (rw all at (loop .inv .1)))
+    (search needs, sym (before-none name (rw all at (loop .inv .1))))
 
 pub last-slash-spec : {M : Type 1} → statement M
 last-slash-spec =

@@ -1,4 +1,4 @@
--- Demands 1 and 3, the change counters and the parent, proved of the definitions. Assumes nothing.
+-- Demands 1 and 3, the change counters, the parent and the reasons, proved of the definitions. Assumes nothing.
 -- Demand 1: a call is refused exactly where a refusal applies, by the lowest that does; a refused call changes nothing; memory stays lawful.
 -- Demand 3: Hidden.Demand3 holds, for any two starts.
 use mathlib.Core.Path.{_≡_, refl, sym, _∙_, ap, subst}
@@ -21,6 +21,7 @@ use Rattle.model.specs.Call.{applies, refuse, call}
 use Rattle.model.specs.Hidden.{Octets, Called, calls, Starts, Demand3}
 use Rattle.model.specs.Counters.{CounterHighest, CounterOwn}
 use Rattle.model.specs.Parents.{ParentThere, ParentOwed, ParentUnseen}
+use Rattle.model.specs.Reasoned.{ReasonSome, ReasonFirst, ReasonRefused}
 use Rattle.demands.specs.Isolation.Streams.{demand}
 use Rattle.demands.specs.Lasting.Law.{law-out}
 use Rattle.demands.specs.Lasting.Calls.{keeps}
@@ -31,6 +32,7 @@ use Rattle.demands.specs.Counted.Own.{own-last}
 use Rattle.demands.specs.Parents.Names.{there}
 use Rattle.demands.specs.Parents.Owed.{owed-of-it}
 use Rattle.demands.specs.Parents.Unseen.{unseen}
+use Rattle.demands.specs.Reasons.First.{some-reason, first-reason, refused-reason}
 use Rattle.model.specs.declared.Refusal.{Refusal}
 use Rattle.model.specs.declared.Refusal.the-variants.{UnlawfulMemory, BadRecord, WrongId, NameHeld, WrongUid, WrongState, TableFull, NoRoom}
 use Rattle.model.specs.declared.Answer.{Answer}
@@ -56,6 +58,16 @@ parent-owed = owed-of-it
 
 pub parent-unseen : ParentUnseen
 parent-unseen = unseen
+
+-- ---- THE REASON (02, 3): one of the ten is given, the first that holds, and a refusal just where the call is refused; of what is owed: Reasons.Reasoned
+pub reason-some : ReasonSome
+reason-some = some-reason
+
+pub reason-first : ReasonFirst
+reason-first = first-reason
+
+pub reason-refused : ReasonRefused
+reason-refused = refused-reason
 
 -- ---- DEMAND 1
 -- the refusal applies, and none with a lower number does

@@ -7,12 +7,12 @@ use native.Mathlib.Omega.{arith}
 use lib.Dec.{eqb}
 use lib.ListN.{length, take, drop, getD}
 use borrow.Author.Tests.{ne-eqb}
-use Rattle.model.specs.Laws.{tf, take-drop}
+use Rattle.model.specs.Laws.{tf, take-drop, or-true, and-false}
 use Rattle.model.specs.Lists.{anyb, same}
 use Rattle.model.specs.Selectors.{takenByInboxes, takenByPersonal}
 use Rattle.model.specs.Text.{bit}
 use Rattle.model.specs.Names.{Name, subtree}
-use Rattle.model.specs.Groups.{groupOf, groupsOf, lentName, namesIn, meets, isSelecting, isImmediate, selectedAsks, immediateAsks}
+use Rattle.model.specs.Groups.{behind, number, groupOf, groupsOf, lentName, namesIn, meets, isSelecting, isImmediate, selectedAsks, immediateAsks}
 use Rattle.model.specs.declared.NameRange.{NameRange}
 use Rattle.model.specs.declared.Selector.{Selector}
 use Rattle.model.specs.declared.Selector.the-variants.{Selected, Delayed, Inboxes, Personal, Subscribed, Subtree, Mailboxes}
@@ -68,49 +68,27 @@ pub names-run : (p : Name → Bool) (s : Session) (r : NameRange) (n : ℕ) → 
     → anyb p (namesIn s r) ≡ anyb (λ (x : LentName). p (lentName x)) (drop (r .first) (take n (s .names)))
 names-run p s r n e = any-map p lentName (take (r .count) (drop (r .first) (s .names))) ∙ ap (anyb (λ (x : LentName). p (lentName x))) (take-drop (r .first) (r .count) (s .names) ∙ ap (drop (r .first)) (sym e))
 
--- ---- the number of the first that passes, or 0
-abbrev pub later : ℕ → ℕ → ℕ
-later i zero = 0
-later i (suc n) = i + suc n
-
+-- ---- the number of the first that passes, or 0, as a loop finds it
 module _ {A : Type 0} (p : A → Bool) where
-  unfoldable pub number : List A → ℕ
-  number [] = 0
-  number (x ∷ l) = let rest = later 1 (number l) in cond (p x) 1 rest
+  behind-none : (n : ℕ) → n ≡ behind 0 n
+  behind-none zero = refl
+  behind-none (suc n) = let e : 0 + suc n ≡ suc n = omega arith in sym e
 
-  -- one passes if it is not 0
-  pub number-any : (l : List A) → not (eqb (number l) 0) ≡ anyb p l
-  unfolding number
-  number-any [] = refl
-  number-any (x ∷ l) = go (p x) (number l) (number-any l)
-    where
-      pos : (n : ℕ) → 0 < n → not (eqb n 0) ≡ true
-      pos n h = rw (ne-eqb n 0 (λ e. let z : ⊥ = omega arith in z))
+  pub number-start : (l : List A) → number p l ≡ behind 0 (number p l)
+  number-start l = behind-none (number p l)
 
-      go : (b : Bool) (n : ℕ) → not (eqb n 0) ≡ anyb p l → not (eqb (cond b 1 (later 1 n)) 0) ≡ (b || anyb p l)
-      go true n e = refl
-      go false zero e = e
-      go false (suc n) e = let z : 1 + suc n ≡ suc (suc n) = omega arith in rw z (pos (suc (suc n)) (omega arith) ∙ (sym (pos (suc n) (omega arith)) ∙ e))
+  behind-behind : (i n : ℕ) → behind i (behind 1 n) ≡ behind (i + 1) n
+  behind-behind i zero = refl
+  behind-behind i (suc n) = let e : 1 + suc n ≡ suc (suc n) = omega arith in rw e (omega arith)
 
-  later-none : (n : ℕ) → n ≡ later 0 n
-  later-none zero = refl
-  later-none (suc n) = let e : 0 + suc n ≡ suc n = omega arith in sym e
-
-  pub number-start : (l : List A) → number l ≡ later 0 (number l)
-  number-start l = later-none (number l)
-
-  later-later : (i n : ℕ) → later i (later 1 n) ≡ later (i + 1) n
-  later-later i zero = refl
-  later-later i (suc n) = let e : 1 + suc n ≡ suc (suc n) = omega arith in rw e (omega arith)
-
-  module _ (l : List A) (n i : ℕ) (w : n ≤ length l) (z : ℕ) (inv : z ≡ later i (number (drop i (take n l)))) where
+  module _ (l : List A) (n i : ℕ) (w : n ≤ length l) (z : ℕ) (inv : z ≡ behind i (number p (drop i (take n l)))) where
     pub number-here : (d : A) → i < n → p (getD l i d) ≡ true → z ≡ i + 1
     unfolding number
     number-here d h e = inv ∙ rw (front l n i d h w, e)
 
-    pub number-next : (d : A) → i < n → p (getD l i d) ≡ false → z ≡ later (i + 1) (number (drop (i + 1) (take n l)))
+    pub number-next : (d : A) → i < n → p (getD l i d) ≡ false → z ≡ behind (i + 1) (number p (drop (i + 1) (take n l)))
     unfolding number
-    number-next d h e = inv ∙ rw (front l n i d h w, e) (later-later i (number (drop (i + 1) (take n l))))
+    number-next d h e = inv ∙ rw (front l n i d h w, e) (behind-behind i (number p (drop (i + 1) (take n l))))
 
     pub number-past : n ≤ i → z ≡ 0
     unfolding number
@@ -119,7 +97,7 @@ module _ {A : Type 0} (p : A → Bool) where
 pub number-map : {A B : Type 0} (p : B → Bool) (f : A → B) (l : List A) → number p (map f l) ≡ number (λ (x : A). p (f x)) l
 unfolding number
 number-map p f [] = refl
-number-map p f (x ∷ l) = ap (λ (n : ℕ). cond (p (f x)) 1 (later 1 n)) (number-map p f l)
+number-map p f (x ∷ l) = ap (λ (n : ℕ). cond (p (f x)) 1 (behind 1 n)) (number-map p f l)
 
 -- ---- the selected group: at once, or delayed too
 abbrev pub selecting : Bool → Selector → Bool
@@ -134,7 +112,7 @@ selecting delayed (Mailboxes r) = false
 abbrev pub standing : Bool → ℕ → Group → Bool
 standing delayed k g = selecting delayed (g .selector) && bit k (g .events)
 
-selecting-is : (x : Selector) → selecting true x ≡ isSelecting x
+pub selecting-is : (x : Selector) → selecting true x ≡ isSelecting x
 selecting-is Selected = refl
 selecting-is Delayed = refl
 selecting-is Inboxes = refl
@@ -152,16 +130,30 @@ immediate-is Subscribed = refl
 immediate-is (Subtree r) = refl
 immediate-is (Mailboxes r) = refl
 
-alike : (k : ℕ) (p q : Selector → Bool) → ((x : Selector) → p x ≡ q x) → (l : List Group)
-    → anyb (λ (g : Group). p (g .selector) && bit k (g .events)) l ≡ anyb (λ (g : Group). q (g .selector) && bit k (g .events)) l
-alike k p q e [] = refl
-alike k p q e (g ∷ l) = ap₂ _||_ (ap (λ (b : Bool). b && bit k (g .events)) (e (g .selector))) (alike k p q e l)
+-- two tests that are the same of each
+module _ {A : Type 0} (p q : A → Bool) (e : (x : A) → p x ≡ q x) where
+  pub any-same : (l : List A) → anyb p l ≡ anyb q l
+  any-same [] = refl
+  any-same (x ∷ l) = ap₂ _||_ (e x) (any-same l)
 
-pub selected-stands : (s : Session) (k : ℕ) → anyb (standing true k) (groupsOf s) ≡ selectedAsks s (asksBit k)
-selected-stands s k = alike k (selecting true) isSelecting selecting-is (groupsOf s)
+  number-same : (l : List A) → number p l ≡ number q l
+  unfolding number
+  number-same [] = refl
+  number-same (x ∷ l) = ap₂ (λ (b : Bool) (n : ℕ). cond b 1 (behind 1 n)) (e x) (number-same l)
 
-pub immediate-stands : (s : Session) (k : ℕ) → anyb (standing false k) (groupsOf s) ≡ immediateAsks s (asksBit k)
-immediate-stands s k = alike k (selecting false) isImmediate immediate-is (groupsOf s)
+-- a selected group asks for event k
+abbrev pub selectedIn : ℕ → Group → Bool
+selectedIn k g = isSelecting (g .selector) && asksBit k g
+
+module _ (s : Session) (k : ℕ) where
+  pub selected-number-is : number (standing true k) (groupsOf s) ≡ number (selectedIn k) (groupsOf s)
+  selected-number-is = number-same _ _ (λ (g : Group). ap (λ (b : Bool). b && bit k (g .events)) (selecting-is (g .selector))) (groupsOf s)
+
+  pub selected-stands : anyb (standing true k) (groupsOf s) ≡ selectedAsks s (asksBit k)
+  selected-stands = any-same _ _ (λ (g : Group). ap (λ (b : Bool). b && bit k (g .events)) (selecting-is (g .selector))) (groupsOf s)
+
+  pub immediate-stands : anyb (standing false k) (groupsOf s) ≡ immediateAsks s (asksBit k)
+  immediate-stands = any-same _ _ (λ (g : Group). ap (λ (b : Bool). b && bit k (g .events)) (immediate-is (g .selector))) (groupsOf s)
 
 -- ---- the groups as a loop over the table meets them
 module _ (s : Session) (n : ℕ) (e : take n (s .groups) ≡ take (s .groupcount) (s .groups)) where
@@ -181,3 +173,29 @@ asksAs s n a k g = asksIn s n a k (groupOf g)
 -- a group as it is kept stands for the selected mailbox and asks for event k
 abbrev pub standsAs : Bool → ℕ → LentGroup → Bool
 standsAs delayed k g = standing delayed k (groupOf g)
+
+-- a group matches a mailbox, be it for another event; a selected one does where that is the selected mailbox
+abbrev pub matchedBy : Session → Name → ℕ → Bool → Group → Bool
+matchedBy s n a here g = (isSelecting (g .selector) && here) || meets s n a (g .selector)
+
+abbrev pub matchedAs : Session → Name → ℕ → Bool → LentGroup → Bool
+matchedAs s n a here g = matchedBy s n a here (groupOf g)
+
+-- and a selected group as it is kept
+abbrev pub selectsAs : LentGroup → Bool
+selectsAs g = isSelecting (groupOf g .selector)
+
+-- ---- by its parts: it meets by name and attributes, or it is a selected one and that mailbox is here
+module _ (p here b : Bool) where
+  pub matched-met : b ≡ true → true ≡ ((p && here) || b)
+  matched-met e = rw (e, or-true (p && here))
+
+  pub matched-elsewhere : b ≡ false → here ≡ false → false ≡ ((p && here) || b)
+  matched-elsewhere e f = rw (e, f, and-false p)
+
+  pub matched-here : {r : Bool} → b ≡ false → here ≡ true → r ≡ p → r ≡ ((p && here) || b)
+  matched-here e f h = rw (e, f) (h ∙ go p)
+    where
+      go : (x : Bool) → x ≡ ((x && true) || false)
+      go true = refl
+      go false = refl

@@ -1,4 +1,6 @@
 // Who is told: the groups of a session against a mailbox's name and attributes.
+pub mod matched;
+
 use model::Group;
 use model::LentName;
 use model::Mailbox;
@@ -12,12 +14,13 @@ ghost use Prim.Native.Nat.{_+_, _≤_, _<_};
 ghost use lib.ListN.{length, take};
 ghost use Rattle.model.specs.Lists.{anyb};
 ghost use Rattle.model.specs.Names.{Name};
-ghost use Rattle.model.specs.Groups.{groupsOf, lentName, namesIn, meets, asked, askedOf, selectedAsks, immediateAsks};
+ghost use Rattle.model.specs.Memory.{nameOf};
+ghost use Rattle.model.specs.Groups.{number, groupsOf, lentName, namesIn, meets, asked, askedOf, selectedAsks, immediateAsks};
 ghost use Rattle.model.specs.Selectors.{takenByInboxes, takenByPersonal, takenBySubtree};
 ghost use Rattle.model.specs.declared.Group.{Group};
 ghost use Rattle.model.specs.declared.LentGroup.{LentGroup};
 ghost use Rattle.model.specs.declared.LentName.{LentName};
-ghost use Rattle.match_groups.specs.Asking.{hit, number, asksBit, selecting, standing};
+ghost use Rattle.match_groups.specs.Asking.{hit, asksBit, asksIn, selecting, standing, selectedIn};
 
 // An octet as it is, as a place.
 pub fn wide(x: u8) -> usize
@@ -150,6 +153,15 @@ pub fn asking(s: Session, name: &[u8], a: u8, k: u8) -> usize
     0
 }
 
+// The same of a row.
+pub fn asking_of(s: Session, x: Mailbox, k: u8) -> usize
+    ensures { λ r. ⌜ r ≡ number (asksIn s (nameOf x) (x .attributes) k) (groupsOf s) ⌝ }
+{
+    let o = x.name;
+    let n = table_mailboxes::row::name_end(x);
+    asking(s, &o[..n], x.attributes, k)
+}
+
 // Whether a group asks for event k of the mailbox with this name and these attributes.
 pub fn is_asked(s: Session, name: &[u8], a: u8, k: u8) -> bool
     ensures { λ r. ⌜ r ≡ asked s (now (name .entry)) a (asksBit k) ⌝ }
@@ -192,32 +204,39 @@ fn stands(g: Group, delayed: bool, k: u8) -> bool
     table_mailboxes::has(g.events, k)
 }
 
-// Whether one of the session's does.
-fn any_standing(s: Session, delayed: bool, k: u8) -> bool
-    ensures { λ r. ⌜ r ≡ anyb (standing delayed k) (groupsOf s) ⌝ }
+// The number of the first of the session's that does, or 0.
+fn first_standing(s: Session, delayed: bool, k: u8) -> usize
+    ensures { λ r. ⌜ r ≡ number (standing delayed k) (groupsOf s) ⌝ }
 {
     let n = groups(s.groupcount);
     let mut i: usize = 0;
     while i < n {
         let g = lawful_session::group_of(s.groups[i]);
         if stands(g, delayed, k) {
-            return true;
+            return i + 1;
         }
         i += 1;
     }
-    false
+    0
 }
 
-// The selected group asks for event k, at once or delayed.
+// The number of the selected group that asks for event k, at once or delayed, or 0.
+pub fn selected_number(s: Session, k: u8) -> usize
+    ensures { λ r. ⌜ r ≡ number (selectedIn k) (groupsOf s) ⌝ }
+{
+    first_standing(s, true, k)
+}
+
+// Whether there is one.
 pub fn selected_asks(s: Session, k: u8) -> bool
     ensures { λ r. ⌜ r ≡ selectedAsks s (asksBit k) ⌝ }
 {
-    any_standing(s, true, k)
+    first_standing(s, true, k) != 0
 }
 
-// It asks for event k at once.
+// Whether there is one that asks at once.
 pub fn immediate_asks(s: Session, k: u8) -> bool
     ensures { λ r. ⌜ r ≡ immediateAsks s (asksBit k) ⌝ }
 {
-    any_standing(s, false, k)
+    first_standing(s, false, k) != 0
 }

@@ -1,7 +1,7 @@
--- The groups of a session: how they are kept, whom each meets, what it asks (01, Matches, 1 to 4; Forms, 10).
-use mathlib.Core.List.{List, map}
+-- The groups of a session: how they are kept, whom each meets, what it asks, its number (01, Matches, 1 to 4; Forms, 10; 02, 3).
+use mathlib.Core.List.{List, [], _∷_, map}
 use mathlib.Core.Bool.{Bool, true, false, not, cond, _&&_, _||_}
-use Prim.Native.Nat.{ℕ}
+use Prim.Native.Nat.{ℕ, zero, suc, _+_}
 use lib.Dec.{eqb}
 use lib.ListN.{take, drop}
 use Rattle.model.specs.Lists.{anyb}
@@ -122,3 +122,13 @@ isImmediate (Mailboxes r) = false
 -- and is not a delayed one
 abbrev pub immediateAsks : Session → (Group → Bool) → Bool
 immediateAsks s asks = anyb (λ (g : Group). isImmediate (g .selector) && asks g) (groupsOf s)
+
+-- ---- the number of the first that passes a test, from 1, or 0; i are before it
+abbrev pub behind : ℕ → ℕ → ℕ
+behind i zero = 0
+behind i (suc n) = i + suc n
+
+module _ {A : Type 0} (p : A → Bool) where
+  unfoldable pub number : List A → ℕ
+  number [] = 0
+  number (x ∷ l) = let rest = behind 1 (number l) in cond (p x) 1 rest

@@ -35,6 +35,8 @@ pub mod Due
 pub mod Account
 pub mod Tally
 pub mod Pushrun
+pub mod Reasons
+pub mod Reasoned
 pub mod Examples
 pub mod Laws
 pub mod Rendered

@@ -109,6 +109,22 @@ pub enum Answer {
     Refused(Refusal),
 }
 
+// Why a record was told or not: first a place where none stands, then in the order of request 3's list. The numbers are the refusal's, the class, the
+// group's in its command.
+pub enum Reason {
+    NoRecord,
+    Refused(u64),
+    Quiet,
+    NoEvent,
+    RightMissing,
+    Unmet,
+    Unasked,
+    Unannounced,
+    Waiting(u64),
+    Overflow,
+    Written(u64),
+}
+
 // How a command is answered, in the order of 01's six lines.
 pub enum Reply {
     Bad,

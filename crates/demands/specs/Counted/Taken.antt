@@ -85,12 +85,13 @@ pub record Taken (m : Memory) (o : Octets) (x : Outcome) : Type 0 where
   pub law : Law m
   pub range : InRange (recordOf o)
   pub id : wrongId m (recordOf o) ≡ false
+  pub uid : wrongUid m (recordOf o) ≡ false
   pub is : x ≡ accepted m (recordOf o)
 
 pub taken : (m : Memory) (o : Octets) → numberOf (call m o .answer) ≡ 0 → Taken m o (call m o)
 taken m o = ladder (λ (x : Outcome). numberOf (x .answer) ≡ 0 → Taken m o x) m o
     (λ r z. tf (eqb (refusalNumber r) 0) (eq-eqb (refusalNumber r) 0 z) (refused-number r))
-    (λ l i d e z. record { law = law-out m l; range = in-range o i; id = d; is = refl })
+    (λ l i d e z. record { law = law-out m l; range = in-range o i; id = d; uid = e; is = refl })
 
 -- ---- a claim of memory that writing lines leaves true
 module _ (P : Memory → Type 0) (written : (n : Memory) (ls : List Line) → P n → P (say n ls)) (m : Memory) where

@@ -126,6 +126,14 @@ module _ (i : ℕ) (y : Mailbox) (q : y .id ≡ i) where
       let r = rise-set counterOf (e .mailbox) l k g in
       rw (known-set (e .mailbox) l, a, lt-ltb (uidOf e) (x .uidnext) (omega arith)) (le-leb (e .counter) (counterOf x) (omega arith))
 
+  -- what its row keeps, every row keeps
+  pub keep-set : (f : Mailbox → ℕ) (o : ℕ) (l : List Mailbox) → known i l ≡ true → f y ≡ f (theMailbox i l) → f (theMailbox o (set l (place i l) y)) ≡ f (theMailbox o l)
+  keep-set f o l k h = rw (place-set o l) (go (eqb (place o l) (place i l)) refl)
+    where
+      go : (c : Bool) → eqb (place o l) (place i l) ≡ c → f (getD (set l (place i l) y) (place o l) noMailbox) ≡ f (theMailbox o l)
+      go true g = rw (eqb-true (place o l) (place i l) g, getD-set-same l (place i l) y noMailbox (ltb-true (place i l) (length l) k)) h
+      go false g = rw (getD-set-other l (place i l) (place o l) y noMailbox (eqb-false (place o l) (place i l) g))
+
   pub row-set : (l : List Mailbox) → known i l ≡ true → theMailbox i (set l (place i l) y) ≡ y
   row-set l k = rw (place-set i l) (getD-set-same l (place i l) y noMailbox (ltb-true (place i l) (length l) k))
 

@@ -128,6 +128,7 @@ module _ (m : Memory) (k : Law m) (a : Account) (b : Books m a) where
       go : (d : Bool) → isAccepted (reply m t) ≡ d → Step m a (command t) (record { answer = Done; lines = answerLines m t; after = answered m t })
       go true h = record {
         exact = rw h (notices-accepted (tagOf t) (commandOf t));
+        whole = λ c. tf false c refl;
         books = rw h (let ls = acceptedLines m (tagOf t) (commandOf t) in
             same-books (say m ls) (withAsked (say m ls) (commandOf t)) (page (apparent m) a (command t) ls (unowed noEvent)) refl (kept-view (commandOf t) (say m ls .session) .0)
             (kept-view (commandOf t) (say m ls .session) .1) (said ls (calm-accepted (tagOf t) (commandOf t))));
@@ -135,6 +136,7 @@ module _ (m : Memory) (k : Law m) (a : Account) (b : Books m a) where
       }
       go false h = record {
         exact = rw (h, not-ok (tagOf t) (verb (commandOf t)) (reply m t) h, and-false (setsGroups (commandOf t)));
+        whole = λ c. tf false c refl;
         books = rw h (said (answer (tagOf t) (verb (commandOf t)) (reply m t) ∷ []) (also {x = answer (tagOf t) (verb (commandOf t)) (reply m t)} tt none));
         heard = refl;
       }

@@ -7,7 +7,7 @@ use borrow.Author.Tests.{eqb-true}
 use lib.Dec.{eqb, ltb}
 use lib.ListN.{length}
 use Rattle.model.specs.Lists.{filterb, anyb}
-use Rattle.model.specs.Laws.{or-false, cond-same, filter-map}
+use Rattle.model.specs.Laws.{tf, or-false, cond-same, filter-map}
 use Rattle.model.specs.Records.{Record, select, ended, drained, noRecord}
 use Rattle.model.specs.Memory.{Memory, boxes, mails, theMailbox, uidOf, expunged, inMailbox, dropMails}
 use Rattle.model.specs.Lines.{Line, answer, renderAll}
@@ -15,6 +15,7 @@ use Rattle.model.specs.Queue.{room, fitting, enqueue, dequeue, effects}
 use Rattle.model.specs.Events.{silence}
 use Rattle.model.specs.Rules.{Outcome, rested, selecting, endLines, endedAt}
 use Rattle.model.specs.Lawful.{messageOk, stateOk}
+use Rattle.model.specs.Reasoned.{changes}
 use Rattle.demands.specs.Lasting.Law.{Law}
 use Rattle.demands.specs.Isolation.Alike.{mails-with}
 use Rattle.model.specs.declared.Answer.the-variants.{Done}
@@ -48,15 +49,17 @@ module _ (m : Memory) (k : Law m) (a : Account) (b : Books m a) where
   unfolding due owedNow
   ended-step c = record {
     exact = noticed-all (all-fitting (room m) (noticed-owed m c)) ∙ ap (fitting (room m)) (sym (same-owing m k a b c));
+    whole = λ h. tf false h refl;
     books = spoken-books (ended c) (unowed noEvent) (endLines m c) (all-fitting (room m) (calm-owed m k c)) (λ d. refl) (λ d. refl) refl (renderAll (endLines m c));
     heard = refl;
   }
 
   still-step : (r : Record) (x : Outcome) → x .lines ≡ [] → mails (x .after) ≡ mails m → x .after .session .selected ≡ m .session .selected → x .after .session .told ≡ m .session .told
-      → due (apparent m) a r ≡ nothing noEvent
+      → changes r ≡ false → due (apparent m) a r ≡ nothing noEvent
       → owedNow (apparent m) a r [] ≡ [] → Unending (apparent m) r → keptBy (apparent m) a r (unowed noEvent) [] ≡ a .kept → Step m a r x
-  still-step r x l e s t q o d z = record {
+  still-step r x l e s t c q o d z = record {
     exact = ap notices l ∙ sym (ap (owedNow (apparent m) a r) l ∙ o);
+    whole = λ h. tf (changes r) h c;
     books = subst (λ (p : Account). Books (x .after) p)
         (sym (ap (posted (apparent m) a r) l ∙ ap (page (apparent m) a r []) (ap (λ (y : Due). own (suc (length (a .fates))) y (due (silence (apparent m)) a r) []) q)))
         (elsewhere-books m (x .after) a b r [] (unowed noEvent) (unmoved m (x .after) e s t) (z ∙ (b .kept ∙ ap (map rested) (sym e))) none d (λ y. refl));
@@ -65,11 +68,11 @@ module _ (m : Memory) (k : Law m) (a : Account) (b : Books m a) where
 
   pub drained-step : (n : ℕ) → Step m a (drained n) (record { answer = Done; lines = []; after = dequeue m n })
   unfolding due owedNow
-  drained-step n = still-step (drained n) _ refl refl refl refl refl refl (λ d. refl) refl
+  drained-step n = still-step (drained n) _ refl refl refl refl refl refl refl (λ d. refl) refl
 
   pub none-step : Step m a noRecord (record { answer = Done; lines = []; after = m })
   unfolding due owedNow
-  none-step = still-step noRecord _ refl refl refl refl refl refl (λ d. refl) refl
+  none-step = still-step noRecord _ refl refl refl refl refl refl refl (λ d. refl) refl
 
   -- `SE`: all that waits is dropped, the expunged messages leave, the view is all
   gone-by : All (λ (e : Message). not (inMailbox (m .session .selected) e && waiting (a .fates) (removal (uidOf e))) ≡ not (expunged e)) (mails m)
@@ -97,6 +100,7 @@ module _ (m : Memory) (k : Law m) (a : Account) (b : Books m a) where
   unfolding due owedNow
   selected-step i = record {
     exact = refl;
+    whole = λ h. tf false h refl;
     books = turned m (selecting m i) (apparent m) a b (select i) [] (unowed noEvent)
         (ap (filterb (λ (e : Message). not (inMailbox (m .session .selected) e && waiting (a .fates) (removal (uidOf e))))) (b .kept)
         ∙ (filter-map rested (λ (e : Message). not (inMailbox (m .session .selected) e && waiting (a .fates) (removal (uidOf e)))) (λ e. refl) (mails m)

@@ -25,7 +25,7 @@ use Rattle.demands.specs.Ledger.Plain.{inert-one, aside-inert}
 use Rattle.demands.specs.Ledger.Books.{exists-some, Books}
 
 -- ---- which lines are among those owed
-any-expunge : (u n : ℕ) (v : List Message) → anyb (isRemoval u) (expungeLines n v) ≡ anyb (λ (e : Message). expunged e && eqb u (uidOf e)) v
+pub any-expunge : (u n : ℕ) (v : List Message) → anyb (isRemoval u) (expungeLines n v) ≡ anyb (λ (e : Message). expunged e && eqb u (uidOf e)) v
 unfolding expungeLines
 any-expunge u n [] = refl
 any-expunge u n (e ∷ v) = go (expunged e) (any-expunge u n v) (any-expunge u (n + 1) v)
@@ -67,6 +67,13 @@ present-any s u p (also {x = e} {l = es} q r) h = go (isMessage s u e) refl (pre
     go true g ih = rw (q g)
     go false g ih = rw (ih (rw g at h)) (or-true (p e))
 
+-- in the three parts of what is owed
+pub owed-parts : (m : Memory) (p : Line → Bool) (c : ℕ)
+    → anyb p (owedLines m c) ≡ (anyb p (cond (eqb c 1) (expungeLines 1 (view m)) []) ||
+    (anyb p (existsLine (length (remainder m c)) (unannounced m)) || anyb p (markedLines 1 (remainder m c))))
+owed-parts m p c = any-append p (cond (eqb c 1) (expungeLines 1 (view m)) []) (existsLine (length (remainder m c)) (unannounced m) ++ markedLines 1 (remainder m c))
+    ∙ ap (λ (x : Bool). anyb p (cond (eqb c 1) (expungeLines 1 (view m)) []) || x) (any-append p (existsLine (length (remainder m c)) (unannounced m)) (markedLines 1 (remainder m c)))
+
 module _ (m : Memory) (k : Law m) (a : Account) (b : Books m a) where
   abbrev s : ℕ
   s = m .session .selected
@@ -94,12 +101,6 @@ module _ (m : Memory) (k : Law m) (a : Account) (b : Books m a) where
   last : (x y z : Bool) → z ≡ true → (x || (y || z)) ≡ true
   last x y z h = rw (h, or-true y) (or-true x)
 
-  three : (p : Line → Bool) (c : ℕ)
-      → anyb p (owedLines m c) ≡ (anyb p (cond (eqb c 1) (expungeLines 1 (view m)) []) ||
-      (anyb p (existsLine (length (remainder m c)) (unannounced m)) || anyb p (markedLines 1 (remainder m c))))
-  three p c = any-append p (cond (eqb c 1) (expungeLines 1 (view m)) []) (existsLine (length (remainder m c)) (unannounced m) ++ markedLines 1 (remainder m c))
-      ∙ ap (λ (x : Bool). anyb p (cond (eqb c 1) (expungeLines 1 (view m)) []) || x) (any-append p (existsLine (length (remainder m c)) (unannounced m)) (markedLines 1 (remainder m c)))
-
   gone-owed : (u c : ℕ) → eqb c 1 ≡ true → eqb (stateOf s u (mails m)) 1 ≡ true → anyb (isRemoval u) (cond (eqb c 1) (expungeLines 1 (view m)) []) ≡ true
   gone-owed u c h t = rw h (any-expunge u 1 (view m) ∙ stately u 1 refl refl (λ (e : Message). expunged e && eqb u (uidOf e)) (λ e y w. rw (w, y) (eq-eqb u u refl)) t)
 
@@ -122,13 +123,19 @@ module _ (m : Memory) (k : Law m) (a : Account) (b : Books m a) where
   owed-tells c l r (removal u) h t =
       let x = leb-true c 1 l in
       let y = leb-true 1 c h in
-      rw r (three (isRemoval u) c ∙ rw (gone-owed u c (eq-eqb c 1 (omega arith)) (sym (b .removals u) ∙ t)))
+      rw r (owed-parts m (isRemoval u) c ∙ rw (gone-owed u c (eq-eqb c 1 (omega arith)) (sym (b .removals u) ∙ t)))
   owed-tells c l r (marking u) h t = rw r
-      (three (isMarking u) c ∙ last (anyb (isMarking u) (cond (eqb c 1) (expungeLines 1 (view m)) [])) (anyb (isMarking u) (existsLine (length (remainder m c)) (unannounced m)))
+      (owed-parts m (isMarking u) c ∙ last (anyb (isMarking u) (cond (eqb c 1) (expungeLines 1 (view m)) [])) (anyb (isMarking u) (existsLine (length (remainder m c)) (unannounced m)))
       (anyb (isMarking u) (markedLines 1 (remainder m c))) (marks-owed u (eqb c 1) (sym (b .markings u) ∙ t)))
   owed-tells c l r (arrival u) h t = rw r
-      (three isExists c ∙ middle (anyb isExists (cond (eqb c 1) (expungeLines 1 (view m)) [])) (anyb isExists (existsLine (length (remainder m c)) (unannounced m)))
+      (owed-parts m isExists c ∙ middle (anyb isExists (cond (eqb c 1) (expungeLines 1 (view m)) [])) (anyb isExists (existsLine (length (remainder m c)) (unannounced m)))
       (anyb isExists (markedLines 1 (remainder m c))) (news-owed u (length (remainder m c)) (sym (b .arrivals u) ∙ t)))
+
+-- class 1 may carry all that waits
+pub last-class : (d : Debt) → leb (lowestClass d) 1 ≡ true
+last-class (arrival u) = refl
+last-class (removal u) = refl
+last-class (marking u) = refl
 
 -- ---- when all that is owed is written
 pub fitting-all : (free : ℕ) (ls : List Line) → length (renderAll ls) ≤ free → fitting free ls ≡ ls

@@ -3,7 +3,7 @@ use mathlib.Core.Path.{_≡_, refl, sym, _∙_, ap, ap₂}
 use mathlib.Core.List.{List, [], _∷_, _++_, map}
 use mathlib.Core.Bool.{Bool, true, false, not, cond, _&&_, _||_}
 use Prim.Native.Nat.{ℕ}
-use borrow.Author.Tests.{eqb-true}
+use borrow.Author.Tests.{eqb-true, eq-eqb}
 use Rattle.model.specs.Lists.{anyb}
 use Rattle.model.specs.Laws.{tf, or-false, any-snoc, and-true, and-false}
 use Rattle.model.specs.Records.{Record}
@@ -24,6 +24,11 @@ debt-same (removal u) (marking v) h = tf false h refl
 debt-same (marking u) (arrival v) h = tf false h refl
 debt-same (marking u) (removal v) h = tf false h refl
 debt-same (marking u) (marking v) h = ap marking (eqb-true u v h)
+
+pub debt-self : (d : Debt) → sameDebt d d ≡ true
+debt-self (arrival u) = eq-eqb u u refl
+debt-self (removal u) = eq-eqb u u refl
+debt-self (marking u) = eq-eqb u u refl
 
 abbrev pub drops : Memory → Record → Debt → Bool
 drops w r d = reselects r || expungesFirst w r d

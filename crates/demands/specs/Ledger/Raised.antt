@@ -1,15 +1,14 @@
 -- One taken call about a message: its mailbox has the record's counter before the event is told, and the account owes the same by the row before and after. Assumes nothing.
 use mathlib.Core.Path.{_≡_, refl, sym, _∙_, ap, ap₂, subst}
 use mathlib.Core.List.{List}
-use mathlib.Core.Bool.{Bool, true, false, _&&_}
+use mathlib.Core.Bool.{true, false, _&&_}
 use Prim.Native.Nat.{ℕ, suc, _<_}
-use borrow.Author.Tests.{eqb-true, eqb-false, ltb-true}
-use lib.Dec.{eqb, leb, ltb}
-use lib.ListN.{length, getD, set}
-use lib.Seq.{getD-set-same, getD-set-other, set-set}
+use lib.Dec.{leb, ltb}
+use lib.ListN.{length, set}
+use lib.Seq.{set-set}
 use Rattle.model.specs.Text.{bit}
 use Rattle.model.specs.Records.{Record, arrive, expunge, reflag}
-use Rattle.model.specs.Memory.{Memory, boxes, mails, noMailbox, known, place, theMailbox, selectedBox, bothRights, withCounter}
+use Rattle.model.specs.Memory.{Memory, boxes, mails, known, place, theMailbox, selectedBox, bothRights, withCounter}
 use Rattle.model.specs.Lines.{Line}
 use Rattle.model.specs.Events.{arrived, removed, reflagged, silence}
 use Rattle.model.specs.Refusals.{absent, stale}
@@ -22,11 +21,11 @@ use Rattle.model.specs.Due.{Account, Due, due}
 use Rattle.model.specs.Account.{dueLines, own, ownFate, owedNow}
 use Rattle.demands.specs.Isolation.Erase.{box-id}
 use Rattle.demands.specs.Lasting.Law.{Law}
-use Rattle.demands.specs.Lasting.Rows.{place-set}
+use Rattle.demands.specs.Lasting.Rows.{place-set, keep-set}
 use Rattle.demands.specs.Lasting.Raised.{raised-boxes, raised-row, raised-known, raised-next, raised-reaches}
 use Rattle.demands.specs.Lasting.Kinds.{raised-law, arrived-law}
 use Rattle.demands.specs.Ledger.Books.{Books}
-use Rattle.demands.specs.Ledger.Steps.{page, same-books, Step}
+use Rattle.demands.specs.Ledger.Steps.{page, same-books, Fair, Step}
 use Rattle.demands.specs.Ledger.Flags.{reflagged-step}
 use Rattle.demands.specs.Ledger.Expunges.{removed-step}
 use Rattle.demands.specs.Ledger.Arrivals.{arrived-step}
@@ -45,16 +44,12 @@ module _ (m : Memory) (i c : ℕ) (kn : known i (boxes m) ≡ true) where
   pub put-again : (y : Mailbox) → set (boxes n) (place i (boxes n)) y ≡ set (boxes m) (place i (boxes m)) y
   put-again y = ap₂ (λ (l : List Mailbox) (p : ℕ). set l p y) (raised-boxes m i c kn) (raised-place i) ∙ set-set (boxes m) (place i (boxes m)) row y
 
-  raised-attributes : (o : ℕ) → theMailbox o (boxes n) .attributes ≡ theMailbox o (boxes m) .attributes
-  raised-attributes o = ap₂ (λ (l : List Mailbox) (p : ℕ). getD l p noMailbox .attributes) (raised-boxes m i c kn) (raised-place o) ∙ go (eqb (place o (boxes m)) (place i (boxes m))) refl
-    where
-      go : (b : Bool) → eqb (place o (boxes m)) (place i (boxes m)) ≡ b
-          → getD (set (boxes m) (place i (boxes m)) row) (place o (boxes m)) noMailbox .attributes ≡ getD (boxes m) (place o (boxes m)) noMailbox .attributes
-      go true g = rw (eqb-true (place o (boxes m)) (place i (boxes m)) g, getD-set-same (boxes m) (place i (boxes m)) row noMailbox (ltb-true (place i (boxes m)) (length (boxes m)) kn))
-      go false g = rw (getD-set-other (boxes m) (place i (boxes m)) (place o (boxes m)) row noMailbox (eqb-false (place o (boxes m)) (place i (boxes m)) g))
+  raised-attributes : theMailbox (m .session .selected) (boxes n) .attributes ≡ theMailbox (m .session .selected) (boxes m) .attributes
+  raised-attributes = ap (λ (l : List Mailbox). theMailbox (m .session .selected) l .attributes) (raised-boxes m i c kn)
+      ∙ keep-set i row (box-id i (boxes m) kn) (λ (x : Mailbox). x .attributes) (m .session .selected) (boxes m) kn refl
 
   raised-rights : bothRights (selectedBox n) ≡ bothRights (selectedBox m)
-  raised-rights = ap (λ (b : ℕ). bit 4 b && bit 5 b) (raised-attributes (m .session .selected))
+  raised-rights = ap (λ (b : ℕ). bit 4 b && bit 5 b) raised-attributes
 
   -- it has the record's counter already
   has : withCounter (theMailbox i (boxes n)) c ≡ theMailbox i (boxes n)
@@ -81,6 +76,7 @@ module _ (m : Memory) (i c : ℕ) (kn : known i (boxes m) ≡ true) where
     lowered : (r : Record) (x : Outcome) → SameDue r → ((w : Memory) (ls : List Line) → owedNow w a r ls ≡ dueLines w (due w a r)) → Step n a r x → Step m a r x
     lowered r x e o s = record {
       exact = s .exact ∙ (o (apparent n) (x .lines) ∙ (ap (dueLines (apparent m)) (e .0) ∙ sym (o (apparent m) (x .lines))));
+      whole = λ h. (s .whole h .0 ∙ ap (dueLines (apparent m)) (e .0), subst (λ (d : Due). Fair d) (e .0) (s .whole h .1));
       books = subst (λ (f : Fate). Books (x .after) (page (apparent m) a r (x .lines) f)) fate (s .books);
       heard = sym (ap isSilent fate) ∙ s .heard;
     }

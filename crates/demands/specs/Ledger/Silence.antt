@@ -25,13 +25,13 @@ use Rattle.model.specs.Hidden.{Octets}
 use Rattle.model.specs.declared.Answer.the-variants.{Counted}
 use Rattle.model.specs.declared.Refusal.{Refusal}
 use Rattle.model.specs.declared.Refusal.the-variants.{UnlawfulMemory, BadRecord, WrongId, NameHeld, WrongUid, WrongState, TableFull, NoRoom}
-use Rattle.model.specs.Fates.{Debt, arrival, removal, marking, sameDebt, lowestClass, Fate, refused, unowed, reported, waits, dropped, lost, silent, reselected, expungedFirst, waitsFor, tells, reselects, expungesFirst, setsGroups, saysOk, isOverflow, waitsStill, isLost}
+use Rattle.model.specs.Fates.{Debt, arrival, removal, marking, lowestClass, Fate, refused, unowed, reported, waits, dropped, lost, silent, reselected, expungedFirst, waitsFor, tells, reselects, expungesFirst, setsGroups, saysOk, isOverflow, waitsStill, isLost}
 use Rattle.model.specs.Seen.{apparent, Seen, seen}
 use Rattle.model.specs.Due.{Account, waiting, Due, nothing, atOnce, later, due, owing}
 use Rattle.model.specs.Account.{front, settle, own, ownFate, overflowed, owedNow, notices, posted, entered, account, fateAt, losses, overflows}
 use Rattle.demands.specs.Ledger.Books.{same-owing}
-use Rattle.demands.specs.Ledger.Posting.{waiting-after}
-use Rattle.demands.specs.Ledger.Occasions.{owed-tells, fitting-all, fitting-counted, tells-notices}
+use Rattle.demands.specs.Ledger.Posting.{debt-self, waiting-after}
+use Rattle.demands.specs.Ledger.Occasions.{owed-tells, last-class, fitting-all, fitting-counted, tells-notices}
 use Rattle.demands.specs.Ledger.Streams.{Stands, call-kept}
 
 -- ---- a place's fate after one more call
@@ -62,18 +62,13 @@ unfolding waiting
 waits-at a zero d h = tf (waitsStill refused) (ap waitsStill h) refl
 waits-at a (suc k) d h = go (a .fates) k h
   where
-    self : (e : Debt) → sameDebt e e ≡ true
-    self (arrival u) = eq-eqb u u refl
-    self (removal u) = eq-eqb u u refl
-    self (marking u) = eq-eqb u u refl
-
     orr : (c e : Bool) → e ≡ true → (c || e) ≡ true
     orr true e q = refl
     orr false e q = q
 
     go : (fs : List Fate) (j : ℕ) → getD fs j refused ≡ waits d → anyb (waitsFor d) fs ≡ true
     go [] j q = tf (waitsStill refused) (ap waitsStill q) refl
-    go (f ∷ fs) zero q = rw (ap (waitsFor d) q, self d)
+    go (f ∷ fs) zero q = rw (ap (waitsFor d) q, debt-self d)
     go (f ∷ fs) (suc j) q = orr (waitsFor d f) (anyb (waitsFor d) fs) (go fs j q)
 
 -- ---- the first occasion
@@ -113,12 +108,7 @@ module _ (m : Memory) (a : Account) (s : Stands m a) (o : Octets) (taken : eqb (
       let e : notices (call m o .lines) ≡ cond (setsGroups (commandOf t) && anyb saysOk (call m o .lines)) (owing (apparent m) a 1) [] = exactly
       ∙ ap (λ (x : Record). owedNow (apparent m) a x (call m o .lines)) r in
       let f : notices (call m o .lines) ≡ owed m 1 = (rw (g, y) at e) ∙ same-owing m (s .law) a (s .books) 1 in
-      told-then k d h ((sym (tells-notices m (call m o .lines) d) ∙ (ap (λ (ls : List Line). tells ls d) f ∙ owed-tells m (s .law) a (s .books) 1 refl b d (low d) (waits-at a k d h))))
-    where
-      low : (e : Debt) → leb (lowestClass e) 1 ≡ true
-      low (arrival u) = refl
-      low (removal u) = refl
-      low (marking u) = refl
+      told-then k d h ((sym (tells-notices m (call m o .lines) d) ∙ (ap (λ (ls : List Line). tells ls d) f ∙ owed-tells m (s .law) a (s .books) 1 refl b d (last-class d) (waits-at a k d h))))
 
 -- ---- a count of 0
 -- a call that answers a count was taken
@@ -156,13 +146,8 @@ nothing-waits m a s o r b e d = rw taken after
     lines : call m o .lines ≡ owed m 1
     lines = ap (λ (x : Outcome). x .lines) made ∙ fitting-counted (room m) (owed m 1) none-left
 
-    low : (x : Debt) → leb (lowestClass x) 1 ≡ true
-    low (arrival u) = refl
-    low (removal u) = refl
-    low (marking u) = refl
-
     gone : (c : Bool) → waiting (a .fates) d ≡ c → (c && (not (tells (call m o .lines) d) && not (reselects (recordOf o) || expungesFirst (apparent m) (recordOf o) d))) ≡ false
-    gone true h = rw (ap (λ (ls : List Line). tells ls d) lines ∙ owed-tells m (s .law) a (s .books) 1 refl b d (low d) h)
+    gone true h = rw (ap (λ (ls : List Line). tells ls d) lines ∙ owed-tells m (s .law) a (s .books) 1 refl b d (last-class d) h)
     gone false h = refl
 
     idle : waitsFor d (ownFate (apparent m) a (recordOf o) (call m o .lines)) ≡ false

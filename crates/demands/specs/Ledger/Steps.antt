@@ -1,7 +1,7 @@
 -- One taken call: it writes the lines of the account, and the account goes on agreeing with memory. The general part. Assumes nothing.
 use mathlib.Core.Path.{_≡_, refl, sym, _∙_, ap, subst}
 use mathlib.Core.List.{List, [], _∷_, _++_, map}
-use mathlib.Core.Bool.{Bool, true, false, not, _&&_, _||_}
+use mathlib.Core.Bool.{Bool, true, false, not, cond, _&&_, _||_}
 use Prim.Native.Nat.{ℕ, suc}
 use lib.Dec.{eqb, ltb, leb·zero}
 use lib.ListN.{length}
@@ -12,6 +12,7 @@ use Rattle.model.specs.Lines.{Line, overflow, renderAll}
 use Rattle.model.specs.Queue.{room, fits, enqueue, effects, say}
 use Rattle.model.specs.Events.{Event, silence, tellings, settled}
 use Rattle.model.specs.Rules.{Outcome, rested, eventOutcome}
+use Rattle.model.specs.Reasoned.{changes}
 use Rattle.demands.specs.Lasting.NameLaws.{same-refl}
 use Rattle.model.specs.Fates.{Debt, arrival, removal, marking, Fate, unowed, reported, waits, waitsFor, tells, isExists, isRemoval, isMarking, isOverflow, isNotice, isSilent}
 use Rattle.model.specs.Seen.{apparent}
@@ -83,9 +84,33 @@ lines-turn m n w r ls f e d q = record {
   arrivals = λ u. rw (d (arrival u), q (arrival u), e .selected, e .arrivals u) (simple (present (m .session .selected) u (mails m) && not (ltb u (m .session .told))) (anyb isExists ls));
 }
 
--- ---- a call and its account: the lines are those owed, and the account after it agrees with memory
+-- ---- what is owed at once: notices, and no overflow line
+abbrev pub fairLine : Line → Type 0
+fairLine l = (isNotice l ≡ true) × (isOverflow l ≡ false)
+
+abbrev pub Fair : Due → Type 0
+Fair (nothing y) = Unit {0}
+Fair (atOnce ls) = All fairLine ls
+Fair (later d) = Unit {0}
+
+pub no-overflow : {ls : List Line} → All fairLine ls → anyb isOverflow ls ≡ false
+no-overflow none = refl
+no-overflow (also p h) = rw (p .1) (no-overflow h)
+
+-- so all that is written of a change is notices
+due-notices : (w : Memory) (d : Due) → Fair d → notices (dueLines w d) ≡ dueLines w d
+due-notices w (nothing y) f = refl
+due-notices w (atOnce ls) f = go (fits w ls)
+  where
+    go : (c : Bool) → notices (cond c ls (overflow ∷ [])) ≡ cond c ls (overflow ∷ [])
+    go true = filter-all isNotice ls (all-to (λ l p. p .0) f)
+    go false = refl
+due-notices w (later x) f = refl
+
+-- ---- a call and its account: the lines are those owed, a change writes no others, and the account after it agrees with memory
 pub record Step (m : Memory) (a : Account) (r : Record) (x : Outcome) : Type 0 where
   pub exact : notices (x .lines) ≡ owedNow (apparent m) a r (x .lines)
+  pub whole : changes r ≡ true → (x .lines ≡ dueLines (apparent m) (due (apparent m) a r)) × Fair (due (apparent m) a r)
   pub books : Books (x .after) (posted (apparent m) a r (x .lines))
   pub heard : isSilent (ownFate (apparent m) a r (x .lines)) ≡ false
 
@@ -100,19 +125,6 @@ abbrev pub fateNow : ℕ → Due → Fate
 fateNow n (nothing y) = unowed y
 fateNow n (atOnce ls) = reported n
 fateNow n (later d) = waits d
-
--- notices, and no overflow line, are owed
-abbrev pub fairLine : Line → Type 0
-fairLine l = (isNotice l ≡ true) × (isOverflow l ≡ false)
-
-abbrev pub Fair : Due → Type 0
-Fair (nothing y) = Unit {0}
-Fair (atOnce ls) = All fairLine ls
-Fair (later d) = Unit {0}
-
-no-overflow : {ls : List Line} → All fairLine ls → anyb isOverflow ls ≡ false
-no-overflow none = refl
-no-overflow (also p h) = rw (p .1) (no-overflow h)
 
 loud-now : (n : ℕ) (d : Due) → isSilent (fateNow n d) ≡ false
 loud-now n (nothing y) = refl
@@ -142,9 +154,10 @@ module _ (m : Memory) (a : Account) (r : Record) (event : Memory → Event) wher
   n = suc (length (a .fates))
 
   made : (ls : List Line) (after : Memory) (f : Fate) → ((k : List Line) → owedNow w a r k ≡ dueLines w (due w a r)) → tellings m event ≡ ls → say (settled m event) (tellings m event) ≡ after
-      → own n (due w a r) (due (silence w) a r) ls ≡ f → isSilent f ≡ false → notices ls ≡ dueLines w (due w a r) → Books after (page w a r ls f) → Step m a r (eventOutcome m event)
-  made ls after f owing t e g v x b = record {
-    exact = ap notices t ∙ (x ∙ sym (owing (tellings m event)));
+      → own n (due w a r) (due (silence w) a r) ls ≡ f → isSilent f ≡ false → ls ≡ dueLines w (due w a r) → Fair (due w a r) → Books after (page w a r ls f) → Step m a r (eventOutcome m event)
+  made ls after f owing t e g v x fair b = record {
+    exact = ap notices (t ∙ x) ∙ (due-notices w (due w a r) fair ∙ sym (owing (tellings m event)));
+    whole = λ _. (t ∙ x, fair);
     books = subst (λ (k : Memory). Books k (posted w a r (tellings m event))) (sym e) (subst (λ (p : Account). Books after p) (sym (ap (posted w a r) t ∙ ap (page w a r ls) g)) b);
     heard = ap (λ (k : List Line). isSilent (ownFate w a r k)) t ∙ (ap isSilent g ∙ v);
   }
@@ -161,7 +174,7 @@ module _ (m : Memory) (a : Account) (r : Record) (event : Memory → Event) wher
       none-owed d q o l g b =
           let z : event m .lines ≡ [] = e ∙ (ap once q ∙ o) in
           let y : fits m (event m .lines) ≡ true = ap (fits m) z ∙ nil-fits m in
-          made [] (say (event m .stored) []) (fateNow n d) owing (rw (y, z)) (rw (y, z)) (ap (λ (x : Due). own n x (due (silence w) a r) []) q ∙ g) (loud-now n d) (sym (ap (dueLines w) q ∙ l)) b
+          made [] (say (event m .stored) []) (fateNow n d) owing (rw (y, z)) (rw (y, z)) (ap (λ (x : Due). own n x (due (silence w) a r) []) q ∙ g) (loud-now n d) (sym (ap (dueLines w) q ∙ l)) fair b
 
       go : (d : Due) → due w a r ≡ d → Fair d → Books (say (event m .stored) (once d)) (page w a r (once d) (fateNow n d)) → Step m a r (eventOutcome m event)
       go (nothing y) q f b = none-owed (nothing y) q refl refl refl b
@@ -176,12 +189,12 @@ module _ (m : Memory) (a : Account) (r : Record) (event : Memory → Event) wher
               let y : fits m (event m .lines) ≡ true = ap (fits m) z ∙ h in
               made ls (say (event m .stored) ls) (reported n) owing (rw (y, z)) (rw (y, z))
               (ap (λ (x : Due). own n x (due (silence w) a r) ls) q ∙ rw (no-overflow f, same-refl (renderAll ls))) refl
-              (filter-all isNotice ls (all-to (λ l p. p .0) f) ∙ sym (ap (dueLines w) q ∙ rw h)) b
+              (sym (ap (dueLines w) q ∙ rw h)) fair b
           room′ false h =
               let y : fits m (event m .lines) ≡ false = ap (fits m) z ∙ h in
               made (overflow ∷ []) (say (event (silence m) .stored) (overflow ∷ [])) (overflowed (due (silence w) a r)) owing (rw y) (rw y)
               (ap (λ (x : Due). own n x (due (silence w) a r) (overflow ∷ [])) q) (loud-over (due (silence w) a r))
-              (sym (ap (dueLines w) q ∙ rw h)) (over (event (silence m) .stored) (page w a r (overflow ∷ []) (overflowed (due (silence w) a r))) hushed)
+              (sym (ap (dueLines w) q ∙ rw h)) fair (over (event (silence m) .stored) (page w a r (overflow ∷ []) (overflowed (due (silence w) a r))) hushed)
 
   -- the same, where what is owed is known
   pub told-step-by : (d h : Due) → due w a r ≡ d → due (silence w) a r ≡ h → event m .lines ≡ once d → Fair d → ((ls : List Line) → owedNow w a r ls ≡ dueLines w (due w a r))

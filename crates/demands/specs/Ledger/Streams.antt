@@ -7,7 +7,7 @@ use borrow.Author.Tests.{leb-false, not-false}
 use lib.Dec.{eqb, leb, ltb}
 use lib.ListN.{length}
 use Rattle.model.specs.Lists.{anyb}
-use Rattle.model.specs.Laws.{or-l, or-r, or-false, any-snoc}
+use Rattle.model.specs.Laws.{tf, or-l, or-r, or-false, any-snoc}
 use Rattle.model.specs.Records.{Record, create, delete, rename, subscribe, grant, arrive, expunge, reflag, select, ended, command, drained, noRecord, isRecord, recordOf}
 use Rattle.model.specs.Memory.{Memory, boxes, theMailbox}
 use Rattle.model.specs.Lines.{Line}
@@ -25,12 +25,13 @@ use Rattle.model.specs.declared.Refusal.{Refusal}
 use Rattle.model.specs.declared.Refusal.the-variants.{UnlawfulMemory, BadRecord, WrongId, NameHeld, WrongUid, WrongState, TableFull, NoRoom}
 use Rattle.model.specs.Fates.{arrival, removal, marking, Fate, refused, unowed, reported, waits, dropped, lost, silent, reselected, expungedFirst, tells, reselects, expungesFirst, isSilent}
 use Rattle.model.specs.Seen.{apparent, Seen, seen, history, final}
-use Rattle.model.specs.Due.{Account, opened, waiting}
-use Rattle.model.specs.Account.{ownFate, settle, entered, account, Exact}
+use Rattle.model.specs.Due.{Account, opened, waiting, due}
+use Rattle.model.specs.Account.{dueLines, ownFate, settle, entered, account, Exact}
+use Rattle.model.specs.Reasoned.{changes}
 use Rattle.demands.specs.Ledger.Entries.{stateOf, present}
 use Rattle.demands.specs.Ledger.Books.{Books}
 use Rattle.demands.specs.Ledger.Posting.{waiting-refused}
-use Rattle.demands.specs.Ledger.Steps.{Step}
+use Rattle.demands.specs.Ledger.Steps.{Fair, Step}
 use Rattle.demands.specs.Ledger.Boxes.{created-step, renamed-step, subscribed-step, granted-step, deleted-step}
 use Rattle.demands.specs.Ledger.Ends.{ended-step, drained-step, none-step, selected-step}
 use Rattle.demands.specs.Ledger.Commanded.{command-step}
@@ -82,6 +83,9 @@ seenAs m o x = record { around = apparent m; said = recordOf o; taken = eqb (num
 
 pub record Kept (m : Memory) (a : Account) (o : Octets) (x : Outcome) : Type 0 where
   pub exact : Exact a (seenAs m o x)
+  -- a change writes nothing but what it owes, or the overflow line, and a refused call nothing
+  pub whole : changes (recordOf o) ≡ true → x .lines ≡ cond (seenAs m o x .taken) (dueLines (apparent m) (due (apparent m) a (recordOf o))) []
+  pub fair : seenAs m o x .taken ≡ true → changes (recordOf o) ≡ true → Fair (due (apparent m) a (recordOf o))
   pub books : Books (x .after) (entered a (seenAs m o x))
   pub heard : anyb isSilent (a .fates) ≡ false → anyb isSilent (entered a (seenAs m o x) .fates) ≡ false
 
@@ -90,6 +94,8 @@ module _ (m : Memory) (k : Law m) (a : Account) (b : Books m a) (o : Octets) whe
   unfolding entered
   refusing r h = record {
     exact = rw h;
+    whole = λ _. rw h;
+    fair = λ z. tf (seenAs m o (refuse m r) .taken) z h;
     books = rw h (record {
       kept = b .kept;
       removals = λ u. waiting-refused (a .fates) (removal u) ∙ b .removals u;
@@ -105,6 +111,8 @@ module _ (m : Memory) (k : Law m) (a : Account) (b : Books m a) (o : Octets) whe
       let h : eqb (numberOf (accepted m (recordOf o) .answer)) 0 ≡ true = rw (unrefused m (recordOf o)) in
       record {
         exact = rw h (s .exact);
+        whole = λ c. rw h (s .whole c .0);
+        fair = λ _ c. s .whole c .1;
         books = rw h (s .books);
         heard = λ q. rw h (any-snoc isSilent (map (settle (apparent m) (suc (length (a .fates))) (recordOf o) (accepted m (recordOf o) .lines)) (a .fates))
             (ownFate (apparent m) a (recordOf o) (accepted m (recordOf o) .lines))

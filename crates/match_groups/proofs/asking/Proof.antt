@@ -6,11 +6,12 @@ use Prim.Native.Nat.{_-_}
 use native.Mathlib.Omega.{arith}
 use lib.ListN.{length, take, drop}
 use Rattle.table_mailboxes.specs.Walks.{mapped-length}
-use Rattle.match_groups.specs.Asking.{vacantGroup, asksAs, asksIn, later, number, number-groups, number-start, number-here, number-next, number-past}
+use Rattle.model.specs.Groups.{behind, number}
+use Rattle.match_groups.specs.Asking.{vacantGroup, asksAs, asksIn, number-groups, number-start, number-here, number-next, number-past}
 use borrow.Author.Needs.{needs}
 
 abbrev Inv-loop : tie.InvT-loop
-Inv-loop name a k s n i₀ i = number (asksAs s name a k) (take n (s .groups)) ≡ later i (number (asksAs s name a k) (drop i (take n (s .groups))))
+Inv-loop name a k s n i₀ i = number (asksAs s name a k) (take n (s .groups)) ≡ behind i (number (asksAs s name a k) (drop i (take n (s .groups))))
 
 abbrev μ-loop : tie.MeasureT-loop
 μ-loop name a k s n i₀ i = n - i

@@ -6,7 +6,8 @@ use mathlib.Core.Path.{_∙_, ap}
 use mathlib.Core.Bool.{not, _&&_}
 use Prim.Native.Nat.{ℕ}
 use Rattle.model.specs.Groups.{groupsOf, meets}
-use Rattle.match_groups.specs.Asking.{asksBit, number-any}
+use Rattle.demands.specs.Reasons.Numbers.{number-any}
+use Rattle.match_groups.specs.Asking.{asksBit}
 use Rattle.model.specs.declared.Group.{Group}
 use lib.Dec.{eqb}
 

@@ -203,7 +203,7 @@ fn parent_mark(y: Mailbox) -> Mark
 }
 
 // The row with other attributes.
-fn with_attributes(x: Mailbox, a: u8) -> Mailbox
+pub fn with_attributes(x: Mailbox, a: u8) -> Mailbox
     ensures { λ r. ⌜ r ≡ withAttributes x a ⌝ }
 {
     let name = x.name;

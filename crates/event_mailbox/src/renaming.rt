@@ -64,7 +64,7 @@ fn tell_rows(
 }
 
 // The row with a name; INBOX in any case is INBOX.
-fn with_name(x: Mailbox, name: &[u8]) -> Mailbox
+pub fn with_name(x: Mailbox, name: &[u8]) -> Mailbox
     ensures { λ r. ⌜ r ≡ withName x (argument (now (name .entry))) ⌝ }
 {
     let kept = names::stored(name);

@@ -13,7 +13,7 @@ ghost use Rattle.laws.specs.Room.{Room};
 ghost use Rattle.event_mailbox.specs.Rights.{grantRow, grantMark, grantAfter};
 
 // The row with these rights.
-fn with_rights(x: Mailbox, rights: u8) -> Mailbox
+pub fn with_rights(x: Mailbox, rights: u8) -> Mailbox
     requires { ⌜ rights ≤ 48 ⌝ }
     ensures { λ r. ⌜ r ≡ withRights x rights ⌝ }
 {

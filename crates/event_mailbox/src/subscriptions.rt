@@ -13,7 +13,7 @@ ghost use Rattle.laws.specs.Room.{Room};
 ghost use Rattle.event_mailbox.specs.Subscriptions.{differs, subscribeTold, subscribeMark, subscribeAfter};
 
 // Attributes with bit 3 as b says.
-fn with_subscribed(a: u8, b: u8) -> u8
+pub fn with_subscribed(a: u8, b: u8) -> u8
     requires { ⌜ b ≤ 1 ⌝ }
     ensures { λ r. ⌜ r ≡ withSubscribed a b ⌝ }
 {
@@ -21,7 +21,7 @@ fn with_subscribed(a: u8, b: u8) -> u8
 }
 
 // Whether bit 3 of the attributes is not b.
-fn does_differ(a: u8, b: u8) -> bool
+pub fn does_differ(a: u8, b: u8) -> bool
     ensures { λ r. ⌜ r ≡ differs a b ⌝ }
 {
     if table_mailboxes::has(a, 3) {

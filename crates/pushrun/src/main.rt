@@ -1,66 +1,18 @@
 // Serves the records on standard input as they come, on tables of its own: 64 mailboxes, 1,024 messages, a queue of 8,192 octets.
 // A record is as long as its length field says; what is torn at the end is one record more. Behind each, before it waits for the next,
 // it writes `! n` where the record is refused and all that the queue holds, and drains the queue.
+use run_input::RECORD;
 use step_stream::Standing;
 ghost use mathlib.Core.Path.{_≡_};
-ghost use Prim.Native.Nat.{_+_, _≤_, _<_};
+ghost use Prim.Native.Nat.{_≤_};
 ghost use lib.ListN.{length};
 
 const WORDS: usize = 6144;
 
 const QUEUE: usize = 8192;
 
-// the longest record: its four octets and 65,535 more
-const RECORD: usize = 65539;
-
 // the most that a record shows: a refusal in five octets, and a full queue
 const SHOWN: usize = 8197;
-
-fn print(text: &[u8]) {
-    io::write_all(1, text);
-}
-
-// ---- records
-
-fn wide(x: u8) -> usize
-    ensures { λ r. ⌜ r < 256 ⌝ }
-{
-    x as usize
-}
-
-// The octets that follow a record's first four.
-fn body_size(low: u8, high: u8) -> usize
-    ensures { λ r. ⌜ r ≤ 65535 ⌝ }
-{
-    wide(low) + 256 * wide(high)
-}
-
-// Reads so many octets to a place of the slice, or as many as there are.
-fn read_at(octets: &mut [u8], at: usize, size: usize) -> usize
-    requires { ⌜ at + size ≤ length (now octets) ⌝ }
-    ensures { λ r. ⌜ r ≤ size ⌝ }
-{
-    let end = at + size;
-    io::read_full(0, &mut octets[at..end])
-}
-
-// Reads the next record to the front of the slice: how many octets it has, 0 where there is none.
-fn next_record(octets: &mut [u8]) -> usize
-    requires { ⌜ 65539 ≤ length (now octets) ⌝ }
-    ensures { λ r. ⌜ r ≤ 65539 ⌝ }
-{
-    let got = read_at(octets, 0, 4);
-    if got < 4 {
-        return got;
-    }
-    let size = body_size(octets[2], octets[3]);
-    if size == 0 {
-        return 4;
-    }
-    4 + read_at(octets, 4, size)
-}
-
-// ---- a record, and all of them
 
 // Writes what a record shows, which stands at the front of `out`; the next goes there again.
 fn print_shown(s: Standing, out: &[u8]) -> Standing
@@ -68,7 +20,7 @@ fn print_shown(s: Standing, out: &[u8]) -> Standing
     ensures { λ r. ⌜ r .end ≡ 0 ⌝ }
 {
     let end = s.end;
-    print(&out[..end]);
+    run_input::print(&out[..end]);
     let table = s.table;
     let counts = s.counts;
     let session = s.session;
@@ -102,7 +54,8 @@ fn serve(words: &mut [u64], queue: &mut [u8], octets: &mut [u8], out: &mut [u8])
     let mut s = step_stream::start();
     let mut turns: u64 = 0;
     while turns < 18446744073709551615 {
-        let n = next_record(octets);
+        let read = run_input::next_record(0, octets);
+        let n = read.size;
         if n == 0 {
             break;
         }

@@ -11,7 +11,7 @@ use Rattle.model.specs.Queue.{written, shifted}
 use Rattle.model.specs.Answers.{numberOf}
 use Rattle.model.specs.Call.{call}
 use Rattle.model.specs.Hidden.{noCounts, noSession}
-use Rattle.model.specs.Pushrun.{recordsOf, refusalText, printed, pushrun}
+use Rattle.model.specs.Pushrun.{start, recordsOf, refusalText, printed, pushrun}
 use Rattle.model.specs.declared.Mailbox.{Mailbox}
 use Rattle.model.specs.declared.Message.{Message}
 use Rattle.model.specs.declared.Counts.{Counts}
@@ -31,6 +31,11 @@ use Rattle.step_stream.specs.Cutting.{firstSize, Cuts, shown, emptied, p
 -- the memory of a run's variables
 abbrev pub standing : List Mailbox → Counts → Session → List ℕ → List ℕ → Memory
 standing t k s ws q = memoryOf (lentAs t ws k s q)
+
+-- a record was served on m: a is its answer, and m′ is what it leaves
+pub record Serves (m : Memory) (o : List ℕ) (a : Answer) (m′ : Memory) : Type 0 where
+  pub answer : a ≡ call m o .answer
+  pub after : m′ ≡ call m o .after
 
 -- a record was served on m: what it shows is written from `at` on, and the queue is emptied
 pub record Turns (m : Memory) (o : List ℕ) (q : List ℕ) (at : ℕ) (m′ : Memory) (q′ : List ℕ) (r : ℕ) : Type 0 where
@@ -91,22 +96,24 @@ module _ (t : List Mailbox) (w : length t ≡ 64) (ws : List ℕ) (k : Counts) (
   took = h t whole
 
   -- the table does not grow
-  pub table-few : length (changed (r .change) (r .at) (r .row) (k .mailboxes) t) ≤ 64
+  table-few : length (changed (r .change) (r .at) (r .row) (k .mailboxes) t) ≤ 64
   table-few = rw (took .table) (rows-few (standing t k s ws q) o (omega arith))
 
-  -- the refusal, what the queue holds, and what is left
-  pub turns : {p p₁ p₂ : List ℕ} {at mid end : ℕ} (u : List Mailbox) (j : Counts) (v : Session) (n : ℕ) → u ≡ changed (r .change) (r .at) (r .row) (k .mailboxes) t
-      → j ≡ record { mailboxes = r .counts .mailboxes; messages = r .counts .messages; filled = 0 }
-      → v ≡ r .session → n ≡ end
-      → Put p at (length p) (refusalText (numberOf (r .answer))) p₁ mid → Put p₁ mid (length p₁) (take (r .counts .filled) q′) p₂ end → end ≤ at + 8197
-      → Turns (standing t k s ws q) o p at (standing u j v ws′ q′) p₂ n
-  turns u j v n e f g i a b l =
-      let z = after-is _ o (r .answer) _ took in
-      record {
-        text = rw i (put-as (puts a b) (ap₂ (λ (x : Answer) (m : Memory). refusalText (numberOf x) ++ held m) (took .answer) z));
-        left = rw g (ap₂ (λ (x : List Mailbox) (y : Counts). standing x y (r .session) ws′ q′) e f) ∙ (emptied-is (standing (changed (r .change) (r .at) (r .row) (k .mailboxes) t) (r .counts) (r .session) ws′ q′) ∙ ap emptied z);
-        near = rw i l;
-      }
+  -- what is left of the table is what the step says
+  pub serves : (u : List Mailbox) → (length (changed (r .change) (r .at) (r .row) (k .mailboxes) t) ≤ 64 → u ≡ changed (r .change) (r .at) (r .row) (k .mailboxes) t)
+      → Serves (standing t k s ws q) o (r .answer) (standing u (r .counts) (r .session) ws′ q′)
+  serves u e = record { answer = took .answer; after = ap (λ (x : List Mailbox). standing x (r .counts) (r .session) ws′ q′) (e table-few) ∙ after-is _ o (r .answer) _ took }
+
+-- the refusal, what the queue holds, and what is left
+pub turns : (m : Memory) (o : List ℕ) (a : Answer) (t : List Mailbox) (k : Counts) (s : Session) (ws q : List ℕ) → Serves m o a (standing t k s ws q)
+    → {p p₁ p₂ : List ℕ} {at mid end : ℕ} (u : List Mailbox) (j : Counts) (v : Session) (n : ℕ) → u ≡ t → j ≡ record { mailboxes = k .mailboxes; messages = k .messages; filled = 0 } → v ≡ s → n ≡ end
+    → Put p at (length p) (refusalText (numberOf a)) p₁ mid → Put p₁ mid (length p₁) (take (k .filled) q) p₂ end → end ≤ at + 8197
+    → Turns m o p at (standing u j v ws q) p₂ n
+turns m o a t k s ws q h u j v n e f g i x y l = record {
+  text = rw i (put-as (puts x y) (ap₂ (λ (b : Answer) (w : Memory). refusalText (numberOf b) ++ held w) (h .answer) (h .after)));
+  left = rw g (ap₂ (λ (b : List Mailbox) (c : Counts). standing b c s ws q) e f) ∙ (emptied-is (standing t k s ws q) ∙ ap emptied (h .after));
+  near = rw i l;
+}
 
 -- ---- the stream
 -- where a run stands: what is still to be written is what its memory prints for the rest of the stream
@@ -160,7 +167,9 @@ zeros (suc n) (suc (suc (suc (suc zero)))) e = absurd (let z : ⊥ = omega arith
 zeros (suc n) (suc (suc (suc (suc (suc zero))))) e = absurd (let z : ⊥ = omega arith in z)
 zeros (suc n) (suc (suc (suc (suc (suc (suc k)))))) e = ap (λ (l : List Message). noMessage ∷ l) (zeros n k (omega arith))
 
+pub start-memory : standing (replicate 64 noMailbox) noCounts noSession (replicate 6144 0) (replicate 8192 0) ≡ start 8192 64 1024
+start-memory =
+    ap (λ (es : List Message). record { rows = replicate 64 noMailbox; entries = es; counts = noCounts; session = noSession; queue = replicate 8192 0 }) (zeros 1024 6144 refl)
+
 pub start-is : (s : List ℕ) → printed (standing (replicate 64 noMailbox) noCounts noSession (replicate 6144 0) (replicate 8192 0)) (recordsOf s) ≡ pushrun s
-start-is s =
-    ap (λ (es : List Message). printed (record { rows = replicate 64 noMailbox; entries = es; counts = noCounts; session = noSession; queue = replicate 8192 0 }) (recordsOf s))
-    (zeros 1024 6144 refl)
+start-is s = ap (λ (m : Memory). printed m (recordsOf s)) start-memory

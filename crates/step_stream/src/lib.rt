@@ -19,12 +19,12 @@ ghost use Rattle.table_mailboxes.specs.Shift.{closed};
 ghost use Rattle.line_put.specs.Put.{Put};
 ghost use Rattle.record_outcome.specs.Coming.{changed};
 ghost use Rattle.step_stream.specs.Cutting.{Cuts};
-ghost use Rattle.step_stream.specs.Printing.{standing, Turns};
+ghost use Rattle.step_stream.specs.Printing.{standing, Serves, Turns};
 
 // ---- the table after an outcome
 
 // A count of rows within the 64 that there are.
-fn few(used: u64) -> usize
+pub fn few(used: u64) -> usize
     ensures { λ r. ⌜ r ≡ min used 64 ⌝ }
 {
     if used <= 64 { used as usize } else { 64 }
@@ -85,7 +85,7 @@ fn put(out: &mut [u8], at: usize, text: &[u8]) -> usize
 }
 
 // The number of an answer: 0 where nothing is refused.
-fn number_of(answer: Answer) -> u8
+pub fn number_of(answer: Answer) -> u8
     ensures { λ r. ⌜ (r ≡ numberOf answer) × (r < 10) ⌝ }
 {
     match answer {
@@ -132,7 +132,7 @@ fn put_held(out: &mut [u8], at: usize, queue: &[u8], filled: u64) -> usize
 // ---- the records of a stream
 
 // How long the record from `at` on is. One that is torn is all that is left.
-fn record_size(stream: &[u8], at: usize) -> usize
+pub fn record_size(stream: &[u8], at: usize) -> usize
     requires { ⌜ (at < length (now stream)) × (length (now stream) < 4294967296) ⌝ }
     ensures { λ r. ⌜ Cuts (now (stream .entry)) at r ⌝ }
 {
@@ -155,17 +155,49 @@ pub struct Standing {
     pub end: usize,
 }
 
-// The table, counts and session after an outcome, with nothing left in the queue.
-fn drained(table: [Mailbox; 64], used: u64, o: Outcome, end: usize) -> Standing
-    ensures { λ r. ⌜ (length (changed (o .change) (o .at) (o .row) used table) ≤ 64 → r .table ≡ changed (o .change) (o .at) (o .row) used table) × (r .counts ≡ record { mailboxes = o .counts .mailboxes; messages = o .counts .messages; filled = 0 }) × (r .session ≡ o .session) × (r .end ≡ end) ⌝ }
+// A record was served: the table, counts and session behind it, and its answer.
+pub struct Served {
+    pub table: [Mailbox; 64],
+    pub counts: Counts,
+    pub session: Session,
+    pub answer: Answer,
+}
+
+// A record: the step alone. Nothing is drained.
+pub fn serve(
+    table: [Mailbox; 64],
+    counts: Counts,
+    session: Session,
+    words: &mut [u64],
+    queue: &mut [u8],
+    octets: &[u8],
+) -> Served
+    ensures { λ r. ⌜ Serves (standing table counts session (now (words .entry)) (now (queue .entry))) (now (octets .entry)) (r .answer) (standing (r .table) (r .counts) (r .session) (now (words .exit)) (now (queue .exit))) ⌝ }
 {
-    let t = applied(table, used, o);
-    let session = o.session;
-    Standing {
+    let o = step::step(table, 64, words, counts, session, queue, octets);
+    let t = applied(table, counts.mailboxes, o);
+    let after = o.counts;
+    let s = o.session;
+    let answer = o.answer;
+    Served {
         table: t,
+        counts: after,
+        session: s,
+        answer,
+    }
+}
+
+// The same, with nothing left in the queue; the next octet goes to `end`.
+fn drained(d: Served, end: usize) -> Standing
+    ensures { λ r. ⌜ (r .table ≡ d .table) × (r .counts ≡ record { mailboxes = d .counts .mailboxes; messages = d .counts .messages; filled = 0 }) × (r .session ≡ d .session) × (r .end ≡ end) ⌝ }
+{
+    let table = d.table;
+    let session = d.session;
+    Standing {
+        table,
         counts: Counts {
-            mailboxes: o.counts.mailboxes,
-            messages: o.counts.messages,
+            mailboxes: d.counts.mailboxes,
+            messages: d.counts.messages,
             filled: 0,
         },
         session,
@@ -187,11 +219,11 @@ pub fn turn(
     let table = s.table;
     let counts = s.counts;
     let session = s.session;
-    let o = step::step(table, 64, words, counts, session, queue, octets);
-    let answer = o.answer;
+    let d = serve(table, counts, session, words, queue, octets);
+    let answer = d.answer;
     let at = put_refusal(out, s.end, answer);
-    let end = put_held(out, at, queue, o.counts.filled);
-    drained(table, counts.mailboxes, o, end)
+    let end = put_held(out, at, queue, d.counts.filled);
+    drained(d, end)
 }
 
 // ---- the start

@@ -1,0 +1,2 @@
+-- Laws of places, for the proofs of this crate.
+mod Places

@@ -1,6 +1,6 @@
-//! The independent implementation of document 01 with change counters (request 1 of 02): one session
-//! beside one store, written from the papers alone, to find wrong definitions elsewhere and to measure
-//! against.
+//! The independent implementation of document 01 with requests 1 to 3 of 02 (change counters, the
+//! parent, `why`): one session beside one store, written from the papers alone, to find wrong
+//! definitions elsewhere and to measure against.
 
 pub mod abnf;
 pub mod account;
@@ -23,6 +23,7 @@ pub mod places;
 pub mod random;
 pub mod records;
 pub mod selected;
+pub mod why;
 
 pub use call::{call, call_trusting, Answer};
 pub use memory::Memory;

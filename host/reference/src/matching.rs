@@ -11,14 +11,14 @@ pub fn meets(groups: &Groups, group: &Group, name: &Name, attributes: u8) -> boo
         IS_PERSONAL => has(SELECTABLE | PERSONAL),
         IS_INBOXES => has(SELECTABLE | PERSONAL | DELIVERY),
         IS_SUBSCRIBED => has(SUBSCRIBED),
-        IS_SUBTREE | IS_LEVEL => has(SELECTABLE) && names(groups, group, name),
-        IS_MAILBOXES => names(groups, group, name),
+        IS_SUBTREE | IS_LEVEL => has(SELECTABLE) && named(groups, group, name),
+        IS_MAILBOXES => named(groups, group, name),
         _ => false,
     }
 }
 
 /// Is the name among those that a group lists, or beneath one where that counts?
-fn names(groups: &Groups, group: &Group, name: &Name) -> bool {
+pub fn named(groups: &Groups, group: &Group, name: &Name) -> bool {
     let test = match group.selector {
         IS_SUBTREE => in_subtree,
         IS_LEVEL => in_level,
@@ -45,7 +45,7 @@ pub fn asked_by_name(session: &Session, events: u8, name: &Name) -> bool {
     groups
         .used()
         .iter()
-        .any(|group| group.events & events != 0 && names(groups, group, name))
+        .any(|group| group.events & events != 0 && named(groups, group, name))
 }
 
 /// The group about the selected mailbox, if one stands.

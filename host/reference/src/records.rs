@@ -2,6 +2,7 @@
 
 use crate::memory::{COUNTER_MOST, FLAG_BITS, RIGHTS, UID_MOST};
 use crate::names::Name;
+use std::io::{self, Read};
 
 pub const LINE_OCTETS: usize = 1024;
 
@@ -221,4 +222,15 @@ pub fn cut(mut stream: &[u8]) -> Vec<&[u8]> {
         stream = rest;
     }
     pieces
+}
+
+/// The next record of a stream, whole or torn, in place of what `record` held; false at the stream's end.
+pub fn next(stream: &mut impl Read, record: &mut Vec<u8>) -> io::Result<bool> {
+    record.clear();
+    stream.by_ref().take(4).read_to_end(record)?;
+    if let [_, _, low, high] = record[..] {
+        let body = u16::from_le_bytes([low, high]);
+        stream.take(u64::from(body)).read_to_end(record)?;
+    }
+    Ok(!record.is_empty())
 }

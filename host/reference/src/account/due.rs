@@ -14,16 +14,27 @@ pub(super) enum Due {
     Nothing(Rule),
     /// Nothing now, and the client hears of it later.
     Later(Wait, Cause),
-    /// These lines together; without room for them it waits so, or is lost.
-    Now(Vec<Vec<u8>>, Option<Wait>),
+    Now(Asked),
     /// Lines that tell of older calls.
     Older(Vec<Vec<u8>>),
+}
+
+/// Owed at once.
+pub(super) struct Asked {
+    /// All of them or none.
+    pub lines: Vec<Vec<u8>>,
+    /// The first group that asks, counted from 1.
+    pub group: usize,
+    /// Without room it waits so, or is lost.
+    pub missed: Option<Wait>,
 }
 
 /// One line, and by which names and attributes a group can meet what it tells of.
 struct Notice {
     names: Vec<Name>,
     attributes: u8,
+    /// It tells of the selected mailbox.
+    selected: bool,
     line: Vec<u8>,
 }
 
@@ -48,11 +59,11 @@ impl Account {
             } => {
                 let made = Mailbox::new(name, attributes, uid_validity, counter);
                 self.mailboxes.insert(id, made);
-                Some(self.listed(quiet, &name, attributes, lines::kind(attributes)))
+                Some(self.listed(quiet, id, &name, attributes, lines::kind(attributes)))
             }
             Record::Delete { id, quiet } => {
                 let gone = self.mailboxes.remove(&id)?;
-                Some(self.listed(quiet, &gone.name, gone.attributes, "\\NonExistent"))
+                Some(self.listed(quiet, id, &gone.name, gone.attributes, "\\NonExistent"))
             }
             Record::Rename { id, quiet, name } => self.renamed(id, quiet, name),
             Record::Subscribe {
@@ -100,23 +111,26 @@ impl Account {
             return Some(Due::Nothing(Rule::Quiet));
         }
         let line = line(|out| lines::renamed(out, lines::kind(attributes), &name, &old));
-        Some(self.notice(MAILBOX_NAME, vec![old, name], attributes, line))
+        Some(self.notice(MAILBOX_NAME, id, vec![old, name], attributes, line))
     }
 
     fn subscribed(&mut self, id: u16, subscribed: bool, quiet: bool) -> Option<Due> {
         let mailbox = self.mailboxes.get_mut(&id)?;
-        let was = mailbox.attributes & SUBSCRIBED != 0;
-        if was == subscribed {
-            return None;
+        let changes = (mailbox.attributes & SUBSCRIBED != 0) != subscribed;
+        if changes {
+            mailbox.attributes ^= SUBSCRIBED;
         }
-        mailbox.attributes ^= SUBSCRIBED;
         let (name, attributes) = (mailbox.name, mailbox.attributes | SUBSCRIBED);
+        // quiet is said first, even of nothing
         if quiet {
             return Some(Due::Nothing(Rule::Quiet));
         }
+        if !changes {
+            return None;
+        }
         let kind = if subscribed { "\\Subscribed" } else { "" };
         let line = line(|out| lines::list(out, kind, &name));
-        Some(self.notice(SUBSCRIPTION, vec![name], attributes, line))
+        Some(self.notice(SUBSCRIPTION, id, vec![name], attributes, line))
     }
 
     /// Only l makes a mailbox appear or vanish; both rights count on the side where it is seen.
@@ -126,14 +140,14 @@ impl Account {
         let after = before & !RIGHTS | rights;
         mailbox.attributes = after;
         match (before & LOOKUP != 0, after & LOOKUP != 0) {
-            (false, true) => Some(self.listed(false, &name, after, lines::kind(after))),
-            (true, false) => Some(self.listed(false, &name, before, "\\NonExistent")),
+            (false, true) => Some(self.listed(false, id, &name, after, lines::kind(after))),
+            (true, false) => Some(self.listed(false, id, &name, before, "\\NonExistent")),
             _ => None,
         }
     }
 
     /// A mailbox's coming or going, which is an event of the mailbox above it too: the one's line, then the other's.
-    fn listed(&self, quiet: bool, name: &Name, attributes: u8, kind: &str) -> Due {
+    fn listed(&self, quiet: bool, id: u16, name: &Name, attributes: u8, kind: &str) -> Due {
         if quiet {
             return Due::Nothing(Rule::Quiet);
         }
@@ -143,6 +157,7 @@ impl Account {
         let own = Notice {
             names: vec![*name],
             attributes,
+            selected: id == self.selected,
             line: line(|out| lines::list(out, kind, name)),
         };
         let both = [own].into_iter().chain(self.above(name)).collect();
@@ -155,14 +170,18 @@ impl Account {
         let parts: Vec<&[u8]> = name.as_octets().split(|&octet| octet == b'/').collect();
         let (_, upper) = parts.split_last()?;
         let above = Name::read(&upper.join(&b'/'))?;
-        let listed = |mailbox: &&Mailbox| mailbox.name == above && mailbox.attributes & LOOKUP != 0;
-        let (attributes, kind) = match self.mailboxes.values().find(listed) {
-            Some(mailbox) => (mailbox.attributes, lines::kind(mailbox.attributes)),
+        let listed = |(_, mailbox): &(&u16, &Mailbox)| {
+            mailbox.name == above && mailbox.attributes & LOOKUP != 0
+        };
+        let found = self.mailboxes.iter().find(listed);
+        let (attributes, kind) = match found {
+            Some((_, mailbox)) => (mailbox.attributes, lines::kind(mailbox.attributes)),
             None => (SELECTABLE, "\\NonExistent"),
         };
         Some(Notice {
             names: vec![above],
             attributes,
+            selected: found.is_some_and(|(id, _)| *id == self.selected),
             line: line(|out| lines::list(out, kind, &above)),
         })
     }
@@ -176,41 +195,50 @@ impl Account {
             FLAGS => lines::status_flags(out, name, mailbox.uid_validity, highest),
             _ => lines::status_later(out, name, mailbox.uid_next, messages, highest),
         });
-        Some(self.notice(event, vec![*name], mailbox.attributes, line))
+        Some(self.notice(event, id, vec![*name], mailbox.attributes, line))
     }
 
     /// A notice about one mailbox, by any of the names.
-    fn notice(&self, event: u8, names: Vec<Name>, attributes: u8, line: Vec<u8>) -> Due {
+    fn notice(&self, event: u8, id: u16, names: Vec<Name>, attributes: u8, line: Vec<u8>) -> Due {
         if attributes & RIGHTS != RIGHTS {
             return Due::Nothing(Rule::RightMissing);
         }
         let only = Notice {
             names,
             attributes,
+            selected: id == self.selected,
             line,
         };
         self.owed(event, vec![only])
     }
 
-    /// Of these notices those that any group but the selected one asks for.
+    /// Of these notices those that any group asks for. The selected mailbox is met by its own group, which never asks for them.
     fn owed(&self, event: u8, notices: Vec<Notice>) -> Due {
         let groups = self.groups.unwrap_or_default();
-        let met = |notice: &Notice, events: u8| {
-            let by = |group: &Group, name: &Name| meets(&groups, group, name, notice.attributes);
-            let asking = |group: &&Group| group.events & events == events;
-            let mut asking = groups.used().iter().filter(asking);
-            asking.any(|group| notice.names.iter().any(|name| by(group, name)))
+        let met = |group: &Group, notice: &Notice| match group.selector {
+            IS_SELECTED | IS_DELAYED => notice.selected,
+            _ => {
+                let mut names = notice.names.iter();
+                names.any(|name| meets(&groups, group, name, notice.attributes))
+            }
         };
-        if !notices.iter().any(|notice| met(notice, 0)) {
+        let asks = |group: &Group, notice: &Notice| group.events & event != 0 && met(group, notice);
+        let groups = || groups.used().iter();
+        if !groups().any(|group| notices.iter().any(|notice| met(group, notice))) {
             return Due::Nothing(Rule::NoGroup);
         }
-        let asked = notices.into_iter().filter(|notice| met(notice, event));
-        let lines: Vec<Vec<u8>> = asked.map(|notice| notice.line).collect();
-        if lines.is_empty() {
-            Due::Nothing(Rule::NotAsked)
-        } else {
-            Due::Now(lines, None)
-        }
+        let first = groups().position(|group| notices.iter().any(|notice| asks(group, notice)));
+        let Some(first) = first else {
+            return Due::Nothing(Rule::NotAsked);
+        };
+        let asked = notices
+            .iter()
+            .filter(|notice| groups().any(|group| asks(group, notice)));
+        Due::Now(Asked {
+            lines: asked.map(|notice| notice.line.clone()).collect(),
+            group: first + 1,
+            missed: None,
+        })
     }
 
     /// NOTIFY counts if its answer accepts it; no other command changes or owes anything.

@@ -31,7 +31,7 @@ pub struct Call<'a> {
     pub written: &'a [u8],
 }
 
-/// Why nothing is owed for a call.
+/// Why nothing is owed for a call: the first that holds.
 #[derive(Clone, Copy, PartialEq, Eq, PartialOrd, Ord, Debug)]
 pub enum Rule {
     /// The host wants no notice.
@@ -43,7 +43,7 @@ pub enum Rule {
     NoGroup,
     /// A group meets it and asks for other events.
     NotAsked,
-    /// The message that went or changed had never been announced.
+    /// The message that went or changed had never been announced, and the selected mailbox's group asks for such events.
     Unannounced,
 }
 
@@ -100,6 +100,8 @@ pub struct Account {
     /// UIDs that the client was told of, in the order of their numbers.
     view: Vec<u32>,
     fates: Vec<Fate>,
+    /// The first group that asked for what the last call owed at once.
+    asked_by: Option<usize>,
 }
 
 impl Account {
@@ -112,12 +114,18 @@ impl Account {
             groups: None,
             view: Vec::new(),
             fates: Vec::new(),
+            asked_by: None,
         }
     }
 
     /// One fate for each call so far.
     pub fn fates(&self) -> &[Fate] {
         &self.fates
+    }
+
+    /// The number of the first group that asks for what the last call owes at once, from 1 on.
+    pub fn asked_by(&self) -> Option<usize> {
+        self.asked_by
     }
 
     /// The calls that wait, oldest first.
@@ -137,6 +145,10 @@ impl Account {
         let due = match &taken {
             Some(record) => self.take(record, &lines),
             None => Due::Nothing(Rule::NoEvent),
+        };
+        self.asked_by = match &due {
+            Due::Now(asked) => Some(asked.group),
+            _ => None,
         };
         let must = self.must_write(&due);
         let mut faults = audit::compare(taken.as_ref(), &must, &lines);
@@ -159,10 +171,14 @@ impl Account {
     fn must_write(&self, due: &Due) -> Vec<Vec<u8>> {
         match due {
             Due::Nothing(_) | Due::Later(..) => Vec::new(),
-            Due::Now(lines, _) if lines.iter().map(Vec::len).sum::<usize>() > self.room() => {
-                vec![written::overflow()]
+            Due::Now(asked) => {
+                let octets: usize = asked.lines.iter().map(Vec::len).sum();
+                if octets > self.room() {
+                    return vec![written::overflow()];
+                }
+                asked.lines.clone()
             }
-            Due::Now(lines, _) | Due::Older(lines) => lines.clone(),
+            Due::Older(lines) => lines.clone(),
         }
     }
 
@@ -173,15 +189,15 @@ impl Account {
             Due::Nothing(rule) => Fate::Unowed(*rule),
             Due::Older(_) => Fate::Unowed(Rule::NoEvent),
             Due::Later(wait, cause) => Fate::Waiting(*wait, *cause),
-            Due::Now(_, missed) if has(&written::overflow()) => match *missed {
+            Due::Now(asked) if has(&written::overflow()) => match asked.missed {
                 Some(wait) => Fate::Waiting(wait, Cause::Overflow),
                 None => Fate::Lost,
             },
             // the first line tells it; those behind show what was asked besides
-            Due::Now(must, _) if must.first().is_some_and(has) => Fate::Told {
+            Due::Now(asked) if asked.lines.first().is_some_and(has) => Fate::Told {
                 by: self.fates.len(),
             },
-            Due::Now(..) => Fate::Silent,
+            Due::Now(_) => Fate::Silent,
         }
     }
 }

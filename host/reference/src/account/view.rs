@@ -1,6 +1,6 @@
 //! The selected mailbox: what its messages owe the client, now or at a command's end.
 
-use super::due::Due;
+use super::due::{Asked, Due};
 use super::written::line;
 use super::{Account, Cause, Rule, Wait};
 use crate::lines;
@@ -27,7 +27,7 @@ impl Account {
         let wait = Wait::Arrival(message.uid);
         Some(match self.delay(NEW) {
             Some(cause) => Due::Later(wait, cause),
-            None => Due::Now(self.announcement(), Some(wait)),
+            None => self.at_once(self.announcement(), Some(wait)),
         })
     }
 
@@ -41,12 +41,12 @@ impl Account {
         }
         self.drop_waiting(|wait| wait == Wait::Arrival(uid) || wait == Wait::Mark(uid));
         let Some(place) = self.place_of(uid) else {
-            return Some(Due::Nothing(Rule::Unannounced));
+            return Some(Due::Nothing(self.unknown(EXPUNGE)));
         };
         let wait = Wait::Removal(uid);
         Some(match self.delay(EXPUNGE) {
             Some(cause) => Due::Later(wait, cause),
-            None => Due::Now(vec![line(|out| lines::expunge(out, place))], Some(wait)),
+            None => self.at_once(vec![line(|out| lines::expunge(out, place))], Some(wait)),
         })
     }
 
@@ -61,14 +61,30 @@ impl Account {
             return self.counted(id, FLAGS);
         }
         let Some(place) = self.place_of(uid) else {
-            return Some(Due::Nothing(Rule::Unannounced));
+            return Some(Due::Nothing(self.unknown(FLAGS)));
         };
         Some(match self.delay(FLAGS) {
-            None => Due::Now(vec![fetch(place, &message)], None),
+            None => self.at_once(vec![fetch(place, &message)], None),
             Some(Cause::BeforeNotify) => Due::Later(Wait::Mark(uid), Cause::BeforeNotify),
-            Some(Cause::RightMissing) => Due::Nothing(Rule::RightMissing),
-            Some(Cause::NoGroup) => Due::Nothing(Rule::NoGroup),
-            Some(_) => Due::Nothing(Rule::NotAsked),
+            Some(cause) => Due::Nothing(passed_over(cause)),
+        })
+    }
+
+    /// Why nothing is owed where a message went or changed that the client doesn't know: that is the last thing to be said.
+    fn unknown(&self, event: u8) -> Rule {
+        match self.delay(event) {
+            None | Some(Cause::Delayed) => Rule::Unannounced,
+            Some(cause) => passed_over(cause),
+        }
+    }
+
+    /// Lines that the selected mailbox's own group asks for.
+    fn at_once(&self, lines: Vec<Vec<u8>>, missed: Option<Wait>) -> Due {
+        let group = self.selected_group().map_or(0, |(number, _)| number);
+        Due::Now(Asked {
+            lines,
+            group,
+            missed,
         })
     }
 
@@ -78,10 +94,12 @@ impl Account {
         Some(known as u32 + 1)
     }
 
-    fn selected_group(&self) -> Option<Group> {
+    /// The group about the selected mailbox, and its number from 1 on.
+    fn selected_group(&self) -> Option<(usize, Group)> {
         let groups = self.groups?;
-        let about = |group: &&Group| matches!(group.selector, IS_SELECTED | IS_DELAYED);
-        groups.used().iter().find(about).copied()
+        let about = |group: &Group| matches!(group.selector, IS_SELECTED | IS_DELAYED);
+        let place = groups.used().iter().position(about)?;
+        Some((place + 1, groups.group[place]))
     }
 
     /// Why an event of the selected mailbox is not told at once, if it isn't.
@@ -94,8 +112,8 @@ impl Account {
         }
         match self.selected_group() {
             None => Some(Cause::NoGroup),
-            Some(group) if group.events & event == 0 => Some(Cause::NotAsked),
-            Some(group) => {
+            Some((_, group)) if group.events & event == 0 => Some(Cause::NotAsked),
+            Some((_, group)) => {
                 let delayed = event == EXPUNGE && group.selector == IS_DELAYED;
                 delayed.then_some(Cause::Delayed)
             }
@@ -107,7 +125,9 @@ impl Account {
         let new = self.unannounced();
         let known = self.view.len() as u32;
         let mut told = vec![line(|out| lines::exists(out, known + new.len() as u32))];
-        let attributes = self.selected_group().map_or(0, |group| group.attributes);
+        let attributes = self
+            .selected_group()
+            .map_or(0, |(_, group)| group.attributes);
         if attributes != 0 {
             for (place, message) in (known + 1..).zip(new) {
                 told.push(line(|out| lines::fetch(out, place, attributes, message)));
@@ -156,6 +176,16 @@ impl Account {
             rest.is_some()
         };
         lines.into_iter().take_while(fits).collect()
+    }
+}
+
+/// The rule by which an event is passed over that isn't told for this cause, and can't wait.
+fn passed_over(cause: Cause) -> Rule {
+    match cause {
+        Cause::RightMissing => Rule::RightMissing,
+        // before NOTIFY there are no groups either
+        Cause::BeforeNotify | Cause::NoGroup => Rule::NoGroup,
+        _ => Rule::NotAsked,
     }
 }
 

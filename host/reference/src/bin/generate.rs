@@ -1,12 +1,14 @@
-//! Seeded input for other programs, each piece after its length in four octets, little-endian.
+//! Seeded input for other programs, each piece after its length in four octets, little-endian, but for `stream`.
 //!
 //! `generate SEED COUNT [Q [MAILBOXES [MESSAGES]]]`: calls, as `replay` reads them.
 //! `generate lines SEED COUNT`: command lines alone, one in twenty of 1,000 to 1,024 octets.
 //! `generate pair SEED COUNT 1|2`: one side of a pair; `generate pair SEED COUNT` prints its
 //! sizes, and for each side the places (from 0) of the records in common.
+//! `generate stream SEED COUNT`: a stream for `why` or `pushrun`, its records one behind the other; what it is full of goes by
+//! the seed.
 
 use reference::generate::pairs::{pair, Step};
-use reference::generate::{commands, long, stream};
+use reference::generate::{commands, long, reasons, stream};
 use reference::memory::{MAILBOXES, MESSAGES};
 use reference::random::Random;
 use std::io::{self, BufWriter, Write};
@@ -14,7 +16,7 @@ use std::io::{self, BufWriter, Write};
 fn main() -> io::Result<()> {
     let arguments: Vec<String> = std::env::args().skip(1).collect();
     let mode = arguments.first().map(String::as_str);
-    let named = matches!(mode, Some("lines" | "pair"));
+    let named = matches!(mode, Some("lines" | "pair" | "stream"));
     let numbers: Result<Vec<u64>, _> = arguments
         .iter()
         .skip(usize::from(named))
@@ -55,6 +57,7 @@ fn main() -> io::Result<()> {
                 }
             }
         }
+        Some("stream") => out.write_all(&reasons::stream(seed, count))?,
         _ => {
             let (mailboxes, messages) = (size(3, MAILBOXES), size(4, MESSAGES));
             for octets in stream(seed, count, size(2, 8192), mailboxes, messages) {
@@ -82,5 +85,6 @@ fn usage() -> ! {
     eprintln!("generate SEED COUNT [Q [MAILBOXES [MESSAGES]]]");
     eprintln!("generate lines SEED COUNT");
     eprintln!("generate pair SEED COUNT [1|2]");
+    eprintln!("generate stream SEED COUNT");
     std::process::exit(2)
 }

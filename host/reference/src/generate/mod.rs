@@ -7,6 +7,7 @@ pub mod family;
 pub mod long;
 pub mod pairs;
 pub mod pools;
+pub mod reasons;
 pub mod searches;
 
 use crate::memory::*;

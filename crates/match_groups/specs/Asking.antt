@@ -1,12 +1,10 @@
 -- Which group asks: by its number, by bits of events. Assumes nothing.
 use mathlib.Core.Path.{_≡_, refl, ap, ap₂, sym, _∙_}
-use mathlib.Core.Bool.{Bool, true, false, not, cond, _&&_, _||_}
+use mathlib.Core.Bool.{Bool, true, false, cond, _&&_, _||_}
 use mathlib.Core.List.{List, [], _∷_, map}
-use Prim.Native.Nat.{ℕ, zero, suc, _+_, _-_, _<_, _≤_}
+use Prim.Native.Nat.{ℕ, zero, suc, _+_, _<_, _≤_}
 use native.Mathlib.Omega.{arith}
-use lib.Dec.{eqb}
 use lib.ListN.{length, take, drop, getD}
-use borrow.Author.Tests.{ne-eqb}
 use Rattle.model.specs.Laws.{tf, take-drop, or-true, and-false}
 use Rattle.model.specs.Lists.{anyb, same}
 use Rattle.model.specs.Selectors.{takenByInboxes, takenByPersonal}

@@ -209,13 +209,13 @@ fn first_standing(s: Session, delayed: bool, k: u8) -> usize
     ensures { λ r. ⌜ r ≡ number (standing delayed k) (groupsOf s) ⌝ }
 {
     let n = groups(s.groupcount);
-    let mut i: usize = 0;
-    while i < n {
-        let g = lawful_session::group_of(s.groups[i]);
+    let mut at: usize = 0;
+    while at < n {
+        let g = lawful_session::group_of(s.groups[at]);
         if stands(g, delayed, k) {
-            return i + 1;
+            return at + 1;
         }
-        i += 1;
+        at += 1;
     }
     0
 }

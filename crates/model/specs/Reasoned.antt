@@ -3,13 +3,12 @@ use mathlib.Core.Path.{_≡_}
 use mathlib.Core.List.{List, [], _∷_}
 use mathlib.Core.Bool.{Bool, true, false, cond}
 use Prim.Native.Nat.{ℕ, _-_, _≤_, _<_}
-use lib.Dec.{eqb}
 use lib.ListN.{length, getD}
 use Rattle.model.specs.Lists.{anyb}
 use Rattle.model.specs.Records.{Record, arrive, expunge, reflag, recordOf}
 use Rattle.model.specs.Memory.{Memory, bothRights, selectedBox, isSelected, noGroup}
 use Rattle.model.specs.Groups.{groupOf, groupsOf}
-use Rattle.model.specs.Lines.{Line, overflow}
+use Rattle.model.specs.Lines.{overflow}
 use Rattle.model.specs.Queue.{fits}
 use Rattle.model.specs.View.{owed}
 use Rattle.model.specs.Answers.{numberOf}
@@ -20,9 +19,8 @@ use Rattle.model.specs.Seen.{apparent, final}
 use Rattle.model.specs.Due.{Due, nothing, atOnce, later, due}
 use Rattle.model.specs.Account.{accountOf}
 use Rattle.model.specs.Reasons.{reasonNumber, asked, firstAsking, holds, reason}
-use Rattle.model.specs.declared.Group.{Group}
 use Rattle.model.specs.declared.Reason.{Reason}
-use Rattle.model.specs.declared.Reason.the-variants.{NoRecord, Refused, Quiet, NoEvent, RightMissing, Unmet, Unasked, Unannounced, Waiting, Overflow, Written}
+use Rattle.model.specs.declared.Reason.the-variants.{Refused, Quiet, NoEvent, RightMissing, Unmet, Unasked, Unannounced, Waiting, Overflow, Written}
 
 -- ---- of every octet string and every memory
 -- one of the ten is given, it holds, and none before it does

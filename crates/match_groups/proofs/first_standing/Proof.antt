@@ -27,7 +27,7 @@ returns c =
     let n = groups .result in
     let here = ap (standing (a .delayed) (a .k)) (sym (c .before .before .group-of .ensures)) ∙ (sym (c .before .stands .ensures) ∙ c .if1 .taken) in
     sym (number-groups (a .t1) n (groups .ensures .1 (a .t1 .groups) long) (standing (a .delayed) (a .k))
-    ∙ number-here (standsAs (a .delayed) (a .k)) (a .t1 .groups) n (loop .i) (omega arith) _ (loop .inv) vacantGroup (omega arith) here)
+    ∙ number-here (standsAs (a .delayed) (a .k)) (a .t1 .groups) n (loop .at) (omega arith) _ (loop .inv) vacantGroup (omega arith) here)
 
 loop-again : tie.Need-loop-again Inv-loop μ-loop
 loop-again c =
@@ -35,14 +35,14 @@ loop-again c =
     let b = b .before in let groups = b .groups in let b = b .before in let a = b .args in
     let long : length (a .t1 .groups) ≡ 8 = search (needs, mapped-length) in
     let on = ap (standing (a .delayed) (a .k)) (sym (c .before .before .group-of .ensures)) ∙ (sym (c .before .stands .ensures) ∙ c .if1 .left) in
-    number-next (standsAs (a .delayed) (a .k)) (a .t1 .groups) (groups .result) (loop .i) (omega arith) _ (loop .inv) vacantGroup (omega arith) on
+    number-next (standsAs (a .delayed) (a .k)) (a .t1 .groups) (groups .result) (loop .at) (omega arith) _ (loop .inv) vacantGroup (omega arith) on
 
 returns-2 : tie.Need-returns-2 Inv-loop μ-loop
 returns-2 c = let a = c .before .before .before .args in
     let long : length (a .t1 .groups) ≡ 8 = search (needs, mapped-length) in
     let n = c .before .before .groups .result in
     sym (number-groups (a .t1) n (c .before .before .groups .ensures .1 (a .t1 .groups) long) (standing (a .delayed) (a .k))
-    ∙ number-past (standsAs (a .delayed) (a .k)) (a .t1 .groups) n (c .before .loop .i) (omega arith) _ (c .before .loop .inv) (omega arith))
+    ∙ number-past (standsAs (a .delayed) (a .k)) (a .t1 .groups) n (c .before .loop .at) (omega arith) _ (c .before .loop .inv) (omega arith))
 
 pub first-standing-spec : {M : Type 1} → statement M
 first-standing-spec =
@@ -53,5 +53,5 @@ first-standing-spec =
     (λ c. search needs) (λ c. search needs)  -- mul-group-of, element-copy-out-group-of
     (λ c κs. search needs) (λ c κs. search needs) (λ c. search needs)  -- group-of-requires, stands-requires, add-result
     returns
-    (λ c. search needs) (λ c. search needs)  -- add-i, loop-less
+    (λ c. search needs) (λ c. search needs)  -- add-at, loop-less
     loop-again returns-2)

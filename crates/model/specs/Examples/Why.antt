@@ -1,4 +1,4 @@
--- The streams of request 3, by computation: the reason of each record.
+-- The streams of request 3, by computation: the reason of each record. `why00N` is the stream of reading 3.N (docs/DECISIONS.md).
 use mathlib.Core.Path.{_≡_, refl}
 use mathlib.Core.List.{List, [], _∷_}
 use Rattle.model.specs.Groups.{number}
@@ -9,7 +9,7 @@ use Rattle.model.specs.Pushrun.{start}
 use Rattle.model.specs.Reasons.{points, reason}
 use Rattle.model.specs.Examples.Stream.{mb, dl, rn, sb, rt, me, xp, fl, se, ce, cm, dr, computed}
 use Rattle.model.specs.declared.Reason.{Reason}
-use Rattle.model.specs.declared.Reason.the-variants.{NoRecord, Refused, Quiet, NoEvent, RightMissing, Unmet, Unasked, Unannounced, Waiting, Overflow, Written}
+use Rattle.model.specs.declared.Reason.the-variants.{Refused, Quiet, NoEvent, RightMissing, Unmet, Unasked, Unannounced, Waiting, Written}
 
 unfoldable pub reasoned : Unit {0}
 unfolding computed number points reason
@@ -36,6 +36,22 @@ pub why001 : Reasons
     (Quiet ∷ Unmet ∷ Unmet ∷ NoEvent ∷ Waiting 0 ∷ Waiting 1 ∷ Refused 5 ∷ NoEvent ∷ Refused 3 ∷ [])
 unfolding reasoned
 why001 = refl
+
+pub why002 : Reasons
+    (mb 1 0x33 1 7 1 "INBOX"
+    ∷ me 1 1 0 10 2
+    ∷ me 1 2 8 20 3
+    ∷ se 1
+    ∷ cm "n NOTIFY SET (selected (MessageNew MessageExpunge FlagChange))"
+    ∷ rn 1 0 "z"
+    ∷ sb 1 1 0
+    ∷ mb 2 0x31 0 7 1 "z/a"
+    ∷ rt 1 0x20
+    ∷ mb 3 0x31 0 7 1 "z/b"
+    ∷ [])
+    (Quiet ∷ Unmet ∷ Unmet ∷ NoEvent ∷ NoEvent ∷ Unasked ∷ Unasked ∷ Unasked ∷ Unasked ∷ Unmet ∷ [])
+unfolding reasoned
+why002 = refl
 
 pub why003 : Reasons
     (mb 1 0x33 1 7 1 "INBOX"
@@ -269,22 +285,6 @@ pub why021 : Reasons
     (Quiet ∷ Unmet ∷ Unmet ∷ NoEvent ∷ Waiting 0 ∷ NoEvent ∷ NoEvent ∷ NoEvent ∷ Unasked ∷ NoEvent ∷ Unasked ∷ [])
 unfolding reasoned
 why021 = refl
-
-pub why002 : Reasons
-    (mb 1 0x33 1 7 1 "INBOX"
-    ∷ me 1 1 0 10 2
-    ∷ me 1 2 8 20 3
-    ∷ se 1
-    ∷ cm "n NOTIFY SET (selected (MessageNew MessageExpunge FlagChange))"
-    ∷ rn 1 0 "z"
-    ∷ sb 1 1 0
-    ∷ mb 2 0x31 0 7 1 "z/a"
-    ∷ rt 1 0x20
-    ∷ mb 3 0x31 0 7 1 "z/b"
-    ∷ [])
-    (Quiet ∷ Unmet ∷ Unmet ∷ NoEvent ∷ NoEvent ∷ Unasked ∷ Unasked ∷ Unasked ∷ Unasked ∷ Unmet ∷ [])
-unfolding reasoned
-why002 = refl
 
 pub why022 : Reasons
     (mb 1 0x31 1 7 1 "Ops/a"

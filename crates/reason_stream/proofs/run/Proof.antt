@@ -3,7 +3,6 @@ use borrow.Author.Needs.{needs}
 use Rattle.reason_stream.proofs.run.Statement.{statement}
 use Rattle.reason_stream.proofs.run.Tie as tie
 use mathlib.Core.Path.{refl, sym, _∙_, ap}
-use Prim.Native.Nat.{ℕ}
 use native.Mathlib.Omega.{arith}
 use Rattle.model.specs.Memory.{Memory}
 use Rattle.model.specs.Pushrun.{recordsOf}

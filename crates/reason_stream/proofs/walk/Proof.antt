@@ -33,16 +33,20 @@ add-e : tie.Need-add-e Inv-loop μ-loop
 add-e c = let z = c .record-size .ensures .within in search needs
 
 returns : tie.Need-returns Inv-loop μ-loop
-returns c = reaching-here (c .before .before .before .before .before .before .before .before .before .before .before .before .before .before .loop .inv .2) (c .before .before .before .before .before .before .before .before .before .before .before .before .record-size .ensures) (c .before .before .before .before .why-at .ensures .reason) (c .before .before .before .before .before .before .before .before .if1 .taken)
+returns c =
+    let b = c .before .before .before .before .before .before .before .before in
+    reaching-here (b .before .before .before .before .before .before .loop .inv .2) (b .before .before .before .before .record-size .ensures) (c .before .before .before .before .why-at .ensures .reason) (b .if1 .taken)
 
 sub-left : tie.Need-sub-left Inv-loop μ-loop
 sub-left c = let z = c .before .before .before .before .before .before .before .before .before .before .before .before .before .before .loop .inv .2 .some in search needs
 
 loop-less : tie.Need-loop-less Inv-loop μ-loop
-loop-less c = let z = c .before .before .before .before .before .before .before .before .before .before .before .before .record-size .ensures .some in let y = c .before .before .before .before .before .before .before .before .before .before .before .before .record-size .ensures .within in omega arith
+loop-less c = let r = c .before .before .before .before .before .before .before .before .before .before .before .before .record-size .ensures in let z = r .some in let y = r .within in omega arith
 
 loop-again : tie.Need-loop-again Inv-loop μ-loop
-loop-again c = (search needs, search needs, reaching-next (c .before .before .before .before .before .before .before .before .before .before .before .before .before .before .loop .inv .2) (c .before .before .before .before .before .before .before .before .before .before .before .before .record-size .ensures) (c .before .before .before .before .serve .ensures) (c .before .before .before .before .before .before .before .before .if1 .left))
+loop-again c =
+    let b = c .before .before .before .before .before .before .before .before in
+    (search needs, search needs, reaching-next (b .before .before .before .before .before .before .loop .inv .2) (b .before .before .before .before .record-size .ensures) (c .before .before .before .before .serve .ensures) (b .if1 .left))
 
 returns-2 : tie.Need-returns-2 Inv-loop μ-loop
 returns-2 c = reaching-end (c .before .loop .inv .2) (c .loop-test .left)

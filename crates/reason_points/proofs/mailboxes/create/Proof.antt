@@ -6,7 +6,6 @@ use mathlib.Core.Path.{_∙_, ap}
 use mathlib.Core.Bool.{not, true}
 use lib.Dec.{eqb}
 use lib.ListN.{take}
-use Rattle.model.specs.declared.Mailbox.{Mailbox}
 use Rattle.reason_points.specs.Showing.{namedOf}
 
 returns : tie.Need-returns

@@ -2,7 +2,7 @@
 use borrow.Author.Needs.{needs}
 use Rattle.reason_points.proofs.rows.row_of.Statement.{statement}
 use Rattle.reason_points.proofs.rows.row_of.Tie as tie
-use mathlib.Core.Path.{_≡_, refl, sym, _∙_, ap}
+use mathlib.Core.Path.{_≡_, refl, sym, _∙_}
 use Prim.Native.Nat.{_-_}
 use native.Mathlib.Omega.{arith}
 use lib.ListN.{length, take, drop}

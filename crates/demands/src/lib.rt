@@ -1,1 +1,2 @@
 // The user's demands, proved of the rules in specs. No code stands here.
+#![tactic(auto)]

@@ -1,4 +1,6 @@
 // `ME`: a message arrives. It is stored, and announced at once, or it waits, or its mailbox's STATUS is told.
+#![tactic(auto)]
+
 ghost use Rattle.std.specs.Prelude.{◌≡◌, cond, ◌+◌, ◌*◌, ◌-◌, ◌≤◌, length, take};
 ghost use Rattle.model.specs.Memory.{messages_of, with_next, with_view, silenced};
 ghost use Rattle.table_messages.specs.Words.{messages};

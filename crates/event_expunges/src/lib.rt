@@ -1,4 +1,6 @@
 // `XP`: a message is expunged. It waits, or is told at once and gone, or is gone.
+#![tactic(auto)]
+
 ghost use Rattle.std.specs.Prelude.{◌≡◌, true, false, cond, ◌*◌, ◌-◌, ◌≤◌, ◌<◌, length};
 ghost use Rattle.table_messages.specs.Words.{messages};
 ghost use Rattle.table_messages.specs.Laid.{laid};

@@ -1,4 +1,6 @@
 // `FL`: the flags of a message change. That is told at once, or kept as a mark, or neither; elsewhere a STATUS tells of it.
+#![tactic(auto)]
+
 ghost use Rattle.std.specs.Prelude.{◌≡◌, true, cond, ◌+◌, ◌*◌, ◌-◌, ◌≤◌, ◌<◌, length};
 ghost use Rattle.table_messages.specs.Words.{messages};
 ghost use Rattle.event_message.specs.After.{Leaves};

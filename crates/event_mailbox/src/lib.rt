@@ -1,5 +1,7 @@
 // The records about mailboxes, `MB DL RN SB RT`: what is stored, who is told, and the line or the overflow line. This file has what they
 // share: a row changes or is new, and a line about it is told or none is; a mailbox that appears or goes is told of with its parent.
+#![tactic(auto)]
+
 pub mod creating;
 pub mod deleting;
 pub mod renaming;
@@ -21,7 +23,7 @@ use line_put::{Kept, Said};
 use model::{Mailbox, Session};
 
 // A row that has changed or is new, and what else is left.
-#[derive(Drop)]
+#[derive(Clone, Copy)]
 pub struct Changed {
     pub row: Mailbox,
     pub session: Session,

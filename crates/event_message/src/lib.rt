@@ -1,5 +1,7 @@
 // `ME`, `XP` and `FL`: what a record about a message leaves of the message table, the queue and the session. Each kind has its module;
 // here stand the STATUS lines of a mailbox that is not selected, and what all of them ask.
+#![tactic(auto)]
+
 pub mod showing;
 
 ghost use Rattle.std.specs.Prelude.{◌≡◌, true, false, not, ◌&&◌, ◌*◌, ◌-◌, ◌≤◌, length, take};
@@ -16,7 +18,7 @@ use line_put::Said;
 use model::{Mailbox, Session};
 
 // What a record leaves besides the words and the queue's octets.
-#[derive(Drop)]
+#[derive(Clone, Copy)]
 pub struct Left {
     pub used: usize,
     pub session: Session,
@@ -24,7 +26,7 @@ pub struct Left {
 }
 
 // The row with its new UIDNEXT, and what else is left besides the words and the queue's octets.
-#[derive(Drop)]
+#[derive(Clone, Copy)]
 pub struct Arrived {
     pub row: Mailbox,
     pub used: usize,

@@ -1,4 +1,6 @@
 // `CE`, `SE` and `DR`: the end of a command, a selection, octets that were sent.
+#![tactic(auto)]
+
 ghost use Rattle.std.specs.Prelude.{◌≡◌, false, cond, ℕ, ◌+◌, ◌*◌, ◌-◌, ◌≤◌, ◌<◌, length, take, get_or};
 ghost use Rattle.model.specs.Memory.{no_message, with_view};
 ghost use Rattle.model.specs.Queue.{shifted};
@@ -43,7 +45,7 @@ pub fn viewed(s: Session, id: u16, told: u32) -> Session
 }
 
 // What a selection leaves besides the table.
-#[derive(Drop)]
+#[derive(Clone, Copy)]
 pub struct Chose {
     pub session: Session,
     pub used: usize,
@@ -102,7 +104,7 @@ fn announced(s: Session, news: bool, next: u32) -> Session
 }
 
 // What the end of a command leaves besides the table and the queue's octets, and how many lines are still owed.
-#[derive(Drop)]
+#[derive(Clone, Copy)]
 pub struct Closed {
     pub session: Session,
     pub used: usize,

@@ -1,4 +1,6 @@
 // The lines that a command's end tells along the view: EXPUNGE, EXISTS, FETCH.
+#![tactic(auto)]
+
 mod lines;
 
 ghost use Rattle.std.specs.Prelude.{◌≡◌, ◌&&◌, ◌+◌, ◌≤◌, length, get_or};
@@ -13,7 +15,7 @@ use lines::{advanced, begun, say_count, say_exists, say_fetch};
 use model::{MessageNumber, Uid};
 
 // Where the queue ends, whether all lines fitted so far, how many did not, the next place, one more than the UID of the last line written.
-#[derive(Drop)]
+#[derive(Clone, Copy)]
 pub struct Going {
     pub end: usize,
     pub whole: bool,
@@ -24,7 +26,7 @@ pub struct Going {
 
 // What was written: where the queue ends, whether EXISTS stands there, and the bounds of the EXPUNGE and FETCH lines; and how many lines
 // did not fit.
-#[derive(Drop)]
+#[derive(Clone, Copy)]
 pub struct Spoken {
     pub end: usize,
     pub rest: u64,

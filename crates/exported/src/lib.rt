@@ -1,5 +1,7 @@
 // What a host calls: the step on memory that it lends, and thin functions over its mailbox table. Each takes what the host keeps,
 // asks nothing, and says of every octet what becomes of it.
+#![tactic(auto)]
+
 ghost use Rattle.std.specs.Prelude.{◌≡◌, take, set};
 ghost use Rattle.model.specs.Memory.{place};
 ghost use Rattle.lent_rows.specs.Rows.{place_named};

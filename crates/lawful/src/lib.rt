@@ -1,4 +1,6 @@
 // Refusal 1: whether all that is lent is lawful. The rows come by columns; the quick tests decide where they can, the exact ones behind them.
+#![tactic(auto)]
+
 ghost use Rattle.std.specs.Prelude.{◌≡◌, true, ◌&&◌, List, ℕ, ◌*◌, ◌≤◌, length, take, replicate};
 ghost use Rattle.model.specs.Lists.{apart, allb, every};
 ghost use Rattle.model.specs.Memory.{counter_of};

@@ -1,4 +1,6 @@
 // Numbers that all differ, ids or digests of names, seen while a table of guesses is filled with their rows. A no says nothing.
+#![tactic(auto)]
+
 ghost use Rattle.std.specs.Prelude.{◌≡◌, ℕ, ◌+◌, ◌*◌, ◌%◌, ◌<◌, ◌≤◌, true, length, replicate, slice_index};
 ghost use Rattle.table_mailboxes.specs.Columns.{block};
 ghost use Rattle.lawful_digests.specs.Distinct.{slot_of, Absent, Differ, Taken, Low};

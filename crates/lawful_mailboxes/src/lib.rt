@@ -1,4 +1,6 @@
 // The mailboxes, each by itself: its numbers are in their ranges and its name is in order.
+#![tactic(auto)]
+
 mod naming;
 
 ghost use Rattle.std.specs.Prelude.{◌≡◌, List, ◌≤◌, ◌<◌, length};

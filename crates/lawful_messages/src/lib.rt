@@ -1,4 +1,6 @@
 // The exact tests of tables in any order: rows that clash, and the messages.
+#![tactic(auto)]
+
 ghost use Rattle.std.specs.Prelude.{◌≡◌, List, ◌*◌, ◌≤◌, ◌<◌, length, take, drop, get_or};
 ghost use Rattle.model.specs.Lists.{apart, anyb, allb};
 ghost use Rattle.model.specs.Memory.{no_mailbox, counter_of};

@@ -1,4 +1,6 @@
 // Refusal 1, quickly: one pass over the messages that says yes wherever each is seen to be in order. A no says nothing.
+#![tactic(auto)]
+
 mod passing;
 
 ghost use Rattle.std.specs.Prelude.{◌≡◌, ◌*◌, ◌%◌, ◌≤◌, true, List, length, take};
@@ -16,7 +18,7 @@ use model::Uid;
 use passing::{below, entry_fits, owner};
 
 // How far a pass is, and the flags and sizes that it met, joined bit by bit.
-#[derive(Drop)]
+#[derive(Clone, Copy)]
 struct Pass {
     at: usize,
     flags: u64,

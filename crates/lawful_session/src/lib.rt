@@ -1,4 +1,6 @@
 // Refusal 1 over the session: its groups, the ranges of their names, and the names.
+#![tactic(auto)]
+
 ghost use Rattle.std.specs.Prelude.{◌≡◌, ◌&&◌, ◌||◌, cond, not, ◌+◌, ◌≤◌, ◌<◌, eqb, length, take, drop};
 ghost use Rattle.model.specs.Lists.{allb};
 ghost use Rattle.model.specs.Text.{bit, one};

@@ -1,4 +1,6 @@
 // What a step leaves of the lent table, and its answer in numbers.
+#![tactic(auto)]
+
 ghost use Rattle.std.specs.Prelude.{◌≡◌};
 ghost use Rattle.model.specs.Answers.{refusal_number};
 ghost use Rattle.lent_answer.specs.Numbers.{numbers_said};
@@ -11,7 +13,7 @@ use record_outcome::{Change, Outcome};
 
 // What a call answers, in numbers: the refusal's number or 0, whether a count is given (0 or 1), and the count or 0.
 #[repr(C)]
-#[derive(Drop)]
+#[derive(Clone, Copy)]
 pub struct Answered {
     pub refusal: u32,
     pub counted: u32,
@@ -61,7 +63,7 @@ pub fn numbers(out: Outcome) -> Answered
 // ---- what becomes of the table
 
 // What is written back: the rows behind `from` move up, as far as row `at`, which becomes `row`.
-#[derive(Drop)]
+#[derive(Clone, Copy)]
 pub struct WriteBack {
     pub from: usize,
     pub at: usize,

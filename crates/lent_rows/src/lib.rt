@@ -1,5 +1,7 @@
 // The mailbox table as the host lends it, a slice of rows: laid out by columns or read into an array by one walk each, and written back
 // by others. What is searched in between is an array or a column, which the borrow checker follows by itself.
+#![tactic(auto)]
+
 pub mod columns;
 
 ghost use Rattle.std.specs.Prelude.{◌≡◌, ◌≤◌, ◌<◌, ltb, length, take, set, replicate};

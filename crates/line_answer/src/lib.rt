@@ -1,4 +1,6 @@
 // The answers to commands: the tagged line, which of the six it is once the size of the whole answer is known, and an answer of that line alone.
+#![tactic(auto)]
+
 ghost use Rattle.std.specs.Prelude.{◌≡◌, ◌+◌, ◌≤◌, length};
 ghost use Rattle.model.specs.Commands.{tag_of};
 ghost use Rattle.model.specs.Lines.{answer, render, reply_text, too_large_text, done_text};

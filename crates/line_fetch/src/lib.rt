@@ -1,4 +1,6 @@
 // FETCH lines: of a message's flags and counter, and of a new message with the items that are asked.
+#![tactic(auto)]
+
 mod flags;
 
 ghost use Rattle.std.specs.Prelude.{true, ◌++◌, ◌+◌, ◌-◌, ◌≤◌, length};
@@ -124,7 +126,7 @@ pub fn say_fetch(
 
 // ---- a new message
 // What a FETCH of a new message shows: anything at all, its UID, its flags, its size.
-#[derive(Drop)]
+#[derive(Clone, Copy)]
 pub struct Shows {
     pub any: bool,
     pub uid: bool,

@@ -1,5 +1,7 @@
 // The lines of an ESEARCH: one for each mailbox that it found something in, with MIN, MAX, ALL and COUNT as they were asked for.
 // UIDs come in an array of words, as a slice of structs takes a walk by hand; a single UID is a `Uid`.
+#![tactic(auto)]
+
 ghost use Rattle.std.specs.Prelude.{◌≡◌, cond, [], ◌∷◌, ◌++◌, ◌+◌, ◌*◌, ◌≤◌, ◌<◌, eqb, length, take, drop};
 ghost use Rattle.model.specs.Text.{octets, decimal};
 ghost use Rattle.model.specs.Lines.{run_text, set_text};
@@ -99,7 +101,7 @@ fn put_all(queue: &mut [u8], at: usize, limit: usize, on: bool, uids: &[u64], n:
 }
 
 // What an ESEARCH asked for.
-#[derive(Drop)]
+#[derive(Clone, Copy)]
 pub struct Wanted {
     pub least: bool,
     pub most: bool,

@@ -1,4 +1,6 @@
 // What NOTIFY SET tells: a line for each mailbox, by name.
+#![tactic(auto)]
+
 ghost use Rattle.std.specs.Prelude.{Bool, ◌&&◌, List, ◌+◌, ◌*◌, ◌≤◌, ◌<◌, length};
 ghost use Rattle.model.specs.Lines.{Line, render_all};
 ghost use Rattle.model.specs.Lists.{concat_map};

@@ -1,4 +1,6 @@
 // The notices about mailboxes: LIST lines, STATUS lines. A line is written, or else the overflow line.
+#![tactic(auto)]
+
 ghost use Rattle.std.specs.Prelude.{◌+◌, ◌*◌, ◌-◌, ◌≤◌, ◌<◌, length};
 ghost use Rattle.model.specs.Lists.{when};
 ghost use Rattle.model.specs.Lines.{list, renamed, status, mail_items, flag_items, set_items, mark_text, render, render_all};
@@ -9,7 +11,7 @@ ghost use Rattle.line_mailbox.specs.Texts.{mark_of, pair, listed, opening, endin
 use line_put::Said;
 
 // The attribute of a LIST line.
-#[derive(Drop)]
+#[derive(Clone, Copy)]
 pub enum Mark {
     Plain,
     Noselect,

@@ -1,4 +1,6 @@
 // Lines about messages: EXISTS and EXPUNGE, a line alone; and with FETCH all lines of a part along the mailbox's entries by UID.
+#![tactic(auto)]
+
 mod parts;
 
 ghost use Rattle.std.specs.Prelude.{◌+◌, ◌-◌, ◌≤◌, length};
@@ -60,7 +62,7 @@ pub fn say_expunge(queue: &mut [u8], at: usize, n: MessageNumber) -> Said
 
 // ---- all lines of a part
 // Which lines: EXPUNGE of what is expunged, FETCH of what is marked, FETCH of what is new.
-#[derive(Drop)]
+#[derive(Clone, Copy)]
 pub enum Part {
     Expunged,
     Marked,
@@ -68,7 +70,7 @@ pub enum Part {
 }
 
 // Where the queue ends, and the place of the next message.
-#[derive(Drop)]
+#[derive(Clone, Copy)]
 pub struct Went {
     pub end: usize,
     pub next: MessageNumber,

@@ -1,4 +1,6 @@
 // Writers into a queue, up to a limit. Each answers where its text ends. It writes only where that is within the limit.
+#![tactic(auto)]
+
 ghost use Rattle.std.specs.Prelude.{◌≡◌, [], ◌∷◌, ◌++◌, false, cond, ◌+◌, ◌*◌, ◌-◌, ◌≤◌, ◌<◌, length};
 ghost use Rattle.line_put.specs.Wrote.{Wrote};
 ghost use Rattle.line_put.specs.Put.{Put};
@@ -121,7 +123,7 @@ pub fn put_name(queue: &mut [u8], at: usize, limit: usize, name: &[u8]) -> usize
 
 // ---- a line or the overflow line
 // Whether a line was written, and where the queue ends then.
-#[derive(Drop)]
+#[derive(Clone, Copy)]
 pub struct Said {
     pub fits: bool,
     pub end: usize,
@@ -163,7 +165,7 @@ pub fn silence(s: Session) -> Session
 }
 
 // What a record leaves besides the tables and the queue's octets.
-#[derive(Drop)]
+#[derive(Clone, Copy)]
 pub struct Kept {
     pub session: Session,
     pub filled: u64,

@@ -1,4 +1,6 @@
 // Who is told: the groups of a session against a mailbox's name and attributes.
+#![tactic(auto)]
+
 pub mod matched;
 
 ghost use Rattle.std.specs.Prelude.{◌≡◌, ◌&&◌, List, ◌+◌, ◌≤◌, ◌<◌, length, take};

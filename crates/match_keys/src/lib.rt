@@ -1,4 +1,6 @@
 // One message against the keys of an ESEARCH, as the reader laid them into cells. A key is the cells from `at` up to `stop`.
+#![tactic(auto)]
+
 ghost use Rattle.std.specs.Prelude.{◌≡◌, not, ◌+◌, ◌≤◌, ◌<◌, length, get_or};
 ghost use Rattle.model.specs.Text.{bit};
 ghost use Rattle.model.specs.Searching.{agrees};
@@ -7,7 +9,7 @@ ghost use Rattle.match_keys.specs.Tests.{facts_of, bound_by, part_holds, Counted
 use model::{Message, MessageNumber, Uid};
 
 // A message, its number, and the last number and UID, which `*` stands for.
-#[derive(Drop)]
+#[derive(Clone, Copy)]
 pub struct Probe {
     pub message: Message,
     pub number: MessageNumber,
@@ -16,7 +18,7 @@ pub struct Probe {
 }
 
 // What keys ask of it: a probe without what no key asks, so that little is handed on from key to key.
-#[derive(Drop)]
+#[derive(Clone, Copy)]
 pub struct Facts {
     pub flags: u64,
     pub size: u64,
@@ -27,7 +29,7 @@ pub struct Facts {
 }
 
 // What the key at a cell comes to: whether it holds, and the cell behind it.
-#[derive(Drop)]
+#[derive(Clone, Copy)]
 struct Outcome {
     holds: bool,
     after: usize,

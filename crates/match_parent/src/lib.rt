@@ -1,5 +1,7 @@
 // The direct parent of a mailbox that appears or goes, by a row that stands for it: its name, and the attributes that the mailbox of that
 // name has where it may be listed.
+#![tactic(auto)]
+
 ghost use Rattle.std.specs.Prelude.{◌≡◌, List, ◌≤◌, length, take};
 ghost use Rattle.model.specs.Memory.{name_of};
 ghost use Rattle.model.specs.Events.{listed_row};

@@ -1,4 +1,6 @@
 // Which mailboxes NOTIFY SET tells of, and whose STATUS: notes beside the rows of the mailbox table.
+#![tactic(auto)]
+
 mod marking;
 
 ghost use Rattle.std.specs.Prelude.{◌≡◌, List, ℕ, ◌≤◌, length};
@@ -77,7 +79,7 @@ fn is_selected(selected: u16, id: u64) -> bool
 // ---- notes
 
 // What is noted of a mailbox: not 0 where it is told of, and where its STATUS is.
-#[derive(Drop)]
+#[derive(Clone, Copy)]
 pub struct RowNote {
     pub picked: u8,
     pub asks: u8,

@@ -1,4 +1,6 @@
 // Which mailboxes an ESEARCH searches: whom a source admits, by its scope, its names and the mailbox's attributes, and whom one of several does.
+#![tactic(auto)]
+
 ghost use Rattle.std.specs.Prelude.{◌≡◌, List, ◌+◌, ◌≤◌, ◌<◌, length, take};
 ghost use Rattle.model.specs.Lists.{anyb};
 ghost use Rattle.model.specs.Groups.{lent_name};

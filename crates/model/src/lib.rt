@@ -1,16 +1,17 @@
 // The types of the push side: what the host lends, what a command asks, what a call answers. No code stands here.
+#![tactic(auto)]
 
 // A message's number: its place in the client's view, or its rank by UID in a mailbox that is not selected.
-#[derive(Drop)]
+#[derive(Clone, Copy)]
 pub struct MessageNumber(pub u64);
 
 // A message's UID in its mailbox.
-#[derive(Drop)]
+#[derive(Clone, Copy)]
 pub struct Uid(pub u64);
 
 // A row of the mailbox table. It is lent as it lies here: no octet is padding, since the change counter stands in two halves.
 #[repr(C)]
-#[derive(Drop)]
+#[derive(Clone, Copy)]
 pub struct Mailbox {
     pub id: u16,
     pub attributes: u8,
@@ -23,7 +24,7 @@ pub struct Mailbox {
 }
 
 // An entry of the message table, lent as six words. `states` has a bit for expunged and a bit for marked; `counter` is that of its last change.
-#[derive(Drop)]
+#[derive(Clone, Copy)]
 pub struct Message {
     pub mailbox: u64,
     pub uid: Uid,
@@ -34,14 +35,14 @@ pub struct Message {
 }
 
 // A run of the session's names.
-#[derive(Drop)]
+#[derive(Clone, Copy)]
 pub struct NameRange {
     pub first: u8,
     pub count: u8,
 }
 
 // Whom a group is about.
-#[derive(Drop)]
+#[derive(Clone, Copy)]
 pub enum Selector {
     Selected,
     Delayed,
@@ -53,7 +54,7 @@ pub enum Selector {
 }
 
 // A group of NOTIFY SET: whom it is about, the events asked, and what a FETCH of a new message shows.
-#[derive(Drop)]
+#[derive(Clone, Copy)]
 pub struct Group {
     pub selector: Selector,
     pub events: u8,
@@ -62,7 +63,7 @@ pub struct Group {
 
 // A group as the host keeps it: plain numbers, since no enum may cross and a wrong selector must be refusable.
 #[repr(C)]
-#[derive(Drop)]
+#[derive(Clone, Copy)]
 pub struct LentGroup {
     pub selector: u8,
     pub first: u8,
@@ -73,7 +74,7 @@ pub struct LentGroup {
 
 // A name of a group as the host keeps it.
 #[repr(C)]
-#[derive(Drop)]
+#[derive(Clone, Copy)]
 pub struct LentName {
     pub len: u8,
     pub octets: [u8; 64],
@@ -81,7 +82,7 @@ pub struct LentName {
 
 // The session as the host keeps it: 1,088 octets, none of them padding.
 #[repr(C)]
-#[derive(Drop)]
+#[derive(Clone, Copy)]
 pub struct Session {
     pub selected: u16,
     pub notified: u8,
@@ -94,7 +95,7 @@ pub struct Session {
 // How many rows, entries and octets of the queue are in use. They stand beside the session: a command that is not accepted
 // leaves the session as it was, and yet fills the queue.
 #[repr(C)]
-#[derive(Drop)]
+#[derive(Clone, Copy)]
 pub struct Counts {
     pub mailboxes: u64,
     pub messages: u64,
@@ -102,7 +103,7 @@ pub struct Counts {
 }
 
 // Why a record is refused, in the order of 01's numbers.
-#[derive(Drop)]
+#[derive(Clone, Copy)]
 pub enum Refusal {
     UnlawfulMemory,
     BadRecord,
@@ -115,7 +116,7 @@ pub enum Refusal {
 }
 
 // What a call answers.
-#[derive(Drop)]
+#[derive(Clone, Copy)]
 pub enum Answer {
     Done,
     Counted(u64),
@@ -124,7 +125,7 @@ pub enum Answer {
 
 // Why a record was told or not: first a place where none stands, then in the order of request 3's list. The numbers are the refusal's, the class, the
 // group's in its command.
-#[derive(Drop)]
+#[derive(Clone, Copy)]
 pub enum Reason {
     NoRecord,
     Refused(u64),
@@ -140,7 +141,7 @@ pub enum Reason {
 }
 
 // How a command is answered, in the order of 01's six lines.
-#[derive(Drop)]
+#[derive(Clone, Copy)]
 pub enum Reply {
     Bad,
     BadEvent,
@@ -151,7 +152,7 @@ pub enum Reply {
 }
 
 // The most that a command may have: groups or sources, names in all of them, keys, lists one inside another, parts of one set.
-#[derive(Drop)]
+#[derive(Clone, Copy)]
 pub struct Limits {
     pub groups: u64,
     pub names: u64,

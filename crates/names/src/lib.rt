@@ -1,4 +1,6 @@
 // Mailbox names: what a name is, how an argument is kept, which names are the same, beneath one another, and in what order.
+#![tactic(auto)]
+
 ghost use Rattle.std.specs.Prelude.{◌≡◌, ◌&&◌, length, take, drop, ◌≤◌, ◌<◌, eqb};
 ghost use Rattle.model.specs.Lists.{same, anyb};
 ghost use Rattle.model.specs.Text.{upper, same_word};

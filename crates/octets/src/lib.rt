@@ -1,4 +1,6 @@
 // Readers of octets: what stands at a position of a text, each by the definition of crate `model` that it meets.
+#![tactic(auto)]
+
 pub mod classes;
 pub mod dates;
 pub mod numbers;
@@ -14,7 +16,7 @@ pub use texts::{quoted_at, text_at, value_of};
 pub use words::{is_one_of, is_word, word_at, word_place};
 
 // The classes of octets.
-#[derive(Drop)]
+#[derive(Clone, Copy)]
 pub enum Class {
     Atom,
     Astring,
@@ -25,14 +27,14 @@ pub enum Class {
 }
 
 // What a reader answers: the position behind what it read, or that it does not stand there.
-#[derive(Drop)]
+#[derive(Clone, Copy)]
 pub enum Next {
     At(usize),
     Bad,
 }
 
 // A number that was read and the position behind it, or that none stands there.
-#[derive(Drop)]
+#[derive(Clone, Copy)]
 pub enum Number {
     Is(u64, usize),
     Bad,

@@ -1,6 +1,8 @@
 // Serves the records on standard input as they come, on tables of its own: 64 mailboxes, 1,024 messages, a queue of 8,192 octets.
 // A record is as long as its length field says; what is torn at the end is one record more. Behind each, before it waits for the next,
 // it writes `! n` where the record is refused and all that the queue holds, and drains the queue.
+#![tactic(auto)]
+
 ghost use Rattle.std.specs.Prelude.{◌≡◌, ◌≤◌, length};
 
 use run_input::RECORD;

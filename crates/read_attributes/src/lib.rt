@@ -1,4 +1,6 @@
 // Fetch attributes behind MessageNew: the readers of one attribute and of a list of them, each by the definition of crate `model` that it meets.
+#![tactic(auto)]
+
 ghost use Rattle.std.specs.Prelude.{◌≡◌, []};
 ghost use Rattle.model.specs.Reading.{piece, list_at};
 ghost use Rattle.model.specs.Attributes.{label_of, attribute_at};
@@ -8,7 +10,7 @@ use octets::{Class, Next};
 use read_sections::section_at;
 
 // An attribute: one of the three that are supported, or another.
-#[derive(Drop)]
+#[derive(Clone, Copy)]
 pub enum Kind {
     Uid,
     Flags,
@@ -17,7 +19,7 @@ pub enum Kind {
 }
 
 // What an attribute's word is.
-#[derive(Drop)]
+#[derive(Clone, Copy)]
 pub enum Label {
     Plain(Kind),
     Body,
@@ -52,7 +54,7 @@ fn label_of(text: &[u8], from: usize, upto: usize) -> Label
 }
 
 // An attribute that was read and the position behind it, or that none stands there.
-#[derive(Drop)]
+#[derive(Clone, Copy)]
 pub enum AttributeRead {
     Is(Kind, usize),
     Bad,
@@ -90,7 +92,7 @@ pub fn attribute_at(text: &[u8], at: usize) -> AttributeRead
 }
 
 // Which attributes are asked for.
-#[derive(Drop)]
+#[derive(Clone, Copy)]
 pub struct Attributes {
     pub uid: bool,
     pub flags: bool,
@@ -99,7 +101,7 @@ pub struct Attributes {
 }
 
 // The attributes of a list and the position behind it, or that no list stands there.
-#[derive(Drop)]
+#[derive(Clone, Copy)]
 pub enum AttributesRead {
     Is(Attributes, usize),
     Bad,

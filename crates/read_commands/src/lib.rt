@@ -1,4 +1,6 @@
 // A command line as a whole: its tag, the command that it gives, and how that is answered before anything is done.
+#![tactic(auto)]
+
 ghost use Rattle.std.specs.Prelude.{◌≡◌, Bool, cond, ◌<◌, length};
 ghost use Rattle.model.specs.Requests.{notify as notify_word, esearch};
 ghost use Rattle.model.specs.Commands.{tag_end, tagged, command_of};
@@ -36,7 +38,7 @@ pub fn limits() -> Limits
 }
 
 // Whose answer it is, and how the command is answered.
-#[derive(Drop)]
+#[derive(Clone, Copy)]
 pub struct Judged {
     pub verb: Verb,
     pub reply: Reply,

@@ -1,4 +1,6 @@
 // Events of a group of NOTIFY: the reader of a list of them, by the definition of crate `model` that it meets.
+#![tactic(auto)]
+
 ghost use Rattle.std.specs.Prelude.{◌≡◌, ◌||◌, []};
 ghost use Rattle.model.specs.Reading.{piece};
 ghost use Rattle.model.specs.Requests.{message_new};
@@ -9,7 +11,7 @@ use octets::{Class, Next};
 use read_attributes::{Attributes, AttributesRead};
 
 // An event that has no attributes behind it.
-#[derive(Drop)]
+#[derive(Clone, Copy)]
 pub enum Kind {
     Expunge,
     Flag,
@@ -20,7 +22,7 @@ pub enum Kind {
 }
 
 // The event that a word names.
-#[derive(Drop)]
+#[derive(Clone, Copy)]
 pub enum Named {
     New,
     Plain(Kind),
@@ -48,7 +50,7 @@ fn named_by(text: &[u8], from: usize, upto: usize) -> Named
 }
 
 // Which events are asked for; `listed` says that attributes stand behind one of them, and `attributes` which.
-#[derive(Drop)]
+#[derive(Clone, Copy)]
 pub struct Events {
     pub new: bool,
     pub expunge: bool,
@@ -62,7 +64,7 @@ pub struct Events {
 }
 
 // Events that were read and the position behind them, or that none stand there.
-#[derive(Drop)]
+#[derive(Clone, Copy)]
 pub enum EventsRead {
     Is(Events, usize),
     Bad,

@@ -1,4 +1,6 @@
 // Whom a group of NOTIFY or a source of ESEARCH is about: the filter's word, and the names behind it.
+#![tactic(auto)]
+
 mod mailboxes;
 
 ghost use Rattle.std.specs.Prelude.{◌≡◌, ◌≤◌, length};
@@ -13,7 +15,7 @@ use model::LentName;
 use octets::{Class, Next};
 
 // Whom a filter is about.
-#[derive(Drop)]
+#[derive(Clone, Copy)]
 pub enum Scope {
     Selected,
     Delayed,
@@ -58,7 +60,7 @@ pub fn is_groupable(scope: Scope) -> bool
 }
 
 // A filter's word: it stands alone, or has names behind it, or is none.
-#[derive(Drop)]
+#[derive(Clone, Copy)]
 pub enum Word {
     Alone(Scope),
     Named(Scope),
@@ -89,7 +91,7 @@ fn word_of(text: &[u8], from: usize, upto: usize) -> Word
 }
 
 // A filter that was read: whom it is about, how many names it has, and the position behind it; or that none stands there.
-#[derive(Drop)]
+#[derive(Clone, Copy)]
 pub enum FilterRead {
     Is(Scope, u64, usize),
     Bad,
@@ -131,14 +133,14 @@ pub fn filter_at(text: &[u8], at: usize) -> FilterRead
 }
 
 // Names that were kept: how many there were, and the first 16 of them as a session holds them.
-#[derive(Drop)]
+#[derive(Clone, Copy)]
 pub struct Kept {
     pub count: u64,
     pub names: [LentName; 16],
 }
 
 // What keeping names answers: whether they fit, the position behind them, and what is kept now.
-#[derive(Drop)]
+#[derive(Clone, Copy)]
 pub struct KeptRead {
     pub ok: bool,
     pub next: usize,

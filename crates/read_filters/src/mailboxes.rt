@@ -12,7 +12,7 @@ use model::LentName;
 use octets::{Class, Next};
 
 // Names that were read, how many, and the position behind them; or that none stand there.
-#[derive(Drop)]
+#[derive(Clone, Copy)]
 pub enum NamesRead {
     Is(u64, usize),
     Bad,

@@ -1,5 +1,7 @@
 // The keys of ESEARCH: each is read into a flat table of numbers, the outer key before those in it, and counted.
 // Keys hold lists of keys, so a key reader and a list reader call each other while the octets left fall.
+#![tactic(auto)]
+
 ghost use Rattle.std.specs.Prelude.{◌≡◌, ◌||◌, ◌+◌, ◌-◌, ◌≤◌, ◌<◌, max, length};
 ghost use Rattle.model.specs.Reading.{over_at, next_at};
 ghost use Rattle.read_tests.specs.Begin.{Room};
@@ -9,7 +11,7 @@ use read_tests::{Start, begin, store_two};
 
 // Keys that were read: the position behind them and the cell behind their last, how many they are, how deep lists are nested in them, whether one of them
 // is not supported, and the most parts that a set has.
-#[derive(Drop)]
+#[derive(Clone, Copy)]
 pub enum Read {
     Found {
         next: usize,
@@ -23,14 +25,14 @@ pub enum Read {
 }
 
 // Keys end with a closing parenthesis, or with the line.
-#[derive(Drop)]
+#[derive(Clone, Copy)]
 pub enum Ending {
     Closing,
     LineEnd,
 }
 
 // What follows a key.
-#[derive(Drop)]
+#[derive(Clone, Copy)]
 pub enum After {
     Another(usize),
     Over(usize),

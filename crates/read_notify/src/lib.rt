@@ -1,4 +1,6 @@
 // NOTIFY behind its verb: what its groups come to, how it is answered, and the session that it sets.
+#![tactic(auto)]
+
 mod groups;
 pub mod tallies;
 pub mod watches;
@@ -10,7 +12,7 @@ pub use watches::{keep_at, settled, unkept, watch_by};
 
 // What the groups of a NOTIFY come to: how many groups, names and groups about the selected mailbox; and whether a group has a fault
 // that makes it BAD, asks an event that is not supported, or an attribute that is not.
-#[derive(Drop)]
+#[derive(Clone, Copy)]
 pub struct Tally {
     pub groups: u64,
     pub names: u64,
@@ -21,7 +23,7 @@ pub struct Tally {
 }
 
 // What a NOTIFY asks: no more notices, or groups, with or without STATUS; and the position behind it.
-#[derive(Drop)]
+#[derive(Clone, Copy)]
 pub enum NotifyRead {
     Nothing(usize),
     Groups(bool, Tally, usize),
@@ -29,21 +31,21 @@ pub enum NotifyRead {
 }
 
 // A group as a session holds it, what it comes to, and the position behind it; or that none stands there.
-#[derive(Drop)]
+#[derive(Clone, Copy)]
 pub enum LentRead {
     Is(LentGroup, Tally, usize),
     Bad,
 }
 
 // Groups that were kept: how many there were, and the first 8 of them as a session holds them.
-#[derive(Drop)]
+#[derive(Clone, Copy)]
 pub struct Watch {
     pub count: u64,
     pub groups: [LentGroup; 8],
 }
 
 // Groups up to the end of the line: whether all fit, what they come to, the position behind them, and what is kept of them.
-#[derive(Drop)]
+#[derive(Clone, Copy)]
 pub struct Gathered {
     pub ok: bool,
     pub tally: Tally,
@@ -53,7 +55,7 @@ pub struct Gathered {
 }
 
 // A NOTIFY as it was read, and what is kept of its groups.
-#[derive(Drop)]
+#[derive(Clone, Copy)]
 pub struct NotifyKept {
     pub read: NotifyRead,
     pub watch: Watch,

@@ -1,4 +1,6 @@
 // The small pieces around a search: what it is to return, its charset, a command's tag and its verb, each by the definition of crate `model` that it meets.
+#![tactic(auto)]
+
 ghost use Rattle.std.specs.Prelude.{◌≡◌, ◌&&◌, not};
 ghost use Rattle.model.specs.Octets.{atom_octet};
 ghost use Rattle.model.specs.Reading.{piece, text_at};
@@ -33,7 +35,7 @@ pub fn is_tagged(text: &[u8]) -> bool
 }
 
 // The commands that are known, and any other word.
-#[derive(Drop)]
+#[derive(Clone, Copy)]
 pub enum Verb {
     Notify,
     Esearch,
@@ -41,7 +43,7 @@ pub enum Verb {
 }
 
 // A verb that was read and the position behind it, or that no word stands there.
-#[derive(Drop)]
+#[derive(Clone, Copy)]
 pub enum VerbRead {
     Is(Verb, usize),
     Bad,
@@ -68,7 +70,7 @@ pub fn verb_at(text: &[u8], at: usize) -> VerbRead
 }
 
 // An option: one thing that a search may return.
-#[derive(Drop)]
+#[derive(Clone, Copy)]
 enum Wanted {
     Min,
     Max,
@@ -77,7 +79,7 @@ enum Wanted {
 }
 
 // An option that was read and the position behind it, or that none stands there.
-#[derive(Drop)]
+#[derive(Clone, Copy)]
 enum OptionRead {
     Is(Wanted, usize),
     Bad,
@@ -105,7 +107,7 @@ fn option_at(text: &[u8], at: usize) -> OptionRead
 }
 
 // Which options a row has, and whether none is written twice.
-#[derive(Drop)]
+#[derive(Clone, Copy)]
 struct Row {
     min: bool,
     max: bool,
@@ -115,7 +117,7 @@ struct Row {
 }
 
 // A row that was read and the position behind it, or that none stands there.
-#[derive(Drop)]
+#[derive(Clone, Copy)]
 enum RowRead {
     Is(Row, usize),
     Bad,
@@ -201,7 +203,7 @@ fn row_at(text: &[u8], at: usize) -> RowRead
 }
 
 // What a search is to return.
-#[derive(Drop)]
+#[derive(Clone, Copy)]
 pub struct Returns {
     pub min: bool,
     pub max: bool,
@@ -210,7 +212,7 @@ pub struct Returns {
 }
 
 // What is to be returned and the position behind it, or that it does not fit.
-#[derive(Drop)]
+#[derive(Clone, Copy)]
 pub enum ReturnsRead {
     Is(Returns, usize),
     Bad,
@@ -258,7 +260,7 @@ pub fn returns_at(text: &[u8], at: usize) -> ReturnsRead
 }
 
 // Whether a charset was read that is known, and the position behind it, or that none stands there.
-#[derive(Drop)]
+#[derive(Clone, Copy)]
 pub enum CharsetRead {
     Is(bool, usize),
     Bad,

@@ -1,4 +1,6 @@
 // ESEARCH behind its verb: its sources, what it is to return, its charset and its keys, and how it is answered.
+#![tactic(auto)]
+
 pub mod counts;
 pub mod parts;
 pub mod whole;
@@ -9,7 +11,7 @@ use read_options::Returns;
 pub use whole::{reply_for, search_at};
 
 // What is counted of sources: how many they are and how many names they have, and whether one is for NOTIFY alone and one about the selected mailbox.
-#[derive(Drop)]
+#[derive(Clone, Copy)]
 pub struct Sources {
     pub count: u64,
     pub names: u64,
@@ -18,14 +20,14 @@ pub struct Sources {
 }
 
 // Sources that were read and the position behind them, or that none stand there.
-#[derive(Drop)]
+#[derive(Clone, Copy)]
 pub enum SourcesRead {
     Is(Sources, usize),
     Bad,
 }
 
 // Whether a charset was given that is not known, and the position behind it, or that it does not fit.
-#[derive(Drop)]
+#[derive(Clone, Copy)]
 pub enum CharsetPart {
     Is(bool, usize),
     Bad,
@@ -33,7 +35,7 @@ pub enum CharsetPart {
 
 // What a search asks: its sources, what it is to return, whether its charset is not known; of its keys how many they are, how deep lists are nested in
 // them, whether one is not supported, the most parts that a set has, and how many cells they take.
-#[derive(Drop)]
+#[derive(Clone, Copy)]
 pub struct Asked {
     pub sources: Sources,
     pub returns: Returns,
@@ -46,7 +48,7 @@ pub struct Asked {
 }
 
 // A search that was read and the position behind it, or that none stands there.
-#[derive(Drop)]
+#[derive(Clone, Copy)]
 pub enum SearchRead {
     Is(Asked, usize),
     Bad,

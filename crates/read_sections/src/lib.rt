@@ -1,4 +1,6 @@
 // Sections of attributes: the part and the text that a section names, the octets asked for, each by the definition of crate `model` that it meets.
+#![tactic(auto)]
+
 ghost use Rattle.std.specs.Prelude.{◌≡◌};
 ghost use Rattle.model.specs.Reading.{piece};
 ghost use Rattle.model.specs.Attributes.{section_word, section_text_at, section_part_at, section_spec_at, partial_at, section_at};
@@ -61,7 +63,7 @@ fn fields_at(text: &[u8], at: usize) -> Next
 }
 
 // What a word in a section asks for.
-#[derive(Drop)]
+#[derive(Clone, Copy)]
 pub enum Wanted {
     Whole,
     Fields,

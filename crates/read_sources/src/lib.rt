@@ -1,4 +1,6 @@
 // The sources as they are searched: each with its scope's number and its names, kept.
+#![tactic(auto)]
+
 ghost use Rattle.std.specs.Prelude.{◌≡◌, true, ◌≤◌, ◌<◌};
 ghost use Rattle.model.specs.Reading.{list_at};
 ghost use Rattle.model.specs.NotifyGrammar.{filter_at};
@@ -10,7 +12,7 @@ use read_filters::{FilterRead, Kept, Scope};
 use read_search::parts::{behind_space, behind_word};
 
 // A source: whom it is about, by number, and which of the names that are kept are its own.
-#[derive(Drop)]
+#[derive(Clone, Copy)]
 pub struct Source {
     pub scope: u64,
     pub first: u64,
@@ -18,7 +20,7 @@ pub struct Source {
 }
 
 // Sources that were read: how many there were, the first 8 of them, and their names.
-#[derive(Drop)]
+#[derive(Clone, Copy)]
 pub struct Listed {
     pub count: u64,
     pub sources: [Source; 8],
@@ -26,7 +28,7 @@ pub struct Listed {
 }
 
 // What listing sources answers: whether they fit, the position behind them, and the list.
-#[derive(Drop)]
+#[derive(Clone, Copy)]
 pub struct ListedRead {
     pub ok: bool,
     pub next: usize,

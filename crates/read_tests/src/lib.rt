@@ -1,4 +1,6 @@
 // How a key begins: a key that holds no key, read into a flat table of numbers; or which container it opens.
+#![tactic(auto)]
+
 mod sets;
 
 ghost use Rattle.std.specs.Prelude.{◌≡◌, ◌+◌, ◌-◌, ◌*◌, ◌≤◌, ◌<◌, length};
@@ -13,21 +15,21 @@ pub use sets::store_two;
 use sets::{set_at, store};
 
 // A part of a set.
-#[derive(Drop)]
+#[derive(Clone, Copy)]
 pub enum PartRead {
     Is { from: u64, upto: u64, next: usize },
     Bad,
 }
 
 // A set: how many parts it has, and the position behind it.
-#[derive(Drop)]
+#[derive(Clone, Copy)]
 pub enum SetRead {
     Is(u64, usize),
     Bad,
 }
 
 // A key that holds no key, read whole and written; or the position of what a key holds.
-#[derive(Drop)]
+#[derive(Clone, Copy)]
 pub enum Start {
     One {
         next: usize,

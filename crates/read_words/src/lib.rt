@@ -1,4 +1,6 @@
 // The words of search keys, and what stands behind each.
+#![tactic(auto)]
+
 ghost use Rattle.std.specs.Prelude.{◌≡◌, ◌+◌, ◌-◌, ◌≤◌, length};
 ghost use Rattle.model.specs.Reading.{piece};
 ghost use Rattle.model.specs.SearchGrammar.{keyword_of};
@@ -9,7 +11,7 @@ ghost use Rattle.read_words.specs.Words.{meant, size_at, argument_at, Argues};
 use octets::{Class, Next, Number};
 
 // What stands behind the word of a key that is not supported.
-#[derive(Drop)]
+#[derive(Clone, Copy)]
 pub enum Argument {
     Nothing,
     Text,
@@ -19,7 +21,7 @@ pub enum Argument {
 }
 
 // A key's word, or a word that is no key's.
-#[derive(Drop)]
+#[derive(Clone, Copy)]
 pub enum Word {
     All,
     Flag { bit: u64, on: bool },

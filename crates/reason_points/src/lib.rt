@@ -1,5 +1,7 @@
 // What a record asks of the rules, from the memory before it: the points by which it is said why it was told or not (request 3).
 // They come from its numbers, the rows and the session; no message is looked at.
+#![tactic(auto)]
+
 pub mod mailboxes;
 pub mod messages;
 pub mod rows;
@@ -17,7 +19,7 @@ use record_read::Kind;
 
 // The points: whether it is quiet, an event, and the rights are held; whether a group matches, and the number of the first that asks, or 0;
 // whether it is about an unannounced message; whether it waits, and for which class.
-#[derive(Drop)]
+#[derive(Clone, Copy)]
 pub struct Points {
     pub quiet: bool,
     pub event: bool,

@@ -70,7 +70,7 @@ fn stand_in(kept: LentName) -> Mailbox
 }
 
 // Whether a name has a parent, and the row that stands for it.
-#[derive(Drop)]
+#[derive(Clone, Copy)]
 pub struct Upper {
     pub there: bool,
     pub row: Mailbox,

@@ -1,4 +1,6 @@
 // Why a record was told or not: its points before the step, the step, and what that leaves; and the line for a place of a whole stream.
+#![tactic(auto)]
+
 ghost use Rattle.std.specs.Prelude.{◌≡◌, true, cond, ◌≤◌, ◌<◌, eqb, length, take, replicate};
 ghost use Rattle.model.specs.Memory.{Memory, boxes, no_mailbox};
 ghost use Rattle.model.specs.Records.{is_record, record_of};
@@ -94,7 +96,7 @@ fn points_before(table: [Mailbox; 64], used: u64, s: Session, octets: &[u8]) -> 
 }
 
 // A record was served: the table, counts and session behind it, and the reason.
-#[derive(Drop)]
+#[derive(Clone, Copy)]
 pub struct Judged {
     pub table: [Mailbox; 64],
     pub counts: Counts,

@@ -1,4 +1,6 @@
 // The texts of the tool `why`: a place as it is typed, and the line that says a reason.
+#![tactic(auto)]
+
 ghost use Rattle.std.specs.Prelude.{◌≡◌, ◌+◌, ◌-◌, ◌*◌, ◌≤◌, ◌<◌, min, length};
 ghost use Rattle.model.specs.Reasons.{words, reason_text, place_of};
 ghost use Rattle.line_put.specs.Put.{Put};

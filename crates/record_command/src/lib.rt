@@ -1,4 +1,5 @@
 // A command, `CM`: answered from its text to the last octet of its answer, by its verb.
+#![tactic(auto)]
 
 ghost use Rattle.std.specs.Prelude.{◌≡◌, List, ℕ, ◌≤◌, length};
 ghost use Rattle.model.specs.Memory.{Memory, boxes, selected_box};

@@ -1,4 +1,6 @@
 // The kinds of records by what they are about, and whose mailbox each needs.
+#![tactic(auto)]
+
 ghost use Rattle.std.specs.Prelude.{◌≡◌};
 ghost use Rattle.record_kind.specs.Subjects.{subject_of, sought};
 
@@ -7,7 +9,7 @@ use record_read::Kind;
 // ---- what a record is about
 
 // The records about mailboxes: `MB DL RN SB RT`.
-#[derive(Drop)]
+#[derive(Clone, Copy)]
 pub enum OfMailbox {
     Create,
     Delete,
@@ -17,7 +19,7 @@ pub enum OfMailbox {
 }
 
 // The records about messages: `ME XP FL`.
-#[derive(Drop)]
+#[derive(Clone, Copy)]
 pub enum OfMessage {
     Arrive,
     Expunge,
@@ -25,7 +27,7 @@ pub enum OfMessage {
 }
 
 // The records about the session: `SE CE DR`.
-#[derive(Drop)]
+#[derive(Clone, Copy)]
 pub enum OfSession {
     Select,
     Ended,
@@ -33,7 +35,7 @@ pub enum OfSession {
 }
 
 // A kind by its subject; `CM` is the one command, and a record of no kind is about nothing.
-#[derive(Drop)]
+#[derive(Clone, Copy)]
 pub enum Subject {
     Mailbox(OfMailbox),
     Message(OfMessage),

@@ -1,5 +1,7 @@
 // The records about mailboxes, `MB DL RN SB RT`: which of them are refused and why, and what the others come to. This file has what they
 // share: whether another mailbox has a name, and a row that is put at its place.
+#![tactic(auto)]
+
 pub mod creating;
 pub mod deleting;
 pub mod renaming;

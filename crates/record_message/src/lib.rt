@@ -1,4 +1,6 @@
 // The records about messages, from their refusals to what they leave: `FL`, `XP` and `ME`.
+#![tactic(auto)]
+
 ghost use Rattle.std.specs.Prelude.{◌≡◌, ◌/◌, ◌≤◌, leb, length};
 ghost use Rattle.model.specs.Memory.{Memory, counter_of};
 ghost use Rattle.model.specs.Records.{arrive, expunge, reflag};

@@ -1,4 +1,6 @@
 // NOTIFY: NONE, which writes its tagged line alone, or SET; then the session that it sets.
+#![tactic(auto)]
+
 ghost use Rattle.std.specs.Prelude.{◌≡◌, List, ℕ, length};
 ghost use Rattle.model.specs.Requests.{notify as notify_word, notify_none};
 ghost use Rattle.model.specs.Reading.{ok};

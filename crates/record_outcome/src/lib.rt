@@ -1,11 +1,13 @@
 // What a record comes to: its answer, the row that it changes, the counts and the session after it.
+#![tactic(auto)]
+
 ghost use Rattle.std.specs.Prelude.{◌≡◌};
 ghost use Rattle.record_outcome.specs.Coming.{refusal, quiet, putting};
 
 use model::{Answer, Counts, Mailbox, Refusal, Session};
 
 // What becomes of the mailbox table: nothing, a row is put at a place, or the row at a place is taken out.
-#[derive(Drop)]
+#[derive(Clone, Copy)]
 pub enum Change {
     Nothing,
     Put,
@@ -13,7 +15,7 @@ pub enum Change {
 }
 
 // What a record comes to, besides the words of the message table and the octets of the queue. `row` is put at `at`, or taken out there.
-#[derive(Drop)]
+#[derive(Clone, Copy)]
 pub struct Outcome {
     pub answer: Answer,
     pub change: Change,

@@ -18,7 +18,7 @@ pub fn both(a: bool, b: bool) -> bool
 }
 
 // The fields of a body: whether each is in its range, their values, and the place behind them.
-#[derive(Drop)]
+#[derive(Clone, Copy)]
 pub struct Fields {
     pub all: bool,
     pub values: [u64; 5],

@@ -6,7 +6,7 @@ ghost use Rattle.record_read.specs.Layouts.{field_for, field_of, layout_for};
 use super::Kind;
 
 // What follows the fields of a body.
-#[derive(Drop)]
+#[derive(Clone, Copy)]
 pub enum Tail {
     Nothing,
     Name,
@@ -14,7 +14,7 @@ pub enum Tail {
 }
 
 // A layout: a letter for each field, how many there are, and what follows them.
-#[derive(Drop)]
+#[derive(Clone, Copy)]
 pub struct Layout(pub [u8; 5], pub usize, pub Tail);
 
 // The layouts: i is an id, o an id or none, a attributes, q quiet, v UIDVALIDITY, s subscribed, r rights, u a UID, f flags, z a size,
@@ -40,7 +40,7 @@ pub fn layout_of(k: Kind) -> Layout
 }
 
 // The fields that layouts are made of.
-#[derive(Drop)]
+#[derive(Clone, Copy)]
 pub enum Field {
     Id,
     IdOrNone,

@@ -1,4 +1,6 @@
 // Records from the host: which octet strings are records, and what each says.
+#![tactic(auto)]
+
 mod bodies;
 mod layouts;
 
@@ -14,7 +16,7 @@ use layouts::layout_of;
 // ---- marks
 
 // The kinds of records, in the order of their marks: `MB`, `DL`, `RN`, `SB`, `RT`, `ME`, `XP`, `FL`, `SE`, `CE`, `CM`, `DR`, or none of these.
-#[derive(Drop)]
+#[derive(Clone, Copy)]
 pub enum Kind {
     Create,
     Delete,
@@ -103,7 +105,7 @@ fn is_known(k: Kind) -> bool
 // ---- records
 
 // What was read of octets: whether they are a record, its kind, the values of its fields, and where what follows them begins.
-#[derive(Drop)]
+#[derive(Clone, Copy)]
 pub struct Received {
     pub valid: bool,
     pub kind: Kind,

@@ -1,4 +1,6 @@
 // A command that is not accepted: its tagged line alone. And the counts that any command leaves.
+#![tactic(auto)]
+
 ghost use Rattle.std.specs.Prelude.{◌≡◌, false, List, ℕ, ◌≤◌, length};
 ghost use Rattle.model.specs.Memory.{Memory};
 ghost use Rattle.model.specs.Commands.{command_of};

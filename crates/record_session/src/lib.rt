@@ -1,4 +1,6 @@
 // The records about the session, `SE CE DR`: which of them are refused and why, and what the others come to.
+#![tactic(auto)]
+
 ghost use Rattle.std.specs.Prelude.{◌≡◌, not, ◌&&◌, List, ℕ, ◌*◌, ◌≤◌, eqb, ltb, length};
 ghost use Rattle.model.specs.Memory.{Memory, selected_box};
 ghost use Rattle.model.specs.Records.{select, ended, drained};

@@ -1,4 +1,6 @@
 // NOTIFY SET: what is owed, the listing and the tagged line are measured, and then written together or not at all.
+#![tactic(auto)]
+
 ghost use Rattle.std.specs.Prelude.{◌≡◌, Bool, true, List, ℕ, ◌+◌, ◌-◌, ◌*◌, ◌≤◌, ◌<◌, length, take, get_or};
 ghost use Rattle.model.specs.Requests.{notify_set, Asked};
 ghost use Rattle.model.specs.Reading.{ok};

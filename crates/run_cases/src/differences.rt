@@ -5,7 +5,7 @@ use crate::print;
 use crate::reading::Expected;
 use model::{Answer, Refusal};
 
-#[derive(Drop)]
+#[derive(Clone, Copy)]
 pub enum Difference {
     Nothing,
     Refusal(u64, u64),

@@ -3,6 +3,8 @@
 // A number has four octets, the lowest first. A case is five numbers, the length of its name, Q, the length of the mailbox table, the
 // entries of the message table and the number of its calls; the name; and the calls. A call is four numbers, the refusal or 0, the count
 // or 2^32 - 1 for none, how many octets it has, how many the queue holds behind it; its octets; the octets in the queue.
+#![tactic(auto)]
+
 mod differences;
 mod reading;
 mod turns;
@@ -57,7 +59,7 @@ fn run_calls(
 }
 
 // What stands before the calls of a case, and how many octets of that there were.
-#[derive(Drop)]
+#[derive(Clone, Copy)]
 struct Case {
     read: usize,
     name: usize,
@@ -141,7 +143,7 @@ fn try_case(c: Case) -> u64
 
 // ---- all cases
 
-#[derive(Drop)]
+#[derive(Clone, Copy)]
 struct Tally {
     cases: u64,
     calls: u64,

@@ -23,7 +23,7 @@ pub fn little_size(a: u8, b: u8, c: u8, d: u8) -> usize
 
 // ---- what is expected of a call
 
-#[derive(Drop)]
+#[derive(Clone, Copy)]
 pub struct Expected {
     pub refusal: u64,
     pub count: u64,

@@ -5,7 +5,7 @@ use model::Answer;
 use step_stream::Standing;
 
 // What a call leaves and answers.
-#[derive(Drop)]
+#[derive(Clone, Copy)]
 pub struct After {
     pub state: Standing,
     pub answer: Answer,
@@ -39,7 +39,7 @@ pub fn stepped(
 // ---- one call
 
 // What a call leaves, and what is wrong with it.
-#[derive(Drop)]
+#[derive(Clone, Copy)]
 pub struct Turn {
     pub state: Standing,
     pub difference: Difference,

@@ -1,5 +1,7 @@
 // What programs read: records from a descriptor, arguments, the files that they name; and the refusal that a program prints alone.
 // Which octets come in and go out no contract can say: those of the C library tell how many at most.
+#![tactic(auto)]
+
 ghost use Rattle.std.specs.Prelude.{◌≡◌, ◌||◌, ◌+◌, ◌*◌, ◌≤◌, ◌<◌, eqb, length};
 ghost use Rattle.model.specs.Pushrun.{refusal_text};
 ghost use Rattle.line_put.specs.Put.{Put};
@@ -16,7 +18,7 @@ pub const ARGUMENT: usize = 131072;
 // ---- records
 
 // What was read: how many octets, and whether a read failed, which is not the end of the input.
-#[derive(Drop)]
+#[derive(Clone, Copy)]
 pub struct Read {
     pub size: usize,
     pub failed: bool,

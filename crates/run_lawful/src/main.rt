@@ -2,6 +2,8 @@
 // A number has eight octets, the lowest first. A memory is the length of its name and the name, the lengths of the queue and of the
 // mailbox table, the rows that are read of it (at most 64), the three counts, the message table's words with their number before
 // them, and the session; rows, groups and names lie as the host keeps them. A name of no octets ends the input.
+#![tactic(auto)]
+
 ghost use Rattle.std.specs.Prelude.{◌≡◌, List, ℕ, ◌≤◌, ◌<◌, length};
 ghost use Rattle.model.specs.Lawful.{lawful};
 ghost use Rattle.model.specs.declared.Mailbox.{Mailbox};

@@ -1,6 +1,8 @@
 // Reads command lines from standard input, each as its length in four octets, the lowest first, and its octets; writes for each a line with
 // the length of its tag, whose answer it is, how it is answered with no mailbox selected and with one, and what an accepted command asks:
 // groups or sources with their names, results, keys.
+#![tactic(auto)]
+
 ghost use Rattle.std.specs.Prelude.{◌<◌, length};
 
 use model::{LentGroup, LentName, Reply, Session};

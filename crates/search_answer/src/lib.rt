@@ -1,5 +1,7 @@
 // An ESEARCH from its command line to its outcome: what it asks, which mailboxes it searches, what it finds there, its lines and its
 // tagged line.
+#![tactic(auto)]
+
 ghost use Rattle.std.specs.Prelude.{◌≡◌, List, ℕ, ◌*◌, ◌≤◌, length};
 ghost use Rattle.model.specs.Requests.{Search, search};
 ghost use Rattle.model.specs.Reading.{ok};

@@ -1,4 +1,6 @@
 // What an ESEARCH asks, which rows it searches, and what it finds in them.
+#![tactic(auto)]
+
 pub mod reading;
 
 ghost use Rattle.std.specs.Prelude.{◌*◌, ◌≤◌, length};
@@ -10,7 +12,7 @@ use read_sources::Listed;
 use reading::read;
 
 // What a search asks: its sources, what it is to return, and how many cells its keys fill.
-#[derive(Drop)]
+#[derive(Clone, Copy)]
 pub struct Question {
     pub listed: Listed,
     pub wanted: Wanted,
@@ -18,7 +20,7 @@ pub struct Question {
 }
 
 // What was found: what is to be said of it, and in how many rows it was looked for.
-#[derive(Drop)]
+#[derive(Clone, Copy)]
 pub struct Hits {
     pub wanted: Wanted,
     pub rows: usize,

@@ -1,4 +1,6 @@
 // The answer to a search: its lines and its tagged line, measured first, and then written whole or not at all.
+#![tactic(auto)]
+
 ghost use Rattle.std.specs.Prelude.{◌+◌, ◌-◌, ◌≤◌, length};
 ghost use Rattle.line_put.specs.Put.{Put};
 ghost use Rattle.line_answer.specs.Sizes.{Whole};

@@ -1,4 +1,6 @@
 // The step: one record on lent memory. Refusal 1 and 2 are judged here.
+#![tactic(auto)]
+
 ghost use Rattle.std.specs.Prelude.{List};
 ghost use Rattle.model.specs.declared.Mailbox.{Mailbox};
 ghost use Rattle.step.specs.Served.{Seen, Stepped};

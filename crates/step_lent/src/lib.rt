@@ -1,4 +1,6 @@
 // The step on lent memory but for what it leaves of the table and its answer in numbers.
+#![tactic(auto)]
+
 ghost use Rattle.std.specs.Prelude.{length};
 ghost use Rattle.lent_rows.specs.Rows.{loaded};
 ghost use Rattle.step.specs.Served.{Stepped};

@@ -1,4 +1,6 @@
 // A record about mailboxes is served by its kind: `MB DL RN SB RT`.
+#![tactic(auto)]
+
 ghost use Rattle.std.specs.Prelude.{◌≡◌, length};
 ghost use Rattle.model.specs.Memory.{Memory, boxes};
 ghost use Rattle.model.specs.declared.Mailbox.{Mailbox};

@@ -1,4 +1,6 @@
 // A record about messages is served by its kind: `ME XP FL`.
+#![tactic(auto)]
+
 ghost use Rattle.std.specs.Prelude.{List, ℕ, ◌≤◌, ◌/◌, length};
 ghost use Rattle.model.specs.Memory.{Memory};
 ghost use Rattle.record_kind.specs.Subjects.{message_kind};

@@ -1,4 +1,6 @@
 // A record in lawful memory: the mailbox that it needs is found, and it is served by what it is about.
+#![tactic(auto)]
+
 ghost use Rattle.std.specs.Prelude.{◌≡◌, true, ◌≤◌, ◌/◌, length};
 ghost use Rattle.model.specs.Records.{record_of, kind_of};
 ghost use Rattle.model.specs.Memory.{Memory, boxes};

@@ -1,4 +1,6 @@
 // A record about the session is served by its kind: `SE CE DR`.
+#![tactic(auto)]
+
 ghost use Rattle.std.specs.Prelude.{List, ℕ};
 ghost use Rattle.model.specs.Memory.{Memory};
 ghost use Rattle.record_kind.specs.Subjects.{session_kind};

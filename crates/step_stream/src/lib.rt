@@ -1,4 +1,6 @@
 // A whole stream: cut by its length fields, each record served on tables of the run's own, and what it shows written out.
+#![tactic(auto)]
+
 ghost use Rattle.std.specs.Prelude.{◌≡◌, ◌+◌, ◌≤◌, ◌<◌, min, length, take, set, replicate};
 ghost use Rattle.model.specs.Memory.{no_mailbox};
 ghost use Rattle.model.specs.Hidden.{no_counts, no_session};
@@ -140,7 +142,7 @@ pub fn record_size(stream: &[u8], at: usize) -> usize
 }
 
 // Where a run stands: the table, the counts, the session, and where the next octet goes.
-#[derive(Drop)]
+#[derive(Clone, Copy)]
 pub struct Standing {
     pub table: [Mailbox; 64],
     pub counts: Counts,
@@ -149,7 +151,7 @@ pub struct Standing {
 }
 
 // A record was served: the table, counts and session behind it, and its answer.
-#[derive(Drop)]
+#[derive(Clone, Copy)]
 pub struct Served {
     pub table: [Mailbox; 64],
     pub counts: Counts,

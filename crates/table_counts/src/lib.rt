@@ -1,4 +1,6 @@
 // How many messages of each row exist, in one pass over the message table.
+#![tactic(auto)]
+
 ghost use Rattle.std.specs.Prelude.{◌≡◌, ℕ, ◌+◌, ◌*◌, ◌≤◌, ◌<◌, length, take, get_or, true, List};
 ghost use Rattle.model.specs.Lists.{apart};
 ghost use Rattle.model.specs.Memory.{no_message, no_mailbox, existing};

@@ -1,5 +1,7 @@
 // The mailbox table: one load lays the rows out by columns, numbers side by side and one flat run of names, and whoever reads
 // a row reads the columns; a row is put in its place or behind the last, or taken out, in the array itself.
+#![tactic(auto)]
+
 pub mod listed;
 pub mod row;
 

@@ -1,4 +1,6 @@
 // The message table: a lent slice of words, six to an entry. Entries are read, put, found, counted and taken out.
+#![tactic(auto)]
+
 ghost use Rattle.std.specs.Prelude.{◌≡◌, cond, ◌+◌, ◌*◌, ◌≤◌, ◌<◌, length, take, drop, get_or};
 ghost use Rattle.model.specs.Memory.{no_message, in_mailbox, existing, with_flags, with_states};
 ghost use Rattle.model.specs.Events.{message};
@@ -130,7 +132,7 @@ pub fn find(words: &[u64], used: usize, mailbox: u64, uid: Uid) -> usize
 
 // ---- counts
 // How many entries a mailbox has, and the states of all entries, joined bit by bit.
-#[derive(Drop)]
+#[derive(Clone, Copy)]
 struct Tally {
     count: u64,
     states: u64,

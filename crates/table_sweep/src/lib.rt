@@ -1,4 +1,6 @@
 // One pass over the message table: which entries go, what those that stay become, and where they move to.
+#![tactic(auto)]
+
 ghost use Rattle.std.specs.Prelude.{◌≡◌, cond, ◌&&◌, ◌++◌, ◌+◌, ◌*◌, ◌-◌, ◌≤◌, eqb, ltb, length, take, drop, replicate};
 ghost use Rattle.model.specs.Memory.{no_message, marked, with_states, refill};
 ghost use Rattle.table_messages.specs.Words.{messages};
@@ -10,7 +12,7 @@ use table_messages::{changed, get, nothing, put};
 
 // What a pass is for: a selection, where the expunged go and nothing waits; lines that were told of a mailbox, the expunged
 // below one UID and the marked below another; a mailbox that is deleted, with all its messages.
-#[derive(Drop)]
+#[derive(Clone, Copy)]
 pub enum Sweep {
     Rested,
     Told(u64, Uid, Uid),

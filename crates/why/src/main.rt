@@ -1,6 +1,8 @@
 // `why STREAM PLACE`: why the record at a place of a stream, counted from 1, was told or not. It prints one line: the reason; `no record` where
 // the place has none; `! 2` where there are not two arguments, or the file cannot be read up to the place.
 // It serves record by record, on tables as pushrun has them, and drains nothing: the stream's own `DR` does.
+#![tactic(auto)]
+
 ghost use Rattle.std.specs.Prelude.{◌≤◌, length};
 
 use model::Reason;
@@ -24,7 +26,7 @@ fn place() -> u64 {
 // ---- the run to the place
 
 // Where the run stands before a record, and what was read of that one.
-#[derive(Drop)]
+#[derive(Clone, Copy)]
 struct Reached {
     state: Served,
     read: Read,

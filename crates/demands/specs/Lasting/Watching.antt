@@ -230,7 +230,7 @@ no_other x k (g ∷ gs) h = go (selected_group g) refl h (no_other x (k + length
 -- x is no selected one, so x and no other are two
 unlike : (x : Group) (l : List Group) → is_selecting x.selector ≡ false → anyb (λ (y : Group). both_selecting x y) l ≡ false
 unlike x [] e = refl
-unlike x (y ∷ l) e = rw e (rw e at (unlike x l e))
+unlike x (y ∷ l) e = rw e (unlike x l e)
 
 apart-ok : (k : ℕ) (gs : List Asked) → length (filterb selected_group gs) ≤ 1 → apart both_selecting (map group_of (lend_groups k gs)) ≡ true
 apart-ok k [] h = refl

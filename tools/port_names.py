@@ -73,8 +73,13 @@ def tables():
             table[name] += "_lem"
     for name in names:
         table.setdefault(name, in_snake(name))
+    for name in OF_LIBRARY:
+        table.pop(name, None)
     return {old: new for old, new in table.items() if new != old}
 
+
+# lemmas of the library that have the name of one of ours
+OF_LIBRARY = ("and-true", "or-false")
 
 # definitions whose names are plain words in a lemma's name
 PLAIN = set("none one two some same all any no over end off left start past here first last next plain held given own out list open bare is of by at in on to with".split())
@@ -98,7 +103,12 @@ def turned(text, table, path):
     return "".join(out) + words_turned(text[at:], table, True)
 
 
+# fields of records, which turn behind a dot too: a function's labels there are Rattle's
+FIELDS = set("waits-none many-nexts many-validities first-occasion lost-none many-attributes no-loss many-lens told-in-part many-counters silent-none".split())
+
+
 def words_turned(text, table, code):
+    """The text with the names of the table turned."""
 
     def one(m):
         word = m[0]
@@ -106,9 +116,9 @@ def words_turned(text, table, code):
             return word
         after_dot = text[m.start() - 1: m.start()] == "."
         if word in table:
-            if after_dot and "-" in word:
+            if after_dot and "-" in word and word not in FIELDS:
                 head = re.search(r"([\w']+)\.$", text[max(0, m.start() - 80): m.start()])
-                if not head or not head[1][0].isupper():
+                if not head or not (head[1][0].isupper() or head[1] == "places"):
                     return word
             return table[word]
         bare = word.rstrip("'")

@@ -21,6 +21,35 @@ def plain(name):
     return name.replace("_", "-")
 
 
+def params_of(crate, where):
+    """The names of a function's parameters, in order, as its source has them."""
+    words = where.split("/")
+    for folder, _, files in os.walk(os.path.join("crates", crate, "src")):
+        for name in files:
+            module = name[:-3]
+            if len(words) > 1 and module != words[-2]:
+                continue
+            with open(os.path.join(folder, name), encoding="utf-8") as it:
+                m = re.search(r"\bfn " + words[-1] + r"(?:<[^>]*>)?\(([^)]*)\)", it.read())
+            if m:
+                return re.findall(r"(\w+)\s*:", m[1])
+    return []
+
+
+def lent_by(function):
+    """The names of the parameters that a function takes by `&mut`, in order."""
+    words = function.split("::")
+    for folder, _, files in os.walk(os.path.join("crates", words[0], "src")):
+        for name in files:
+            if len(words) > 2 and name[:-3] != words[-2]:
+                continue
+            with open(os.path.join(folder, name), encoding="utf-8") as it:
+                m = re.search(r"\bfn " + words[-1] + r"(?:<[^>]*>)?\(([^)]*)\)", it.read())
+            if m:
+                return re.findall(r"(\w+)\s*:\s*&(?:'\w+ )?mut\b", m[1])
+    return []
+
+
 def names_of(crate):
     folder = tempfile.mkdtemp(prefix="names-")
     here = os.path.join("crates", crate)
@@ -51,32 +80,56 @@ def substituted(text, table):
 
 
 class Function:
-    def __init__(self, info):
+    def __init__(self, info, params):
         self.info = info
+        self.params = params
         self.places = {p[0]: p for p in info["places"]}
+        self.arms = {p[0]: a for p, a in zip(info["places"], info["arms"])}
         self.needs = info["needs"]
-        self.at = dict()
-        for need, place in zip(info["needs"], info["asked_at"]):
-            self.at[plain(need[0])] = (need[1], place[0])
+        self.at = {plain(need[0]): (need[1], place[0]) for need, place in zip(info["needs"], info["asked_at"])}
 
     def ancestors(self, place):
         while place is not None and place in self.places:
             yield self.places[place]
             place = self.places[place][1]
 
-    def label(self, place, word):
-        """The new label for the word, and the fields that have other names there."""
-        for p in self.ancestors(place):
-            if plain(p[2][0]) == plain(word):
-                return p[2][1], p[4]
-        return None, []
+    def turned(self, place, words):
+        """An old path behind the context, as its new one; None where no step has the label."""
+        if words[0] in ("requires", "ranges", "lifetimes", "type_inv", "well_formed", "auto", "typed"):
+            return words
+        if words[0] == "args":
+            m = len(words) > 1 and re.fullmatch(r"t(\d+)", words[1])
+            if m and words[1] not in self.params and int(m[1]) <= len(self.params):
+                return ["args", self.params[int(m[1]) - 1]] + words[2:]
+            return words
+        for label in (words[0], words[0][:-4] if words[0].endswith("_lem") else words[0], words[0].replace("is_Is", "is_").lower()):
+            for p in self.ancestors(place):
+                arm = self.arms[p[0]]
+                if arm:
+                    best = None
+                    for new, old, path in arm[2]:
+                        if plain(old) == plain(label) and words[1: 1 + len(path)] == path:
+                            if best is None or len(path) > len(best[1]):
+                                best = (new, path)
+                    if best:
+                        return [arm[0], best[0]] + words[1 + len(best[1]):]
+                if plain(p[2][0]) == plain(label):
+                    tail = list(words[1:])
+                    for old, now in p[4]:
+                        if tail and tail[0] == old:
+                            tail[0] = now
+                            break
+                    if len(tail) > 1 and tail[0] == "new" and tail[1].isdigit() and p[3] in self.info["params"]:
+                        names = lent_by(p[3]) or self.info["params"][p[3]]
+                        if int(tail[1]) < len(names):
+                            tail[1] = names[int(tail[1])]
+                    return [p[2][1]] + tail
+        return None
 
 
 def of_context(text, f, place, left, c="c"):
     """A proof's text with its paths turned; place is where the goal stands."""
-    # aliases: a name bound by let to a place by `before` alone
-    alias = {c}
-    steps = {}   # a name bound to a step: its fields
+    alias = {c: []}   # what a name bound by let stands for: the old path behind the context, without `before`
     toks = tokens(text)
     out = []
     i = 0
@@ -90,39 +143,14 @@ def of_context(text, f, place, left, c="c"):
             j += 2
         return words, j
 
-    def turned(words):
-        head = words[0]
-        if head in alias:
-            rest = [w for w in words[1:]]
-            while rest and rest[0] == "before":
-                rest.pop(0)
-            if not rest:
-                return None, None
-            new, fields = f.label(place, rest[0])
-            if rest[0] in ("args", "requires", "ranges", "lifetimes", "type_inv", "well_formed", "auto"):
-                new, fields = rest[0], []
-            if new is None:
-                left.append(".".join(words))
-                new = rest[0]
-            tail = rest[1:]
-            if tail:
-                for old, now in fields:
-                    if tail[0] == old:
-                        tail[0] = now
-                        break
-            return ["c", new] + tail, fields if not rest[1:] else []
-        if head in steps and len(words) > 1:
-            tail = words[1:]
-            for old, now in steps[head]:
-                if tail[0] == old:
-                    tail[0] = now
-                    break
-            return [head] + tail, []
-        return words, []
+    def old_path(words):
+        rest = alias[words[0]] + words[1:]
+        while rest and rest[0] == "before":
+            rest = rest[1:]
+        return rest
 
     while i < len(toks):
         t = toks[i]
-        # let NAME = PATH in
         if t == "let":
             j = i + 1
             while toks[j].isspace():
@@ -140,35 +168,68 @@ def of_context(text, f, place, left, c="c"):
                 while e < len(toks) and toks[e].isspace():
                     e += 1
                 if words[0] in alias and e < len(toks) and toks[e] == "in":
-                    new, fields = turned(words)
-                    if new is None:
-                        alias.add(name)
-                        i = e + 1
-                        # drop the space behind the binding
-                        while i < len(toks) and toks[i].isspace():
-                            if "\n" in toks[i] and out and "\n" in out[-1]:
-                                pass
-                            i += 1
-                        continue
-                    alias.discard(name)
-                    steps[name] = fields
-                    out += ["let ", name, " = ", ".".join(new), " in"]
+                    # what the name stands for goes where it is used
+                    alias[name] = old_path(words)
                     i = e + 1
+                    while i < len(toks) and toks[i].isspace():
+                        i += 1
                     continue
                 if name in alias and name != c:
-                    alias.discard(name)
-        if re.fullmatch(r"[^\s(){}.;,@\"«»\[\]]+", t) and (t in alias or t in steps) and (not out or out[-1] != "."):
+                    # a name that is bound anew
+                    rest = "".join(toks[m:])
+                    out.append("let ")
+                    i = j
+                    out.append(name)
+                    # its value may still speak of the old one
+                    depth, q = 0, m
+                    while q < len(toks) and not (depth == 0 and toks[q] == "in"):
+                        depth += toks[q] in "([{" if toks[q].strip() else 0
+                        depth -= toks[q] in ")]}" if toks[q].strip() else 0
+                        if toks[q] == "let":
+                            depth += 0
+                        q += 1
+                    value = "".join(toks[m:q])
+                    keep = dict(alias)
+                    out.append(" = " + of_value(value, f, place, left, keep))
+                    del alias[name]
+                    i = q
+                    out.append("" if out[-1].endswith((" ", "\n")) else " ")
+                    continue
+        if re.fullmatch(r"[^\s(){}.;,@\"«»\[\]]+", t) and t in alias and (not out or out[-1] != "."):
             words, end = path_at(i)
-            new, _ = turned(words)
-            if new is None:
-                left.append("whole context: " + ".".join(words))
-                new = words
-            out.append(".".join(new))
+            rest = old_path(words)
+            if not rest:
+                if not re.search(r"λ[^.]*\b" + re.escape(words[0]) + r"\b", text):
+                    left.append("whole context: " + ".".join(words))
+                out.append(".".join(words))
+            else:
+                new = f.turned(place, rest)
+                if new is None:
+                    left.append("no step: " + ".".join(rest))
+                    new = rest
+                out.append(".".join(["c"] + new))
             i = end
             continue
         out.append(t)
         i += 1
     return "".join(out)
+
+
+def of_value(text, f, place, left, alias):
+    """A bound value, with the paths that the aliases stand for."""
+    def one(m):
+        words = m[0].split(".")
+        if words[0] not in alias:
+            return m[0]
+        rest = alias[words[0]] + words[1:]
+        while rest and rest[0] == "before":
+            rest = rest[1:]
+        new = f.turned(place, rest) if rest else None
+        if new is None:
+            left.append("no step: " + m[0])
+            return m[0]
+        return ".".join(["c"] + new)
+    return re.sub(r"(?<![\w.'-])[^\s(){}.;,@\"«»\[\]]+(?:\.[^\s(){}.;,@\"«»\[\]]+)*", one, text)
 
 
 def without_raw(text):
@@ -197,14 +258,30 @@ def blocks(lines):
     return out
 
 
-def spec_args(text):
-    """The arguments of tie.spec, in order, without comments."""
-    text = re.sub(r"--[^\n]*", "", text)
-    at = text.find("tie.spec")
-    i = at + len("tie.spec")
-    args, depth, now = [], 0, ""
+def spec_args(text, head="tie.spec"):
+    """The arguments behind head, in order, each with the name that a comment gives it."""
+    i = text.find(head) + len(head)
+    args, depth, now, line, unnamed = [], 0, "", [], []
+
+    def end():
+        nonlocal now
+        if now.strip():
+            args.append([now.strip(), None])
+            line.append(args[-1])
+        now = ""
+
     while i < len(text):
         ch = text[i]
+        if text.startswith("--", i) and depth == 0 and text[i - 1].isspace():
+            j = text.find("\n", i)
+            j = len(text) if j < 0 else j
+            end()
+            names = [n.strip() for n in text[i + 2: j].split(",")]
+            ours = [x for x in line if SEARCH.fullmatch(x[0])]
+            for x, n in zip(reversed(ours), reversed(names)):
+                x[1] = n
+            i = j
+            continue
         if ch == "(":
             depth += 1
         if ch == ")":
@@ -212,17 +289,18 @@ def spec_args(text):
                 break
             depth -= 1
         if depth == 0 and ch.isspace():
-            if now.strip():
-                args.append(now.strip())
-            now = ""
+            end()
+            if ch == "\n":
+                line.clear()
         else:
             now += ch
         i += 1
-    if now.strip():
-        args.append(now.strip())
+    end()
     return args
 
 
+# goals that need no answer any more
+SETTLED = set()
 SEARCH = re.compile(r"\(λ c(?: κs)?\. search rules\)")
 
 
@@ -231,10 +309,24 @@ def convert(crate, where, key, info, left_all):
     path = os.path.join(folder, "Proof.antt")
     with open(path, encoding="utf-8") as it:
         text = it.read()
-    if "tie.spec" not in text:
-        print(f"left: {path}: no tie.spec")
-        return
-    f = Function(info)
+    cycle = os.path.basename(where).startswith("+")
+    if cycle:
+        fns = {k: Function(i, params_of(crate, os.path.join(os.path.dirname(where), k))) for k, i in info.items()}
+        heads = {a + ".spec": k for k, a in re.findall(r"\.Lts-(\S+) as (\S+)", text)}
+    else:
+        if "tie.spec" not in text:
+            print(f"left: {path}: no tie.spec")
+            return
+        fns = {"": Function(info, params_of(crate, where))}
+        heads = {"tie.spec": ""}
+    many = len(fns) > 1
+    named_answers = set()
+
+    def prefix(fn):
+        return fn + "-" if many else ""
+
+    text = re.sub(r"(?m)^(abbrev \S+ : )(\S+)-lts\.(invariant|decreases)-(\S+)[ ]*$", r"\1tie.\3-\4 of \2", text)
+    text = re.sub(r"(?m)^(\S+) : \(t : ℕ\) → (\S+)-lts\.Need-(\S+)(?:[ \t(][\s\S]*?)?(?=\n(?:unfolding|\1 ))", r"\1 : tie.Need-\3 of \2", text)
     lines = text.split("\n")
     head = []
     while lines and (lines[0].startswith("--") or lines[0].startswith("use ") or not lines[0].strip()):
@@ -243,7 +335,7 @@ def convert(crate, where, key, info, left_all):
                 lines[0] = lines[0] + " " + lines.pop(1).strip()
         head.append(lines.pop(0))
     comments = [l for l in head if l.startswith("--")]
-    uses = [l for l in head if l.startswith("use ") and ".Statement." not in l and not re.search(r"\.Tie as tie\b|\.Lts as|\.Code as", l)]
+    uses = [l for l in head if l.startswith("use ") and ".Statement." not in l and not re.search(r"\.Tie as tie\b|\.Lts as|\.Code as|\.Lts-|\.(?:Reads|Kinds) as |^use borrow\.Fn\.|\.\{statement\}|\.Tie\.\{close\}", l)]
     dotted = where.replace("/", ".")
     left = []
     inv, ans, kept = [], [], []
@@ -256,9 +348,21 @@ def convert(crate, where, key, info, left_all):
         if not b:
             kept.append("\n".join(pre))
             continue
-        m = re.match(r"(?:(?:abbrev|pub|unfoldable)\s+)*(\S+) : tie\.(invariant|decreases)-(\S+)\s*$", b[0])
+        if cycle and re.match(r"abbrev \S+-(?:at|below|calls) : ℕ → ", b[0]):
+            continue
+        m = re.match(r"abbrev μ-(\S+) : Measures ", b[0])
+        if m and cycle:
+            fn = next(k for k in fns if plain(k) == plain(m[1]))
+            names = fns[fn].params
+            rhs = "\n".join(b[1:]).split("=", 1)[1].strip()
+            rhs = re.sub(r"(?<![\w.])a((?:\.1)*)\.0(?!\d)", lambda q: "l." + names[len(q[1]) // 2], rhs)
+            inv.append(f"abbrev pub decreases-{fn} : goal.decreases-{fn}\ndecreases-{fn} l = {rhs}")
+            continue
+        m = re.match(r"(?:(?:abbrev|pub|unfoldable)\s+)*(\S+) : tie\.(invariant|decreases)-(\S+)(?: of (\S+))?\s*$", b[0])
         if m:
             name, what, loop = m[1], m[2], m[3]
+            fn = next(k for k in fns if plain(k) == plain(m[4] or ""))
+            f, info = fns[fn], fns[fn].info
             new, vars_ = None, None
             for (old, now), vs in info["loops"]:
                 if plain(old) == plain(loop):
@@ -275,28 +379,34 @@ def convert(crate, where, key, info, left_all):
             eq = re.match(re.escape(name) + r"((?:\s+\S+)*?)\s*=\s?", rest)
             params = eq[1].split()
             table = {}
+            v = next(x for x in ("l", "now", "at-turn") if x not in tokens(rest[eq.end():]))
             if len(params) != len(vars_) + sum(changed):
                 left.append(f"{name}: {len(params)} parameters {params}, and the loop has {vars_} {changed}")
             k = len(vars_)
-            for v, ch, p in zip(vars_, changed, params):
-                table[p] = f"l.initial.{v}" if ch else f"l.{v}"
-            later = [v for v, ch in zip(vars_, changed) if ch]
-            for v, p in zip(later, params[k:]):
-                table[p] = f"l.{v}"
+            for x, ch, p in zip(vars_, changed, params):
+                table[p] = f"{v}.initial.{x}" if ch else f"{v}.{x}"
+            later = [x for x, ch in zip(vars_, changed) if ch]
+            for x, p in zip(later, params[k:]):
+                table[p] = f"{v}.{x}"
             if what == "invariant":
                 table.pop("_", None)
-            newname = f"{what}-{new}"
+            newname = f"{what}-{prefix(fn)}{new}"
             rhs = substituted(rest[eq.end():], table)
-            inv.append("\n".join(pre + [f"abbrev pub {newname} : goal.{newname}"]) + "\n" + unf + f"{newname} l = " + rhs.lstrip())
+            inv.append("\n".join(pre + [f"abbrev pub {newname} : goal.{newname}"]) + "\n" + unf + f"{newname} {v} = " + rhs.lstrip())
             continue
         m = re.match(r"(?:(?:abbrev|pub|unfoldable)\s+)*(\S+) : tie\.Need-(\S+)((?: \S+)*)\s*$", b[0])
         if m:
             name, need = m[1], m[2]
+            of = re.search(r" of (\S+)", m[3])
+            fn = next(k for k in fns if plain(k) == plain(of[1] if of and cycle else ""))
+            f = fns[fn]
+            named_answers.add(name)
             if plain(need) not in f.at:
-                left.append(f"goal {need}")
-                kept.append("\n".join("-- " + l for l in b))
+                if plain(need) not in SETTLED and not re.match(r"overflow-|same-length", plain(need)):
+                    left.append(f"goal {need}")
                 continue
             new, place = f.at[plain(need)]
+            new = prefix(fn) + new
             rest = "\n".join(b[1:])
             unf = ""
             u = re.match(r"((?:unfolding [^\n]*\n)+)", rest)
@@ -314,33 +424,47 @@ def convert(crate, where, key, info, left_all):
                     out.append(e)
                     continue
                 params = eq[1].split()
+                if cycle:
+                    params = params[1:]
                 c = params[0] if params else "c"
                 rhs = of_context(e[eq.end():], f, place, left, c)
                 lead = "" if rhs.startswith("\n") or not rhs.strip() else " "
                 if not params:
                     out.append(f"{new} ={lead}" + rhs)
                 else:
-                    out.append(f"{new} c ={lead}" + rhs)
+                    out.append(f"{new} {'t ' if cycle else ''}c ={lead}" + rhs)
             answered.add(plain(need))
             ans.append("\n".join(pre + [f"pub {new} : goal.{new}"]) + "\n" + unf + "\n".join(o.rstrip("\n") for o in out))
             continue
         if re.match(r"pub \S+-spec : |pub \S+_spec : ", b[0]):
-            args = spec_args("\n".join(b))
-            n_inv = 2 * len(info["loops"])
-            # the loops' arguments stand first or where the loop begins
-            args = [a for a in args if not re.fullmatch(r"(?:invariant|decreases)-\S+", a)]
-            if len(args) != len(f.needs):
-                if any(not SEARCH.fullmatch(a) and a.startswith("(") for a in args):
-                    left.append(f"{len(args)} arguments of tie.spec, {len(f.needs)} goals: {[a for a in args if a.startswith('(') and not SEARCH.fullmatch(a)]} / {[n[0] for n in f.needs]}")
-                continue
-            for a, (old, new), place in zip(args, f.needs, info["asked_at"]):
-                if SEARCH.fullmatch(a) or not a.startswith("("):
+            unf = "".join(l + "\n" for l in b if l.startswith("unfolding "))
+            inline = []
+            for head in heads:
+                if head not in "\n".join(b):
                     continue
-                m = re.fullmatch(r"\(λ (\S+?)(?: κs)?\. (.*)\)", a, re.S)
-                if not m:
-                    left.append(f"argument {a}")
+                fn = heads[head]
+                f = fns[fn]
+                args = spec_args("\n".join(b), head)
+                args = [x for x in args if not re.fullmatch(r"(?:\S*-)?(?:invariant|decreases|Inv|μ)-\S+|\(\S+ t\)|\S+\.Post|\([^λ]*\)|λ|t\.", x[0], re.S) or re.fullmatch(r"\(\S+ t\)", x[0]) and x[0][1:-3] in named_answers]
+                known = {plain(n[0]).replace("loop-smaller", "loop-less") for n in f.needs}
+                base = lambda n: re.sub("^" + re.escape(plain(fn)) + "-", "", plain(n)) if fn else plain(n)
+                args = [x for x in args if x[1] is None or base(x[1]).replace("loop-smaller", "loop-less") in known]
+                real = [x for x in args if x[0].startswith("(λ") and not SEARCH.fullmatch(x[0])]
+                if not real:
                     continue
-                ans.append(f"pub {new} : goal.{new}\n{new} c = " + of_context(m[2], f, place[0], left, m[1]))
+                if len(args) != len(f.needs):
+                    left.append(f"{len(args)} arguments of {head}, {len(f.needs)} goals: {[x[0][:60] for x in args]} / {[n[0] for n in f.needs]}")
+                    continue
+                for (x, _), (old, new), place in zip(args, f.needs, f.info["asked_at"]):
+                    if SEARCH.fullmatch(x) or not x.startswith("(λ"):
+                        continue
+                    m = re.fullmatch(r"\(λ (\S+?)(?: κs)?\. ?(.*)\)", x, re.S)
+                    if not m:
+                        m = re.fullmatch(r"\(λ (\S+?)(?: κs)?\.\s*(.*)\)", x, re.S)
+                    if not m:
+                        left.append(f"argument {x}")
+                        continue
+                    ans.append(f"pub {prefix(fn)}{new} : goal.{prefix(fn)}{new}\n{unf}{prefix(fn)}{new} {'t ' if cycle else ''}c = " + of_context(m[2], f, place[0], left, m[1]))
             continue
         kept.append("\n".join(pre + b))
     ans = [without_raw(a) for a in ans]
@@ -361,16 +485,21 @@ def convert(crate, where, key, info, left_all):
 
 def main():
     crate, only = sys.argv[1], sys.argv[2:]
-    names = names_of(crate)
-    for key, info in sorted(names.items()):
-        m = re.fullmatch(r"Rattle-" + crate + r"-proofs\.(.+)\.Lts", key)
+    found = {}
+    for key, info in sorted(names_of(crate).items()):
+        m = re.fullmatch(r"Rattle-" + crate + r"-proofs\.(.+)\.Lts(?:-(\S+))?", key)
         if not m:
             continue
         where = m[1].replace(".", "/")
+        if m[2]:
+            found.setdefault(where, {})[m[2]] = info
+        else:
+            found[where] = info
+    for where, info in found.items():
         if only and where not in only:
             continue
         if os.path.exists(os.path.join("crates", crate, "proofs", where, "Proof.antt")):
-            convert(crate, where, key, info, None)
+            convert(crate, where, "", info, None)
 
 
 if __name__ == "__main__":

@@ -3,6 +3,5 @@ pub mod Lasting
 pub mod Counted
 pub mod Parents
 pub mod Reasons
-pub mod BareNames
 pub mod Theorems
 pub mod Ledger

@@ -1,4 +1,4 @@
--- Demands 1 and 3, the change counters, the parent, the reasons and the names, proved of the definitions. Assumes nothing.
+-- Demands 1 and 3, the change counters, the parent and the reasons, proved of the definitions. Assumes nothing.
 -- Demand 1: a call is refused exactly where a refusal applies, by the lowest that does; a refused call changes nothing; memory stays lawful.
 -- Demand 3: Hidden.Demand3 holds, for any two starts.
 use Rattle.std.proofs.Math.Path.{◌≡◌, ap}
@@ -20,7 +20,6 @@ use Rattle.model.specs.Hidden.{Octets, Called, calls, Starts, Demand3}
 use Rattle.model.specs.Counters.{CounterHighest, CounterOwn}
 use Rattle.model.specs.Parents.{ParentThere, ParentOwed, ParentUnseen}
 use Rattle.model.specs.Reasoned.{ReasonSome, ReasonFirst, ReasonRefused}
-use Rattle.model.specs.BareNames.{NameBare, NameRead, NamesHeld}
 use Rattle.demands.specs.Isolation.Streams.{demand}
 use Rattle.demands.specs.Lasting.Law.{law_out}
 use Rattle.demands.specs.Lasting.Calls.{keeps}
@@ -32,7 +31,6 @@ use Rattle.demands.specs.Parents.Names.{there}
 use Rattle.demands.specs.Parents.Owed.{owed_of_it}
 use Rattle.demands.specs.Parents.Unseen.{unseen}
 use Rattle.demands.specs.Reasons.First.{some-reason, first-reason, refused-reason}
-use Rattle.demands.specs.BareNames.{bare_or-quoted, reads-back, held_names}
 use Rattle.model.specs.declared.Refusal.{Refusal}
 use Rattle.model.specs.declared.Refusal.TheVariants.{UnlawfulMemory, BadRecord, WrongId, NameHeld, WrongUid, WrongState, TableFull, NoRoom}
 use Rattle.model.specs.declared.Answer.{Answer}
@@ -68,16 +66,6 @@ reason_first = first-reason
 
 pub reason-refused : ReasonRefused
 reason-refused = refused-reason
-
--- ---- THE NAME (02, 4): who is quoted, and that what is written reads back, in every line
-pub name_bare : NameBare
-name_bare = bare_or-quoted
-
-pub name-read : NameRead
-name-read = reads-back
-
-pub names_held : NamesHeld
-names_held = held_names
 
 -- ---- DEMAND 1
 -- the refusal applies, and none with a lower number does

@@ -3,7 +3,7 @@ use Rattle.std.specs.Prelude.{◌≡◌, refl, Bool, true, false, not, cond, ◌
 use Rattle.std.proofs.Common.{ap, ap₂, sym, ◌∙◌, arith, eqb-true, eq-eqb, ne_eqb, lt-ltb, ltb-true}
 use Rattle.std.proofs.lemmas.Bool.{not-true}
 use Rattle.model.specs.Lists.{filterb, keep, anyb, insert, sorted, apart}
-use Rattle.model.specs.Laws.{tf, and_l, and_r, and_false, or_l, or_r, or_false}
+use Rattle.model.specs.Laws.{tf, and_l, and_r, and_false, or_l, or_r, or-false}
 use Rattle.model.specs.Memory.{no_message, uid_of, is_message, in_mailbox, by_uid, messages_of}
 use Rattle.model.specs.Lawful.{twin}
 use Rattle.model.specs.declared.Message.{Message}
@@ -120,7 +120,7 @@ module _ (id : ℕ) (a p : Message → Bool) where
 
   own : (l : List Message) (k : ℕ) → apart twin l ≡ true → k < length l → anyb (hit (get_or l k no_message)) l ≡ (in_mailbox id (get_or l k no_message) && (a (get_or l k no_message) && p (get_or l k no_message)))
   own [] k t h = absurd (let z : ⊥ = omega arith in z)
-  own (y ∷ l) zero t h = ap₂ ◌||◌ (own_hit y) (none_hit y l (not-true _ (and_l (not (anyb (λ (z : Message). twin y z) l)) _ t))) ∙ or_false (in_mailbox id y && (a y && p y))
+  own (y ∷ l) zero t h = ap₂ ◌||◌ (own_hit y) (none_hit y l (not-true _ (and_l (not (anyb (λ (z : Message). twin y z) l)) _ t))) ∙ or-false (in_mailbox id y && (a y && p y))
   own (y ∷ l) (suc k) t h =
       let n = any_at (λ (z : Message). twin y z) l k (not-true _ (and_l (not (anyb (λ (z : Message). twin y z) l)) _ t)) (omega arith) in
       ap (λ (b : Bool). b || anyb (hit (get_or l k no_message)) l) (hit_no (get_or l k no_message) y (twin-apart y (get_or l k no_message) n)) ∙ own l k (and_r (not (anyb (λ (z : Message). twin y z) l)) _ t) (omega arith)

@@ -16,9 +16,9 @@ module _ (q : List ℕ) (f n : ℕ) (h : n ≤ f) (w : f ≤ length q) where
   the_long : length the ≡ f - n
   the_long = let a = length-drop n (take f q) in let b = length-take-le f q w in omega arith
 
-  pub shift-read : (q' : List ℕ) (i : ℕ) → i < f - n → Wrote q 0 (take i the) q' i → get_or q' (n + i) 0 ≡ get_or the i 0
+  pub shift_read : (q' : List ℕ) (i : ℕ) → i < f - n → Wrote q 0 (take i the) q' i → get_or q' (n + i) 0 ≡ get_or the i 0
   unfolding written
-  shift-read q' i k x =
+  shift_read q' i k x =
       let l = the_long in
       let t : length (take i the) ≡ i = length-take-le i the (omega arith) in
       let z : 0 + length (take i the) ≡ i = omega arith in
@@ -36,7 +36,7 @@ module _ (q : List ℕ) (f n : ℕ) (h : n ≤ f) (w : f ≤ length q) where
       let l = the_long in
       let d = x.within in
       wrote_as (◌then◌ x (wrote_one q' i (get_or q' (n + i) 0) (i + 1) (let e = long q' i k x in omega arith) refl))
-      (ap (λ (b : ℕ). take i the ++ (b ∷ [])) (shift-read q' i k x) ∙ rw add-one (sym (take-suc the i 0 (omega arith))))
+      (ap (λ (b : ℕ). take i the ++ (b ∷ [])) (shift_read q' i k x) ∙ rw add-one (sym (take-suc the i 0 (omega arith))))
     where
       long : (q' : List ℕ) (i : ℕ) → i < f - n → Wrote q 0 (take i the) q' i → length q' ≡ length q
       long q' i k x = ap length x.is ∙ written-length q 0 (take i the) (let l = the_long in let t = length-take-le i the (omega arith) in omega arith)

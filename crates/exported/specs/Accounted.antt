@@ -97,11 +97,11 @@ module _ (a : Lent) (start : Begins a a) (q : queue_ok (length a.queue) ≡ true
     never-silent = λ cs run. d.never-silent (octets_of cs);
     settles = λ cs run c made k w h. by_number cs run c made (λ (z : Fate). fate_at (account_of m (octets_of cs ++ (c.octets ∷ []))) k ≡ z)
         (λ (x : Memory). settle (apparent x) (suc (length (octets_of cs))) (record_of c.octets) (call x c.octets).lines (waits w)) (λ (x : Memory). waits w) (d.settles (octets_of cs) c.octets k w h);
-    first_occasion = λ cs run c made k w h t b o. d.first-occasion (octets_of cs) c.octets k w h (was-taken cs run c made t)
+    first_occasion = λ cs run c made k w h t b o. d.first_occasion (octets_of cs) c.octets k w h (was-taken cs run c made t)
         (there cs run (λ (x : Memory). both_rights (selected_box x) ≡ true) b) (there cs run (λ (x : Memory). Occasion (account_of m (octets_of cs)) (seen x c.octets) w) o);
     told_in-part = λ cs run c made k w h t n p. here cs run (λ (x : Memory). fate_at (account_of m (octets_of cs ++ (c.octets ∷ []))) k ≡ cond (tells (front (apparent x) (account_of m (octets_of cs)) n) w) (reported (suc (length (octets_of cs)))) (waits w))
-        (d.told-in-part (octets_of cs) c.octets k w h (was-taken cs run c made t) n p);
-    no_loss = λ cs ds run on h. d.no-loss (octets_of cs) (octets_of ds) (there cs run (λ (x : Memory). overflows (history x (octets_of ds)) ≡ false) h);
+        (d.told_in-part (octets_of cs) c.octets k w h (was-taken cs run c made t) n p);
+    no_loss = λ cs ds run on h. d.no_loss (octets_of cs) (octets_of ds) (there cs run (λ (x : Memory). overflows (history x (octets_of ds)) ≡ false) h);
     all_told = λ cs ds run on c made h p b z. d.all_told (octets_of cs) (octets_of ds) c.octets
         (there cs run (λ (x : Memory). overflows (history x (octets_of ds ++ (c.octets ∷ []))) ≡ false) h)
         (subst (λ (x : Memory). Cleared x c.octets) (run_on cs ds run on) (record { ending = p; rights = b; none_left = counted_none _ (sym (made_numbers (last_of (last_of a cs) ds) c made) ∙ z) }));

@@ -3,7 +3,7 @@ use Rattle.std.specs.Prelude.{◌≡◌, refl, Bool, true, false, not, cond, ◌
 use Rattle.std.proofs.Common.{ap, sym, ◌∙◌, add-one, arith, drop_of_length-le, drop-cons, ne_eqb, eqb-true, ltb-true, ltb-false, le-leb}
 use Rattle.std.proofs.Math.Bool.{and_assoc}
 use Rattle.std.proofs.lemmas.Bool.{eqb-false, lt-leb}
-use Rattle.model.specs.Laws.{tf, and_l, and_r, and_true, and_false}
+use Rattle.model.specs.Laws.{tf, and_l, and_r, and-true, and_false}
 use Rattle.model.specs.Lists.{anyb, allb, apart, every, same}
 use Rattle.model.specs.Text.{bit, one}
 use Rattle.model.specs.Names.{valid, fold}
@@ -44,7 +44,7 @@ selecting (suc (suc (suc (suc (suc zero))))) r = refl
 selecting (suc (suc (suc (suc (suc (suc k)))))) r = high (suc (suc (suc (suc (suc (suc k)))))) r (omega arith)
 
 four : (a b c d : Bool) → every (a ∷ b ∷ c ∷ d ∷ []) ≡ (a && (b && (c && d)))
-four a b c d = ap (λ (x : Bool). a && (b && (c && x))) (and_true d)
+four a b c d = ap (λ (x : Bool). a && (b && (c && x))) (and-true d)
 
 range : LentGroup → NameRange
 range g = record { first = g.first; count = g.count }
@@ -67,7 +67,7 @@ blank_is false b c d e = refl
 blank_is true false c d e = refl
 blank_is true true false d e = refl
 blank_is true true true false e = refl
-blank_is true true true true e = and_true e
+blank_is true true true true e = and-true e
 
 -- ---- the groups, from place i on
 module _ (l : List LentGroup) (n i first : ℕ) (d : LentGroup) (w : n ≤ length l) where
@@ -228,7 +228,7 @@ no_at (b ∷ bs) (suc k) e = go b (no_at bs k e)
 
 -- the names are tested last, the used ones and the others at once
 around : (bs : List Bool) (g h i : Bool) → every bs ≡ true → h ≡ true → (g && i) ≡ every (bs ++ (g ∷ h ∷ i ∷ []))
-around [] g h i e f = rw f (ap (λ (b : Bool). g && b) (sym (and_true i)))
+around [] g h i e f = rw f (ap (λ (b : Bool). g && b) (sym (and-true i)))
 around (b ∷ bs) g h i e f = rw (and_l b (every bs) e) (around bs g h i (and_r b (every bs) e) f)
 
 pub names_last : (s : Session) (k : ℕ) → k ≡ lent_name_count (used_groups s) → every (group_tests s) ≡ true → allb blank_group (drop s.groupcount s.groups) ≡ true → (allb lent_name_ok (take k s.names) && allb blank_name (drop k s.names)) ≡ session_ok s

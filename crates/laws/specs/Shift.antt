@@ -35,9 +35,9 @@ module _ {A : Type 0} where
       ∙ ap (λ (n : ℕ). take n w ++ drop n l) (sym (add-one j))
 
   -- what stands after the first j is l's
-  pub over-read : (w l : List A) (j k : ℕ) (d : A) → j ≤ length w → get_or (over w l j) (j + k) d ≡ get_or l (j + k) d
+  pub over_read : (w l : List A) (j k : ℕ) (d : A) → j ≤ length w → get_or (over w l j) (j + k) d ≡ get_or l (j + k) d
   unfolding over
-  over-read w l j k d hw =
+  over_read w l j k d hw =
       ap (λ (n : ℕ). get_or (take j w ++ drop j l) (n + k) d) (sym (length-take-le j w hw))
       ∙ get_or-append-add (take j w) (drop j l) k d
       ∙ get_or-drop j l k d
@@ -74,5 +74,5 @@ module _ {A : Type 0} where
       let hi : i < length l = omega arith in
       let lw = length_without i l hi in
       let hw : j ≤ length (without i l) = omega arith in
-      ap (λ (a : A). set (over (without i l) l j) j a) (over-read (without i l) l j 1 d hw ∙ sym (get_d-without i l j d h hi))
+      ap (λ (a : A). set (over (without i l) l j) j a) (over_read (without i l) l j 1 d hw ∙ sym (get_d-without i l j d h hi))
       ∙ over-step (without i l) l j d (omega arith) (omega arith)

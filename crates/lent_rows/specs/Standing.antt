@@ -12,7 +12,7 @@ use Rattle.std.proofs.Math.Seq.{paste, drop-append-add, length_paste_head}
 use borrow.Author.Tests.{eqb-true, eqb-false, ltb-true, ltb-false, leb-true, leb-false}
 use Rattle.model.specs.Memory.{no_mailbox, counter_of}
 use Rattle.model.specs.declared.Mailbox.{Mailbox}
-use Rattle.laws.specs.Shift.{over, over-length, over-step, over-read}
+use Rattle.laws.specs.Shift.{over, over-length, over-step, over_read}
 use Rattle.table_mailboxes.specs.Columns.{Laid, Column, Names, FirstNames, block, names_next, zero_at}
 use Rattle.lent_rows.specs.Rows.{within, loaded, taken_loaded, over_loaded}
 
@@ -102,20 +102,20 @@ module _ (ids attributes lens validities nexts counters names : List ℕ) (many 
   keeps i x u v w c names' h fits o p q r y f = λ long. (
     record {
       many-ids = length-set ids i u ∙ long.many-ids;
-      many_attributes = length-set attributes i x.attributes ∙ long.many-attributes;
-      many_lens = length-set lens i x.namelen ∙ long.many-lens;
-      many_validities = length-set validities i v ∙ long.many-validities;
-      many_nexts = length-set nexts i w ∙ long.many-nexts;
-      many_counters = length-set counters i c ∙ long.many-counters;
+      many_attributes = length-set attributes i x.attributes ∙ long.many_attributes;
+      many_lens = length-set lens i x.namelen ∙ long.many_lens;
+      many_validities = length-set validities i v ∙ long.many_validities;
+      many_nexts = length-set nexts i w ∙ long.many_nexts;
+      many_counters = length-set counters i c ∙ long.many_counters;
     },
     λ l n g. record {
       laid = record {
         id = column-set (λ (x : Mailbox). x.id) l ids i u x (omega arith) (rw long.many-ids h) p g.laid.id;
-        attribute = column-set (λ (x : Mailbox). x.attributes) l attributes i x.attributes x (omega arith) (rw long.many-attributes h) refl g.laid.attribute;
-        len = column-set (λ (x : Mailbox). x.namelen) l lens i x.namelen x (omega arith) (rw long.many-lens h) refl g.laid.len;
-        validity = column-set (λ (x : Mailbox). x.uidvalidity) l validities i v x (omega arith) (rw long.many-validities h) q g.laid.validity;
-        next = column-set (λ (x : Mailbox). x.uidnext) l nexts i w x (omega arith) (rw long.many-nexts h) r g.laid.next;
-        counter = column-set counter_of l counters i c x (omega arith) (rw long.many-counters h) y g.laid.counter;
+        attribute = column-set (λ (x : Mailbox). x.attributes) l attributes i x.attributes x (omega arith) (rw long.many_attributes h) refl g.laid.attribute;
+        len = column-set (λ (x : Mailbox). x.namelen) l lens i x.namelen x (omega arith) (rw long.many_lens h) refl g.laid.len;
+        validity = column-set (λ (x : Mailbox). x.uidvalidity) l validities i v x (omega arith) (rw long.many_validities h) q g.laid.validity;
+        next = column-set (λ (x : Mailbox). x.uidnext) l nexts i w x (omega arith) (rw long.many_nexts h) r g.laid.next;
+        counter = column-set counter_of l counters i c x (omega arith) (rw long.many_counters h) y g.laid.counter;
         name = rw f (names-set names x.name i many o h l x n refl g.laid.name);
         rest = λ k t. (let s = length-set l i x in get_or-set_other nexts i k w 0 (λ z. (let y : ⊥ = omega arith in y)) ∙ g.laid.rest k (omega arith));
       };
@@ -264,7 +264,7 @@ module _ (ys : List Mailbox) (used : ℕ) where
       let l : length laid_over ≡ 64 = over-length ys none_held many (omega arith) (omega arith) ∙ n in
       let e : k ≡ many + (k - many) = omega arith in
       ap (λ (j : ℕ). (get_or laid_over j no_mailbox).uidnext) e
-      ∙ (ap (λ (x : Mailbox). x.uidnext) (over-read ys none_held many (k - many) no_mailbox (omega arith))
+      ∙ (ap (λ (x : Mailbox). x.uidnext) (over_read ys none_held many (k - many) no_mailbox (omega arith))
       ∙ (ap (λ (j : ℕ). (get_or none_held j no_mailbox).uidnext) (sym e)
       ∙ ap (λ (x : Mailbox). x.uidnext) (none_at k (omega arith))))
 

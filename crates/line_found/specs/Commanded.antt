@@ -81,8 +81,8 @@ module _ (s : List ℕ) (p : ℕ) (q : Search) where
       place n y h = cc
 
   -- the cells that the reader filled hold its keys, if they had room
-  pub held-read : (at : ℕ) → search_at s at ≡ ok p (search q) → (x : Parsed Command) → x ≡ ok p (search q) → (b b' : List ℕ) → Cells b b' x → (r : SearchRead) → r ≡ read_search x → (a : Asked) (n : ℕ) → r ≡ Is a n → a.used ≤ length b → Held b' a.used q.keys
-  held-read at e x g b b' c r i a n h w =
+  pub held_read : (at : ℕ) → search_at s at ≡ ok p (search q) → (x : Parsed Command) → x ≡ ok p (search q) → (b b' : List ℕ) → Cells b b' x → (r : SearchRead) → r ≡ read_search x → (a : Asked) (n : ℕ) → r ≡ Is a n → a.used ≤ length b → Held b' a.used q.keys
+  held_read at e x g b b' c r i a n h w =
       let y : b' ≡ sets b 0 (codes q.keys) = subst (Cells b b') g c in
       let u : a ≡ asked_of q = same (sym h ∙ (i ∙ ap read_search g)) in
       let v : a.used ≡ 0 + length (codes q.keys) = ap (λ (k : Asked). k.used) u ∙ (let z : length (codes q.keys) ≡ 0 + length (codes q.keys) = omega arith in z) in
@@ -93,8 +93,8 @@ module _ (s : List ℕ) (p : ℕ) (q : Search) where
       same z = cc
 
   -- the list of its sources is that of the definition
-  pub listed-read : (at : ℕ) → search_at s at ≡ ok p (search q) → (r : ListedRead) → r ≡ kept_sources (in_at s at) → r.listed ≡ add_all nothing_listed (or_selected q.sources)
-  listed-read at e r h = let k = parts_of_lem at e in ap (λ (t : ListedRead). t.listed) (h ∙ ap kept_sources k.sources)
+  pub listed_read : (at : ℕ) → search_at s at ≡ ok p (search q) → (r : ListedRead) → r ≡ kept_sources (in_at s at) → r.listed ≡ add_all nothing_listed (or_selected q.sources)
+  listed_read at e r h = let k = parts_of_lem at e in ap (λ (t : ListedRead). t.listed) (h ∙ ap kept_sources k.sources)
 
 -- ---- within the limits there are few sources and names
 names-count : (fs : List Filter) → length (all_names fs) ≡ name_count fs
@@ -109,8 +109,8 @@ few_of (f ∷ fs) h =
     let c = names-count (f ∷ fs) in
     record { sources = omega arith; names = omega arith }
 
-pub few-read : (q : Search) → command_too_large limits (search q) ≡ false → Few (or_selected q.sources)
-few-read q h = few_of q.sources (or_l (too_many_filters limits q.sources) (too_many_keys limits q.keys) h)
+pub few_read : (q : Search) → command_too_large limits (search q) ≡ false → Few (or_selected q.sources)
+few_read q h = few_of q.sources (or_l (too_many_filters limits q.sources) (too_many_keys limits q.keys) h)
 
 -- what it is to return
 abbrev pub wanted_by : Returns → Wanted

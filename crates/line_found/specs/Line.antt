@@ -2,11 +2,11 @@
 use Rattle.std.specs.Prelude.{◌≡◌, refl, cond, List, [], ◌∷◌, ◌++◌, map, ℕ, ◌+◌, ◌-◌, ◌*◌, length}
 use Rattle.std.proofs.Common.{sym, append-nil}
 use Rattle.model.specs.Lists.{concat_map, last_or}
-use Rattle.model.specs.Text.{octets, decimal}
+use Rattle.model.specs.Text.{octets, decimal, quoted}
 use Rattle.model.specs.Names.{Name}
 use Rattle.model.specs.Memory.{name_of}
 use Rattle.model.specs.Requests.{Search}
-use Rattle.model.specs.Lines.{found, Result, min, max, all as all_of, count, name_text, result_text, render, render_all}
+use Rattle.model.specs.Lines.{found, Result, min, max, all as all_of, count, result_text, render, render_all}
 use Rattle.model.specs.Searching.{results, found_line}
 use Rattle.model.specs.declared.Mailbox.{Mailbox}
 use Rattle.model.specs.declared.Uid.{Uid}
@@ -20,7 +20,7 @@ unfoldable pub tag_text : List ℕ → List ℕ
 tag_text tag = (octets "* ESEARCH (TAG \"" ++ tag) ++ octets "\" MAILBOX "
 
 unfoldable pub box_text : List ℕ → ℕ → List ℕ
-box_text name v = ((name_text name ++ octets " UIDVALIDITY ") ++ decimal v) ++ octets ") UID"
+box_text name v = ((quoted name ++ octets " UIDVALIDITY ") ++ decimal v) ++ octets ") UID"
 
 -- what was asked for, as the definition has it
 abbrev pub results_of : Wanted → Uid → List Uid → List Result

@@ -8,8 +8,8 @@ use Rattle.std.proofs.lemmas.Bool.{eqb-false}
 use Rattle.std.proofs.lemmas.List.{length-map}
 use Rattle.std.proofs.Math.Seq.{length-take-le}
 use Rattle.model.specs.Lists.{concat_map, last_or}
-use Rattle.model.specs.Text.{octets, decimal}
-use Rattle.model.specs.Lines.{Result, min, max, all as all_of, count, crlf, name_text, run_text, runs_text, set_text, result_text, render}
+use Rattle.model.specs.Text.{octets, decimal, quoted}
+use Rattle.model.specs.Lines.{Result, min, max, all as all_of, count, crlf, run_text, runs_text, set_text, result_text, render}
 use Rattle.model.specs.declared.Uid.{Uid}
 use Rattle.line_put.specs.Put.{Put, put_none, put_as, ◌then◌}
 use Rattle.line_found.specs.declared.Wanted.{Wanted}
@@ -154,4 +154,4 @@ unfolding tag_text box_text results_text line_text render
 line_pieces tag name v w us zero h k = absurd (let z : ⊥ = omega arith in z)
 line_pieces tag name v w [] (suc n) h k = absurd (let z : ⊥ = omega arith in z)
 line_pieces tag name v w (x ∷ xs) (suc n) h k =
-    whole (octets "* ESEARCH (TAG \"") tag (octets "\" MAILBOX ") (name_text name) (octets " UIDVALIDITY ") (decimal v) (octets ") UID") (concat_map result_text (results_of w (record { 0 = x }) (uids_of (take n xs)))) crlf
+    whole (octets "* ESEARCH (TAG \"") tag (octets "\" MAILBOX ") (quoted name) (octets " UIDVALIDITY ") (decimal v) (octets ") UID") (concat_map result_text (results_of w (record { 0 = x }) (uids_of (take n xs)))) crlf

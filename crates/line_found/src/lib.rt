@@ -153,7 +153,7 @@ fn put_box(queue: &mut [u8], at: usize, limit: usize, name: &[u8], validity: u64
     requires { (limit ≤ length queue.old) × (at ≤ 33554432) × (length name.now ≤ 1048576) }
     ensures { (Put queue.old at limit (box_text name.now validity) queue.new result) × (result ≤ at + 50 + 2 * length name.now) }
 {
-    let a = line_put::put_name(queue, at, limit, name);
+    let a = line_put::put_quoted(queue, at, limit, name);
     let b = line_put::put(queue, a, limit, b" UIDVALIDITY ");
     let c = line_put::put_number(queue, b, limit, validity);
     line_put::put(queue, c, limit, b") UID")

@@ -3,8 +3,8 @@ use Rattle.std.specs.Prelude.{◌≡◌, refl, Bool, true, false, List, [], ◌�
 use Rattle.std.proofs.Common.{sym, append-nil, append_assoc}
 use Rattle.model.specs.Lists.{when}
 use Rattle.model.specs.Names.{Name}
-use Rattle.model.specs.Text.{octets, decimal}
-use Rattle.model.specs.Lines.{Line, ListMark, plain, noselect, non_existent, no_access, subscribed, list, renamed, status, mail_items, flag_items, set_items, name_text, mark_text, render, render_all, crlf}
+use Rattle.model.specs.Text.{octets, decimal, quoted}
+use Rattle.model.specs.Lines.{Line, ListMark, plain, noselect, non_existent, no_access, subscribed, list, renamed, status, mail_items, flag_items, set_items, mark_text, render, render_all, crlf}
 use Rattle.line_mailbox.specs.declared.Mark.{Mark}
 use Rattle.line_mailbox.specs.declared.Mark.TheVariants.{Plain, Noselect, NonExistent, NoAccess, Subscribed}
 
@@ -34,25 +34,25 @@ pair-text false l upper k = refl
 
 -- what every LIST line begins with
 unfoldable pub listed : ListMark → Name → List ℕ
-listed k n = ((octets "* LIST " ++ mark_text k) ++ octets " \"/\" ") ++ name_text n
+listed k n = ((octets "* LIST " ++ mark_text k) ++ octets " \"/\" ") ++ quoted n
 
 five : (a b c d e : List ℕ) → (((a ++ b) ++ c) ++ d) ++ e ≡ (a ++ (b ++ (c ++ d))) ++ e
 five a b c d e = simp append_assoc
 
 pub list-text : (k : ListMark) (n : Name) → listed k n ++ (13 ∷ 10 ∷ []) ≡ render (list k n)
 unfolding listed render
-list-text k n = five (octets "* LIST ") (mark_text k) (octets " \"/\" ") (name_text n) crlf
+list-text k n = five (octets "* LIST ") (mark_text k) (octets " \"/\" ") (quoted n) crlf
 
 eight : (a b c d e f g z : List ℕ) → (((((a ++ b) ++ c) ++ d) ++ e) ++ f) ++ (g ++ z) ≡ (a ++ (b ++ (c ++ (d ++ (e ++ (f ++ g)))))) ++ z
 eight a b c d e f g z = simp append_assoc
 
-pub renamed-text : (k : ListMark) (new old : Name) → ((listed k new ++ octets " (\"OLDNAME\" (") ++ name_text old) ++ (41 ∷ 41 ∷ 13 ∷ 10 ∷ []) ≡ render (renamed k new old)
+pub renamed-text : (k : ListMark) (new old : Name) → ((listed k new ++ octets " (\"OLDNAME\" (") ++ quoted old) ++ (41 ∷ 41 ∷ 13 ∷ 10 ∷ []) ≡ render (renamed k new old)
 unfolding listed render
-renamed-text k new old = eight (octets "* LIST ") (mark_text k) (octets " \"/\" ") (name_text new) (octets " (\"OLDNAME\" (") (name_text old) (octets "))") crlf
+renamed-text k new old = eight (octets "* LIST ") (mark_text k) (octets " \"/\" ") (quoted new) (octets " (\"OLDNAME\" (") (quoted old) (octets "))") crlf
 
 -- what every STATUS line begins with, and what it ends with
 unfoldable pub opening : Name → List ℕ
-opening n = (octets "* STATUS " ++ name_text n) ++ octets " ("
+opening n = (octets "* STATUS " ++ quoted n) ++ octets " ("
 
 unfoldable pub ending : ℕ → List ℕ
 ending h = (octets " HIGHESTMODSEQ " ++ decimal h) ++ (41 ∷ 13 ∷ 10 ∷ [])
@@ -62,14 +62,14 @@ two_items a q b s t e z = simp append_assoc
 
 pub flag-text : (n : Name) (v h : ℕ) → (opening n ++ (octets "UIDVALIDITY " ++ decimal v)) ++ ending h ≡ render (status n (flag_items v h))
 unfolding opening ending render
-flag-text n v h = two_items (octets "* STATUS ") (name_text n) (octets " (") (octets "UIDVALIDITY " ++ decimal v) (octets " HIGHESTMODSEQ " ++ decimal h) (octets ")") crlf
+flag-text n v h = two_items (octets "* STATUS ") (quoted n) (octets " (") (octets "UIDVALIDITY " ++ decimal v) (octets " HIGHESTMODSEQ " ++ decimal h) (octets ")") crlf
 
 three_items : (a q b s t u e z : List ℕ) → ((((a ++ q) ++ b) ++ s) ++ t) ++ (u ++ (e ++ z)) ≡ (a ++ (q ++ (b ++ ((s ++ (t ++ (u ++ []))) ++ e)))) ++ z
 three_items a q b s t u e z = simp append_assoc
 
 pub mail-text : (n : Name) (u m h : ℕ) → ((opening n ++ (octets "UIDNEXT " ++ decimal u)) ++ (octets " MESSAGES " ++ decimal m)) ++ ending h ≡ render (status n (mail_items u m h))
 unfolding opening ending render
-mail-text n u m h = three_items (octets "* STATUS ") (name_text n) (octets " (") (octets "UIDNEXT " ++ decimal u) (octets " MESSAGES " ++ decimal m) (octets " HIGHESTMODSEQ " ++ decimal h) (octets ")") crlf
+mail-text n u m h = three_items (octets "* STATUS ") (quoted n) (octets " (") (octets "UIDNEXT " ++ decimal u) (octets " MESSAGES " ++ decimal m) (octets " HIGHESTMODSEQ " ++ decimal h) (octets ")") crlf
 
 four_items : (a q b s t u v e z : List ℕ) → (((((a ++ q) ++ b) ++ s) ++ t) ++ u) ++ (v ++ (e ++ z)) ≡ (a ++ (q ++ (b ++ ((s ++ (t ++ (u ++ (v ++ [])))) ++ e)))) ++ z
 four_items a q b s t u v e z = simp append_assoc
@@ -78,5 +78,5 @@ pub set-text : (n : Name) (m u v h : ℕ)
     → (((opening n ++ (octets "MESSAGES " ++ decimal m)) ++ (octets " UIDNEXT " ++ decimal u)) ++ (octets " UIDVALIDITY " ++ decimal v)) ++ ending h ≡ render (status n (set_items m u v h))
 unfolding opening ending render
 set-text n m u v h =
-    four_items (octets "* STATUS ") (name_text n) (octets " (") (octets "MESSAGES " ++ decimal m) (octets " UIDNEXT " ++ decimal u) (octets " UIDVALIDITY " ++ decimal v)
+    four_items (octets "* STATUS ") (quoted n) (octets " (") (octets "MESSAGES " ++ decimal m) (octets " UIDNEXT " ++ decimal u) (octets " UIDVALIDITY " ++ decimal v)
     (octets " HIGHESTMODSEQ " ++ decimal h) (octets ")") crlf

@@ -1,8 +1,9 @@
 // The notices about mailboxes: LIST lines, STATUS lines. A line is written, or else the overflow line.
 #![tactic(auto)]
 
-ghost use Rattle.std.specs.Prelude.{◌+◌, ◌*◌, ◌-◌, ◌≤◌, ◌<◌, length};
+ghost use Rattle.std.specs.Prelude.{◌++◌, ◌+◌, ◌*◌, ◌-◌, ◌≤◌, ◌<◌, length};
 ghost use Rattle.model.specs.Lists.{when};
+ghost use Rattle.model.specs.Text.{decimal};
 ghost use Rattle.model.specs.Lines.{list, renamed, status, mail_items, flag_items, set_items, mark_text, render, render_all};
 ghost use Rattle.line_put.specs.Put.{Put};
 ghost use Rattle.line_put.specs.Says.{Says};
@@ -33,7 +34,7 @@ fn put_mark(queue: &mut [u8], at: usize, limit: usize, mark: Mark) -> usize
     }
 }
 
-// `* LIST (..) "/" name`, the part that all LIST lines begin with.
+// `* LIST (..) "/" "name"`, the part that all LIST lines begin with.
 fn put_listed(queue: &mut [u8], at: usize, limit: usize, mark: Mark, name: &[u8]) -> usize
     requires { (limit ≤ length queue.old) × (at ≤ 524288) × (length name.now ≤ 64) }
     ensures { (Put queue.old at limit (listed (mark_of mark) name.now) queue.new result) × (result ≤ at + 156) }
@@ -41,7 +42,7 @@ fn put_listed(queue: &mut [u8], at: usize, limit: usize, mark: Mark, name: &[u8]
     let a = line_put::put(queue, at, limit, b"* LIST ");
     let b = put_mark(queue, a, limit, mark);
     let c = line_put::put(queue, b, limit, b" \"/\" ");
-    line_put::put_name(queue, c, limit, name)
+    line_put::put_quoted(queue, c, limit, name)
 }
 
 pub fn put_list(queue: &mut [u8], at: usize, limit: usize, mark: Mark, name: &[u8]) -> usize
@@ -96,17 +97,26 @@ pub fn put_renamed(
 {
     let a = put_listed(queue, at, limit, mark, new);
     let b = line_put::put(queue, a, limit, b" (\"OLDNAME\" (");
-    let c = line_put::put_name(queue, b, limit, old);
+    let c = line_put::put_quoted(queue, b, limit, old);
     line_put::put(queue, c, limit, b"))\r\n")
 }
 
-// `* STATUS name (`, the part that all STATUS lines begin with.
+// A word and a number.
+fn put_counted(queue: &mut [u8], at: usize, limit: usize, word: &[u8], n: u64) -> usize
+    requires { (limit ≤ length queue.old) × (at ≤ 1048576) × (length word.now ≤ 16) }
+    ensures { (Put queue.old at limit (word.now ++ decimal n) queue.new result) × (result ≤ at + 36) }
+{
+    let a = line_put::put(queue, at, limit, word);
+    line_put::put_number(queue, a, limit, n)
+}
+
+// `* STATUS "name" (`, the part that all STATUS lines begin with.
 fn put_opening(queue: &mut [u8], at: usize, limit: usize, name: &[u8]) -> usize
     requires { (limit ≤ length queue.old) × (at ≤ 524288) × (length name.now ≤ 64) }
     ensures { (Put queue.old at limit (opening name.now) queue.new result) × (result ≤ at + 141) }
 {
     let a = line_put::put(queue, at, limit, b"* STATUS ");
-    let b = line_put::put_name(queue, a, limit, name);
+    let b = line_put::put_quoted(queue, a, limit, name);
     line_put::put(queue, b, limit, b" (")
 }
 
@@ -115,7 +125,7 @@ fn put_highest(queue: &mut [u8], at: usize, limit: usize, highest: u64) -> usize
     requires { (limit ≤ length queue.old) × (at ≤ 1048576) }
     ensures { (Put queue.old at limit (ending highest) queue.new result) × (result ≤ at + 39) }
 {
-    let a = line_put::put_counted(queue, at, limit, b" HIGHESTMODSEQ ", highest);
+    let a = put_counted(queue, at, limit, b" HIGHESTMODSEQ ", highest);
     line_put::put(queue, a, limit, b")\r\n")
 }
 
@@ -133,8 +143,8 @@ pub fn put_status(
     ensures { (Put queue.old at limit (render (status name.now (mail_items next messages highest))) queue.new result) × (result ≤ at + 252) }
 {
     let a = put_opening(queue, at, limit, name);
-    let b = line_put::put_counted(queue, a, limit, b"UIDNEXT ", next);
-    let c = line_put::put_counted(queue, b, limit, b" MESSAGES ", messages);
+    let b = put_counted(queue, a, limit, b"UIDNEXT ", next);
+    let c = put_counted(queue, b, limit, b" MESSAGES ", messages);
     put_highest(queue, c, limit, highest)
 }
 
@@ -151,7 +161,7 @@ pub fn put_flag_status(
     ensures { (Put queue.old at limit (render (status name.now (flag_items validity highest))) queue.new result) × (result ≤ at + 216) }
 {
     let a = put_opening(queue, at, limit, name);
-    let b = line_put::put_counted(queue, a, limit, b"UIDVALIDITY ", validity);
+    let b = put_counted(queue, a, limit, b"UIDVALIDITY ", validity);
     put_highest(queue, b, limit, highest)
 }
 
@@ -170,9 +180,9 @@ pub fn put_status_at_set(
     ensures { (Put queue.old at limit (render (status name.now (set_items messages next validity highest))) queue.new result) × (result ≤ at + 300) }
 {
     let a = put_opening(queue, at, limit, name);
-    let b = line_put::put_counted(queue, a, limit, b"MESSAGES ", messages);
-    let c = line_put::put_counted(queue, b, limit, b" UIDNEXT ", next);
-    let d = line_put::put_counted(queue, c, limit, b" UIDVALIDITY ", validity);
+    let b = put_counted(queue, a, limit, b"MESSAGES ", messages);
+    let c = put_counted(queue, b, limit, b" UIDNEXT ", next);
+    let d = put_counted(queue, c, limit, b" UIDVALIDITY ", validity);
     put_highest(queue, d, limit, highest)
 }
 

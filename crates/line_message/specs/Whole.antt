@@ -10,7 +10,7 @@ use Rattle.model.specs.Lines.{Line, render_all}
 use Rattle.model.specs.View.{view, unannounced, selected_messages, expunge_lines, exists_line, marked_lines, new_lines, owed_lines, announcing, shows_any, shown_items}
 use Rattle.model.specs.declared.Message.{Message}
 use Rattle.model.specs.Rendered.{render-append}
-use Rattle.model.specs.Laws.{and_true}
+use Rattle.model.specs.Laws.{and-true}
 use Rattle.order_messages.specs.Counts.{stays, fresh}
 use Rattle.line_fetch.specs.declared.Shows.{Shows}
 use Rattle.line_message.specs.declared.Part.TheVariants.{Expunged, Marked, New}
@@ -42,7 +42,7 @@ module _ (told : ℕ) (w : Shows) (l : List Message) (k n : ℕ) (e : k ≡ leng
 -- those that the client has, and those of them that exist
 has_all : (told : ℕ) (l : List Message) → filterb (stays told false) l ≡ filterb (λ (e : Message). ltb (uid_of e) told) l
 has_all told [] = refl
-has_all told (e ∷ l) = ap₂ (λ (b : Bool) (t : List Message). keep b e t) (and_true (ltb (uid_of e) told)) (has_all told l)
+has_all told (e ∷ l) = ap₂ (λ (b : Bool) (t : List Message). keep b e t) (and-true (ltb (uid_of e) told)) (has_all told l)
 
 has_live : (told : ℕ) (l : List Message) → filterb (stays told true) l ≡ filterb (λ (e : Message). not (expunged e)) (filterb (λ (e : Message). ltb (uid_of e) told) l)
 has_live told [] = refl

@@ -1,15 +1,14 @@
 // Writers into a queue, up to a limit. Each answers where its text ends. It writes only where that is within the limit.
 #![tactic(auto)]
 
-ghost use Rattle.std.specs.Prelude.{◌≡◌, [], ◌∷◌, ◌++◌, false, cond, ◌+◌, ◌*◌, ◌-◌, ◌≤◌, ◌<◌, length};
+ghost use Rattle.std.specs.Prelude.{◌≡◌, [], ◌∷◌, false, cond, ◌+◌, ◌*◌, ◌-◌, ◌≤◌, ◌<◌, length};
 ghost use Rattle.line_put.specs.Wrote.{Wrote};
 ghost use Rattle.line_put.specs.Put.{Put};
 ghost use Rattle.model.specs.Memory.{silenced};
-ghost use Rattle.model.specs.Lines.{bare, name_text, overflow, render};
+ghost use Rattle.model.specs.Lines.{overflow, render};
 ghost use Rattle.model.specs.Text.{decimal, escape_octet, quoted};
 
 use model::{LentGroup, LentName, Session};
-use octets::Class;
 
 fn copy(queue: &mut [u8], at: usize, text: &[u8]) -> usize
     requires { at + length text.now ≤ length queue.old }
@@ -59,16 +58,6 @@ pub fn put_number(queue: &mut [u8], at: usize, limit: usize, n: u64) -> usize
     put_byte(queue, o, limit, 48 + (n % 10) as u8)
 }
 
-// A word and a number behind it.
-pub fn put_counted(queue: &mut [u8], at: usize, limit: usize, word: &[u8], n: u64) -> usize
-    requires { (limit ≤ length queue.old) × (at ≤ 274877906944) × (length word.now ≤ 1048576) }
-    ensures put { Put queue.old at limit (word.now ++ decimal n) queue.new result }
-    ensures upper_bound { result ≤ at + length word.now + 20 }
-{
-    let a = put(queue, at, limit, word);
-    put_number(queue, a, limit, n)
-}
-
 // A byte of a quoted string.
 fn put_escaped(queue: &mut [u8], at: usize, limit: usize, b: u8) -> usize
     requires { (limit ≤ length queue.old) × (at ≤ 549755813888) }
@@ -85,9 +74,10 @@ fn put_escaped(queue: &mut [u8], at: usize, limit: usize, b: u8) -> usize
     put_byte(queue, at, limit, b)
 }
 
-fn put_quoted(queue: &mut [u8], at: usize, limit: usize, text: &[u8]) -> usize
+pub fn put_quoted(queue: &mut [u8], at: usize, limit: usize, text: &[u8]) -> usize
     requires { (limit ≤ length queue.old) × (at ≤ 274877906944) × (length text.now ≤ 1048576) }
-    ensures { Put queue.old at limit (quoted text.now) queue.new result }
+    ensures put { Put queue.old at limit (quoted text.now) queue.new result }
+    ensures upper_bound { result ≤ at + 2 * length text.now + 2 }
 {
     let mut o = put_byte(queue, at, limit, 34);
     let mut i = 0;
@@ -96,29 +86,6 @@ fn put_quoted(queue: &mut [u8], at: usize, limit: usize, text: &[u8]) -> usize
         i += 1;
     }
     put_byte(queue, o, limit, 34)
-}
-
-// ---- a mailbox name
-// Whether a name may stand without quotes.
-fn is_bare(name: &[u8]) -> bool
-    ensures { result ≡ bare name.now }
-{
-    if octets::run_end(name, 0, Class::Atom) < name.len() {
-        return false;
-    }
-    !names::same_word(name, b"NIL")
-}
-
-// A mailbox name: as it is where it may be, else in quotes.
-pub fn put_name(queue: &mut [u8], at: usize, limit: usize, name: &[u8]) -> usize
-    requires { (limit ≤ length queue.old) × (at ≤ 274877906944) × (length name.now ≤ 1048576) }
-    ensures put { Put queue.old at limit (name_text name.now) queue.new result }
-    ensures upper_bound { result ≤ at + 2 * length name.now + 2 }
-{
-    if is_bare(name) {
-        return put(queue, at, limit, name);
-    }
-    put_quoted(queue, at, limit, name)
 }
 
 // ---- a line or the overflow line

@@ -256,13 +256,13 @@ module _ (cells : List ℕ) (at stop : ℕ) where
   nest_by kind after q h b e = (omega arith, subst (λ (r : ℕ). Behind cells at stop r) (eqb-true after stop e) b)
 
 -- ---- keys
-and_true : (b : Bool) → b && true ≡ b
-and_true true = refl
-and_true false = refl
+and-true : (b : Bool) → b && true ≡ b
+and-true true = refl
+and-true false = refl
 
-or_false : (b : Bool) → b || false ≡ b
-or_false true = refl
-or_false false = refl
+or-false : (b : Bool) → b || false ≡ b
+or-false true = refl
+or-false false = refl
 
 -- the first key that decides is the answer, whatever stands behind it
 decided : (any h : Bool) (k : Key) (ks : Keys) (c : Candidate) → h ≡ holds k c → agrees any h ≡ true → any ≡ folded any (more k ks) c
@@ -283,8 +283,8 @@ none false c = refl
 
 single : (any : Bool) (k : Key) (c : Candidate) → folded any (more k end) c ≡ holds k c
 unfolding holds holds_some
-single true k c = or_false (holds k c)
-single false k c = and_true (holds k c)
+single true k c = or-false (holds k c)
+single false k c = and-true (holds k c)
 
 turned : (on b x : Bool) → agrees on (agrees b x) ≡ agrees (agrees b on) x
 turned true true x = refl
@@ -325,7 +325,7 @@ module _ (cells : List ℕ) (at kind : ℕ) (q : kind ≡ get_or cells at 0) whe
         is = others cells at 8 (length (code k)) (code k ++ rest) e ∙ ap (λ (l : List ℕ). l ++ rest) (sym n);
         size = let l = ap length n in omega arith;
         proper = (g, tt);
-        same = λ c. ap not (sym (and_true (holds k c))) ∙ sym (ap (λ (x : ℕ). agrees (not (eqb x 8)) (folded (eqb x 9) (more k end) c)) z);
+        same = λ c. ap not (sym (and-true (holds k c))) ∙ sym (ap (λ (x : ℕ). agrees (not (eqb x 8)) (folded (eqb x 9) (more k end) c)) z);
       }
   inner h (either a b) rest e g =
       let z = is_kind 9 (length (code a ++ code b) ∷ ((code a ++ code b) ++ rest)) e in
@@ -335,7 +335,7 @@ module _ (cells : List ℕ) (at kind : ℕ) (q : kind ≡ get_or cells at 0) whe
         is = others cells at 9 (length (code a ++ code b)) ((code a ++ code b) ++ rest) e ∙ ap (λ (l : List ℕ). l ++ rest) (sym n);
         size = let l = ap length n in omega arith;
         proper = (g.0, (g.1, tt));
-        same = λ c. ap (λ (x : Bool). holds a c || x) (sym (or_false (holds b c))) ∙ sym (ap (λ (x : ℕ). agrees (not (eqb x 8)) (folded (eqb x 9) (more a (more b end)) c)) z);
+        same = λ c. ap (λ (x : Bool). holds a c || x) (sym (or-false (holds b c))) ∙ sym (ap (λ (x : ℕ). agrees (not (eqb x 8)) (folded (eqb x 9) (more a (more b end)) c)) z);
       }
   inner h (group ks) rest e g =
       let z = is_kind 10 (length (codes ks) ∷ (codes ks ++ rest)) e in

@@ -12,7 +12,7 @@ use Rattle.model.specs.declared.Group.{Group}
 use Rattle.model.specs.declared.Selector.{Selector}
 use Rattle.model.specs.declared.Selector.TheVariants.{Selected, Delayed, Inboxes, Personal, Subscribed, Subtree, Mailboxes}
 use Rattle.model.specs.declared.Session.{Session}
-use Rattle.model.specs.Laws.{or_false, and_false, or_assoc}
+use Rattle.model.specs.Laws.{or-false, and_false, or_assoc}
 use Rattle.table_mailboxes.specs.Columns.{noted}
 
 -- whom a selector takes by attributes alone
@@ -63,10 +63,10 @@ left_next m x r e f g = e ∙ (ap (λ (b : Bool). m || b) f ∙ (or_assoc m x r 
 
 -- nothing is left
 pub left_past : (m : Bool) {z q : Bool} → z ≡ (m || q) → q ≡ false → m ≡ z
-left_past m e f = sym (e ∙ (ap (λ (b : Bool). m || b) f ∙ or_false m))
+left_past m e f = sym (e ∙ (ap (λ (b : Bool). m || b) f ∙ or-false m))
 
 pub marks_none : (n : ℕ) (p : ℕ → Bool) (l : List ℕ) → ((k : ℕ) → p k ≡ false) → Marks n p l l
-marks_none n p l e k h = sym (ap (λ (b : Bool). noted (get_or l k 0) || b) (e k) ∙ or_false (noted (get_or l k 0)))
+marks_none n p l e k h = sym (ap (λ (b : Bool). noted (get_or l k 0) || b) (e k) ∙ or-false (noted (get_or l k 0)))
 
 -- from no marks on
 pub fresh : (n k : ℕ) {z x : Bool} → k < n → z ≡ (noted (get_or (replicate n 0) k 0) || x) → z ≡ x

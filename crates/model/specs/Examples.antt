@@ -11,6 +11,5 @@ pub mod Rfc
 pub mod Fates
 pub mod Counters
 pub mod Parent
-pub mod BareNames
 pub mod Why
 pub mod WhyText

@@ -22,9 +22,9 @@ pub or_true : (a : Bool) → (a || true) ≡ true
 or_true true = refl
 or_true false = refl
 
-pub or_false : (a : Bool) → (a || false) ≡ a
-or_false true = refl
-or_false false = refl
+pub or-false : (a : Bool) → (a || false) ≡ a
+or-false true = refl
+or-false false = refl
 
 pub and_l : (a b : Bool) → (a && b) ≡ true → a ≡ true
 and_l true b e = refl
@@ -34,9 +34,9 @@ pub and_r : (a b : Bool) → (a && b) ≡ true → b ≡ true
 and_r true b e = e
 and_r false b e = tf false e refl
 
-pub and_true : (a : Bool) → (a && true) ≡ a
-and_true true = refl
-and_true false = refl
+pub and-true : (a : Bool) → (a && true) ≡ a
+and-true true = refl
+and-true false = refl
 
 pub and_false : (a : Bool) → (a && false) ≡ false
 and_false true = refl
@@ -185,7 +185,7 @@ module _ {A : Type 0} where
       go false f ih = ih
 
   pub any_snoc : (p : A → Bool) (l : List A) (x : A) → anyb p (l ++ (x ∷ [])) ≡ anyb p l || p x
-  any_snoc p [] x = or_false (p x)
+  any_snoc p [] x = or-false (p x)
   any_snoc p (y ∷ l) x = go (p y) (any_snoc p l x)
     where
       go : (b : Bool) → anyb p (l ++ (x ∷ [])) ≡ anyb p l || p x → (b || anyb p (l ++ (x ∷ []))) ≡ (b || anyb p l) || p x

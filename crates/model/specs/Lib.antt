@@ -31,7 +31,6 @@ pub mod Fates
 pub mod Seen
 pub mod Counters
 pub mod Parents
-pub mod BareNames
 pub mod Due
 pub mod Account
 pub mod Tally

@@ -1,10 +1,9 @@
--- Every line that is written, as data and as octets (01, Written, 2 to 10 and 22; Commands, 13 to 18; Matches, 6, 10 and 11; Records, 14; 02, 1 and 4).
-use Rattle.std.specs.Prelude.{List, [], ◌∷◌, ◌++◌, Bool, cond, not, ◌&&◌, ℕ, ◌+◌, eqb}
-use Rattle.model.specs.Lists.{allb, concat_map}
+-- Every line that is written, as data and as octets (01, Written, 2 to 10 and 22; Commands, 13 to 18; Matches, 6, 10 and 11; Records, 14; 02, 1).
+use Rattle.std.specs.Prelude.{List, [], ◌∷◌, ◌++◌, cond, ℕ, ◌+◌, eqb}
+use Rattle.model.specs.Lists.{concat_map}
 use Rattle.model.specs.Names.{Name}
-use Rattle.model.specs.Octets.{atom_octet}
 use Rattle.model.specs.Requests.{Verb, notify, esearch, other_verb}
-use Rattle.model.specs.Text.{octets, same_word, decimal, quoted, bit}
+use Rattle.model.specs.Text.{octets, decimal, quoted, bit}
 use Rattle.model.specs.declared.MessageNumber.{MessageNumber}
 use Rattle.model.specs.declared.Uid.{Uid}
 use Rattle.model.specs.declared.Reply.{Reply}
@@ -60,13 +59,9 @@ crlf = 13 ∷ 10 ∷ []
 abbrev pub space : List ℕ
 space = 32 ∷ []
 
--- a name that may stand without quotes: atom octets alone, and not NIL in any case, which a client would take for no name (02, 4)
-abbrev pub bare : Name → Bool
-bare n = allb atom_octet n && not (same_word n (octets "NIL"))
-
--- a mailbox name in a line: as it is where it may be, else in quotes (Written, 2; 02, 4)
-unfoldable pub name_text : Name → List ℕ
-name_text n = cond (bare n) n (quoted n)
+-- a mailbox name is quoted (Written, 2)
+abbrev pub name_text : Name → List ℕ
+name_text n = quoted n
 
 abbrev pub mark_text : ListMark → List ℕ
 mark_text plain = octets "()"

@@ -38,15 +38,15 @@ selector_for (subtree n ns) r = Subtree r
 selector_for (subtree_one n ns) r = Subtree r
 selector_for (mailboxes n ns) r = Mailboxes r
 
-pub selector-read : (f : Filter) (r : NameRange) → selector_of (selector_number f) r ≡ selector_for f r
-selector-read selected r = refl
-selector-read delayed r = refl
-selector-read inboxes r = refl
-selector-read personal r = refl
-selector-read subscribed r = refl
-selector-read (subtree n ns) r = refl
-selector-read (subtree_one n ns) r = refl
-selector-read (mailboxes n ns) r = refl
+pub selector_read : (f : Filter) (r : NameRange) → selector_of (selector_number f) r ≡ selector_for f r
+selector_read selected r = refl
+selector_read delayed r = refl
+selector_read inboxes r = refl
+selector_read personal r = refl
+selector_read subscribed r = refl
+selector_read (subtree n ns) r = refl
+selector_read (subtree_one n ns) r = refl
+selector_read (mailboxes n ns) r = refl
 
 -- the events of a group, a bit each; repeated ones add nothing
 abbrev pub event_bits : List Event → ℕ

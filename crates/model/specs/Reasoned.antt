@@ -87,7 +87,7 @@ module _ (m : Memory) (os : List Octets) (o : Octets) where
     pub can : CanWait (record_of o) debt
     pub from : OwedFrom (call before o).after c debt
 
-  -- a new or expunged message of the selected mailbox, with both rights, whose call writes no overflow line
+  -- a new or expunged message of the selected mailbox, with both rights, that is not called to overflow
   pub record Plain (i : ℕ) : Type 0 where
     pub taken : number_of (call before o).answer ≡ 0
     pub selected : is_selected before i ≡ true

@@ -14,7 +14,7 @@ use Rattle.octets.specs.Quotes.{step_of, kept}
 use Rattle.octets.specs.Values.{value_of, fill}
 use Rattle.octets.specs.declared.Next.TheVariants.{At, Bad}
 use Rattle.octets.proofs.Pieces.{piece_over}
-use Rattle.octets.proofs.Strings.{quote_at, quote-goes, quote_fails, quote-begins, quote_none}
+use Rattle.octets.proofs.Strings.{quote_at, quote-goes, quote_fails, quote_begins, quote_none}
 
 pub fill_none : (out : List ℕ) → fill out [] ≡ out
 fill_none out = rw (take-nil (length out))
@@ -112,9 +112,9 @@ kept_short k b = go (eqb k 2)
 
 -- a quoted string that is read begins with a quote
 module _ (s : List ℕ) (at : ℕ) (ok : next_of (quoted_at s at) ≡ Bad → ⊥) where
-  pub string-begins : quoted_at s at ≡ unquote (drop (at + 1) s) false (at + 1)
-  string-begins = go (eqb (get_or s at 0) 34) refl
+  pub string_begins : quoted_at s at ≡ unquote (drop (at + 1) s) false (at + 1)
+  string_begins = go (eqb (get_or s at 0) 34) refl
     where
       go : (t : Bool) → eqb (get_or s at 0) 34 ≡ t → quoted_at s at ≡ unquote (drop (at + 1) s) false (at + 1)
-      go true e = quote-begins s at (eqb-true _ _ e)
+      go true e = quote_begins s at (eqb-true _ _ e)
       go false e = absurd (ok (sym (quote_none s at (eqb-false _ _ e))))

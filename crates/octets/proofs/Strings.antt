@@ -49,8 +49,8 @@ module _ (s : List ℕ) (at : ℕ) where
   pub quote_none : (get_or s at 0 ≡ 34 → ⊥) → Bad ≡ next_of (quoted_at s at)
   quote_none n = rw (ne_eqb _ _ n)
 
-  pub quote-begins : get_or s at 0 ≡ 34 → quoted_at s at ≡ unquote (drop (at + 1) s) false (at + 1)
-  quote-begins e = rw (eq-eqb _ _ e)
+  pub quote_begins : get_or s at 0 ≡ 34 → quoted_at s at ≡ unquote (drop (at + 1) s) false (at + 1)
+  quote_begins e = rw (eq-eqb _ _ e)
 
 -- what stands at p, and a backslash before it or not
 module _ (s : List ℕ) (p : ℕ) (e : Bool) where

@@ -1,6 +1,6 @@
 -- Keys by their parts, over plain values: one lemma for each case of the grammar. Assumes nothing.
 use mathlib.Core.Path.{◌≡◌, refl, sym, ap, ◌∙◌}
-use mathlib.Core.Bool.{Bool, cond, ◌||◌, or_false}
+use mathlib.Core.Bool.{Bool, cond, ◌||◌, or-false}
 use mathlib.Core.List.{List, ◌∷◌, ◌++◌, append-nil}
 use Prim.Native.Nat.{ℕ, zero, suc, ◌+◌, ◌-◌, ◌*◌, ◌≤◌, ◌<◌, max}
 use native.Mathlib.Numerals.{sub-one}
@@ -182,7 +182,7 @@ wrote_last : (b b₁ : List ℕ) (n : ℕ) {p p₁ : ℕ} (r j : Read) → j ≡
     → WroteKeys j b b₁ n (ok p₁ (more a end))
 unfolding code key_count key_depth some_test parts_most
 wrote_last b b₁ n r j l a e f =
-    (l ∙ rw (e, append-nil (code a), or_false (some_test unsupported_test a), max_none (parts_most a), max_none (key_depth a), add_none (key_count a)), f ∙ rw (append-nil (code a)))
+    (l ∙ rw (e, append-nil (code a), or-false (some_test unsupported_test a), max_none (parts_most a), max_none (key_depth a), add_none (key_count a)), f ∙ rw (append-nil (code a)))
 
 -- ---- the cases of `key_at`
 

@@ -6,7 +6,7 @@ use Prim.Native.Nat.{ℕ, ◌+◌, ◌-◌, ◌≤◌}
 use native.Mathlib.Omega.{arith}
 use lib.ListN.{length}
 use Rattle.model.specs.Lists.{anyb, keep, filterb, concat_map}
-use Rattle.model.specs.Laws.{or_false, or_assoc}
+use Rattle.model.specs.Laws.{or-false, or_assoc}
 use Rattle.model.specs.Text.{one}
 use Rattle.model.specs.Requests.{Filter, selected, delayed, inboxes, personal, subscribed, subtree, subtree_one, mailboxes, names_of, of_selected, Asked}
 use Rattle.model.specs.Requests.{Event, message_new, message_expunge, flag_change, annotation_change, mailbox_name, subscription_change, other_event, is_new, is_expunge, is_flag_change, is_annotation_change, is_mailbox_name, is_subscription_change, is_other, attributes_of}
@@ -106,8 +106,8 @@ tally_one f es = rw (scope-selected f, some_messages es, some_others es) (tally_
     (omega arith)
     (sym (one_kept (of_selected f) (record { filter = f; events = es }) [] ∙ omega arith))
     (amiss_one (of_selected f) (anyb (λ (e : Event). not (message_event e)) es) (anyb has_attributes es) (anyb message_event es && not (anyb is_new es && anyb is_expunge es)))
-    (some_unsupported es ∙ sym (or_false (anyb unsupported_event es)))
-    (some-asked es ∙ sym (or_false (anyb asks_unsupported es))))
+    (some_unsupported es ∙ sym (or-false (anyb unsupported_event es)))
+    (some-asked es ∙ sym (or-false (anyb asks_unsupported es))))
 
 -- ---- a group and those that follow it
 amiss-more : (a b c x y z : Bool) → ((((a || false) || (b || false)) || (c || false)) || ((x || y) || z)) ≡ (((a || x) || (b || y)) || (c || z))
@@ -125,8 +125,8 @@ tally-more g gs = tally_eq
     (omega arith)
     (omega (arith, one_kept (selected_group g) g [], one_kept (selected_group g) g (filterb selected_group gs)))
     (amiss-more (misplaced_event g) (misplaced_attributes g) (unpaired g) (anyb misplaced_event gs) (anyb misplaced_attributes gs) (anyb unpaired gs))
-    (ap (λ b. b || anyb (λ (h : Asked). anyb unsupported_event h.events) gs) (or_false (anyb unsupported_event g.events)))
-    (ap (λ b. b || anyb (λ (h : Asked). anyb asks_unsupported h.events) gs) (or_false (anyb asks_unsupported g.events)))
+    (ap (λ b. b || anyb (λ (h : Asked). anyb unsupported_event h.events) gs) (or-false (anyb unsupported_event g.events)))
+    (ap (λ b. b || anyb (λ (h : Asked). anyb asks_unsupported h.events) gs) (or-false (anyb asks_unsupported g.events)))
 
 -- ---- tallies put together
 pub add_none : (t : Tally) → add no_tally t ≡ t

@@ -53,8 +53,8 @@ none_found (ok p w) h = absurd (let z : ◌≡◌ {A = ℕ} 0 1 = cc in omega ar
 
 -- ---- its verb
 module _ (s : List ℕ) (at : ℕ) where
-  pub verb-read : (p : ℕ) {v : Verb} → At p ≡ next_of (atom_at s at) → v ≡ verb_of (verb_at (piece s at p)) → IsVerb v p ≡ read_verb (atom_at s at)
-  verb-read p h e = ap (λ (v : Verb). IsVerb v p) e ∙ ap read_verb (sym (atom-found s at p h))
+  pub verb_read : (p : ℕ) {v : Verb} → At p ≡ next_of (atom_at s at) → v ≡ verb_of (verb_at (piece s at p)) → IsVerb v p ≡ read_verb (atom_at s at)
+  verb_read p h e = ap (λ (v : Verb). IsVerb v p) e ∙ ap read_verb (sym (atom-found s at p h))
 
   pub verb_none : NoNext ≡ next_of (atom_at s at) → NoVerb ≡ read_verb (atom_at s at)
   verb_none h = ap read_verb (sym (none_found (atom_at s at) h))

@@ -76,5 +76,5 @@ reply_by_lem l sel (ok p (notify_set status gs)) h = absurd h
 reply_by_lem l sel (ok p (search q)) h = reply_same l sel q p
 
 -- the reply by what was read is the reply to the line
-pub reply-read : (l : Limits) (sel : Bool) (s : List ℕ) (at : ℕ) → reply_by_read l sel (read_search (search_at s at)) ≡ reply_of l sel (search_at s at)
-reply-read l sel s at = reply_by_lem l sel (search_at s at) (only-search s at)
+pub reply_read : (l : Limits) (sel : Bool) (s : List ℕ) (at : ℕ) → reply_by_read l sel (read_search (search_at s at)) ≡ reply_of l sel (search_at s at)
+reply_read l sel s at = reply_by_lem l sel (search_at s at) (only-search s at)

@@ -5,7 +5,7 @@ use Rattle.std.proofs.Common.{ap, ap₂, sym, ◌∙◌, eqb-true}
 use Rattle.std.proofs.Math.Bool.{true, false, not}
 use Rattle.std.proofs.Math.Dec.{eqb}
 use Rattle.model.specs.Lists.{anyb}
-use Rattle.model.specs.Laws.{tf, and_r, or_false}
+use Rattle.model.specs.Laws.{tf, and_r, or-false}
 use Rattle.model.specs.Names.{Name, valid, fold, argument, has_parent}
 use Rattle.model.specs.Records.{Record, create, delete, rename, subscribe, grant, arrive, expunge, reflag, select, ended, command, drained, record_of_none}
 use Rattle.model.specs.Memory.{Memory, boxes, name_of, may_list, both_rights, with_attributes, with_name, the_mailbox, is_selected}
@@ -108,7 +108,7 @@ plain_is q e h i j = rw (h, i, j)
 
 module _ (s : Session) (q e : Bool) (x : Mailbox) (two : Bool) (y : Mailbox) where
   pub one_row : two ≡ false → plain q e (both_rights x) (met_of s x) (asking_of s x 3) ≡ either_of s q e x two y
-  one_row h = ap₂ (plain q e (both_rights x)) (sym (or_false (met_of s x))) (lesser_none (asking_of s x 3)) ∙ ap (λ (b : Bool). either_of s q e x b y) (sym h)
+  one_row h = ap₂ (plain q e (both_rights x)) (sym (or-false (met_of s x))) (lesser_none (asking_of s x 3)) ∙ ap (λ (b : Bool). either_of s q e x b y) (sym h)
 
   pub two-rows : two ≡ true → plain q e (both_rights x) (met_of s x || met_of s y) (lesser (asking_of s x 3) (asking_of s y 3)) ≡ either_of s q e x two y
   two-rows h = ap (λ (b : Bool). either_of s q e x b y) (sym h)

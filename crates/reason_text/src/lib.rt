@@ -1,7 +1,8 @@
 // The texts of the tool `why`: a place as it is typed, and the line that says a reason.
 #![tactic(auto)]
 
-ghost use Rattle.std.specs.Prelude.{◌≡◌, ◌+◌, ◌-◌, ◌*◌, ◌≤◌, ◌<◌, min, length};
+ghost use Rattle.std.specs.Prelude.{◌≡◌, ◌++◌, ◌+◌, ◌-◌, ◌*◌, ◌≤◌, ◌<◌, min, length};
+ghost use Rattle.model.specs.Text.{decimal};
 ghost use Rattle.model.specs.Reasons.{words, reason_text, place_of};
 ghost use Rattle.line_put.specs.Put.{Put};
 
@@ -49,23 +50,31 @@ pub fn place_of(text: &[u8]) -> u64
 
 // ---- a reason
 
-// What is said of it, a number behind some.
+// A word and a number behind it.
+fn put_counted(out: &mut [u8], limit: usize, word: &[u8], n: u64) -> usize
+    requires { (limit ≤ length out.old) × (length word.now ≤ 8) }
+    ensures { (Put out.old 0 limit (word.now ++ decimal n) out.new result) × (result ≤ 28) }
+{
+    let a = line_put::put(out, 0, limit, word);
+    line_put::put_number(out, a, limit, n)
+}
+
 fn put_words(out: &mut [u8], limit: usize, y: Reason) -> usize
     requires { limit ≤ length out.old }
     ensures { (Put out.old 0 limit (words y) out.new result) × (result ≤ 33) }
 {
     match y {
         Reason::NoRecord => line_put::put(out, 0, limit, b"no record"),
-        Reason::Refused(n) => line_put::put_counted(out, 0, limit, b"refused ", n),
+        Reason::Refused(n) => put_counted(out, limit, b"refused ", n),
         Reason::Quiet => line_put::put(out, 0, limit, b"quiet"),
         Reason::NoEvent => line_put::put(out, 0, limit, b"no event"),
         Reason::RightMissing => line_put::put(out, 0, limit, b"right missing"),
         Reason::Unmet => line_put::put(out, 0, limit, b"no group matches"),
         Reason::Unasked => line_put::put(out, 0, limit, b"group matches but event not asked"),
         Reason::Unannounced => line_put::put(out, 0, limit, b"unannounced message"),
-        Reason::Waiting(c) => line_put::put_counted(out, 0, limit, b"waiting ", c),
+        Reason::Waiting(c) => put_counted(out, limit, b"waiting ", c),
         Reason::Overflow => line_put::put(out, 0, limit, b"overflow"),
-        Reason::Written(g) => line_put::put_counted(out, 0, limit, b"written ", g),
+        Reason::Written(g) => put_counted(out, limit, b"written ", g),
     }
 }
 

@@ -1,6 +1,6 @@
 -- The loop over the letters of a layout: what is read of the fields passed, and of those to come. Assumes nothing.
 use mathlib.Core.Path.{◌≡◌, refl, sym, ap, ◌∙◌}
-use mathlib.Core.Bool.{Bool, true, ◌&&◌, and_true, and_assoc}
+use mathlib.Core.Bool.{Bool, true, ◌&&◌, and-true, and_assoc}
 use mathlib.Core.List.{List, [], ◌∷◌, ◌++◌, append-nil, append_assoc}
 use Prim.Native.Nat.{ℕ, ◌+◌, ◌*◌, ◌≤◌, ◌<◌}
 use native.Mathlib.Numerals.{add-one}
@@ -80,7 +80,7 @@ pub passed_all : (o letters : List ℕ) {all : Bool} {vs : List ℕ} {end : ℕ}
 passed_all o letters {all} {vs} {end} p =
     let none : drop (length letters) letters ≡ [] = drop-length letters in
     record {
-      ranges = sym (p.ranges ∙ ap (λ (l : List ℕ). all && all_in_range (fields_for l) (drop end o)) none ∙ and_true all);
+      ranges = sym (p.ranges ∙ ap (λ (l : List ℕ). all && all_in_range (fields_for l) (drop end o)) none ∙ and-true all);
       filled = sym (p.filled ∙ ap (λ (l : List ℕ). take (length letters) vs ++ values (fields_for l) (drop end o)) none ∙ append-nil (take (length letters) vs));
       places = p.places;
       ends = let e : widths (fields_for (drop (length letters) letters)) ≡ 0 = ap (λ (l : List ℕ). widths (fields_for l)) none in omega (arith, p.ends);

@@ -109,8 +109,8 @@ record Parts (o : List ℕ) (k : Kind) (all : Bool) (vs : List ℕ) (end : ℕ) 
   ends : end ≡ 4 + widths (layout k).fields
 
 -- from the letters of the layout
-parts-read : (o letters : List ℕ) (k : Kind) {f : Fields} → FieldsRead o letters f → fields_for letters ≡ (layout k).fields → Parts o k f.all f.values f.end
-parts-read o letters k {f} p e =
+parts_read : (o letters : List ℕ) (k : Kind) {f : Fields} → FieldsRead o letters f → fields_for letters ≡ (layout k).fields → Parts o k f.all f.values f.end
+parts_read o letters k {f} p e =
     record {
       ranges = p.ranges ∙ ap (λ (fs : List Field). all_in_range fs (drop 4 o)) e;
       filled =
@@ -200,7 +200,7 @@ module _ (k : CodeKind) {l : Layout} (laid : l ≡ layout_for k) where
   module _ (o : List ℕ) (marked : kind_for k ≡ kind_of o) {f : Fields} (read : FieldsRead o (take l.1 l.0) f) where
     -- the parts, by the layout of the kind
     parts : Parts o (kind_for k) f.all f.values f.end
-    parts = parts-read o (take l.1 l.0) (kind_for k) read fits_row.fields
+    parts = parts_read o (take l.1 l.0) (kind_for k) read fits_row.fields
 
     module _ {known fits whole ok : Bool} (is_known' : known ≡ is_known (kind_for k)) (fit : fits ≡ (known && f.all))
         (ending : whole ≡ (framed o && (leb f.end (length o) && tail_ok (tail_for l.2) (drop f.end o)))) (both : ok ≡ (fits && whole)) where
@@ -212,9 +212,9 @@ module _ (k : CodeKind) {l : Layout} (laid : l ≡ layout_for k) where
           (ending ∙ ap (λ (t : Tail). framed o && (leb f.end (length o) && tail_ok t (drop f.end o))) fits_row.tail)
 
       -- the answer
-      pub octets-read : Reads o (record { valid = ok; kind = k; values = f.values; tail = f.end })
+      pub octets_read : Reads o (record { valid = ok; kind = k; values = f.values; tail = f.end })
       unfolding record_of
-      octets-read =
+      octets_read =
           record {
             valid = tests ∙ parts-tests o (kind_for k) parts ∙ ap (λ (x : Kind). is_known x && (framed o && body_ok (layout x) (body_of o))) marked;
             kind = marked;

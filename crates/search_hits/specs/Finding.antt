@@ -30,7 +30,7 @@ use Rattle.search_find.specs.Runs.{Bounded, Found}
 use Rattle.line_found.specs.declared.Wanted.{Wanted}
 use Rattle.line_found.specs.Line.{wanted}
 use Rattle.line_found.specs.Telling.{texts, lines_are}
-use Rattle.line_found.specs.Commanded.{wanted_by, held-read, listed-read, wanted_read, few-read}
+use Rattle.line_found.specs.Commanded.{wanted_by, held_read, listed_read, wanted_read, few_read}
 use Rattle.search_hits.specs.Headed.{Behind}
 use Rattle.search_hits.specs.declared.Question.{Question}
 use Rattle.search_hits.specs.declared.Hits.{Hits}
@@ -57,9 +57,9 @@ module _ (s : List ℕ) (at : ℕ) (b : Behind s at) (kept : ListedRead) (k : ke
         exact = λ p q h.
             let y = b.exact p q h in
             record {
-              keys = held-read s p q (at + 1) y (search_at s (at + 1)) y cells cells' x.cells r x.exact a n e (omega arith);
+              keys = held_read s p q (at + 1) y (search_at s (at + 1)) y cells cells' x.cells r x.exact a n e (omega arith);
               returns = v ∙ wanted_read q (search_at s (at + 1)) p y r x.exact a n e;
-              sources = listed-read s p q (at + 1) y kept k;
+              sources = listed_read s p q (at + 1) y kept k;
             };
       }
 
@@ -116,7 +116,7 @@ module _ (text words : List ℕ) (used s told : ℕ) (ids attributes lens names 
     bounded = found.bounded;
     exact = λ m validities nexts counters is p q c small tag.
         let meant = asks.exact p q c in
-        let o = chose.exact m validities nexts counters (or_selected q.sources) is.long is.columns is.selected (few-read q small) meant.sources in
+        let o = chose.exact m validities nexts counters (or_selected q.sources) is.long is.columns is.selected (few_read q small) meant.sources in
         let l = is.long in
         let f : Found (mails m) ids rows k m.session.selected m.session.told cells a.filled uids starts counts = rw (is.messages, is.selected, is.view) found in
         ap (λ (v : Wanted). texts tag lens names validities rows v uids starts counts k) meant.returns

@@ -367,10 +367,10 @@ module _ {M : Type 1} {𝓤 : Ura M} (𝓛 : Logic 𝓤) (l : Seven) where
       keep ! (2 ∷ 0 ∷ []) $
       done !
 
-  pub lend-read : (c : Columns) (Q P : Fml) → ent 𝓤 (sem 𝓛 (fsep (Lie l c) (fsep Q P)))
+  pub lend_read : (c : Columns) (Q P : Fml) → ent 𝓤 (sem 𝓛 (fsep (Lie l c) (fsep Q P)))
       (H.⇛ (ex 𝓤 (λ (t : Seven × Names). sem 𝓛 (fsep (Toks t.0 Q) (fsep (Shrs l t.0 t.1 c P) (Kept l t.0 c))))))
   unfolding Lie Toks Shrs Kept
-  lend-read c Q P =
+  lend_read c Q P =
       qed 𝓛 (‵ (Lie l c) ∷ ‵ Q ∷ ‵ P ∷ []) ∵ updating ! $
       into8 𝓛 (‵ ((mem W64).own_at c.0 l.0 0)) (‵ ((mem O64).own_at c.1.0 l.1.0 0)) (‵ ((mem O64).own_at c.1.1.0 l.1.1.0 0)) (‵ ((mem W64).own_at c.1.1.1.0 l.1.1.1.0 0))
       (‵ ((mem W64).own_at c.1.1.1.1.0 l.1.1.1.1.0 0)) (‵ ((mem W64).own_at c.1.1.1.1.1.0 l.1.1.1.1.1.0 0)) (‵ ((mem O4096).own_at c.1.1.1.1.1.1 l.1.1.1.1.1.1 0)) (‵ ftrue) (id⊢ 𝓤 _) $

@@ -51,11 +51,11 @@ module _ (rows : List Mailbox) (ids attributes lens validities nexts counters na
         → Filling rows (i + 1) (set ids i u) (set attributes i x.attributes) (set lens i x.namelen) (set validities i v) (set nexts i w) (set counters i c) names'
     filling_next x u v w c names' h e l p q r s n m =
         let many-i = g.many-ids in
-        let many-a = g.many-attributes in
-        let many-l = g.many-lens in
-        let many-v = g.many-validities in
-        let many-n = g.many-nexts in
-        let many-c = g.many-counters in
+        let many-a = g.many_attributes in
+        let many-l = g.many_lens in
+        let many-v = g.many_validities in
+        let many-n = g.many_nexts in
+        let many-c = g.many_counters in
         record {
           many-ids = length-set ids i u ∙ many-i;
           many_attributes = length-set attributes i x.attributes ∙ many-a;

@@ -132,9 +132,9 @@ module _ (o : ℕ) (l : List Mailbox) (n k : ℕ) (w : n ≤ length l) (e : k �
   pub row_at_lem : (d : Mailbox) → k < n → the_mailbox o (take n l) ≡ get_or l k d
   row_at_lem d h = rw (← e) (get_or-take n l k no_mailbox h ∙ any_default l k no_mailbox d (omega arith))
 
-pub and_true : (b : Bool) → b ≡ (b && true)
-and_true true = refl
-and_true false = refl
+pub and-true : (b : Bool) → b ≡ (b && true)
+and-true true = refl
+and-true false = refl
 
 -- a test of three rungs, rung by rung
 module _ (a b c : Bool) where
@@ -148,4 +148,4 @@ module _ (a b c : Bool) where
   third r e f g = rw (e, f) g
 
 pub ok_last : (u f z s c : ℕ) → 1 ≤ u → f ≤ 31 → z ≤ 4294967295 → 1 ≤ c → c ≤ 9223372036854775807 → leb s 2 ≡ every (leb 1 u ∷ leb f 31 ∷ leb z 4294967295 ∷ leb s 2 ∷ counter_ok c ∷ [])
-ok_last u f z s c a b d e g = rw (le-leb 1 u a, le-leb f 31 b, le-leb z 4294967295 d, le-leb 1 c e, le-leb c 9223372036854775807 g) (and_true (leb s 2))
+ok_last u f z s c a b d e g = rw (le-leb 1 u a, le-leb f 31 b, le-leb z 4294967295 d, le-leb 1 c e, le-leb c 9223372036854775807 g) (and-true (leb s 2))

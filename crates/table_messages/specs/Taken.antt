@@ -10,7 +10,7 @@ use Rattle.std.proofs.lemmas.List.{set_at}
 use Rattle.std.proofs.Math.Seq.{take-append-add}
 use Rattle.model.specs.Memory.{no_message}
 use Rattle.model.specs.declared.Message.{Message}
-use Rattle.laws.specs.Shift.{without, over, over-read, over-step, length_without}
+use Rattle.laws.specs.Shift.{without, over, over_read, over-step, length_without}
 use Rattle.table_messages.specs.Words.{messages, messages-length, stored}
 use Rattle.table_messages.specs.Laid.{flat, behind, laid, laid_own, laid_put, flat_append, flat-take, flat-drop}
 
@@ -40,7 +40,7 @@ pub down_next : (l : List ℕ) (i : ℕ) → i + 6 < length l → set (over (dro
 down_next l i h =
     let d = length-drop 6 l in
     let e : i + 6 ≡ 6 + i = omega arith in
-    let r : get_or (over (drop 6 l) l i) (i + 6) 0 ≡ get_or (drop 6 l) i 0 = over-read (drop 6 l) l i 6 0 (omega arith) ∙ (ap (λ (n : ℕ). get_or l n 0) e ∙ sym (get_or-drop 6 l i 0)) in
+    let r : get_or (over (drop 6 l) l i) (i + 6) 0 ≡ get_or (drop 6 l) i 0 = over_read (drop 6 l) l i 6 0 (omega arith) ∙ (ap (λ (n : ℕ). get_or l n 0) e ∙ sym (get_or-drop 6 l i 0)) in
     ap (set (over (drop 6 l) l i) i) r ∙ over-step (drop 6 l) l i 0 (omega arith) (omega arith)
 
 -- they are entries that move up by one

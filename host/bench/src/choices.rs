@@ -11,11 +11,10 @@ const IDS: [(Ids, &str); 5] = [
     (Ids::Slot16, "ids of one slot (16 bits)"),
     (Ids::LowBits, "ids of one slot (low bits)"),
 ];
-const NAMES: [(Names, &str); 6] = [
+const NAMES: [(Names, &str); 5] = [
     (Names::Short, ""),
     (Names::Alike, "names of 64 alike"),
     (Names::Quoted, "names of 64 to be quoted"),
-    (Names::LastQuoted, "names of 64 quoted for their last octet"),
     (Names::Digest, "names of one digest"),
     (Names::Deep, "names of 32 parts"),
 ];

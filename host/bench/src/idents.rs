@@ -62,8 +62,6 @@ pub enum Names {
     Alike,
     /// 64 octets, all of which are written with a `\` before them.
     Quoted,
-    /// 64 octets, of which only the last keeps the name from standing without quotes.
-    LastQuoted,
     /// 64 octets with one digest, the same but for four.
     Digest,
     /// 64 octets, a part every two.
@@ -76,7 +74,6 @@ impl Names {
             Names::Short => short(number),
             Names::Alike => format!("Plant/{:-<56}{number:02}", "Feeder").into_bytes(),
             Names::Quoted => quoted(number),
-            Names::LastQuoted => format!("Plant/{:-<55}{number:02}]", "Feeder").into_bytes(),
             Names::Digest => one_digest(number),
             Names::Deep => format!("{}{number:02}", "a/".repeat(31)).into_bytes(),
         };

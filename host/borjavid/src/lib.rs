@@ -18,17 +18,9 @@
 //! }
 //! let mut client = Vec::new();
 //! session.drain_to(&mut client)?;
-//! assert!(client.ends_with(b"* STATUS Ops/Alarms (UIDNEXT 6 MESSAGES 1 HIGHESTMODSEQ 2)\r\n"));
+//! assert!(client.ends_with(b"* STATUS \"Ops/Alarms\" (UIDNEXT 6 MESSAGES 1 HIGHESTMODSEQ 2)\r\n"));
 //! assert!(session.queue().is_empty());
 //! # Ok::<(), Box<dyn std::error::Error>>(())
-//! ```
-//!
-//! A mailbox name in a line is bare if it is made of atom octets and isn't NIL, and in quotes else; what reads one out of a
-//! line takes either at the same place:
-//!
-//! ```text
-//! * STATUS Ops/Alarms (UIDNEXT 6 MESSAGES 1 HIGHESTMODSEQ 2)
-//! * STATUS "Ops room" (UIDNEXT 6 MESSAGES 1 HIGHESTMODSEQ 2)
 //! ```
 
 #![warn(missing_docs)]

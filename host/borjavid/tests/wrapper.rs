@@ -80,56 +80,6 @@ fn watching() -> Memory {
     memory
 }
 
-/// A name stands bare or in quotes, in each line that has one and in a rename each name by itself.
-#[test]
-fn a_name_is_bare_or_quoted() {
-    let mut memory = Memory::new(1024);
-    let asked = b"a NOTIFY SET (personal (MessageNew MessageExpunge MailboxName))";
-    for (record, written) in [
-        (records::command(asked), "a OK NOTIFY done"),
-        (
-            records::create(1, 0x33, Notice::Owed, 7, 1, b"Ops/[1}"),
-            "* LIST () \"/\" Ops/[1}",
-        ),
-        (
-            records::rename(1, Notice::Owed, b"Ops room"),
-            "* LIST () \"/\" \"Ops room\" (\"OLDNAME\" (Ops/[1}))",
-        ),
-        (
-            records::message(1, 1, 0, 100, 2),
-            "* STATUS \"Ops room\" (UIDNEXT 2 MESSAGES 1 HIGHESTMODSEQ 2)",
-        ),
-        (
-            records::rename(1, Notice::Owed, b"nIl"),
-            "* LIST () \"/\" \"nIl\" (\"OLDNAME\" (\"Ops room\"))",
-        ),
-        (
-            records::command(b"s ESEARCH IN (personal) ALL"),
-            "* ESEARCH (TAG \"s\" MAILBOX \"nIl\" UIDVALIDITY 7) UID ALL 1\r\ns OK ESEARCH done",
-        ),
-        (
-            records::rename(1, Notice::Owed, b"NIL/x"),
-            "* LIST () \"/\" NIL/x (\"OLDNAME\" (\"nIl\"))",
-        ),
-        (
-            records::message(1, 2, 0, 100, 3),
-            "* STATUS NIL/x (UIDNEXT 3 MESSAGES 2 HIGHESTMODSEQ 3)",
-        ),
-        (
-            records::command(b"s ESEARCH IN (personal) ALL"),
-            "* ESEARCH (TAG \"s\" MAILBOX NIL/x UIDVALIDITY 7) UID ALL 1:2\r\ns OK ESEARCH done",
-        ),
-        (
-            records::rename(1, Notice::Owed, b"a]"),
-            "* LIST () \"/\" \"a]\" (\"OLDNAME\" (NIL/x))",
-        ),
-    ] {
-        assert_eq!(memory.step(&record), Answer::Done);
-        assert_eq!(memory.queue(), format!("{written}\r\n").as_bytes());
-        assert_eq!(memory.drain(memory.queue().len()), Answer::Done);
-    }
-}
-
 /// Takes so many octets, then fails.
 struct Narrow {
     left: usize,

@@ -248,14 +248,6 @@ pub fn is_within(set: &Set, number: u32, last: u32) -> bool {
     })
 }
 
-/// A mailbox name in a line of the server's own, as the library writes it in its lines: bare if it is an atom and not NIL.
-pub fn name_text(name: &str) -> String {
-    match name.bytes().all(is_atom) && !name.eq_ignore_ascii_case("NIL") {
-        true => name.into(),
-        false => quoted(name),
-    }
-}
-
 pub fn quoted(string: &str) -> String {
     let mut quoted = String::from("\"");
     for letter in string.chars() {

@@ -41,21 +41,21 @@ fn folders() {
     holds(
         &mut client,
         "LIST \"\" *",
-        "(\\HasNoChildren) \"/\" work/deep",
+        "(\\HasNoChildren) \"/\" \"work/deep\"",
     );
     assert_eq!(client.ok("LIST \"\" %").len(), 2);
-    holds(&mut client, "LIST \"\" %", "(\\HasChildren) \"/\" work");
+    holds(&mut client, "LIST \"\" %", "(\\HasChildren) \"/\" \"work\"");
     holds(&mut client, "LIST \"\" \"\"", "(\\Noselect) \"/\" \"\"");
     client.ok("SUBSCRIBE work");
     assert_eq!(
         client.ok("LSUB \"\" *"),
-        ["* LSUB (\\HasChildren \\Subscribed) \"/\" work"]
+        ["* LSUB (\\HasChildren \\Subscribed) \"/\" \"work\""]
     );
     assert_eq!(client.ok("LIST (SUBSCRIBED) \"\" *").len(), 1);
     let status = "STATUS work (MESSAGES UIDNEXT UNSEEN)";
     assert_eq!(
         client.ok(status),
-        ["* STATUS work (MESSAGES 2 UIDNEXT 3 UNSEEN 1)"]
+        ["* STATUS \"work\" (MESSAGES 2 UIDNEXT 3 UNSEEN 1)"]
     );
     holds(
         &mut client,
@@ -290,7 +290,7 @@ fn reasons() {
     }
     assert_eq!(
         client.ok("STATUS work (MESSAGES)"),
-        ["* STATUS work (MESSAGES 2)"]
+        ["* STATUS \"work\" (MESSAGES 2)"]
     );
     client.send(b"\r\n");
     assert_eq!(client.line(), "* BAD no tag");

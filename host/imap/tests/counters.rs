@@ -99,7 +99,7 @@ fn flags_elsewhere() {
     let mut watch = Watch::new(3, &[]);
     watch.notify("(mailboxes Shared/Open (MessageNew MessageExpunge FlagChange))");
     let status = watch.bob.ok("STATUS Shared/Open (UIDVALIDITY)");
-    let validity = status[0].trim_start_matches("* STATUS Shared/Open (");
+    let validity = status[0].trim_start_matches("* STATUS \"Shared/Open\" (");
     let validity = validity.trim_end_matches(')');
     watch.alice.ok("SELECT Shared/Open");
     watch.alice.ok("STORE 1:3 FLAGS (\\Seen)");
@@ -108,7 +108,8 @@ fn flags_elsewhere() {
     assert_eq!(watch.alice.ok("STORE 2 FLAGS (\\Seen)"), [same]);
     watch.alice.ok("STORE 1:2 +FLAGS.SILENT (\\Seen)");
     watch.alice.ok("STORE 1 +FLAGS (\\Draft)");
-    let line = |counter: u64| format!("* STATUS Shared/Open ({validity} HIGHESTMODSEQ {counter})");
+    let line =
+        |counter: u64| format!("* STATUS \"Shared/Open\" ({validity} HIGHESTMODSEQ {counter})");
     assert_eq!(watch.heard(), [5, 6, 7, 8].map(line));
     // of the open one the selected group alone decides
     watch.bob.ok("SELECT Shared/Open");

@@ -64,13 +64,13 @@ fn a_client_that_doesn_t_read_is_told_so_and_nobody_waits() {
     let lines = deaf.until(STOPPED);
     let notices = lines.len() - 1;
     assert!(notices > 500 && notices < rounds, "{notices}");
-    let is_notice = |line: &String| line.starts_with("* STATUS Shared/Fence ");
+    let is_notice = |line: &String| line.starts_with("* STATUS \"Shared/Fence\"");
     assert!(lines[..notices].iter().all(is_notice));
     assert_eq!(deaf.ok("NOOP").len(), 0);
     // and may ask again
     deaf.ok("NOTIFY SET (subtree Shared (MessageNew MessageExpunge))");
     watch.alice.append("Shared/Fence");
-    assert!(deaf.line().starts_with("* STATUS Shared/Fence "));
+    assert!(deaf.line().starts_with("* STATUS \"Shared/Fence\""));
     watch.end();
 }
 
@@ -85,7 +85,7 @@ fn an_account_outgrows_the_messages() {
     let heard = watch.bob.lines(24);
     assert_eq!(
         heard[23],
-        "* STATUS Shared/Open (UIDNEXT 1025 MESSAGES 1024 HIGHESTMODSEQ 1025)"
+        "* STATUS \"Shared/Open\" (UIDNEXT 1025 MESSAGES 1024 HIGHESTMODSEQ 1025)"
     );
     assert!(watch.bob.ok("CAPABILITY")[0].contains(" NOTIFY "));
     watch
@@ -147,7 +147,7 @@ fn an_account_outgrows_the_mailboxes() {
     for number in 0..63 {
         other.ok(&format!("CREATE f{number:02}"));
     }
-    assert_eq!(alice.lines(63)[62], "* LIST () \"/\" f62");
+    assert_eq!(alice.lines(63)[62], "* LIST () \"/\" \"f62\"");
     other.ok("CREATE one/more");
     assert_eq!(alice.line(), TOO_LARGE);
     assert!(!alice.ok("CAPABILITY")[0].contains("NOTIFY"));
@@ -165,8 +165,8 @@ fn an_account_outgrows_behind_a_full_queue() {
     // 13 lines of 73 octets leave 11 of 1,024 - 64
     const LINES: usize = 13;
     let mut watch = Watch::new(0, &["--queue", "1024"]);
-    let alarms = |count: usize| (0..count).map(|_| "Shared/Alarm-1".to_string());
-    watch.alice.ok("CREATE Shared/Alarm-1");
+    let alarms = |count: usize| (0..count).map(|_| "Shared/Alarm".to_string());
+    watch.alice.ok("CREATE Shared/Alarm");
     watch.alice.append_many(alarms(1024 - LINES - 1));
     append_large(&mut watch.alice);
     let mut deaf = watch.server.log_in("alice");
@@ -176,7 +176,7 @@ fn an_account_outgrows_behind_a_full_queue() {
     watch.alice.append_many(alarms(LINES + 5));
     read_again(&mut deaf, &tag);
     let lines = deaf.lines(LINES + 1);
-    let last = "* STATUS Shared/Alarm-1 (UIDNEXT 1024 MESSAGES 1023 HIGHESTMODSEQ 1024)";
+    let last = "* STATUS \"Shared/Alarm\" (UIDNEXT 1024 MESSAGES 1023 HIGHESTMODSEQ 1024)";
     assert_eq!(lines[LINES - 1..], [last, TOO_LARGE]);
     assert_eq!(deaf.ok("NOOP"), [""; 0]);
     assert!(deaf

@@ -3,14 +3,14 @@
 
 mod support;
 
-use support::watch::{absent, renamed, there, two_of_bob, Watch};
-use support::Server;
+use support::watch::{absent, there, Watch};
+use support::{Client, Server};
 
-const INBOX: &str = "* LIST (\\HasNoChildren) \"/\" INBOX";
+const INBOX: &str = "* LIST (\\HasNoChildren) \"/\" \"INBOX\"";
 
 /// The line of a name that is no mailbox, or none that is listed.
 fn above(word: &str, name: &str) -> String {
-    format!("* {word} (\\Noselect \\HasChildren) \"/\" {name}")
+    format!("* {word} (\\Noselect \\HasChildren) \"/\" \"{name}\"")
 }
 
 #[test]
@@ -20,7 +20,7 @@ fn names_above_mailboxes() {
     alice.ok("CREATE Shared/a/b");
     alice.ok("CREATE mine/deep/er");
     alice.ok("DELETE mine/deep");
-    let mine = "* LIST (\\HasChildren) \"/\" mine";
+    let mine = "* LIST (\\HasChildren) \"/\" \"mine\"";
     let top = [INBOX.into(), above("LIST", "Shared"), mine.to_string()];
     assert_eq!(alice.ok("LIST \"\" %"), top);
     let status = alice.ok("LIST \"\" % RETURN (STATUS (MESSAGES))");
@@ -29,7 +29,7 @@ fn names_above_mailboxes() {
     // only where the pattern ends so, and none is shown twice
     assert_eq!(alice.ok("LIST \"\" *").len(), 5);
     assert_eq!(alice.ok("LIST \"\" Shared"), [""; 0]);
-    let a = "* LIST (\\HasChildren) \"/\" Shared/a";
+    let a = "* LIST (\\HasChildren) \"/\" \"Shared/a\"";
     assert_eq!(alice.ok("LIST \"\" %/a"), [a]);
     assert_eq!(alice.ok("LIST \"\" (%/% Shared/% %/a)").len(), 2);
     server.end();
@@ -44,7 +44,7 @@ fn names_above_subscriptions() {
     assert_eq!(alice.ok("LSUB \"\" %"), [above("LSUB", "Shared")]);
     // it is a mailbox, but none that is subscribed to
     assert_eq!(alice.ok("LSUB \"\" Shared/%"), [above("LSUB", "Shared/a")]);
-    let b = "* LSUB (\\HasNoChildren \\Subscribed) \"/\" Shared/a/b";
+    let b = "* LSUB (\\HasNoChildren \\Subscribed) \"/\" \"Shared/a/b\"";
     assert_eq!(alice.ok("LSUB \"\" *"), [b]);
     assert_eq!(alice.ok("LIST (SUBSCRIBED) \"\" %"), [""; 0]);
     server.end();
@@ -74,6 +74,13 @@ fn only_above_what_may_be_listed() {
     alice.ok("SETACL Shared/Hidden bob r");
     assert_eq!(lists(patterns)[1..], upper);
     server.end();
+}
+
+/// Bob, who watches, and another connection of his: what he does there is told here.
+fn two_of_bob() -> (Watch, Client) {
+    let watch = Watch::new(0, &[]);
+    let other = watch.server.log_in("bob");
+    (watch, other)
 }
 
 /// The parent's line needs none of the mailbox, and stands behind it where there is one.
@@ -205,6 +212,7 @@ fn a_hidden_child_tells_of_no_parent() {
 #[test]
 fn a_rename_tells_of_no_parent() {
     let (mut watch, mut other) = two_of_bob();
+    let renamed = |old, new| format!("{} (\"OLDNAME\" (\"{old}\"))", there(new));
     other.ok("CREATE Ops/Mains/Pump/Seal");
     other.ok("CREATE Field");
     watch.notify("(personal (MailboxName)) (subtree (Ops Field New) (MailboxName))");

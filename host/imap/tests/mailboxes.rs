@@ -86,7 +86,10 @@ fn a_grant_is_told_once_and_so_is_a_revoke() {
             "UIDNEXT {next} MESSAGES {messages} HIGHESTMODSEQ {}",
             next + 2
         );
-        assert_eq!(watch.heard(), [format!("* STATUS Shared/Big ({counts})")]);
+        assert_eq!(
+            watch.heard(),
+            [format!("* STATUS \"Shared/Big\" ({counts})")]
+        );
         // both lines by the rights that he had; the record that takes it from the library is quiet
         watch.alice.ok("DELETEACL Shared/Big bob");
         assert_eq!(watch.heard(), [absent("Shared/Big"), absent("Shared")]);
@@ -97,7 +100,7 @@ fn a_grant_is_told_once_and_so_is_a_revoke() {
     assert!(watch.bob.ok("CAPABILITY")[0].contains("NOTIFY"));
     watch.alice.ok("SETACL Shared/Big bob lr");
     watch.alice.append("Shared/Big");
-    let status = "* STATUS Shared/Big (UIDNEXT 312 MESSAGES 310 HIGHESTMODSEQ 314)";
+    let status = "* STATUS \"Shared/Big\" (UIDNEXT 312 MESSAGES 310 HIGHESTMODSEQ 314)";
     let granted = [there("Shared/Big"), absent("Shared"), status.into()];
     assert_eq!(watch.heard(), granted);
     watch.end();
@@ -138,7 +141,7 @@ fn uidnext_is_the_store_s() {
     let mut next = watch.server.log_in("bob");
     let group = "(mailboxes Shared/Open (MessageNew MessageExpunge))";
     let status = next.ok(&format!("NOTIFY SET STATUS {group}"));
-    let known = "* STATUS Shared/Open (MESSAGES 0 UIDNEXT 4 ";
+    let known = "* STATUS \"Shared/Open\" (MESSAGES 0 UIDNEXT 4 ";
     assert!(status[0].starts_with(known), "{status:?}");
     watch.end();
 }
@@ -213,10 +216,10 @@ fn a_rename_takes_what_lies_beneath() {
     watch.alice.ok("CREATE Shared/ab");
     // a rename affects no parent, old or new; Shared/new, which it makes, is alice's alone
     watch.alice.ok("RENAME Shared/a Shared/new/z");
-    let renamed = "* LIST () \"/\" Shared/new/z (\"OLDNAME\" (Shared/a))";
+    let renamed = "* LIST () \"/\" \"Shared/new/z\" (\"OLDNAME\" (\"Shared/a\"))";
     assert_eq!(watch.heard(), [renamed]);
     watch.alice.append("Shared/new/z/b/c");
-    let status = "* STATUS Shared/new/z/b/c (UIDNEXT 2 MESSAGES 1 HIGHESTMODSEQ 2)";
+    let status = "* STATUS \"Shared/new/z/b/c\" (UIDNEXT 2 MESSAGES 1 HIGHESTMODSEQ 2)";
     assert_eq!(watch.heard(), [status]);
     let all = watch.alice.ok("LIST \"\" Shared/*");
     assert_eq!(all.len(), 7, "{all:?}");
@@ -242,12 +245,12 @@ fn inbox_is_renamed_and_a_fresh_one_stands_there() {
     watch.notify("(personal (MessageNew MessageExpunge MailboxName))");
     let before = watch.bob.ok("STATUS INBOX (UIDVALIDITY)");
     other.ok("RENAME inbox old/mail");
-    let renamed = "* LIST () \"/\" old/mail (\"OLDNAME\" (INBOX))";
-    assert_eq!(watch.heard(), ["* LIST () \"/\" old", renamed]);
+    let renamed = "* LIST () \"/\" \"old/mail\" (\"OLDNAME\" (\"INBOX\"))";
+    assert_eq!(watch.heard(), ["* LIST () \"/\" \"old\"", renamed]);
     other.append("INBOX");
     other.append("old/mail");
-    let fresh = "* STATUS INBOX (UIDNEXT 2 MESSAGES 1 HIGHESTMODSEQ 2)";
-    let old = "* STATUS old/mail (UIDNEXT 3 MESSAGES 2 HIGHESTMODSEQ 3)";
+    let fresh = "* STATUS \"INBOX\" (UIDNEXT 2 MESSAGES 1 HIGHESTMODSEQ 2)";
+    let old = "* STATUS \"old/mail\" (UIDNEXT 3 MESSAGES 2 HIGHESTMODSEQ 3)";
     assert_eq!(watch.heard(), [fresh, old]);
     let validity = |lines: Vec<String>| lines[0].split('(').nth(1).map(str::to_string);
     let moved = watch.bob.ok("STATUS old/mail (UIDVALIDITY)");
@@ -283,11 +286,11 @@ fn what_others_of_the_same_user_do_is_told_and_the_own_is_not() {
         other.ok(command);
     }
     let told = [
-        "* LIST () \"/\" a",
-        "* LIST (\\Subscribed) \"/\" a",
-        "* LIST () \"/\" b (\"OLDNAME\" (a))",
-        "* LIST () \"/\" b",
-        "* LIST (\\NonExistent) \"/\" b",
+        "* LIST () \"/\" \"a\"",
+        "* LIST (\\Subscribed) \"/\" \"a\"",
+        "* LIST () \"/\" \"b\" (\"OLDNAME\" (\"a\"))",
+        "* LIST () \"/\" \"b\"",
+        "* LIST (\\NonExistent) \"/\" \"b\"",
     ];
     assert_eq!(watch.heard(), told);
     watch.end();

@@ -13,14 +13,14 @@ fn rights_that_can_be_given() {
     let mut watch = Watch::new(0, &[]);
     assert!(watch.alice.ok("CAPABILITY")[0].contains(" ACL RIGHTS=texk "));
     for user in ["alice", "bob", "anyone"] {
-        let shared = format!("* LISTRIGHTS Shared/Open {user} \"\" {ALL}");
+        let shared = format!("* LISTRIGHTS \"Shared/Open\" {user} \"\" {ALL}");
         let command = format!("LISTRIGHTS Shared/Open {user}");
         assert_eq!(watch.alice.ok(&command), [shared]);
     }
     // an owner has all, and can give none
-    let own = "* LISTRIGHTS INBOX bob lrswipkxtea";
+    let own = "* LISTRIGHTS \"INBOX\" bob lrswipkxtea";
     assert_eq!(watch.bob.ok("LISTRIGHTS inbox bob"), [own]);
-    let other = "* LISTRIGHTS INBOX alice \"\"";
+    let other = "* LISTRIGHTS \"INBOX\" alice \"\"";
     assert_eq!(watch.bob.ok("LISTRIGHTS INBOX alice"), [other]);
     for (name, answer) in [
         ("Shared/Open bob", "NO [NOPERM] denied"),
@@ -47,12 +47,12 @@ fn what_anyone_has_all_have() {
     watch.alice.ok("CREATE Shared/All");
     watch.alice.append("Shared/All");
     watch.alice.ok("SETACL Shared/All anyone lr");
-    let acl = "* ACL Shared/All alice lrswipkxtea anyone lr";
+    let acl = "* ACL \"Shared/All\" alice lrswipkxtea anyone lr";
     assert_eq!(watch.alice.ok("GETACL Shared/All"), [acl]);
     // l is gained through anyone, and that is a grant as any other: the parent's line follows
     assert_eq!(watch.heard(), [there("Shared/All"), absent("Shared")]);
     let rights = |watch: &mut Watch, wanted: &str| {
-        let line = format!("* MYRIGHTS Shared/All {wanted}");
+        let line = format!("* MYRIGHTS \"Shared/All\" {wanted}");
         assert_eq!(watch.bob.ok("MYRIGHTS Shared/All"), [line]);
     };
     rights(&mut watch, "lr");
@@ -61,14 +61,14 @@ fn what_anyone_has_all_have() {
     let groups = "(mailboxes Shared/All (MessageNew MessageExpunge))";
     stranger.ok(&format!("NOTIFY SET {groups}"));
     watch.alice.append("Shared/All");
-    let status = "* STATUS Shared/All (UIDNEXT 3 MESSAGES 2 HIGHESTMODSEQ 3)";
+    let status = "* STATUS \"Shared/All\" (UIDNEXT 3 MESSAGES 2 HIGHESTMODSEQ 3)";
     assert_eq!(stranger.line(), status);
     assert_eq!(watch.heard(), [status]);
     // what one has besides is added, and taken away alone; l stays, so nobody is told
     watch.alice.ok("SETACL Shared/All bob w");
     rights(&mut watch, "lrw");
     watch.alice.ok("SETACL Shared/All bob +i");
-    let acl = "* ACL Shared/All alice lrswipkxtea anyone lr bob wi";
+    let acl = "* ACL \"Shared/All\" alice lrswipkxtea anyone lr bob wi";
     assert_eq!(watch.alice.ok("GETACL Shared/All"), [acl]);
     watch.alice.ok("DELETEACL Shared/All bob");
     assert_eq!(watch.heard(), [""; 0]);

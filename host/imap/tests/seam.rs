@@ -133,8 +133,8 @@ fn what_is_owed_comes_before_the_answer_to_notify() {
         "STATUS {ALL} (personal (MessageNew MessageExpunge))"
     ));
     assert_eq!(lines[..2], ["* 1 EXPUNGE", "* 1 EXISTS"]);
-    assert!(lines[2].starts_with("* STATUS INBOX (MESSAGES 0 UIDNEXT 1"));
-    assert!(lines[3].starts_with("* STATUS Shared/Fence "));
+    assert!(lines[2].starts_with("* STATUS \"INBOX\" (MESSAGES 0 UIDNEXT 1"));
+    assert!(lines[3].starts_with("* STATUS \"Shared/Fence\" "));
     watch.end();
 }
 
@@ -192,13 +192,13 @@ fn an_open_literal_keeps_nothing_back() {
     watch.alice.append("Shared/Open");
     assert_eq!(
         watch.heard(),
-        ["* STATUS Shared/Open (UIDNEXT 2 MESSAGES 1 HIGHESTMODSEQ 2)"]
+        ["* STATUS \"Shared/Open\" (UIDNEXT 2 MESSAGES 1 HIGHESTMODSEQ 2)"]
     );
     watch.bob.send(&MESSAGE.as_bytes()[..9]);
     watch.alice.append("Shared/Open");
     assert_eq!(
         watch.heard(),
-        ["* STATUS Shared/Open (UIDNEXT 3 MESSAGES 2 HIGHESTMODSEQ 3)"]
+        ["* STATUS \"Shared/Open\" (UIDNEXT 3 MESSAGES 2 HIGHESTMODSEQ 3)"]
     );
     watch.bob.send(format!("{}\r\n", &MESSAGE[9..]).as_bytes());
     assert!(watch

@@ -6,7 +6,7 @@ mod support;
 use support::{Client, Server, MESSAGE};
 
 const FOLDERS: usize = 40;
-const ALARM: &str = "* STATUS Shared/Alarms (UIDNEXT 2 MESSAGES 1 HIGHESTMODSEQ 2)";
+const ALARM: &str = "* STATUS \"Shared/Alarms\" (UIDNEXT 2 MESSAGES 1 HIGHESTMODSEQ 2)";
 
 fn hidden(number: usize) -> String {
     format!("Shared/Hidden{number:02}")

@@ -12,7 +12,7 @@ const STEPS: usize = 80;
 const SEEN: [&str; 3] = ["Shared/Open", "Shared/Alarms", "Shared/Up/Sight"];
 
 /// The notice of that one, when Sight comes or goes: the same whether it is there or not.
-const PARENT: &str = "* LIST (\\NonExistent) \"/\" Shared/Up";
+const PARENT: &str = "* LIST (\\NonExistent) \"/\" \"Shared/Up\"";
 
 /// What bob says of folders that may or may not be there.
 const PRYING: [&str; 30] = [

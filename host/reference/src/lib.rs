@@ -1,6 +1,6 @@
-//! The independent implementation of document 01 with requests 1 to 4 of 02 (change counters, the
-//! parent, `why`, bare names): one session beside one store, written from the papers alone, to find
-//! wrong definitions elsewhere and to measure against.
+//! The independent implementation of document 01 with requests 1 to 3 of 02 (change counters, the
+//! parent, `why`): one session beside one store, written from the papers alone, to find wrong
+//! definitions elsewhere and to measure against.
 
 pub mod abnf;
 pub mod account;

@@ -3,7 +3,6 @@
 
 use crate::memory::{Message, SELECTABLE, WITH_FLAGS, WITH_SIZE, WITH_UID};
 use crate::names::Name;
-use crate::octets;
 
 pub type Out = Vec<u8>;
 
@@ -35,19 +34,8 @@ pub fn number(out: &mut Out, value: impl Into<u64>) {
     out.extend_from_slice(&digits[first..]);
 }
 
-/// A mailbox name, no line: as it stands where it is an atom, else between quotes. NIL, in any case, would be read as no name.
-pub fn mailbox(out: &mut Out, name: &Name) {
-    let octets = name.as_octets();
-    let atom = octets.iter().all(|&octet| octets::atom(octet));
-    if atom && !octets.eq_ignore_ascii_case(b"NIL") {
-        out.extend_from_slice(octets);
-    } else {
-        quoted(out, octets);
-    }
-}
-
 /// Octets between quotes, no line.
-fn quoted(out: &mut Out, octets: &[u8]) {
+pub fn quoted(out: &mut Out, octets: &[u8]) {
     out.push(b'"');
     for &octet in octets {
         if matches!(octet, b'"' | b'\\') {
@@ -74,7 +62,7 @@ fn list_open(out: &mut Out, attribute: &str, name: &Name) {
     out.extend_from_slice(b"* LIST (");
     out.extend_from_slice(attribute.as_bytes());
     out.extend_from_slice(b") \"/\" ");
-    mailbox(out, name);
+    quoted(out, name.as_octets());
 }
 
 pub fn list(out: &mut Out, attribute: &str, name: &Name) {
@@ -94,14 +82,14 @@ pub fn kind(attributes: u8) -> &'static str {
 pub fn renamed(out: &mut Out, attribute: &str, new: &Name, old: &Name) {
     list_open(out, attribute, new);
     out.extend_from_slice(b" (\"OLDNAME\" (");
-    mailbox(out, old);
+    quoted(out, old.as_octets());
     out.extend_from_slice(b"))");
     end(out);
 }
 
 fn status_open(out: &mut Out, name: &Name) {
     out.extend_from_slice(b"* STATUS ");
-    mailbox(out, name);
+    quoted(out, name.as_octets());
 }
 
 /// The last item of every STATUS list.
@@ -214,7 +202,7 @@ pub fn search(out: &mut Out, tag: &[u8], name: &Name, validity: u32, wanted: u8,
     out.extend_from_slice(b"* ESEARCH (TAG \"");
     out.extend_from_slice(tag);
     out.extend_from_slice(b"\" MAILBOX ");
-    mailbox(out, name);
+    quoted(out, name.as_octets());
     out.extend_from_slice(b" UIDVALIDITY ");
     number(out, validity);
     out.extend_from_slice(b") UID");

@@ -1,4 +1,4 @@
-//! Classes of octets, in a command line and in what is written.
+//! Classes of octets in a command line.
 
 /// An octet that an atom may hold.
 pub fn atom(octet: u8) -> bool {

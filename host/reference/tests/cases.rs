@@ -68,7 +68,7 @@ fn p8_adjacent_uids_join() {
     gives(
         "MB 1 0x33 1 1 b\nME 1 3 0 0\nME 1 4 0 0\nME 1 9 0 0\nCM a ESEARCH IN (personal) ALL",
         &[
-            "* ESEARCH (TAG \"a\" MAILBOX b UIDVALIDITY 1) UID ALL 3:4,9",
+            "* ESEARCH (TAG \"a\" MAILBOX \"b\" UIDVALIDITY 1) UID ALL 3:4,9",
             "a OK ESEARCH done",
         ],
     );
@@ -79,7 +79,7 @@ fn p9_subtree_misses_opsroom() {
     gives(
         "MB 1 0x33 1 1 Opsroom\nMB 2 0x33 1 2 Ops/a\nCM a NOTIFY SET STATUS (subtree Ops (MessageNew MessageExpunge))",
         &[
-            "* STATUS Ops/a (MESSAGES 0 UIDNEXT 1 UIDVALIDITY 2 HIGHESTMODSEQ 1)",
+            "* STATUS \"Ops/a\" (MESSAGES 0 UIDNEXT 1 UIDVALIDITY 2 HIGHESTMODSEQ 1)",
             "a OK NOTIFY done",
         ],
     );
@@ -90,7 +90,7 @@ fn p10_inbox_in_any_case() {
     gives(
         "MB 1 0x33 1 1 INBOX\nCM a NOTIFY SET STATUS (mailboxes inbox (MessageNew MessageExpunge))",
         &[
-            "* STATUS INBOX (MESSAGES 0 UIDNEXT 1 UIDVALIDITY 1 HIGHESTMODSEQ 1)",
+            "* STATUS \"INBOX\" (MESSAGES 0 UIDNEXT 1 UIDVALIDITY 1 HIGHESTMODSEQ 1)",
             "a OK NOTIFY done",
         ],
     );
@@ -156,10 +156,10 @@ fn rfc_5465_session() {
          ME 3 127001 0 0\n\
          CM e notify set (selected (MessageNew (uid) MessageExpunge)) (subtree Lists (MessageNew MessageExpunge)) (mailboxes misc (MessageNew MessageExpunge))",
         &[
-            "* STATUS Lists/Im2000 (MESSAGES 0 UIDNEXT 1 UIDVALIDITY 901 HIGHESTMODSEQ 1)",
-            "* STATUS Lists/Lemonade (MESSAGES 1 UIDNEXT 9999 UIDVALIDITY 4 HIGHESTMODSEQ 2)",
+            "* STATUS \"Lists/Im2000\" (MESSAGES 0 UIDNEXT 1 UIDVALIDITY 901 HIGHESTMODSEQ 1)",
+            "* STATUS \"Lists/Lemonade\" (MESSAGES 1 UIDNEXT 9999 UIDVALIDITY 4 HIGHESTMODSEQ 2)",
             "b OK NOTIFY done",
-            "* STATUS Lists/Lemonade (UIDNEXT 10000 MESSAGES 2 HIGHESTMODSEQ 3)",
+            "* STATUS \"Lists/Lemonade\" (UIDNEXT 10000 MESSAGES 2 HIGHESTMODSEQ 3)",
             "* 1 EXISTS",
             "* 1 FETCH (UID 127001 MODSEQ (2))",
             "e OK NOTIFY done",
@@ -179,10 +179,10 @@ fn rfc_5465_lines() {
          SB 1 1 0",
         &[
             "a OK NOTIFY done",
-            "* LIST () \"/\" NewMailbox",
-            "* LIST (\\NonExistent) \"/\" NewMailbox",
-            "* LIST () \"/\" NewMailbox (\"OLDNAME\" (OldMailbox))",
-            "* LIST (\\Subscribed) \"/\" NewMailbox",
+            "* LIST () \"/\" \"NewMailbox\"",
+            "* LIST (\\NonExistent) \"/\" \"NewMailbox\"",
+            "* LIST () \"/\" \"NewMailbox\" (\"OLDNAME\" (\"OldMailbox\"))",
+            "* LIST (\\Subscribed) \"/\" \"NewMailbox\"",
         ],
     );
     gives(
@@ -194,10 +194,10 @@ fn rfc_5465_lines() {
          FL 1 1 1",
         &[
             "a OK NOTIFY done",
-            "* STATUS INBOX (UIDNEXT 2 MESSAGES 1 HIGHESTMODSEQ 2)",
-            "* LIST (\\Subscribed) \"/\" INBOX",
+            "* STATUS \"INBOX\" (UIDNEXT 2 MESSAGES 1 HIGHESTMODSEQ 2)",
+            "* LIST (\\Subscribed) \"/\" \"INBOX\"",
             "a OK NOTIFY done",
-            "* STATUS INBOX (UIDVALIDITY 1 HIGHESTMODSEQ 3)",
+            "* STATUS \"INBOX\" (UIDVALIDITY 1 HIGHESTMODSEQ 3)",
         ],
     );
 }
@@ -222,16 +222,16 @@ fn rfc_6237_session() {
          CM tag3 ESEARCH IN (mailboxes \"folder1\" subtree-one \"folder2\") subject \"chad\"\n\
          CM tag4 ESEARCH IN (subtree-one \"folder2\") RETURN (COUNT) ALL",
         &[
-            "* ESEARCH (TAG \"tag1\" MAILBOX folder1 UIDVALIDITY 1) UID ALL 4001,4003",
-            "* ESEARCH (TAG \"tag1\" MAILBOX folder2/banana UIDVALIDITY 503) UID ALL 3002,4004",
-            "* ESEARCH (TAG \"tag1\" MAILBOX folder2/peach UIDVALIDITY 3) UID ALL 921691",
-            "* ESEARCH (TAG \"tag1\" MAILBOX folder2/peach/stone UIDVALIDITY 9) UID ALL 5",
+            "* ESEARCH (TAG \"tag1\" MAILBOX \"folder1\" UIDVALIDITY 1) UID ALL 4001,4003",
+            "* ESEARCH (TAG \"tag1\" MAILBOX \"folder2/banana\" UIDVALIDITY 503) UID ALL 3002,4004",
+            "* ESEARCH (TAG \"tag1\" MAILBOX \"folder2/peach\" UIDVALIDITY 3) UID ALL 921691",
+            "* ESEARCH (TAG \"tag1\" MAILBOX \"folder2/peach/stone\" UIDVALIDITY 9) UID ALL 5",
             "tag1 OK ESEARCH done",
-            "* ESEARCH (TAG \"tag2\" MAILBOX folder1 UIDVALIDITY 1) UID ALL 4002",
+            "* ESEARCH (TAG \"tag2\" MAILBOX \"folder1\" UIDVALIDITY 1) UID ALL 4002",
             "tag2 OK ESEARCH done",
             "tag3 NO unsupported",
-            "* ESEARCH (TAG \"tag4\" MAILBOX folder2/banana UIDVALIDITY 503) UID COUNT 2",
-            "* ESEARCH (TAG \"tag4\" MAILBOX folder2/peach UIDVALIDITY 3) UID COUNT 1",
+            "* ESEARCH (TAG \"tag4\" MAILBOX \"folder2/banana\" UIDVALIDITY 503) UID COUNT 2",
+            "* ESEARCH (TAG \"tag4\" MAILBOX \"folder2/peach\" UIDVALIDITY 3) UID COUNT 1",
             "tag4 OK ESEARCH done",
         ],
     );
@@ -266,7 +266,7 @@ fn rename_is_heard_by_either_name() {
             );
             let mut lines = vec!["n OK NOTIFY done"];
             if heard {
-                lines.push("* LIST () \"/\" y (\"OLDNAME\" (x))");
+                lines.push("* LIST () \"/\" \"y\" (\"OLDNAME\" (\"x\"))");
             }
             gives(&text, &lines);
         }
@@ -362,7 +362,7 @@ fn no_status_of_the_selected() {
          CM n NOTIFY SET STATUS (selected (MessageNew MessageExpunge)) \
          (personal (MessageNew MessageExpunge MailboxName SubscriptionChange))",
         &[
-            "* STATUS c (MESSAGES 0 UIDNEXT 1 UIDVALIDITY 1 HIGHESTMODSEQ 1)",
+            "* STATUS \"c\" (MESSAGES 0 UIDNEXT 1 UIDVALIDITY 1 HIGHESTMODSEQ 1)",
             "n OK NOTIFY done",
         ],
     );

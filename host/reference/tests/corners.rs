@@ -58,7 +58,7 @@ fn lines_that_fit_exactly_are_written() {
          CM n NOTIFY SET (selected (MessageNew (UID) MessageExpunge FlagChange)) \
          (personal (MessageNew MessageExpunge FlagChange MailboxName))"
     );
-    let status = "* STATUS c (UIDNEXT 2 MESSAGES 1 HIGHESTMODSEQ 2)\r\n";
+    let status = "* STATUS \"c\" (UIDNEXT 2 MESSAGES 1 HIGHESTMODSEQ 2)\r\n";
     for (record, lines) in [
         (
             "ME 1 3 0 0",
@@ -70,7 +70,10 @@ fn lines_that_fit_exactly_are_written() {
             "* 2 FETCH (UID 2 FLAGS (\\Answered) MODSEQ (4))\r\n",
         ),
         ("ME 2 1 0 0", status),
-        ("RN 2 0 d", "* LIST () \"/\" d (\"OLDNAME\" (c))\r\n"),
+        (
+            "RN 2 0 d",
+            "* LIST () \"/\" \"d\" (\"OLDNAME\" (\"c\"))\r\n",
+        ),
     ] {
         let exact = Kept::after(&store).leave(lines.len()).says(record);
         assert_eq!(exact, lines);
@@ -133,7 +136,7 @@ fn a_search_passes_over_expunged_messages() {
     gives(
         &format!("{OPENED}\nXP 1 1\nCM s ESEARCH RETURN (MIN COUNT) ALL"),
         &[
-            "* ESEARCH (TAG \"s\" MAILBOX b UIDVALIDITY 1) UID MIN 2 COUNT 1",
+            "* ESEARCH (TAG \"s\" MAILBOX \"b\" UIDVALIDITY 1) UID MIN 2 COUNT 1",
             "s OK ESEARCH done",
         ],
     );
@@ -147,7 +150,7 @@ fn a_search_passes_over_unannounced_messages() {
         gives(
             &format!("{OPENED}\nME 1 3 0 0\nCM s ESEARCH IN ({source}) RETURN (MAX COUNT) ALL"),
             &[
-                "* ESEARCH (TAG \"s\" MAILBOX b UIDVALIDITY 1) UID MAX 2 COUNT 2",
+                "* ESEARCH (TAG \"s\" MAILBOX \"b\" UIDVALIDITY 1) UID MAX 2 COUNT 2",
                 "s OK ESEARCH done",
             ],
         );
@@ -166,7 +169,7 @@ fn notify_set_first_writes_what_class_1_is_owed() {
             "* 1 EXPUNGE",
             "* 2 EXISTS",
             "* 1 FETCH (UID 2 FLAGS (\\Answered) MODSEQ (4))",
-            "* STATUS c (MESSAGES 0 UIDNEXT 1 UIDVALIDITY 4 HIGHESTMODSEQ 1)",
+            "* STATUS \"c\" (MESSAGES 0 UIDNEXT 1 UIDVALIDITY 4 HIGHESTMODSEQ 1)",
             "n OK NOTIFY done",
             "= 0",
         ],
@@ -236,8 +239,8 @@ fn a_grant_lists_an_unselectable_mailbox_as_such() {
          RT 1 0x30\nRT 2 0x30",
         &[
             "n OK NOTIFY done",
-            "* LIST (\\Noselect) \"/\" x",
-            "* LIST () \"/\" y",
+            "* LIST (\\Noselect) \"/\" \"x\"",
+            "* LIST () \"/\" \"y\"",
         ],
     );
 }

@@ -11,7 +11,7 @@ use reference::names::Name;
 use reference::records::{read, Record};
 use reference::{call_trusting, Answer, Memory};
 use std::ops::AddAssign;
-use support::{as_written, contains};
+use support::contains;
 
 const PAIRS: u64 = 20_000;
 const RECORDS: usize = 70;
@@ -91,7 +91,8 @@ fn above(memory: &Memory, octets: &[u8]) -> Option<Name> {
 fn tells_of_hidden(memory: &Memory, parent: &Name, filled: usize) -> bool {
     let row = memory.holder_of(parent);
     let hidden = row.is_some_and(|row| HIDDEN_IDS.contains(&row.id));
-    let line = format!("* LIST (\\NonExistent) \"/\" {}\r\n", as_written(parent));
+    let name = String::from_utf8_lossy(parent.as_octets());
+    let line = format!("* LIST (\\NonExistent) \"/\" \"{name}\"\r\n");
     hidden && memory.filled > filled && contains(&memory.held()[filled..], &line)
 }
 

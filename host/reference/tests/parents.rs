@@ -58,7 +58,7 @@ fn every_parent_under_every_selector() {
                 Some(bits) if bits & 1 == 1 => "",
                 Some(_) => "\\Noselect",
             };
-            let line = format!("* LIST ({mark}) \"/\" Ops\r\n");
+            let line = format!("* LIST ({mark}) \"/\" \"Ops\"\r\n");
             let wanted = if met { &line[..] } else { "" };
             let row = parent.map_or(String::new(), |bits| format!("MB 9 {bits} 1 1 Ops"));
             let set = format!("CM n NOTIFY SET ({selector} (MailboxName))");
@@ -81,7 +81,9 @@ fn every_change_of_the_child_s_rights() {
                 _ => None,
             };
             let lines = |mark| {
-                format!("* LIST ({mark}) \"/\" Ops/a\r\n* LIST (\\NonExistent) \"/\" Ops\r\n")
+                format!(
+                    "* LIST ({mark}) \"/\" \"Ops/a\"\r\n* LIST (\\NonExistent) \"/\" \"Ops\"\r\n"
+                )
             };
             let set = "CM n NOTIFY SET (mailboxes (Ops Ops/a) (MailboxName))";
             let text = format!("MB 1 {} 1 1 Ops/a\n{set}\nRT 1 {later}", before | 1);

@@ -7,8 +7,8 @@ use reference::generate::Generator;
 use reference::memory::{Mailbox, LOOKUP, READ};
 use reference::records::{read, Record};
 use reference::Memory;
+use support::observe;
 use support::wrong::{noticed_by, Wrong, RIGHT};
-use support::{as_written, observe};
 
 #[track_caller]
 fn noticed(wrong: Wrong) {
@@ -137,8 +137,8 @@ fn a_rename_that_tells_of_the_parent() {
                 return;
             };
             if let Some(parent) = name.parent().filter(|_| memory.filled > kept.filled) {
-                let name = as_written(&parent);
-                memory.append(format!("* LIST () \"/\" {name}\r\n").as_bytes());
+                let name = String::from_utf8_lossy(parent.as_octets()).to_string();
+                memory.append(format!("* LIST () \"/\" \"{name}\"\r\n").as_bytes());
             }
         },
         ..RIGHT
@@ -155,9 +155,8 @@ fn a_grandparent_told_of() {
                     .last()
                     .map(|line| String::from_utf8_lossy(line).to_string());
                 let cut = last.and_then(|line| {
-                    let (rest, _) = line.strip_suffix("\r\n")?.rsplit_once('/')?;
-                    // without a slash in the name it is the separator's
-                    (!rest.ends_with('"')).then(|| format!("{rest}\r\n"))
+                    let (rest, _) = line.strip_suffix("\"\r\n")?.rsplit_once('/')?;
+                    (rest.matches('"').count() == 3).then(|| format!("{rest}\"\r\n"))
                 });
                 lines.extend(cut.map(String::into_bytes));
             })

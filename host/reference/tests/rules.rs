@@ -18,7 +18,7 @@ fn found(uids: &[u32]) -> String {
     }
     let (least, most) = (uids[0], uids[uids.len() - 1]);
     format!(
-        "* ESEARCH (TAG \"s\" MAILBOX b UIDVALIDITY 1) UID MIN {least} MAX {most} COUNT {}\r\n\
+        "* ESEARCH (TAG \"s\" MAILBOX \"b\" UIDVALIDITY 1) UID MIN {least} MAX {most} COUNT {}\r\n\
          s OK ESEARCH done\r\n",
         uids.len()
     )
@@ -108,9 +108,9 @@ fn selectors() {
             let set = format!("CM n NOTIFY SET STATUS ({selector} {both})");
             let first = match (meets && list, read) {
                 (true, true) => {
-                    "* STATUS a/b (MESSAGES 1 UIDNEXT 2 UIDVALIDITY 1 HIGHESTMODSEQ 2)\r\n"
+                    "* STATUS \"a/b\" (MESSAGES 1 UIDNEXT 2 UIDVALIDITY 1 HIGHESTMODSEQ 2)\r\n"
                 }
-                (true, false) => "* LIST (\\NoAccess) \"/\" a/b\r\n",
+                (true, false) => "* LIST (\\NoAccess) \"/\" \"a/b\"\r\n",
                 _ => "",
             };
             let wanted = format!("{first}n OK NOTIFY done\r\n");
@@ -120,16 +120,16 @@ fn selectors() {
                 "ME 1 2 0 0\nXP 1 1\nFL 1 2 0\nRN 1 1 z\nRN 1 1 a/b\nDL 1 0",
             );
             let wanted = if meets && list && read {
-                "* STATUS a/b (UIDNEXT 3 MESSAGES 2 HIGHESTMODSEQ 3)\r\n\
-                 * STATUS a/b (UIDNEXT 3 MESSAGES 1 HIGHESTMODSEQ 4)\r\n\
-                 * STATUS a/b (UIDVALIDITY 1 HIGHESTMODSEQ 5)\r\n\
-                 * LIST (\\NonExistent) \"/\" a/b\r\n"
+                "* STATUS \"a/b\" (UIDNEXT 3 MESSAGES 2 HIGHESTMODSEQ 3)\r\n\
+                 * STATUS \"a/b\" (UIDNEXT 3 MESSAGES 1 HIGHESTMODSEQ 4)\r\n\
+                 * STATUS \"a/b\" (UIDVALIDITY 1 HIGHESTMODSEQ 5)\r\n\
+                 * LIST (\\NonExistent) \"/\" \"a/b\"\r\n"
             } else {
                 ""
             };
             // the parent is absent, so its name alone counts
             let named = list && read && matches!(selector, "subtree a" | "mailboxes a");
-            let above = "* LIST (\\NonExistent) \"/\" a\r\n";
+            let above = "* LIST (\\NonExistent) \"/\" \"a\"\r\n";
             let wanted = format!("{wanted}{}", if named { above } else { "" });
             assert_eq!(told, wanted, "{attributes} {selector}");
         }
@@ -151,11 +151,11 @@ fn mailbox_notices() {
                 let kind = if selectable == 1 { "" } else { "\\Noselect" };
                 let wanted = if rights == 0x30 && quiet == 0 {
                     format!(
-                        "* LIST ({kind}) \"/\" x\r\n\
-                         * LIST (\\Subscribed) \"/\" x\r\n\
-                         * LIST () \"/\" x\r\n\
-                         * LIST ({kind}) \"/\" y (\"OLDNAME\" (x))\r\n\
-                         * LIST (\\NonExistent) \"/\" y\r\n"
+                        "* LIST ({kind}) \"/\" \"x\"\r\n\
+                         * LIST (\\Subscribed) \"/\" \"x\"\r\n\
+                         * LIST () \"/\" \"x\"\r\n\
+                         * LIST ({kind}) \"/\" \"y\" (\"OLDNAME\" (\"x\"))\r\n\
+                         * LIST (\\NonExistent) \"/\" \"y\"\r\n"
                     )
                 } else {
                     String::new()
@@ -170,7 +170,7 @@ fn mailbox_notices() {
 #[test]
 fn subscriptions() {
     let store = "MB 1 0x39 1 1 x\nCM n NOTIFY SET (subscribed (SubscriptionChange))";
-    let lines = "* LIST () \"/\" x\r\n* LIST (\\Subscribed) \"/\" x\r\n";
+    let lines = "* LIST () \"/\" \"x\"\r\n* LIST (\\Subscribed) \"/\" \"x\"\r\n";
     assert_eq!(after(store, "SB 1 0 0\nSB 1 1 0"), lines);
 }
 
@@ -185,9 +185,9 @@ fn rights() {
             );
             let (had, has) = (before & 0x10 != 0, later & 0x10 != 0);
             let wanted = if !had && has && later == 0x30 {
-                "* LIST () \"/\" x\r\n"
+                "* LIST () \"/\" \"x\"\r\n"
             } else if had && !has && before == 0x30 {
-                "* LIST (\\NonExistent) \"/\" x\r\n"
+                "* LIST (\\NonExistent) \"/\" \"x\"\r\n"
             } else {
                 ""
             };

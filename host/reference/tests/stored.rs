@@ -75,9 +75,9 @@ fn a_wrong_expectation_is_noticed() {
 }
 
 /// The word for a section, by which rows are cited.
-const WORDS: [&str; 14] = [
+const WORDS: [&str; 13] = [
     "Build", "Store", "Records", "Commands", "Matches", "Written", "Duties", "Examples", "Forms",
-    "Astray", "Counters", "Parent", "Why", "Bare",
+    "Astray", "Counters", "Parent", "Why",
 ];
 
 /// `Section N` for each row of docs/RULES.md.

@@ -142,15 +142,15 @@ fn counts_are_the_lines_left() {
 fn streams_reach_everything() {
     let mut seen = BTreeMap::new();
     let shown = [
-        "* LIST () \"/\" ",
+        "* LIST () \"/\" \"",
         "* LIST (\\Noselect) \"/\"",
         "* LIST (\\NonExistent) \"/\"",
         "* LIST (\\Subscribed) \"/\"",
         "* LIST (\\NoAccess) \"/\"",
-        "(\"OLDNAME\" (",
+        "(\"OLDNAME\" (\"",
         " (MESSAGES ",
         " MESSAGES 3 HIGHESTMODSEQ ",
-        " (UIDVALIDITY ",
+        "\" (UIDVALIDITY ",
         " MODSEQ (42949672",
         "HIGHESTMODSEQ 92233720368547758",
         " EXISTS\r\n",

@@ -6,7 +6,7 @@ use mathlib.Core.List.{List, [], ◌∷◌}
 use Rattle.std.proofs.Math.Bool.{false}
 use borrow.Author.Tests.{ltb-false, lt-ltb, le-ltb, eqb-true, eqb-false, eq-eqb, ne_eqb, not-true}
 use Rattle.model.specs.Lists.{anyb, apart, same}
-use Rattle.model.specs.Laws.{tf, or_l, or_r, and_l, and_r, and_true}
+use Rattle.model.specs.Laws.{tf, or_l, or_r, and_l, and_r, and-true}
 use Rattle.model.specs.Memory.{name_of, place, known, no_mailbox}
 use Rattle.model.specs.Lawful.{clash}
 use Rattle.model.specs.declared.Mailbox.{Mailbox}
@@ -46,7 +46,7 @@ none-clash x (y ∷ l) k n = go (eqb y.id x.id) refl (none-clash x l)
     go true g ih = tf (ltb 0 (suc (length l))) (lt-ltb 0 (suc (length l)) (omega arith)) (rw g at k)
     go false g ih =
         let h : (same (name_of y) (name_of x) && not (eqb y.id x.id)) ≡ false = or_l (same (name_of y) (name_of x) && not (eqb y.id x.id)) _ n in
-        let d : same (name_of y) (name_of x) ≡ false = sym (and_true (same (name_of y) (name_of x))) ∙ (rw g at h) in
+        let d : same (name_of y) (name_of x) ≡ false = sym (and-true (same (name_of y) (name_of x))) ∙ (rw g at h) in
         rw (g, d) (ih (low (rw g at k)) (or_r (same (name_of y) (name_of x) && not (eqb y.id x.id)) _ n))
 
 -- ---- a row is set, with a name that no other has
@@ -59,7 +59,7 @@ module _ (i : ℕ) (y : Mailbox) (q : y.id ≡ i) where
       let a : eqb x.id z.id ≡ false = or_l (eqb x.id z.id) (same (name_of x) (name_of z)) (or_l (clash x z) _ c) in
       let b : eqb z.id i ≡ false = eqb_sym z.id i ∙ (rw e at a) in
       let h : (same (name_of z) (name_of y) && not (eqb z.id i)) ≡ false = or_l (same (name_of z) (name_of y) && not (eqb z.id i)) _ n in
-      let d : same (name_of y) (name_of z) ≡ false = same_sym (name_of y) (name_of z) ∙ (sym (and_true (same (name_of z) (name_of y))) ∙ (rw b at h)) in
+      let d : same (name_of y) (name_of z) ≡ false = same_sym (name_of y) (name_of z) ∙ (sym (and-true (same (name_of z) (name_of y))) ∙ (rw b at h)) in
       let f : clash y z ≡ false = rw (q, eqb_sym i z.id, b, d) in
       rw f (rest_clash x e l (or_r (clash x z) _ c) (or_r (same (name_of z) (name_of y) && not (eqb z.id i)) _ n))
 
@@ -84,7 +84,7 @@ module _ (i : ℕ) (y : Mailbox) (q : y.id ≡ i) where
           → apart clash (set (x ∷ l) (place i (x ∷ l)) y) ≡ true
       go true g ih = rw (g, rest_clash x (eqb-true x.id i g) l c o, r)
       go false g ih =
-          let d : same (name_of x) (name_of y) ≡ false = sym (and_true (same (name_of x) (name_of y))) ∙ (rw g at h) in
+          let d : same (name_of x) (name_of y) ≡ false = sym (and-true (same (name_of x) (name_of y))) ∙ (rw g at h) in
           let f : clash x y ≡ false = rw (q, g, d) in
           rw (g, any-set (λ (z : Mailbox). clash x z) l (place i l) y c f) (ih r o)
 

@@ -7,7 +7,7 @@ use Rattle.std.proofs.Math.Bool.{true, false}
 use Rattle.std.proofs.lemmas.Bool.{eqb-false, not-true}
 use Rattle.std.proofs.lemmas.List.{length-map}
 use Rattle.model.specs.Lists.{filterb, anyb}
-use Rattle.model.specs.Laws.{tf, or_l, or_r, or_true, or_false, filter_map, filter-append, any_snoc, and_false}
+use Rattle.model.specs.Laws.{tf, or_l, or_r, or_true, or-false, filter_map, filter-append, any_snoc, and_false}
 use Rattle.model.specs.Records.{Record, arrive}
 use Rattle.model.specs.Memory.{Memory, boxes, mails, known, place, the_mailbox, selected_box, is_selected, uid_of, is_message, in_mailbox, by_uid, messages_of, existing, with_next, counter_of, with_counter, put_box}
 use Rattle.model.specs.Groups.{asked_of, asks_new}
@@ -132,7 +132,7 @@ module _ (m : Memory) (k : Law m) (a : Account) (b : Books m a) where
       where
         seen : (v : ℕ) (c : Bool) → eqb v u ≡ c → (((present s v (mails m) && not (ltb v m.session.told)) && true) || c) ≡ ((present s v (mails m) || eqb u v) && not (ltb v m.session.told))
         seen v true h = rw (eqb-true v u h, eq-eqb u u refl, unseen_yet, or_true (present s u (mails m)), or_true ((present s u (mails m) && true) && true))
-        seen v false h = rw (flip u v h, or_false (present s v (mails m))) (plainly (present s v (mails m) && not (ltb v m.session.told)))
+        seen v false h = rw (flip u v h, or-false (present s v (mails m))) (plainly (present s v (mails m) && not (ltb v m.session.told)))
 
     hushed_arrival : Books (with_arrived (silence m) s u f z c) (page (apparent m) a r (overflow ∷ []) (waits (arrival u)))
     hushed_arrival = awaits (with_arrived (silence m) s u f z c) (mails_with (put_box (silence m) s (with_next (the_mailbox s (boxes m)) (u + 1))) (mails m ++ (e₀ ∷ []))) refl refl (overflow ∷ [])
@@ -156,7 +156,7 @@ module _ (m : Memory) (k : Law m) (a : Account) (b : Books m a) where
             go true h = rw (eqb-true (uid_of e) u h, unseen_yet)
             go false h =
                 let p : (present s (uid_of e) (mails m) || is_message s (uid_of e) e₀) ≡ true = sym (ap (present s (uid_of e)) stored-mails ∙ present-snoc s (uid_of e) (mails m) e₀) ∙ here in
-                let q : present s (uid_of e) (mails m) ≡ true = sym (or_false (present s (uid_of e) (mails m))) ∙ (rw (own-place (uid_of e), flip u (uid_of e) h) at p) in
+                let q : present s (uid_of e) (mails m) ≡ true = sym (or-false (present s (uid_of e) (mails m))) ∙ (rw (own-place (uid_of e), flip u (uid_of e) h) at p) in
                 b.arrivals (uid_of e) ∙ rw q
 
     all_of : messages_of s (a.kept ++ (e₀ ∷ [])) ≡ map rested (selected_messages x)
@@ -185,7 +185,7 @@ module _ (m : Memory) (k : Law m) (a : Account) (b : Books m a) where
         one : (e : Message) → (in_mailbox s e ≡ true → (state_of s (uid_of e) (mails x) ≡ e.states) × (present s (uid_of e) (mails x) ≡ true)) → state_ok m.session e ≡ true
             → in_mailbox s e ≡ true → announced x e ≡ false → eqb (state_of s (uid_of e) (mails x)) 1 ≡ false
         one e g o i h =
-            let q : e.states ≡ 0 = eqb-true e.states 0 (sym (or_false (eqb e.states 0)) ∙ (rw (i, h) at o)) in
+            let q : e.states ≡ 0 = eqb-true e.states 0 (sym (or-false (eqb e.states 0)) ∙ (rw (i, h) at o)) in
             rw ((g i).0, q)
 
     -- one at least is new
@@ -301,12 +301,12 @@ module _ (m : Memory) (k : Law m) (a : Account) (b : Books m a) where
             selected = refl;
             told = refl;
             states = λ v. rw q (state-snoc m.session.selected v (mails m) e refl);
-            presents = λ v. rw (q, present-snoc m.session.selected v (mails m) e, away v) (or_false (present m.session.selected v (mails m)));
+            presents = λ v. rw (q, present-snoc m.session.selected v (mails m) e, away v) (or-false (present m.session.selected v (mails m)));
           })
           (record {
             selected = refl;
             told = refl;
             states = λ v. rw q' (state-snoc m.session.selected v (mails m) e refl);
-            presents = λ v. rw (q', present-snoc m.session.selected v (mails m) e, away v) (or_false (present m.session.selected v (mails m)));
+            presents = λ v. rw (q', present-snoc m.session.selected v (mails m) e, away v) (or-false (present m.session.selected v (mails m)));
           })
           (λ f ls _. more ∙ ap (map rested) (sym q)) (λ f ls _. more ∙ ap (map rested) (sym q'))

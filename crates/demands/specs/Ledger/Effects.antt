@@ -3,7 +3,7 @@ use Rattle.std.specs.Prelude.{◌≡◌, refl, List, [], ◌∷◌, map, Bool, t
 use Rattle.std.proofs.Common.{sym, ◌∙◌, ap, eqb-true, ne_eqb}
 use Rattle.std.proofs.lemmas.Bool.{eqb-false}
 use Rattle.model.specs.Lists.{filterb, keep, anyb}
-use Rattle.model.specs.Laws.{tf, and_l, and_r, or_false, cond_same, any_fewer, and_true, and_false}
+use Rattle.model.specs.Laws.{tf, and_l, and_r, or-false, cond_same, any_fewer, and-true, and_false}
 use Rattle.model.specs.Memory.{Memory, mails, selected_box, uid_of, is_message, in_mailbox, with_states, drop_mails, change_mails}
 use Rattle.model.specs.Lines.{Line, status, list, renamed, exists, expunge, fetch, found as found_line, overflow, answer}
 use Rattle.model.specs.Queue.{announce, unmark, shows_flags, effect, effects}
@@ -51,9 +51,9 @@ pub nothing-ended : (m n : Memory) → mails n ≡ mails m → n.session.selecte
 nothing-ended m n e s t ls r k x = record {
   selected = s;
   kept = rw e (sym (filter_no (λ (d : Message). anyb (is_removal (uid_of d)) ls) (λ d. r (uid_of d)) m.session.selected (map rested (mails m))));
-  removals = λ u. rw (e, r u) (sym (and_true (eqb (state_of m.session.selected u (mails m)) 1)));
-  markings = λ u. rw (e, k u) (sym (and_true (eqb (state_of m.session.selected u (mails m)) 2)));
-  arrivals = λ u. rw (e, t, x) (sym (and_true (present m.session.selected u (mails m) && not (ltb u m.session.told))));
+  removals = λ u. rw (e, r u) (sym (and-true (eqb (state_of m.session.selected u (mails m)) 1)));
+  markings = λ u. rw (e, k u) (sym (and-true (eqb (state_of m.session.selected u (mails m)) 2)));
+  arrivals = λ u. rw (e, t, x) (sym (and-true (present m.session.selected u (mails m) && not (ltb u m.session.told))));
 }
 
 -- two numbers that differ do so either way round; then a message has one of them
@@ -69,8 +69,8 @@ ended-exists : (m : Memory) → Below m → (n : Line) → is_exists n ≡ true 
 ended-exists m b n x r k = record {
   selected = refl;
   kept = sym (filter_no (λ (d : Message). is_removal (uid_of d) n || false) (λ d. rw (r (uid_of d))) m.session.selected (map rested (mails m)));
-  removals = λ u. rw (r u) (sym (and_true (eqb (state_of m.session.selected u (mails m)) 1)));
-  markings = λ u. rw (k u) (sym (and_true (eqb (state_of m.session.selected u (mails m)) 2)));
+  removals = λ u. rw (r u) (sym (and-true (eqb (state_of m.session.selected u (mails m)) 1)));
+  markings = λ u. rw (k u) (sym (and-true (eqb (state_of m.session.selected u (mails m)) 2)));
   arrivals = λ u. rw x (all u (present m.session.selected u (mails m)) refl);
 }
   where
@@ -96,7 +96,7 @@ module _ (m : Memory) (v : ℕ) where
       fewer : (es : List Message) → filterb (λ (e : Message). not (in_mailbox s e && (is_removal (uid_of e) n || false))) (map rested es)
           ≡ map rested (filterb (λ (e : Message). not (is_message s v e)) es)
       fewer [] = refl
-      fewer (e ∷ es) = rw (r (uid_of e), or_false (eqb (uid_of e) v)) (go (is_message s v e) (fewer es))
+      fewer (e ∷ es) = rw (r (uid_of e), or-false (eqb (uid_of e) v)) (go (is_message s v e) (fewer es))
         where
           go : (c : Bool) → filterb (λ (d : Message). not (in_mailbox s d && (is_removal (uid_of d) n || false))) (map rested es) ≡ map rested (filterb (λ (d : Message). not (is_message s v d)) es)
               → keep (not c) (rested e) (filterb (λ (d : Message). not (in_mailbox s d && (is_removal (uid_of d) n || false))) (map rested es))
@@ -112,16 +112,16 @@ module _ (m : Memory) (v : ℕ) where
 
       gone : (u : ℕ) (c : Bool) → eqb u v ≡ c → eqb (state_of s u (filterb (λ (e : Message). not (is_message s v e)) (mails m))) 1 ≡ (eqb (state_of s u (mails m)) 1 && not (c || false))
       gone u true h = rw (state-gone s u (λ (e : Message). not (is_message s v e)) (same_u u h) (mails m)) (sym (and_false (eqb (state_of s u (mails m)) 1)))
-      gone u false h = rw (state-kept s u (λ (e : Message). not (is_message s v e)) (other_u u h) (mails m)) (sym (and_true (eqb (state_of s u (mails m)) 1)))
+      gone u false h = rw (state-kept s u (λ (e : Message). not (is_message s v e)) (other_u u h) (mails m)) (sym (and-true (eqb (state_of s u (mails m)) 1)))
 
       unmarked : (u : ℕ) (c : Bool) → eqb u v ≡ c → eqb (state_of s u (filterb (λ (e : Message). not (is_message s v e)) (mails m))) 2 ≡ (eqb (state_of s u (mails m)) 2 && true)
       unmarked u true h = rw (state-gone s u (λ (e : Message). not (is_message s v e)) (same_u u h) (mails m), eqb-true u v h, marked)
-      unmarked u false h = rw (state-kept s u (λ (e : Message). not (is_message s v e)) (other_u u h) (mails m)) (sym (and_true (eqb (state_of s u (mails m)) 2)))
+      unmarked u false h = rw (state-kept s u (λ (e : Message). not (is_message s v e)) (other_u u h) (mails m)) (sym (and-true (eqb (state_of s u (mails m)) 2)))
 
       seen : (u : ℕ) (c : Bool) → eqb u v ≡ c
           → (present s u (filterb (λ (e : Message). not (is_message s v e)) (mails m)) && not (ltb u m.session.told)) ≡ ((present s u (mails m) && not (ltb u m.session.told)) && true)
       seen u true h = rw (present-gone s u (λ (e : Message). not (is_message s v e)) (same_u u h) (mails m), eqb-true u v h, announced, and_false (present s v (mails m)))
-      seen u false h = rw (present-kept s u (λ (e : Message). not (is_message s v e)) (other_u u h) (mails m)) (sym (and_true (present s u (mails m) && not (ltb u m.session.told))))
+      seen u false h = rw (present-kept s u (λ (e : Message). not (is_message s v e)) (other_u u h) (mails m)) (sym (and-true (present s u (mails m) && not (ltb u m.session.told))))
 
   -- a FETCH that shows the flags
   ended-fetch : (n : Line) → ((u : ℕ) → is_removal u n ≡ false) → ((u : ℕ) → is_marking u n ≡ eqb u v) → is_exists n ≡ false → eqb (state_of s v (mails m)) 1 ≡ false
@@ -134,7 +134,7 @@ module _ (m : Memory) (v : ℕ) where
     removals = λ u. rw (mails_with m (map (unmark s v) (mails m)), r u) (stays u (eqb u v) refl);
     markings = λ u. rw (mails_with m (map (unmark s v) (mails m)), k u) (unmarked u (eqb u v) refl);
     arrivals = λ u. rw (mails_with m (map (unmark s v) (mails m)), x, present-map s u (unmark s v) (λ e. keeps u e (is_message s v e)) (mails m))
-        (sym (and_true (present s u (mails m) && not (ltb u m.session.told))));
+        (sym (and-true (present s u (mails m) && not (ltb u m.session.told))));
   }
     where
       calm : (e : Message) (c : Bool) → rested (cond c (with_states e 0) e) ≡ rested e
@@ -159,11 +159,11 @@ module _ (m : Memory) (v : ℕ) where
 
       stays : (u : ℕ) (c : Bool) → eqb u v ≡ c → eqb (state_of s u (map (unmark s v) (mails m))) 1 ≡ (eqb (state_of s u (mails m)) 1 && true)
       stays u true h = rw (zeroed u h, eqb-true u v h, expunged)
-      stays u false h = rw (same_state u h) (sym (and_true (eqb (state_of s u (mails m)) 1)))
+      stays u false h = rw (same_state u h) (sym (and-true (eqb (state_of s u (mails m)) 1)))
 
       unmarked : (u : ℕ) (c : Bool) → eqb u v ≡ c → eqb (state_of s u (map (unmark s v) (mails m))) 2 ≡ (eqb (state_of s u (mails m)) 2 && not (c || false))
       unmarked u true h = rw (zeroed u h) (sym (and_false (eqb (state_of s u (mails m)) 2)))
-      unmarked u false h = rw (same_state u h) (sym (and_true (eqb (state_of s u (mails m)) 2)))
+      unmarked u false h = rw (same_state u h) (sym (and-true (eqb (state_of s u (mails m)) 2)))
 
 -- ---- one line
 pub ended_one : (m : Memory) → Below m → (l : Line) → Calm m l → Ended m (effect m l) (l ∷ [])
@@ -172,7 +172,7 @@ ended_one m b (expunge n v) c = ended-expunge m v.0 (expunge n v) (λ u. refl) (
 ended_one m b (fetch n v is) c = go (shows_flags is) refl
   where
     go : (f : Bool) → shows_flags is ≡ f → Ended m (cond f (change_mails m (unmark m.session.selected v.0)) m) (fetch n v is ∷ [])
-    go true h = ended-fetch m v.0 (fetch n v is) (λ u. refl) (λ u. rw (h, and_true (eqb u v.0))) refl c
+    go true h = ended-fetch m v.0 (fetch n v is) (λ u. refl) (λ u. rw (h, and-true (eqb u v.0))) refl c
     go false h = nothing-ended m m refl refl refl (fetch n v is ∷ []) (λ u. refl) (λ u. rw (h, and_false (eqb u v.0))) refl
 ended_one m b (status n is) c = nothing-ended m m refl refl refl (status n is ∷ []) (λ u. refl) (λ u. refl) refl
 ended_one m b (list k n) c = nothing-ended m m refl refl refl (list k n ∷ []) (λ u. refl) (λ u. refl) refl

@@ -5,7 +5,7 @@ use Rattle.std.proofs.Common.{◌∙◌, subst, eqb-true}
 use mathlib.Core.List.{List, [], map}
 use Rattle.std.proofs.Math.Bool.{true, false, not}
 use Rattle.model.specs.Lists.{filterb, anyb}
-use Rattle.model.specs.Laws.{tf, or_false, cond_same, filter_map}
+use Rattle.model.specs.Laws.{tf, or-false, cond_same, filter_map}
 use Rattle.model.specs.Records.{Record, select, ended, drained, record_of_none}
 use Rattle.model.specs.Memory.{Memory, boxes, mails, the_mailbox, uid_of, expunged, in_mailbox, drop_mails}
 use Rattle.model.specs.Lines.{Line, answer, render_all}
@@ -88,7 +88,7 @@ module _ (m : Memory) (k : Law m) (a : Account) (b : Books m a) where
           go : (c : Bool) → in_mailbox m.session.selected e ≡ c → not (c && waiting a.fates (removal (uid_of e))) ≡ not (expunged e)
           go true h = ap not (f h)
           go false h =
-              let z : e.states ≡ 0 = eqb-true e.states 0 (sym (or_false (eqb e.states 0)) ∙ (rw h at o)) in
+              let z : e.states ≡ 0 = eqb-true e.states 0 (sym (or-false (eqb e.states 0)) ∙ (rw h at o)) in
               rw z
 
   selected-mails : (i : ℕ) → mails (selecting m i) ≡ map rested (filterb (λ (e : Message). not (expunged e)) (mails m))

@@ -3,7 +3,7 @@ use Rattle.std.specs.Prelude.{◌≡◌, refl, List, [], ◌∷◌, ◌++◌, ma
 use Rattle.std.proofs.Common.{sym, ◌∙◌, ap, ap₂, eqb-true, eq-eqb, ne_eqb}
 use Rattle.std.proofs.lemmas.Bool.{eqb-false, not-true, not-false}
 use Rattle.model.specs.Lists.{filterb, anyb}
-use Rattle.model.specs.Laws.{tf, and_l, and_r, or_false, filter_map, and_false}
+use Rattle.model.specs.Laws.{tf, and_l, and_r, or-false, filter_map, and_false}
 use Rattle.model.specs.Records.{Record}
 use Rattle.model.specs.Memory.{Memory, mails, name_of, both_rights, selected_box, is_selected, uid_of, expunged, is_message, in_mailbox, by_uid, messages_of, existing}
 use Rattle.model.specs.Groups.{asked_of, selected_asks}
@@ -92,7 +92,7 @@ module _ (m : Memory) (k : Law m) where
       one : (e : Message) → state_ok m.session e ≡ true → in_mailbox j e ≡ true → expunged e ≡ false
       one e o g =
           let n : in_mailbox m.session.selected e ≡ false = ne_eqb e.mailbox m.session.selected (λ z. eqb-false m.session.selected j h (sym z ∙ eqb-true e.mailbox j g)) in
-          let z : e.states ≡ 0 = eqb-true e.states 0 (sym (or_false (eqb e.states 0)) ∙ (rw n at o)) in
+          let z : e.states ≡ 0 = eqb-true e.states 0 (sym (or-false (eqb e.states 0)) ∙ (rw n at o)) in
           rw z
 
   pub is-selected : (i : ℕ) → is_selected m i ≡ true → i ≡ m.session.selected

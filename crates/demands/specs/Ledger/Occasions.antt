@@ -2,7 +2,7 @@
 use Rattle.std.specs.Prelude.{◌≡◌, refl, List, [], ◌∷◌, ◌++◌, Bool, true, false, not, cond, ◌&&◌, ◌||◌, ℕ, ◌+◌, ◌-◌, ◌≤◌, eqb, leb, ltb, length}
 use Rattle.std.proofs.Common.{sym, ◌∙◌, ap, arith, leb-true, le-leb, eqb-true, eq-eqb, length-append}
 use Rattle.model.specs.Lists.{keep, filterb, anyb}
-use Rattle.model.specs.Laws.{tf, and_l, and_r, or_true, and_true}
+use Rattle.model.specs.Laws.{tf, and_l, and_r, or_true, and-true}
 use Rattle.model.specs.Memory.{Memory, mails, selected_box, both_rights, uid_of, expunged, marked, is_message, in_mailbox, by_uid}
 use Rattle.model.specs.Lines.{Line, expunge, render, render_all}
 use Rattle.model.specs.Queue.{fitting}
@@ -38,7 +38,7 @@ any-marked u n (e ∷ v) = go (marked e) (any-marked u (n + 1) v)
   where
     go : (c : Bool) → anyb (is_marking u) (marked_lines (n + 1) v) ≡ anyb (λ (d : Message). marked d && eqb u (uid_of d)) v
         → anyb (is_marking u) (cond c (flags_line n e ∷ marked_lines (n + 1) v) (marked_lines (n + 1) v)) ≡ ((c && eqb u (uid_of e)) || anyb (λ (d : Message). marked d && eqb u (uid_of d)) v)
-    go true x = rw (and_true (eqb u (uid_of e))) (ap (λ (b : Bool). eqb u (uid_of e) || b) x)
+    go true x = rw (and-true (eqb u (uid_of e))) (ap (λ (b : Bool). eqb u (uid_of e) || b) x)
     go false x = x
 
 -- the message with these states is among the entries

@@ -2,7 +2,7 @@
 use Rattle.std.specs.Prelude.{◌≡◌, refl, List, [], ◌∷◌, map, Bool, true, false, not, ◌&&◌, ℕ, suc, eqb, ltb, length}
 use Rattle.std.proofs.Common.{sym, ◌∙◌, ap, subst}
 use Rattle.model.specs.Lists.{anyb, filterb, when}
-use Rattle.model.specs.Laws.{tf, and_true}
+use Rattle.model.specs.Laws.{tf, and-true}
 use Rattle.model.specs.Records.{Record}
 use Rattle.model.specs.Memory.{Memory, mails, is_message}
 use Rattle.model.specs.Lines.{Line, status, list, renamed, exists, expunge, fetch, found as found_line, overflow, answer, render_all}
@@ -73,11 +73,11 @@ pub plain_turn : (m n w : Memory) (r : Record) (ls : List Line) (f : Fate) → n
     → Inert ls → Unending w r → Unwaiting f → Turn m n w r ls f
 plain_turn m n w r ls f s t e p h d q = record {
   removals = λ u. rw (d (removal u), q (removal u), inert_removal m u h, s, e u)
-      (simple (eqb (state_of m.session.selected u (mails m)) 1) false ∙ and_true (eqb (state_of m.session.selected u (mails m)) 1));
+      (simple (eqb (state_of m.session.selected u (mails m)) 1) false ∙ and-true (eqb (state_of m.session.selected u (mails m)) 1));
   markings = λ u. rw (d (marking u), q (marking u), inert_marking m u h, s, e u)
-      (simple (eqb (state_of m.session.selected u (mails m)) 2) false ∙ and_true (eqb (state_of m.session.selected u (mails m)) 2));
+      (simple (eqb (state_of m.session.selected u (mails m)) 2) false ∙ and-true (eqb (state_of m.session.selected u (mails m)) 2));
   arrivals = λ u. rw (d (arrival u), q (arrival u), inert-exists m h, s, t, p u)
-      (simple (present m.session.selected u (mails m) && not (ltb u m.session.told)) false ∙ and_true (present m.session.selected u (mails m) && not (ltb u m.session.told)));
+      (simple (present m.session.selected u (mails m) && not (ltb u m.session.told)) false ∙ and-true (present m.session.selected u (mails m) && not (ltb u m.session.told)));
 }
 
 -- ---- events that only mailboxes and other mailboxes' messages know of

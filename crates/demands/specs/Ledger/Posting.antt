@@ -3,7 +3,7 @@ use Rattle.std.specs.Prelude.{◌≡◌, refl, List, [], ◌∷◌, ◌++◌, ma
 use Rattle.std.proofs.Common.{sym, ◌∙◌, ap₂, eqb-true, eq-eqb}
 use Rattle.std.proofs.Math.Path.{ap}
 use Rattle.model.specs.Lists.{anyb}
-use Rattle.model.specs.Laws.{tf, or_false, any_snoc, and_true, and_false}
+use Rattle.model.specs.Laws.{tf, or-false, any_snoc, and-true, and_false}
 use Rattle.model.specs.Records.{Record}
 use Rattle.model.specs.Memory.{Memory}
 use Rattle.model.specs.Lines.{Line}
@@ -45,7 +45,7 @@ module _ (w : Memory) (n : ℕ) (r : Record) (ls : List Line) (d : Debt) where
       through true b c = sym (and_false (same_debt d d))
       through false true c = sym (and_false (same_debt d d))
       through false false true = sym (and_false (same_debt d d))
-      through false false false = sym (and_true (same_debt d d))
+      through false false false = sym (and-true (same_debt d d))
 
       past : (a b c : Bool) → same_debt d e ≡ false → waits_for d (cond a (reported n) (cond b (dropped reselected n) (cond c (dropped expunged_first n) (waits e)))) ≡ false
       past true b c h = refl
@@ -77,4 +77,4 @@ module _ (w : Memory) (n : ℕ) (r : Record) (ls : List Line) (d : Debt) where
 
 pub waiting-refused : (fs : List Fate) (d : Debt) → waiting (fs ++ (refused ∷ [])) d ≡ waiting fs d
 unfolding waiting
-waiting-refused fs d = any_snoc (waits_for d) fs refused ∙ or_false (anyb (waits_for d) fs)
+waiting-refused fs d = any_snoc (waits_for d) fs refused ∙ or-false (anyb (waits_for d) fs)

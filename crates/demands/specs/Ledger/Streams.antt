@@ -6,7 +6,7 @@ use Rattle.std.proofs.Math.Bool.{◌||◌, true}
 use Rattle.std.proofs.lemmas.Bool.{not-false}
 use Rattle.std.proofs.Math.Dec.{eqb}
 use Rattle.model.specs.Lists.{anyb}
-use Rattle.model.specs.Laws.{tf, or_l, or_r, or_false, any_snoc}
+use Rattle.model.specs.Laws.{tf, or_l, or_r, or-false, any_snoc}
 use Rattle.model.specs.Records.{Record, create, delete, rename, subscribe, grant, arrive, expunge, reflag, select, ended, command, drained, record_of_none, is_record, record_of}
 use Rattle.model.specs.Memory.{Memory, boxes, the_mailbox}
 use Rattle.model.specs.Lines.{Line}
@@ -101,7 +101,7 @@ module _ (m : Memory) (k : Law m) (a : Account) (b : Books m a) (o : Octets) whe
       markings = λ u. waiting-refused a.fates (marking u) ∙ b.markings u;
       arrivals = λ u. waiting-refused a.fates (arrival u) ∙ b.arrivals u;
     });
-    heard = λ q. rw h (any_snoc is_silent a.fates refused ∙ (or_false (anyb is_silent a.fates) ∙ q));
+    heard = λ q. rw h (any_snoc is_silent a.fates refused ∙ (or-false (anyb is_silent a.fates) ∙ q));
   }
 
   accepting : Step m a (record_of o) (accepted m (record_of o)) → Kept m a o (accepted m (record_of o))

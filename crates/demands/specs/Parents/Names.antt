@@ -4,7 +4,7 @@ use Rattle.std.proofs.Common.{sym, ◌∙◌, ap, arith, leb-true, le-leb, eqb-t
 use mathlib.Core.List.{[], ◌∷◌, ◌++◌}
 use Rattle.std.proofs.Math.Bool.{true, false, cond}
 use Rattle.model.specs.Lists.{anyb, allb}
-use Rattle.model.specs.Laws.{tf, or_false, and_l, and_r, before_last, before_none}
+use Rattle.model.specs.Laws.{tf, or-false, and_l, and_r, before_last, before_none}
 use Rattle.model.specs.Names.{Name, printable, no_part_empty, valid, fold, argument, before_slash, parent_of, has_parent}
 use Rattle.model.specs.Parents.{IsParent, ParentThere}
 use Rattle.demands.specs.Lasting.NameLaws.{valid_short, fold-valid}
@@ -19,7 +19,7 @@ cut (b ∷ n) e = go (anyb (eqb 47) n) refl (cut n)
         let s = (ih f).1 in
         (fold (b ∷ s.above), record { above = b ∷ s.above; part = s.part; is = ap (λ (l : Name). b ∷ l) s.is; last = s.last; named = refl })
     go false f ih =
-        let z : 47 ≡ b = eqb-true 47 b (sym (or_false (eqb 47 b)) ∙ (rw f at e)) in
+        let z : 47 ≡ b = eqb-true 47 b (sym (or-false (eqb 47 b)) ∙ (rw f at e)) in
         (fold [], record { above = []; part = n; is = ap (λ (c : ℕ). c ∷ n) (sym z); last = f; named = refl })
 
 -- ---- what stands before a slash of a valid name is valid

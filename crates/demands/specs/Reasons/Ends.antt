@@ -2,7 +2,7 @@
 use Rattle.std.specs.Prelude.{◌≡◌, refl, List, [], ◌∷◌, Bool, true, false, not, cond, ◌&&◌, ℕ, ◌+◌, eqb, length}
 use Rattle.std.proofs.Common.{sym, ◌∙◌, eqb-true}
 use Rattle.model.specs.Lists.{anyb}
-use Rattle.model.specs.Laws.{tf, and_l, and_r, or_false}
+use Rattle.model.specs.Laws.{tf, and_l, and_r, or-false}
 use Rattle.model.specs.Memory.{Memory, selected_box, both_rights, uid_of, expunged, marked}
 use Rattle.model.specs.Lines.{Line, expunge}
 use Rattle.model.specs.View.{announced, selected_messages, view, unannounced, expunge_lines, flags_line, marked_lines, exists_line, remainder, owed_lines, owed}
@@ -50,7 +50,7 @@ module _ (m : Memory) (c u : ℕ) where
       go : (r : Bool) → anyb is_exists (cond r (owed_lines m c) []) ≡ (r && anyb (λ (e : Message). true) (unannounced m))
       go true = owed_parts m is_exists c
           ∙ rw (gone (eqb c 1), exists_some (length (remainder m c)) (unannounced m), none-marked is_exists (λ n e. refl) 1 (remainder m c))
-          (or_false (anyb (λ (e : Message). true) (unannounced m)))
+          (or-false (anyb (λ (e : Message). true) (unannounced m)))
       go false = refl
 
   -- to class 1 the EXPUNGE of an expunged message of the view
@@ -64,7 +64,7 @@ module _ (m : Memory) (c u : ℕ) where
       go : (r : Bool) → anyb (is_removal u) (cond r (owed_lines m c) []) ≡ (r && (eqb c 1 && anyb (λ (e : Message). expunged e && eqb u (uid_of e)) (view m)))
       go true = owed_parts m (is_removal u) c
           ∙ rw (gone (eqb c 1), none-exists u (length (remainder m c)) (unannounced m), none-marked (is_removal u) (λ n e. refl) 1 (remainder m c))
-          (or_false (eqb c 1 && anyb (λ (e : Message). expunged e && eqb u (uid_of e)) (view m)))
+          (or-false (eqb c 1 && anyb (λ (e : Message). expunged e && eqb u (uid_of e)) (view m)))
       go false = refl
 
   -- ---- in agreement with the account

@@ -6,7 +6,7 @@ use Rattle.std.proofs.Math.Bool.{true, false}
 use borrow.Author.Tests.{eqb-true, eqb-false, ne_eqb, not-false, le-leb}
 use Rattle.std.proofs.Math.Dec.{eqb}
 use Rattle.model.specs.Lists.{anyb, same}
-use Rattle.model.specs.Laws.{tf, and_l, and_r, or_l, or_true, or_false, and_false}
+use Rattle.model.specs.Laws.{tf, and_l, and_r, or_l, or_true, or-false, and_false}
 use Rattle.model.specs.Text.{bit}
 use Rattle.model.specs.Records.{arrive, expunge, record_of}
 use Rattle.model.specs.Memory.{Memory, boxes, both_rights, with_next, with_counter, known, the_mailbox, selected_box, is_selected, silenced}
@@ -136,7 +136,7 @@ module _ (m : Memory) (a : Account) (s : Stands m a) (o : Octets) (z : number_of
     all_told ls e x v =
         let t : tells lines (arrival v) ≡ true = fitted (fits w ls) (once-lines m a s o z ls e) in
         waits-after (arrival v) ∙ rw (t, e, once_told (suc (length a.fates)) ls lines (due (silence w) a (record_of o)) (arrival v) f)
-        (or_false (waiting a.fates (arrival v) && false) ∙ and_false (waiting a.fates (arrival v)))
+        (or-false (waiting a.fates (arrival v) && false) ∙ and_false (waiting a.fates (arrival v)))
       where
         fitted : (c : Bool) → lines ≡ cond c ls (overflow ∷ []) → anyb is_exists lines ≡ true
         fitted true q = rw q x

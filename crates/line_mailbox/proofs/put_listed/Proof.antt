@@ -9,12 +9,12 @@ use Rattle.line_mailbox.specs.Texts.{listed}
 returns : tie.Need-returns
 unfolding listed
 returns c =
-    let b = c.before.before in let put-name = b.put-name in
+    let b = c.before.before in let put-quoted = b.put-quoted in
     let b = b.before.before.before.before in let put2 = b.put2 in
     let b = b.before.before.before.before.before in let put-mark = b.put-mark in
     let b = b.before.before.before.before in let put = b.put in
     let b = b.before.before.before.before.before in let pre = b.requires in
-    (◌then◌ (◌then◌ (◌then◌ put.ensures put-mark.ensures.0) put2.ensures) put-name.ensures.0, omega (arith, pre, put.ensures.next, put-mark.ensures.1, put2.ensures.next, put-name.ensures.1))
+    (◌then◌ (◌then◌ (◌then◌ put.ensures put-mark.ensures.0) put2.ensures) put-quoted.ensures.0, omega (arith, pre, put.ensures.next, put-mark.ensures.1, put2.ensures.next, put-quoted.ensures.1))
 
 pub put-listed-spec : {M : Type 1} → statement M
 put-listed-spec =
@@ -22,6 +22,6 @@ put-listed-spec =
     (tie.spec
     (λ c. search rules) (λ c κs. search rules)  -- slice-aggregate-put, put-requires
     (λ c κs. search rules) (λ c. search rules)  -- put-mark-requires, slice-aggregate-put-2
-    (λ c κs. search rules) (λ c κs. search rules)  -- put-requires-2, put-name-requires
+    (λ c κs. search rules) (λ c κs. search rules)  -- put-requires-2, put-quoted-requires
     (λ c. search rules)  -- same-length
     returns)

@@ -9,11 +9,11 @@ use Rattle.line_mailbox.specs.Texts.{opening}
 returns : tie.Need-returns
 unfolding opening
 returns c =
-    let b = c.before.before.before.before.before.before.before in let put-name = b.put-name in
+    let b = c.before.before.before.before.before.before.before in let put-quoted = b.put-quoted in
     let b = b.before.before.before.before in let put = b.put in
     let b = b.before.before.before.before.before in let pre = b.requires in
     let word = put.ensures in
-    let name = put-name.ensures in
+    let name = put-quoted.ensures in
     let paren = c.before.before.put2.ensures in
     (◌then◌ (◌then◌ word name.0) paren, omega (arith, pre, word.next, name.1, paren.next))
 
@@ -22,6 +22,6 @@ put-opening-spec =
     tie.close
     (tie.spec
     (λ c. search rules) (λ c κs. search rules)  -- slice-aggregate-put, put-requires
-    (λ c κs. search rules) (λ c. search rules)  -- put-name-requires, slice-aggregate-put-2
+    (λ c κs. search rules) (λ c. search rules)  -- put-quoted-requires, slice-aggregate-put-2
     (λ c κs. search rules) (λ c. search rules)  -- put-requires-2, same-length
     returns)

@@ -40,7 +40,7 @@ returns c =
     let b = c.before.before.before.before in let loop-test = b.loop-test in
     let b = b.before in let v = b.loop in let b = b.before.before.before in let put_byte = b.put_byte in
     let b = b.before.before.before.before in let a = b.args in
-    rw (← take_all v.i a.text.now loop-test.false) (◌then◌ (◌then◌ put_byte.ensures v.invariant.3) c.before.before.put-byte2.ensures)
+    (rw (← take_all v.i a.text.now loop-test.false) (◌then◌ (◌then◌ put_byte.ensures v.invariant.3) c.before.before.put-byte2.ensures), omega arith)
 
 pub put-quoted-spec : {M : Type 1} → statement M
 put-quoted-spec =

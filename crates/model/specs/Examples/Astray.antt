@@ -30,6 +30,6 @@ hidden_as_absent = (refl, refl)
 pub renamed_by_either : Both
     (mb 1 0x33 1 7 1 "Ops" ∷ cm "a NOTIFY SET (mailboxes Ops (MailboxName))" ∷ rn 1 0 "Works" ∷ [])
     (mb 1 0x33 1 7 1 "Ops" ∷ cm "a NOTIFY SET (mailboxes Works (MailboxName))" ∷ rn 1 0 "Works" ∷ [])
-    ("a OK NOTIFY done" ∷ "* LIST () \"/\" Works (\"OLDNAME\" (Ops))" ∷ [])
+    ("a OK NOTIFY done" ∷ "* LIST () \"/\" \"Works\" (\"OLDNAME\" (\"Ops\"))" ∷ [])
 unfolding computed
 renamed_by_either = (refl, refl)

@@ -34,17 +34,17 @@ table =
     -- P8: 3 and 4 are joined, 9 stands apart
     ∷ record {
       given = mb 1 0x33 1 7 1 "Ops" ∷ me 1 3 0 100 2 ∷ me 1 4 0 100 3 ∷ me 1 9 0 100 4 ∷ cm "a ESEARCH IN (personal) ALL" ∷ [];
-      prints = "* ESEARCH (TAG \"a\" MAILBOX Ops UIDVALIDITY 7) UID ALL 3:4,9" ∷ "a OK ESEARCH done" ∷ [];
+      prints = "* ESEARCH (TAG \"a\" MAILBOX \"Ops\" UIDVALIDITY 7) UID ALL 3:4,9" ∷ "a OK ESEARCH done" ∷ [];
     }
     -- P9: Opsroom begins with Ops, and does not lie beneath it
     ∷ record {
       given = mb 1 0x33 1 7 1 "Ops" ∷ mb 2 0x33 1 8 1 "Opsroom" ∷ mb 3 0x33 1 9 1 "Ops/Mains" ∷ cm "a NOTIFY SET STATUS (subtree Ops (MessageNew MessageExpunge))" ∷ [];
-      prints = "* STATUS Ops (MESSAGES 0 UIDNEXT 1 UIDVALIDITY 7 HIGHESTMODSEQ 1)" ∷ "* STATUS Ops/Mains (MESSAGES 0 UIDNEXT 1 UIDVALIDITY 9 HIGHESTMODSEQ 1)" ∷ "a OK NOTIFY done" ∷ [];
+      prints = "* STATUS \"Ops\" (MESSAGES 0 UIDNEXT 1 UIDVALIDITY 7 HIGHESTMODSEQ 1)" ∷ "* STATUS \"Ops/Mains\" (MESSAGES 0 UIDNEXT 1 UIDVALIDITY 9 HIGHESTMODSEQ 1)" ∷ "a OK NOTIFY done" ∷ [];
     }
     -- P10: INBOX in any case of its letters
     ∷ record {
       given = mb 1 0x37 1 7 1 "INBOX" ∷ cm "a NOTIFY SET STATUS (mailboxes inbox (MessageNew MessageExpunge))" ∷ [];
-      prints = "* STATUS INBOX (MESSAGES 0 UIDNEXT 1 UIDVALIDITY 7 HIGHESTMODSEQ 1)" ∷ "a OK NOTIFY done" ∷ [];
+      prints = "* STATUS \"INBOX\" (MESSAGES 0 UIDNEXT 1 UIDVALIDITY 7 HIGHESTMODSEQ 1)" ∷ "a OK NOTIFY done" ∷ [];
     }
     ∷ []
 

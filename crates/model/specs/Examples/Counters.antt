@@ -17,11 +17,11 @@ pub status_lists : Prints
     (mb 1 0x33 1 7 1 "a" ∷ me 1 1 1 0 2
     ∷ cm "t NOTIFY SET STATUS (personal (MessageNew MessageExpunge FlagChange))"
     ∷ fl 1 1 1 3 ∷ me 1 2 0 0 6 ∷ xp 1 1 8 ∷ [])
-    ("* STATUS a (MESSAGES 1 UIDNEXT 2 UIDVALIDITY 7 HIGHESTMODSEQ 2)"
+    ("* STATUS \"a\" (MESSAGES 1 UIDNEXT 2 UIDVALIDITY 7 HIGHESTMODSEQ 2)"
     ∷ "t OK NOTIFY done"
-    ∷ "* STATUS a (UIDVALIDITY 7 HIGHESTMODSEQ 3)"
-    ∷ "* STATUS a (UIDNEXT 3 MESSAGES 2 HIGHESTMODSEQ 6)"
-    ∷ "* STATUS a (UIDNEXT 3 MESSAGES 1 HIGHESTMODSEQ 8)"
+    ∷ "* STATUS \"a\" (UIDVALIDITY 7 HIGHESTMODSEQ 3)"
+    ∷ "* STATUS \"a\" (UIDNEXT 3 MESSAGES 2 HIGHESTMODSEQ 6)"
+    ∷ "* STATUS \"a\" (UIDNEXT 3 MESSAGES 1 HIGHESTMODSEQ 8)"
     ∷ [])
 unfolding computed
 status_lists = refl
@@ -39,7 +39,7 @@ pub top_of_range : Prints
     ∷ me 1 1 0 0 18446744073709551615 ∷ me 1 1 0 0 9223372036854775807 ∷ xp 1 1 9223372036854775807 ∷ fl 1 1 0 9223372036854775808
     ∷ cm "t NOTIFY SET STATUS (personal (MessageNew MessageExpunge))" ∷ [])
     ("! 2" ∷ "! 2" ∷ "! 2" ∷ "! 5" ∷ "! 2"
-    ∷ "* STATUS a (MESSAGES 1 UIDNEXT 2 UIDVALIDITY 7 HIGHESTMODSEQ 9223372036854775807)"
+    ∷ "* STATUS \"a\" (MESSAGES 1 UIDNEXT 2 UIDVALIDITY 7 HIGHESTMODSEQ 9223372036854775807)"
     ∷ "t OK NOTIFY done"
     ∷ [])
 unfolding computed
@@ -58,7 +58,7 @@ pub old_layout : Prints
     (frame "MB" (two 1 ++ (0x33 ∷ 1 ∷ four 7 ++ octets "Ops/Mains"))
     ∷ frame "MB" (two 2 ++ (0x33 ∷ 1 ∷ four 7 ++ octets "INBOX"))
     ∷ cm "t NOTIFY SET STATUS (personal (MessageNew MessageExpunge))" ∷ [])
-    ("! 2" ∷ "* STATUS s (MESSAGES 0 UIDNEXT 1 UIDVALIDITY 7 HIGHESTMODSEQ 7955997200863162447)" ∷ "t OK NOTIFY done" ∷ [])
+    ("! 2" ∷ "* STATUS \"s\" (MESSAGES 0 UIDNEXT 1 UIDVALIDITY 7 HIGHESTMODSEQ 7955997200863162447)" ∷ "t OK NOTIFY done" ∷ [])
 unfolding computed
 old_layout = refl
 
@@ -72,7 +72,7 @@ overflowing = opening ++ (mb 2 0x33 1 1 1 "b" ∷ me 2 1 0 0 2 ∷ cm "n NOTIFY 
 pub raised_unnoticed : Prints
     (mb 1 0x03 1 7 1 "a" ∷ me 1 1 0 0 8 ∷ fl 1 1 1 9 ∷ xp 1 1 20 ∷ rt 1 0x30
     ∷ cm "t NOTIFY SET STATUS (personal (MessageNew MessageExpunge))" ∷ [])
-    ("* STATUS a (MESSAGES 0 UIDNEXT 2 UIDVALIDITY 7 HIGHESTMODSEQ 20)" ∷ "t OK NOTIFY done" ∷ [])
+    ("* STATUS \"a\" (MESSAGES 0 UIDNEXT 2 UIDVALIDITY 7 HIGHESTMODSEQ 20)" ∷ "t OK NOTIFY done" ∷ [])
 unfolding computed
 raised_unnoticed = refl
 
@@ -104,9 +104,9 @@ own = record {
 pub own_alike : Alike own (
     silent ∷ silent
     ∷ says ("t OK NOTIFY done" ∷ [])
-    ∷ says ("* STATUS a (UIDNEXT 2 MESSAGES 1 HIGHESTMODSEQ 101)" ∷ [])
-    ∷ says ("* STATUS b (UIDNEXT 2 MESSAGES 1 HIGHESTMODSEQ 4)" ∷ [])
-    ∷ says ("* STATUS a (UIDNEXT 3 MESSAGES 2 HIGHESTMODSEQ 102)" ∷ [])
+    ∷ says ("* STATUS \"a\" (UIDNEXT 2 MESSAGES 1 HIGHESTMODSEQ 101)" ∷ [])
+    ∷ says ("* STATUS \"b\" (UIDNEXT 2 MESSAGES 1 HIGHESTMODSEQ 4)" ∷ [])
+    ∷ says ("* STATUS \"a\" (UIDNEXT 3 MESSAGES 2 HIGHESTMODSEQ 102)" ∷ [])
     ∷ []
     )
 unfolding computed

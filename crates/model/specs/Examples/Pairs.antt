@@ -30,8 +30,8 @@ listing = record {
 
 pub listing_alike : Alike listing (
     silent
-    ∷ says ("* STATUS Ops (MESSAGES 0 UIDNEXT 1 UIDVALIDITY 7 HIGHESTMODSEQ 1)" ∷ "a OK NOTIFY done" ∷ [])
-    ∷ says ("* STATUS Ops (UIDNEXT 2 MESSAGES 1 HIGHESTMODSEQ 2)" ∷ [])
+    ∷ says ("* STATUS \"Ops\" (MESSAGES 0 UIDNEXT 1 UIDVALIDITY 7 HIGHESTMODSEQ 1)" ∷ "a OK NOTIFY done" ∷ [])
+    ∷ says ("* STATUS \"Ops\" (UIDNEXT 2 MESSAGES 1 HIGHESTMODSEQ 2)" ∷ [])
     ∷ []
     )
 unfolding computed
@@ -64,7 +64,7 @@ naming = record {
 pub naming_alike : Alike naming (
     silent
     ∷ silent
-    ∷ says ("* ESEARCH (TAG \"a\" MAILBOX Ops UIDVALIDITY 7) UID ALL 4" ∷ "a OK ESEARCH done" ∷ [])
+    ∷ says ("* ESEARCH (TAG \"a\" MAILBOX \"Ops\" UIDVALIDITY 7) UID ALL 4" ∷ "a OK ESEARCH done" ∷ [])
     ∷ says ("b OK ESEARCH done" ∷ [])
     ∷ says ("c OK NOTIFY done" ∷ [])
     ∷ []
@@ -95,9 +95,9 @@ parent = record {
 
 pub parent_alike : Alike parent (
     says ("t OK NOTIFY done" ∷ [])
-    ∷ says ("* LIST () \"/\" Ops/a" ∷ "* LIST (\\NonExistent) \"/\" Ops" ∷ [])
+    ∷ says ("* LIST () \"/\" \"Ops/a\"" ∷ "* LIST (\\NonExistent) \"/\" \"Ops\"" ∷ [])
     ∷ silent
-    ∷ says ("* LIST (\\NonExistent) \"/\" Ops/a" ∷ "* LIST (\\NonExistent) \"/\" Ops" ∷ [])
+    ∷ says ("* LIST (\\NonExistent) \"/\" \"Ops/a\"" ∷ "* LIST (\\NonExistent) \"/\" \"Ops\"" ∷ [])
     ∷ []
     )
 unfolding computed
@@ -131,8 +131,8 @@ limit = record {
 pub limit_alike : Alike limit (
     silent ∷ silent ∷ silent ∷ silent
     ∷ says (
-    "* ESEARCH (TAG \"tag-of-thirty-two-octets-exactly\" MAILBOX Ops/Mains/Valves/North/Inspections/Reports/Signed/Archived/July UIDVALIDITY 4294967295) UID MIN 4294967294 MAX 4294967294 ALL 4294967294 COUNT 1"
-    ∷ "* ESEARCH (TAG \"tag-of-thirty-two-octets-exactly\" MAILBOX Ops/Mains/Valves/North/Inspections/Reports/Signed/Archived/May UIDVALIDITY 4294967295) UID MIN 4294967294 MAX 4294967294 ALL 4294967294 COUNT 1"
+    "* ESEARCH (TAG \"tag-of-thirty-two-octets-exactly\" MAILBOX \"Ops/Mains/Valves/North/Inspections/Reports/Signed/Archived/July\" UIDVALIDITY 4294967295) UID MIN 4294967294 MAX 4294967294 ALL 4294967294 COUNT 1"
+    ∷ "* ESEARCH (TAG \"tag-of-thirty-two-octets-exactly\" MAILBOX \"Ops/Mains/Valves/North/Inspections/Reports/Signed/Archived/May\" UIDVALIDITY 4294967295) UID MIN 4294967294 MAX 4294967294 ALL 4294967294 COUNT 1"
     ∷ "tag-of-thirty-two-octets-exactly OK ESEARCH done"
     ∷ []
     )
@@ -165,8 +165,8 @@ status = record {
 pub status_alike : Alike status (
     silent
     ∷ says ("a OK NOTIFY done" ∷ [])
-    ∷ says ("* STATUS Ops (UIDNEXT 6 MESSAGES 1 HIGHESTMODSEQ 2)" ∷ [])
-    ∷ says ("* STATUS Ops (UIDNEXT 6 MESSAGES 0 HIGHESTMODSEQ 3)" ∷ [])
+    ∷ says ("* STATUS \"Ops\" (UIDNEXT 6 MESSAGES 1 HIGHESTMODSEQ 2)" ∷ [])
+    ∷ says ("* STATUS \"Ops\" (UIDNEXT 6 MESSAGES 0 HIGHESTMODSEQ 3)" ∷ [])
     ∷ []
     )
 unfolding computed

@@ -16,7 +16,7 @@ look = cm "tag-of-thirty-two-octets-exactly ESEARCH IN (personal) RETURN (MIN MA
 
 abbrev pub seen : Said
 seen = says (
-    "* ESEARCH (TAG \"tag-of-thirty-two-octets-exactly\" MAILBOX Ops/Mains/Valves/North/Inspections/Reports/Signed/Archived/July UIDVALIDITY 4294967295) UID MIN 4294967294 MAX 4294967294 ALL 4294967294 COUNT 1"
+    "* ESEARCH (TAG \"tag-of-thirty-two-octets-exactly\" MAILBOX \"Ops/Mains/Valves/North/Inspections/Reports/Signed/Archived/July\" UIDVALIDITY 4294967295) UID MIN 4294967294 MAX 4294967294 ALL 4294967294 COUNT 1"
     ∷ "tag-of-thirty-two-octets-exactly OK ESEARCH done"
     ∷ []
     )

@@ -1,4 +1,4 @@
--- The session printed in 01 with change counters and bare names, by computation (01, Examples, 10 to 12; 02, 1 and 4).
+-- The session printed in 01 with change counters, by computation (01, Examples, 10 to 12; 02, 1).
 use Rattle.std.specs.Prelude.{refl, List, [], ◌∷◌, ◌++◌}
 use Prim.Native.String.{String}
 use Rattle.model.specs.Hidden.{Octets}
@@ -19,13 +19,13 @@ records =
 -- the nine lines
 abbrev pub printed_lines : List String
 printed_lines =
-    "* STATUS Ops/Mains (MESSAGES 0 UIDNEXT 1 UIDVALIDITY 4 HIGHESTMODSEQ 1)"
+    "* STATUS \"Ops/Mains\" (MESSAGES 0 UIDNEXT 1 UIDVALIDITY 4 HIGHESTMODSEQ 1)"
     ∷ "a OK NOTIFY done"
-    ∷ "* STATUS Ops/Mains (UIDNEXT 6 MESSAGES 1 HIGHESTMODSEQ 2)"
+    ∷ "* STATUS \"Ops/Mains\" (UIDNEXT 6 MESSAGES 1 HIGHESTMODSEQ 2)"
     ∷ "* 1 EXISTS"
     ∷ "* 1 FETCH (UID 3 MODSEQ (2))"
-    ∷ "* ESEARCH (TAG \"b\" MAILBOX INBOX UIDVALIDITY 7) UID MIN 3 COUNT 1"
-    ∷ "* ESEARCH (TAG \"b\" MAILBOX Ops/Mains UIDVALIDITY 4) UID MIN 5 COUNT 1"
+    ∷ "* ESEARCH (TAG \"b\" MAILBOX \"INBOX\" UIDVALIDITY 7) UID MIN 3 COUNT 1"
+    ∷ "* ESEARCH (TAG \"b\" MAILBOX \"Ops/Mains\" UIDVALIDITY 4) UID MIN 5 COUNT 1"
     ∷ "b OK ESEARCH done"
     ∷ "* 1 EXPUNGE"
     ∷ []

@@ -13,7 +13,7 @@ use Rattle.model.specs.NotifyGrammar.{scope_of, filter_at, event_of, events_at, 
 use Rattle.model.specs.SearchGrammar.{keyword_of, start_at, key_at, returns_at, charset_at, search_at}
 use Rattle.model.specs.Commands.{tag_of, command_of}
 use Rattle.model.specs.Limits.{some_test, key_count, key_depth}
-use Rattle.model.specs.Lines.{crlf, name_text, runs_text, render, render_all}
+use Rattle.model.specs.Lines.{crlf, runs_text, render, render_all}
 use Rattle.model.specs.Queue.{fitting, written, shifted, effects}
 use Rattle.model.specs.View.{expunge_lines, marked_lines, new_lines}
 use Rattle.model.specs.Events.{tellings, settled}
@@ -96,5 +96,5 @@ reading = tt
 
 -- all that an example computes with: it says `unfolding computed`
 unfoldable pub computed : Unit {0}
-unfolding reading cut printed call accepted lawful answer_lines answered tellings settled effects written shifted fitting render_all render name_text runs_text decimal digits quoted escape same no_part_empty before_slash leads before place record_of expunge_lines marked_lines new_lines holds matching
+unfolding reading cut printed call accepted lawful answer_lines answered tellings settled effects written shifted fitting render_all render runs_text decimal digits quoted escape same no_part_empty before_slash leads before place record_of expunge_lines marked_lines new_lines holds matching
 computed = tt

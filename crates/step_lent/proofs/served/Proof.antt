@@ -57,7 +57,7 @@ use Rattle.model.specs.contracts.Session as S
 use Rattle.model.proofs.Session.TheLaws as S'
 use Rattle.record_outcome.specs.contracts.Outcome as O
 use Rattle.record_outcome.proofs.Outcome.TheLaws as O'
-use Rattle.step_lent.proofs.Lending.{Seven, Names, Columns, ref, Lie, Toks, Muts, Lent, Ends, Shrs, Kept, Rooms, rooms-apart, nothing_laid, zeros, zeros_val, repeated, zeros_lie, lend, back, lend-read, done-reading, use4, use6, use7, into6, into8}
+use Rattle.step_lent.proofs.Lending.{Seven, Names, Columns, ref, Lie, Toks, Muts, Lent, Ends, Shrs, Kept, Rooms, rooms-apart, nothing_laid, zeros, zeros_val, repeated, zeros_lie, lend, back, lend_read, done-reading, use4, use6, use7, into6, into8}
 use Rattle.lent_rows.specs.contracts.used_rows as used-fn
 use Rattle.lent_rows.proofs.used_rows.Symbol as used-def
 use Rattle.lent_rows.proofs.used_rows.Symbol.{name as #lent-rows·used-rows}
@@ -417,7 +417,7 @@ module _ {M : Type 1} {𝓤 : Ura M} (𝓛 : Logic 𝓤) (at_mem : Memory → SP
         move ! (0 ∷ 3 ∷ 4 ∷ []) $
         use3 𝓛 (later (some (λ (t' : Seven × Names). ‵ (Toks t'.0 Q) ⊛ ‵ (Shrs (l₉, (l₁₀, (l₁₁, (l₁₂, (l₁₃, (l₁₄, l₁₅)))))) t'.0 t'.1 (laid ls) P)
         ⊛ ‵ (Kept (l₉, (l₁₀, (l₁₁, (l₁₂, (l₁₃, (l₁₄, l₁₅)))))) t'.0 (laid ls)))))
-        (lend-read 𝓛 (l₉, (l₁₀, (l₁₁, (l₁₂, (l₁₃, (l₁₄, l₁₅)))))) (laid ls) Q P) $ await ! tt $ pick ! (λ t'.
+        (lend_read 𝓛 (l₉, (l₁₀, (l₁₁, (l₁₂, (l₁₃, (l₁₄, l₁₅)))))) (laid ls) Q P) $ await ! tt $ pick ! (λ t'.
         split ! $ move ! (1 ∷ []) $ split ! $ move ! (2 ∷ 0 ∷ []) $
         use2 𝓛 (raw ((Decide 𝓛 at_mem run).pre (to-decide (l₉, (l₁₀, (l₁₁, (l₁₂, (l₁₃, (l₁₄, l₁₅)))))) t'.0 t'.1 (laid ls))))
         (goes-decide (l₉, (l₁₀, (l₁₁, (l₁₂, (l₁₃, (l₁₄, l₁₅)))))) t'.0 t'.1 (laid ls) (seen m (laid ls) e₁ e₂)) $

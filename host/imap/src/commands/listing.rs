@@ -3,7 +3,7 @@
 use super::{done, End, Run};
 use crate::flags::SEEN;
 use crate::names;
-use crate::parse::{bad, name_text, Read, Reader};
+use crate::parse::{bad, quoted, Read, Reader};
 use crate::store::Mailbox;
 use std::collections::BTreeMap;
 
@@ -43,10 +43,7 @@ impl Run<'_> {
                 Some(mailbox) => self.list_attributes(mailbox, asked),
                 None => "\\Noselect \\HasChildren".into(),
             };
-            lines.push(format!(
-                "* {word} ({attributes}) \"/\" {}",
-                name_text(&name)
-            ));
+            lines.push(format!("* {word} ({attributes}) \"/\" {}", quoted(&name)));
             let read = mailbox.filter(|m| m.may(&self.user, 'r'));
             if let Some(mailbox) = read.filter(|_| !asked.status.is_empty()) {
                 lines.push(self.status_line(mailbox, &asked.status)?);
@@ -120,7 +117,7 @@ impl Run<'_> {
             };
             values.push(format!("{item} {value}"));
         }
-        let name = name_text(&mailbox.name);
+        let name = quoted(&mailbox.name);
         Ok(format!("* STATUS {name} ({})", values.join(" ")))
     }
 }

@@ -1,7 +1,7 @@
 //! SETACL, DELETEACL, GETACL, LISTRIGHTS, MYRIGHTS.
 
 use super::{done, no, End, Run};
-use crate::parse::{name_text, Read, Reader, Stop};
+use crate::parse::{quoted, Read, Reader, Stop};
 use crate::store::{ALL_RIGHTS, ANYONE, USERS};
 
 impl Run<'_> {
@@ -38,7 +38,7 @@ impl Run<'_> {
             .chain(others)
             .map(|(user, r)| format!(" {user} {r}"))
             .collect();
-        self.line(&format!("* ACL {}{all}", name_text(&name)));
+        self.line(&format!("* ACL {}{all}", quoted(&name)));
         done()
     }
 
@@ -58,10 +58,7 @@ impl Run<'_> {
         if mailbox.owner.is_none() {
             rights.extend(ALL_RIGHTS.chars().flat_map(|right| [' ', right]));
         }
-        self.line(&format!(
-            "* LISTRIGHTS {} {user} {rights}",
-            name_text(&name)
-        ));
+        self.line(&format!("* LISTRIGHTS {} {user} {rights}", quoted(&name)));
         done()
     }
 
@@ -72,7 +69,7 @@ impl Run<'_> {
         // any right will do, and a mailbox that is found at all has l or r
         let mailbox = self.find(&name, 'l').or_else(|_| self.find(&name, 'r'))?;
         let rights = mailbox.rights(&self.user);
-        self.line(&format!("* MYRIGHTS {} {rights}", name_text(&name)));
+        self.line(&format!("* MYRIGHTS {} {rights}", quoted(&name)));
         done()
     }
 }

@@ -5,28 +5,14 @@ use super::{Client, Server};
 /// What marks the end of all that bob heard so far.
 const FENCE: &str = "Shared/Fence";
 
-/// A name as the library's lines have it: bare if it is made of atom octets and isn't NIL, else in quotes.
-pub fn mailbox(name: &str) -> String {
-    let is_atom = |octet: u8| octet.is_ascii_graphic() && !b"(){%*\"\\]".contains(&octet);
-    match name.bytes().all(is_atom) && !name.eq_ignore_ascii_case("NIL") {
-        true => name.into(),
-        false => format!("\"{}\"", name.replace('\\', "\\\\").replace('"', "\\\"")),
-    }
-}
-
 /// The notice of a mailbox that is there.
 pub fn there(name: &str) -> String {
-    format!("* LIST () \"/\" {}", mailbox(name))
+    format!("* LIST () \"/\" \"{name}\"")
 }
 
 /// The notice of a name that is gone, that never was, or that the watcher may not list.
 pub fn absent(name: &str) -> String {
-    format!("* LIST (\\NonExistent) \"/\" {}", mailbox(name))
-}
-
-/// The notice of a rename.
-pub fn renamed(old: &str, new: &str) -> String {
-    format!("{} (\"OLDNAME\" ({}))", there(new), mailbox(old))
+    format!("* LIST (\\NonExistent) \"/\" \"{name}\"")
 }
 
 pub struct Watch {
@@ -58,7 +44,7 @@ impl Watch {
     /// All that bob was told by now without asking. What was told earlier stands before the fence, as lines keep their order.
     pub fn heard(&mut self) -> Vec<String> {
         self.alice.append(FENCE);
-        let mut lines = self.bob.until(&format!("* STATUS {FENCE} "));
+        let mut lines = self.bob.until(&format!("* STATUS \"{FENCE}\""));
         lines.pop();
         lines
     }
@@ -66,11 +52,4 @@ impl Watch {
     pub fn end(self) {
         self.server.end();
     }
-}
-
-/// Bob, who watches, and another connection of his: what he does there is told here.
-pub fn two_of_bob() -> (Watch, Client) {
-    let watch = Watch::new(0, &[]);
-    let other = watch.server.log_in("bob");
-    (watch, other)
 }

@@ -1,6 +1,5 @@
 //! Lines as they stand in the queue, and what they tell a client.
 
-use crate::command::reader::Reader;
 use crate::lines::{self, Out};
 
 /// What a line says of the selected mailbox or of the session.
@@ -55,14 +54,7 @@ fn numbered(line: &[u8]) -> Option<Says> {
 
 /// Belongs to the answer of a command: its result lines, and what NOTIFY SET lists.
 pub fn is_answer(line: &[u8]) -> bool {
-    first_status(line).is_some()
-        || line.starts_with(b"* ESEARCH (")
-        || line.starts_with(b"* LIST (\\NoAccess) ")
-}
-
-/// Behind the name, which may hold anything, a first STATUS begins as no later one does.
-fn first_status(line: &[u8]) -> Option<()> {
-    let mut reader = Reader::new(line.strip_prefix(b"* STATUS ")?);
-    reader.astring()?;
-    reader.rest().starts_with(b" (MESSAGES ").then_some(())
+    let status =
+        line.starts_with(b"* STATUS \"") && line.windows(11).any(|part| part == b"\" (MESSAGES");
+    status || line.starts_with(b"* ESEARCH (") || line.starts_with(b"* LIST (\\NoAccess) ")
 }

@@ -69,13 +69,13 @@ impl Line<'_> {
             b"\x01\x7f",
         ];
         let octets = if short {
-            b"a".to_vec()
+            b"a"
         } else if self.random.chance(8) {
-            self.random.pick(&odd).to_vec()
+            self.random.pick(&odd)
         } else {
-            name(self.random)
+            name(self.random).as_bytes()
         };
-        self.astring(&octets);
+        self.astring(octets);
     }
 
     /// One name or a list of them.

@@ -7,11 +7,9 @@ use crate::memory::Memory;
 use crate::names::{Name, NAME_OCTETS};
 use crate::random::Random;
 
-/// The name above that of some row, often the selected one, or a name beneath it, if there is one.
+/// The name above that of some row, or one beneath it, if there is one.
 pub fn relative(random: &mut Random, memory: &Memory) -> Option<Vec<u8>> {
-    let any = memory.rows().get(random.below(memory.mailbox_count))?;
-    let selected = memory.selected().filter(|_| random.chance(25));
-    let row = selected.unwrap_or(any);
+    let row = memory.rows().get(random.below(memory.mailbox_count))?;
     if random.chance(45) {
         return Some(row.name.parent()?.as_octets().to_vec());
     }
@@ -32,7 +30,7 @@ fn child(random: &mut Random, name: &Name) -> Option<Vec<u8>> {
 /// A name of the table or the one above it; any where the table is empty.
 fn known(random: &mut Random, memory: &Memory) -> Vec<u8> {
     let Some(row) = memory.rows().get(random.below(memory.mailbox_count)) else {
-        return pools::name(random);
+        return pools::name(random).as_bytes().to_vec();
     };
     let name = match row.name.parent() {
         Some(parent) if random.chance(65) => parent,

@@ -149,10 +149,10 @@ fn long_names(line: &mut Line, room: usize) {
     let end = line.out.len() + room;
     line.put("(");
     for _ in 0..line.random.between(1, 15) {
-        let octets = name(line.random);
-        line.astring(&octets);
+        let octets = name(line.random).as_bytes();
+        line.astring(octets);
         line.put(" ");
-        if line.out.len() + 140 > end {
+        if line.out.len() + 80 > end {
             break;
         }
     }

@@ -41,9 +41,9 @@ impl Lean {
     fn new(random: &mut Random) -> Lean {
         //             MB DL RN SB RT  ME  XP  FL SE CE  CM DR
         let plain = [6, 2, 4, 4, 7, 18, 12, 10, 5, 8, 14, 8];
-        let family = random.chance(25);
+        let family = random.chance(18);
         let weights = match random.below(8) {
-            _ if family => [18, 10, 7, 6, 26, 2, 1, 1, 5, 1, 12, 3],
+            _ if family => [18, 10, 4, 3, 26, 2, 1, 1, 5, 1, 12, 3],
             0 => [3, 1, 1, 1, 8, 24, 18, 14, 3, 14, 8, 3],
             1 => [4, 1, 2, 2, 3, 10, 5, 4, 5, 3, 50, 20],
             2 => [14, 8, 14, 12, 14, 4, 2, 2, 2, 2, 14, 6],
@@ -227,24 +227,24 @@ impl Generator {
         if self.wide && self.random.chance(80) {
             return wide_name(&mut self.random).into_bytes();
         }
-        if self.random.chance(if self.lean.family { 62 } else { 18 }) {
+        if self.random.chance(if self.lean.family { 60 } else { 15 }) {
             if let Some(octets) = family::relative(&mut self.random, memory) {
                 return octets;
             }
         }
-        let mut octets = name(&mut self.random);
+        let mut text = name(&mut self.random);
         if self.random.chance(85) {
-            let held = |octets: &[u8]| {
-                Name::read(octets).is_some_and(|name| memory.holder_of(&name).is_some())
+            let held = |name: &str| {
+                Name::read(name.as_bytes()).is_some_and(|name| memory.holder_of(&name).is_some())
             };
             for _ in 0..8 {
-                if !held(&octets) {
+                if !held(text) {
                     break;
                 }
-                octets = name(&mut self.random);
+                text = name(&mut self.random);
             }
         }
-        octets
+        text.as_bytes().to_vec()
     }
 
     fn create(&mut self, memory: &Memory) -> Vec<u8> {

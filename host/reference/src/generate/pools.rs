@@ -1,6 +1,5 @@
 //! Ids and names, few enough that records and commands meet.
 
-use crate::names::NAME_OCTETS;
 use crate::random::Random;
 
 /// Ids that streams speak of, and some that no `MB` makes.
@@ -24,7 +23,7 @@ const fn wide_ids() -> [u16; 80] {
 /// Ids of the mailboxes that hold no right in either stream of a pair.
 pub const HIDDEN_IDS: &[u16] = &[11, 12, 13, 0x0101];
 
-/// Names that meet one another: INBOX in several cases, subtrees, near misses, bare and quoted ones, NIL and what only has it.
+/// Names that meet one another: INBOX in several cases, subtrees, near misses, quoting.
 pub const NAMES: &[&str] = &[
     "INBOX",
     "inbox",
@@ -33,12 +32,9 @@ pub const NAMES: &[&str] = &[
     "Opsroom",
     "a",
     "a/b",
-    "NIL",
-    "nil/x",
-    "a]",
-    "iNbox/x",
     "InBoX",
     "INBOX/x",
+    "iNbox/x",
     "Ops/Mains/deep",
     "Ops/Spare",
     "ops",
@@ -47,69 +43,24 @@ pub const NAMES: &[&str] = &[
     "q\"uo",
     "back\\slash",
     "NONE",
-    "nil",
-    "[a}",
     "abcdefghijklmnopqrstuvwxyz/abcdefghijklmnopqrstuvwxyz/0123456789",
     "abcdefghijklmnopqrstuvwxyz/abcdefghijklmnopqrstuvwxyz",
 ];
 
 /// The names that come up most, so that records and commands often mean the same mailbox.
-const USUAL_NAMES: usize = 11;
+const USUAL_NAMES: usize = 7;
 
-pub fn name(random: &mut Random) -> Vec<u8> {
-    let listed = match random.below(100) {
-        0..=64 => random.pick(&NAMES[..USUAL_NAMES]),
-        65..=91 => random.pick(NAMES),
-        _ => return odd_name(random),
-    };
-    listed.as_bytes().to_vec()
-}
-
-/// A name that is written in a way of its own; a slash at an end, now and then, makes it no name.
-fn odd_name(random: &mut Random) -> Vec<u8> {
-    let octet = random.between(0x20, 0x7E) as u8;
-    match random.below(9) {
-        0 => vec![octet],
-        1 => vec![b'a', octet],
-        2 | 3 => vec![b'a', octet, b'b'],
-        4 => nil(random),
-        5 => [nil(random), b"/x".to_vec()].concat(),
-        6 => [b"x/".to_vec(), nil(random)].concat(),
-        _ => longest(random),
+pub fn name(random: &mut Random) -> &'static str {
+    if random.chance(65) {
+        random.pick(&NAMES[..USUAL_NAMES])
+    } else {
+        random.pick(NAMES)
     }
-}
-
-/// NIL in any case.
-fn nil(random: &mut Random) -> Vec<u8> {
-    let cased = |octet: &u8| random.pick(&[octet.to_ascii_uppercase(), *octet]);
-    b"nil".iter().map(cased).collect()
-}
-
-/// As many octets as a name may have: each with a backslash, or none, or bare but for one.
-fn longest(random: &mut Random) -> Vec<u8> {
-    let style = random.below(3);
-    let class: &[u8] = if style == 0 { b"\"\\" } else { b"an~[" };
-    let mut octets: Vec<u8> = (0..NAME_OCTETS).map(|_| random.pick(class)).collect();
-    if style == 1 {
-        octets[random.below(NAME_OCTETS)] = random.pick(b" ]%");
-    }
-    octets
 }
 
 /// One of some hundred names, many of them beneath the usual ones.
 pub fn wide_name(random: &mut Random) -> String {
-    let tops = [
-        "",
-        "",
-        "Ops/",
-        "a/",
-        "Ops/Mains/",
-        "INBOX/",
-        "z",
-        "a]",
-        "NIL/",
-    ];
-    let top = random.pick(&tops);
+    let top = random.pick(&["", "", "Ops/", "a/", "Ops/Mains/", "INBOX/", "z"]);
     format!("{top}{}", random.below(40))
 }
 

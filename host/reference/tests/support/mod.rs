@@ -2,12 +2,9 @@
 #![allow(dead_code)]
 
 pub mod crowded;
-pub mod named;
 pub mod parents;
 pub mod wrong;
 
-use reference::lines;
-use reference::names::Name;
 use reference::records::{read, Record};
 use reference::{call, call_trusting, Answer, Memory};
 use std::path::PathBuf;
@@ -143,13 +140,6 @@ pub fn written(before: &[u8], octets: &[u8], answer: Answer, after: &[u8]) -> Ve
     let kept = &before[drained..];
     assert!(after.starts_with(kept), "the queue's front stays");
     after[kept.len()..].to_vec()
-}
-
-/// A name as it stands in a line.
-pub fn as_written(name: &Name) -> String {
-    let mut out = Vec::new();
-    lines::mailbox(&mut out, name);
-    String::from_utf8(out).expect("names are ASCII")
 }
 
 pub fn contains(octets: &[u8], part: &str) -> bool {

@@ -1,6 +1,7 @@
 //! What lies above a mailbox that comes or goes, and what is written of it: for counting what streams show.
 
-use super::{as_written, contains};
+use super::contains;
+use reference::lines::quoted;
 use reference::memory::*;
 use reference::names::Name;
 use reference::records::{read, Record};
@@ -87,7 +88,10 @@ fn kinds(memory: &Memory, child: &Name) -> Vec<&'static str> {
 
 /// Is there a LIST line of this name?
 fn lists(written: &[u8], name: &Name) -> bool {
-    contains(written, &format!(") \"/\" {}\r\n", as_written(name)))
+    let mut shown = Vec::new();
+    quoted(&mut shown, name.as_octets());
+    let line = format!(") \"/\" {}\r\n", String::from_utf8(shown).expect("ASCII"));
+    contains(written, &line)
 }
 
 /// Counts one call: the memory is that before it.

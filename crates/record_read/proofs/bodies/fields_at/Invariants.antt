@@ -1,0 +1,15 @@
+-- `record_read::fields_at` meets its contract: what all fields say is what the fields passed say, and the rest. Assumes nothing.
+use borrow.Author.Rules.{rules}
+use native.Mathlib.Omega.{arith}
+use Prim.Native.Nat.{◌-◌, ◌≤◌}
+use mathlib.Core.Path.{◌≡◌}
+use lib.ListN.{length, take}
+use Rattle.record_read.specs.Layouts.{field_for}
+use Rattle.record_read.proofs.Turns.{Passed, passed_none, row_more, row_read}
+use Rattle.record_read.proofs.bodies.fields_at.Given as goal
+
+abbrev pub invariant-loop-i : goal.invariant-loop-i
+invariant-loop-i l = Passed l.o (take l.count l.letters) l.all l.values l.end l.i × (l.i ≤ l.count)
+
+abbrev pub decreases-loop-i : goal.decreases-loop-i
+decreases-loop-i l = l.count - l.i

@@ -1,0 +1,14 @@
+-- `blank`: the loop keeps that every number before i is 0 and the others are as they were. Assumes nothing.
+use mathlib.Core.Path.{◌≡◌, refl}
+use Prim.Native.Nat.{ℕ, ◌≤◌, ◌-◌, ◌<◌}
+use native.Mathlib.Omega.{arith}
+use lib.ListN.{length, get_or, length-set}
+use Rattle.table_mailboxes.specs.Columns.{zeros_all, zeros_next}
+use borrow.Author.Rules.{rules}
+use Rattle.table_mailboxes.proofs.blank.Given as goal
+
+abbrev pub invariant-loop-i : goal.invariant-loop-i
+invariant-loop-i l = (l.i ≤ length l.initial.column) × (length l.column ≡ length l.initial.column) × ((k : ℕ) → k < l.i → get_or l.column k 0 ≡ 0)
+
+abbrev pub decreases-loop-i : goal.decreases-loop-i
+decreases-loop-i l = length l.initial.column - l.i

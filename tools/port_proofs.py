@@ -36,20 +36,6 @@ def params_of(crate, where):
     return []
 
 
-def lent_by(function):
-    """The names of the parameters that a function takes by `&mut`, in order."""
-    words = function.split("::")
-    for folder, _, files in os.walk(os.path.join("crates", words[0], "src")):
-        for name in files:
-            if len(words) > 2 and name[:-3] != words[-2]:
-                continue
-            with open(os.path.join(folder, name), encoding="utf-8") as it:
-                m = re.search(r"\bfn " + words[-1] + r"(?:<[^>]*>)?\(([^)]*)\)", it.read())
-            if m:
-                return re.findall(r"(\w+)\s*:\s*&(?:'\w+ )?mut\b", m[1])
-    return []
-
-
 def names_of(crate):
     folder = tempfile.mkdtemp(prefix="names-")
     here = os.path.join("crates", crate)
@@ -120,9 +106,13 @@ class Function:
                             tail[0] = now
                             break
                     if len(tail) > 1 and tail[0] == "new" and tail[1].isdigit() and p[3] in self.info["params"]:
-                        names = lent_by(p[3]) or self.info["params"][p[3]]
-                        if int(tail[1]) < len(names):
-                            tail[1] = names[int(tail[1])]
+                        # a tuple of the parameters, nested to the right
+                        names = self.info["params"][p[3]]
+                        k = 0
+                        while tail[1 + k: 2 + k] == ["1"]:
+                            k += 1
+                        if tail[1 + k: 2 + k] == ["0"] and k < len(names):
+                            tail[1: 2 + k] = [names[k]]
                     return [p[2][1]] + tail
         return None
 
@@ -149,8 +139,25 @@ def of_context(text, f, place, left, c="c"):
             rest = rest[1:]
         return rest
 
+    depth, hidden = 0, []
     while i < len(toks):
         t = toks[i]
+        if t in ("(", "[", "{"):
+            depth += 1
+        if t in (")", "]", "}"):
+            depth -= 1
+        while hidden and (depth < hidden[-1][0] or t == "," and depth == hidden[-1][0]):
+            alias.update(hidden.pop()[1])
+        if t == "λ":
+            j, bound = i + 1, []
+            while toks[j] != ".":
+                if toks[j] == ":":
+                    pass
+                elif toks[j] in alias:
+                    bound.append(toks[j])
+                j += 1
+            if bound:
+                hidden.append((depth, {n: alias.pop(n) for n in set(bound)}))
         if t == "let":
             j = i + 1
             while toks[j].isspace():
@@ -326,7 +333,7 @@ def convert(crate, where, key, info, left_all):
         return fn + "-" if many else ""
 
     text = re.sub(r"(?m)^(abbrev \S+ : )(\S+)-lts\.(invariant|decreases)-(\S+)[ ]*$", r"\1tie.\3-\4 of \2", text)
-    text = re.sub(r"(?m)^(\S+) : \(t : ℕ\) → (\S+)-lts\.Need-(\S+)(?:[ \t(][\s\S]*?)?(?=\n(?:unfolding|\1 ))", r"\1 : tie.Need-\3 of \2", text)
+    text = re.sub(r"(?m)^(\S+) :\s+\(t : ℕ\) → (\S+)-lts\.Need-(\S+)(?:[ \t(][\s\S]*?)?(?=\n(?:unfolding|\1 ))", r"\1 : tie.Need-\3 of \2", text)
     lines = text.split("\n")
     head = []
     while lines and (lines[0].startswith("--") or lines[0].startswith("use ") or not lines[0].strip()):
@@ -448,7 +455,11 @@ def convert(crate, where, key, info, left_all):
                 args = [x for x in args if not re.fullmatch(r"(?:\S*-)?(?:invariant|decreases|Inv|μ)-\S+|\(\S+ t\)|\S+\.Post|\([^λ]*\)|λ|t\.", x[0], re.S) or re.fullmatch(r"\(\S+ t\)", x[0]) and x[0][1:-3] in named_answers]
                 known = {plain(n[0]).replace("loop-smaller", "loop-less") for n in f.needs}
                 base = lambda n: re.sub("^" + re.escape(plain(fn)) + "-", "", plain(n)) if fn else plain(n)
-                args = [x for x in args if x[1] is None or base(x[1]).replace("loop-smaller", "loop-less") in known]
+                strange = [x for x in args if x[1] is not None and base(x[1]).replace("loop-smaller", "loop-less") not in known]
+                strange.sort(key=lambda x: not re.match("slice-aggregate|enum-|same-length|shape", base(x[1])))
+                for x in strange:
+                    if len(args) > len(f.needs):
+                        args.remove(x)
                 real = [x for x in args if x[0].startswith("(λ") and not SEARCH.fullmatch(x[0])]
                 if not real:
                     continue
@@ -470,10 +481,35 @@ def convert(crate, where, key, info, left_all):
     ans = [without_raw(a) for a in ans]
     usetext = "\n".join(uses)
     comment = "\n".join(comments)
+    uses_of_ours = ""
+    if inv:
+        cited, named = [], {}
+        for k in kept:
+            m = re.search(r"(?m)^(?:(?:abbrev|pub|unfoldable)\s+)*(\S+)(?: \([^)]*\)| \{[^}]*\})* : ", k)
+            if m:
+                named[m[1]] = k
+        todo = list(inv)
+        while todo:
+            words = set(tokens(todo.pop()))
+            for n, k in named.items():
+                if n in words and k not in cited:
+                    cited.append(k)
+                    todo.append(k)
+        cited = [k for k in kept if k in cited]
+        inv = [re.sub(r"(?m)^(abbrev|unfoldable) (?!pub )(?=\S+(?: \([^)]*\)| \{[^}]*\})* : )", r"\1 pub ", k) for k in cited] + inv
+        if cited:
+            kept = [k for k in kept if k not in cited]
+            mine = sorted(n for n, k in named.items() if k in cited)
+            rest = set(tokens("\n".join(kept + ans)))
+            mine = [n for n in mine if n in rest]
+            if mine:
+                uses_of_ours = f"use Rattle.{crate}.proofs.{dotted}.Invariants.{{{', '.join(mine)}}}\n"
     if inv:
         with open(os.path.join(folder, "Invariants.antt"), "w", encoding="utf-8") as it:
             it.write(f"{comment}\n{usetext}\nuse Rattle.{crate}.proofs.{dotted}.Given as goal\n\n" + "\n\n".join(x.rstrip() for x in inv) + "\n")
     if ans:
+        usetext += "\n" + uses_of_ours if uses_of_ours else ""
+        usetext = usetext.rstrip("\n")
         with open(os.path.join(folder, "Answers.antt"), "w", encoding="utf-8") as it:
             it.write(f"{comment}\n{usetext}\nuse Rattle.{crate}.proofs.{dotted}.Goals as goal\n\n" + "\n\n".join(x.rstrip() for x in kept + ans) + "\n")
     os.remove(path)

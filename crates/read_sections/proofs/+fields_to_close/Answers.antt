@@ -10,12 +10,11 @@ use borrow.Author.Rules.{rules}
 use Rattle.octets.specs.Rows.{in-text, next_close, next-found, next-lost, next-neither, next-space}
 use Rattle.read_sections.proofs.+fields_to_close.Goals as goal
 
-fields-to-close-fields-to-close-requires :
-    (t : ℕ) → fields-to-close-lts.Need-fields-to-close-requires (fields-to-close-calls t) (fields-to-close-at t) fields-to-close.Post
-fields-to-close-fields-to-close-requires t c κs =
-    let w = rw c.before.before.before.next.given.1 at c.before.before.before.before.before.text_at.ensures.within in
-    let i = in-text c.before.before.before.before.before.before.before.args.text.now c.before.before.before.next.given.0.0
-    (sym c.before.octet-at.ensures ∙ c.if1.true) (omega arith) in
+pub fields_to_close-requires : goal.fields_to_close-requires
+fields_to_close-requires t c =
+    let w = rw c.in-At.is at c.text_at.ensures.within in
+    let i = in-text c.args.text.now c.in-At.next
+    (sym c.octet_at-b.ensures ∙ c.if-b-eq32.true) (omega arith) in
     omega arith
 
 pub returns-then-b-eq32 : goal.returns-then-b-eq32

@@ -16,4 +16,4 @@ returns-then-len-gt64 c =
 
 pub returns : goal.returns
 returns c =
-    c.stored-2.ensures ∙ ap lend_name (front (replicate 64 0) (value_of (astring_at c.args.text.now c.args.at)) c.value_of-len.new.1.1.1.0 c.value_of-len.result c.value_of-len.ensures.long c.value_of-len.ensures.is (omega arith))
+    c.stored-2.ensures ∙ ap lend_name (front (replicate 64 0) (value_of (astring_at c.args.text.now c.args.at)) c.value_of-len.new.out c.value_of-len.result c.value_of-len.ensures.long c.value_of-len.ensures.is (omega arith))

@@ -1,0 +1,7 @@
+-- `judge`: the table laid out by columns, then the exact test. Assumes nothing.
+use borrow.Author.Rules.{rules}
+use Rattle.run_lawful.proofs.judge.Goals as goal
+
+pub returns : goal.returns
+returns c =
+    λ t q w e. c.is_lawful.ensures t c.args.table q w c.lay.ensures e

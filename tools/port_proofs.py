@@ -127,7 +127,7 @@ class Function:
                         if tail and tail[0] == old and old not in variables:
                             tail[0] = now
                             break
-                    if len(tail) > 1 and tail[0] == "new" and tail[1].isdigit() and p[3] in self.info["params"]:
+                    if len(tail) > 1 and tail[0] in ("new", "auto") and tail[1].isdigit() and p[3] in self.info["params"]:
                         # a tuple of the parameters, nested to the right
                         names = self.info["params"][p[3]]
                         k = 0

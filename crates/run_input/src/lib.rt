@@ -46,7 +46,7 @@ fn read_once<R: io::Read>(reader: &mut R, octets: &mut [u8]) -> Read
 }
 
 // Reads until the slice is full, the input ends or a read fails.
-fn read_full<R: io::Read>(reader: &mut R, octets: &mut [u8]) -> Read
+pub fn read_full<R: io::Read>(reader: &mut R, octets: &mut [u8]) -> Read
     ensures { result.size ≤ length octets.old }
 {
     let mut done = 0;

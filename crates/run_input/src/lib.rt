@@ -2,8 +2,9 @@
 // Which octets a file or a stream gives and takes no contract can say: those of a reader and a writer whose octets are known do.
 #![tactic(auto)]
 
-ghost use Rattle.std.specs.Prelude.{◌≡◌, ◌||◌, ◌+◌, ◌*◌, ◌≤◌, ◌<◌, ◌==◌, length, take, OnOk};
-ghost use Rattle.std.specs.Io.KnownBytes.{Appends};
+ghost use Rattle.std.specs.Prelude.{◌≡◌, ◌⊎◌, false, ◌||◌, ◌+◌, ◌*◌, ◌≤◌, ◌<◌, ◌==◌, length, take, drop, OnOk};
+ghost use Rattle.std.specs.Io.KnownBytes.{Appends, Consumes, IsAtEnd};
+ghost use Rattle.model.specs.Text.{little};
 ghost use Rattle.model.specs.Pushrun.{refusal_text};
 ghost use Rattle.line_put.specs.Put.{Put};
 
@@ -31,7 +32,9 @@ pub struct Read {
 }
 
 fn read_once<R: io::Read>(reader: &mut R, octets: &mut [u8]) -> Read
-    ensures { result.size ≤ length octets.old }
+    ensures size { result.size ≤ length octets.old }
+    ensures bytes { Consumes (R.remaining reader.old) (R.remaining reader.new) (take result.size octets.new) }
+    ensures end { result.failed ≡ false → result.size ≡ 0 → 0 < length octets.old → IsAtEnd (R.remaining reader.new) }
 {
     match reader.read(octets) {
         Ok(size) => Read {
@@ -47,7 +50,9 @@ fn read_once<R: io::Read>(reader: &mut R, octets: &mut [u8]) -> Read
 
 // Reads until the slice is full, the input ends or a read fails.
 pub fn read_full<R: io::Read>(reader: &mut R, octets: &mut [u8]) -> Read
-    ensures { result.size ≤ length octets.old }
+    ensures size { result.size ≤ length octets.old }
+    ensures bytes { Consumes (R.remaining reader.old) (R.remaining reader.new) (take result.size octets.new) }
+    ensures end { result.failed ≡ false → result.size < length octets.old → IsAtEnd (R.remaining reader.new) }
 {
     let mut done = 0;
     let mut failed = false;
@@ -78,7 +83,10 @@ fn body_size(low: u8, high: u8) -> usize
 // Reads so many octets to a place of the slice, or as many as there are.
 fn read_at<R: io::Read>(reader: &mut R, octets: &mut [u8], at: usize, size: usize) -> Read
     requires { at + size ≤ length octets.old }
-    ensures { result.size ≤ size }
+    ensures size { result.size ≤ size }
+    ensures bytes { Consumes (R.remaining reader.old) (R.remaining reader.new) (take result.size (drop at octets.new)) }
+    ensures front { take at octets.new ≡ take at octets.old }
+    ensures end { result.failed ≡ false → result.size < size → IsAtEnd (R.remaining reader.new) }
 {
     let end = at + size;
     read_full(reader, &mut octets[at..end])
@@ -87,7 +95,10 @@ fn read_at<R: io::Read>(reader: &mut R, octets: &mut [u8], at: usize, size: usiz
 // Reads the next record to the front of the slice: as many octets as its length field says, or as many as there are, 0 where there is none.
 pub fn next_record<R: io::Read>(reader: &mut R, octets: &mut [u8]) -> Read
     requires { 65539 ≤ length octets.old }
-    ensures { result.size ≤ 65539 }
+    ensures size { result.size ≤ 65539 }
+    ensures bytes { Consumes (R.remaining reader.old) (R.remaining reader.new) (take result.size octets.new) }
+    ensures most { 4 ≤ result.size → result.size ≤ 4 + little 2 (drop 2 octets.new) }
+    ensures end { result.failed ≡ false → (result.size < 4) ⊎ (result.size < 4 + little 2 (drop 2 octets.new)) → IsAtEnd (R.remaining reader.new) }
 {
     let head = read_at(reader, octets, 0, 4);
     if head.size < 4 {

@@ -36,6 +36,20 @@ def params_of(crate, where):
     return []
 
 
+def clauses_of(function):
+    """The names of what a function ensures, in order."""
+    words = function.split("::")
+    for folder, _, files in os.walk(os.path.join("crates", words[0], "src")):
+        for name in files:
+            if len(words) > 2 and name[:-3] != words[-2]:
+                continue
+            with open(os.path.join(folder, name), encoding="utf-8") as it:
+                m = re.search(r"\bfn " + words[-1] + r"(?:<[^>]*>)?\([^)]*\)[^\n]*\n((?:    (?:requires|ensures|ghost)[^\n]*\n)*)", it.read())
+            if m:
+                return re.findall(r"ensures (\w+) \{", m[1])
+    return []
+
+
 def names_of(crate):
     folder = tempfile.mkdtemp(prefix="names-")
     here = os.path.join("crates", crate)
@@ -57,8 +71,10 @@ def tokens(text):
 def substituted(text, table):
     """The text with each word of the table that is no field replaced; a word that a binder hides stays."""
     out, before = [], ""
-    for t in tokens(text):
-        if t in table and before != ".":
+    toks = tokens(text)
+    for i, t in enumerate(toks):
+        # a field of a record that is written stays
+        if t in table and before != "." and [x for x in toks[i + 1: i + 3] if not x.isspace()][:1] != ["="]:
             t = table[t]
         out.append(t)
         before = t
@@ -66,7 +82,8 @@ def substituted(text, table):
 
 
 class Function:
-    def __init__(self, info, params):
+    def __init__(self, info, params, cycle=False):
+        self.cycle = cycle
         self.info = info
         self.params = params
         self.places = {p[0]: p for p in info["places"]}
@@ -81,6 +98,10 @@ class Function:
 
     def turned(self, place, words):
         """An old path behind the context, as its new one; None where no step has the label."""
+        if words[0] == "requires" and self.cycle and len(words) > 1:
+            return ["requires"] + words[2:] if words[1] == "1" else ["decreases"] + words[2:]
+        if words[0] == "well-formed":
+            return ["well_formed"] + words[1:]
         if words[0] in ("requires", "ranges", "lifetimes", "type_inv", "well_formed", "auto", "typed"):
             return words
         if words[0] == "args":
@@ -101,8 +122,9 @@ class Function:
                         return [arm[0], best[0]] + words[1 + len(best[1]):]
                 if plain(p[2][0]) == plain(label):
                     tail = list(words[1:])
+                    variables = [x for (old, _), vs in self.info["loops"] if old == p[2][0] for x in vs]
                     for old, now in p[4]:
-                        if tail and tail[0] == old:
+                        if tail and tail[0] == old and old not in variables:
                             tail[0] = now
                             break
                     if len(tail) > 1 and tail[0] == "new" and tail[1].isdigit() and p[3] in self.info["params"]:
@@ -113,6 +135,13 @@ class Function:
                             k += 1
                         if tail[1 + k: 2 + k] == ["0"] and k < len(names):
                             tail[1: 2 + k] = [names[k]]
+                    if tail[:1] == ["ensures"] and len(tail) > 1 and p[3]:
+                        # a tuple of the clauses, nested to the right
+                        names, k = clauses_of(p[3]), 0
+                        while tail[1 + k: 2 + k] == ["1"] and k + 2 < len(names):
+                            k += 1
+                        if len(names) > 1 and tail[1 + k: 2 + k] in (["0"], ["1"]):
+                            tail[1: 2 + k] = [names[k + int(tail[1 + k])]]
                     return [p[2][1]] + tail
         return None
 
@@ -202,7 +231,7 @@ def of_context(text, f, place, left, c="c"):
                     i = q
                     out.append("" if out[-1].endswith((" ", "\n")) else " ")
                     continue
-        if re.fullmatch(r"[^\s(){}.;,@\"«»\[\]]+", t) and t in alias and (not out or out[-1] != "."):
+        if re.fullmatch(r"[^\s(){}.;,@\"«»\[\]]+", t) and t in alias and (not out or out[-1] != ".") and [x for x in toks[i + 1: i + 3] if not x.isspace()][:1] != ["="]:
             words, end = path_at(i)
             rest = old_path(words)
             if not rest:
@@ -241,6 +270,7 @@ def of_value(text, f, place, left, alias):
 
 def without_raw(text):
     """A test's fact by its name, where the proof made it from the test's own value."""
+    text = re.sub(r"\bmapped _ \S+ (c\.well_formed)", r"\1", text)
     return re.sub(r"\(?not-(?:true|false) _ \(?([^\s()]+\.(?:true|false))-raw\)?\)?", lambda m: m[1] + ")" * (m[0].count(")") - m[0].count("(")), text)
 
 
@@ -318,7 +348,7 @@ def convert(crate, where, key, info, left_all):
         text = it.read()
     cycle = os.path.basename(where).startswith("+")
     if cycle:
-        fns = {k: Function(i, params_of(crate, os.path.join(os.path.dirname(where), k))) for k, i in info.items()}
+        fns = {k: Function(i, params_of(crate, os.path.join(os.path.dirname(where), k)), True) for k, i in info.items()}
         heads = {a + ".spec": k for k, a in re.findall(r"\.Lts-(\S+) as (\S+)", text)}
     else:
         if "tie.spec" not in text:
@@ -333,7 +363,7 @@ def convert(crate, where, key, info, left_all):
         return fn + "-" if many else ""
 
     text = re.sub(r"(?m)^(abbrev \S+ : )(\S+)-lts\.(invariant|decreases)-(\S+)[ ]*$", r"\1tie.\3-\4 of \2", text)
-    text = re.sub(r"(?m)^(\S+) :\s+\(t : ℕ\) → (\S+)-lts\.Need-(\S+)(?:[ \t(][\s\S]*?)?(?=\n(?:unfolding|\1 ))", r"\1 : tie.Need-\3 of \2", text)
+    text = re.sub(r"(?m)^(\S+) :\s+\(t : ℕ\)\s*→\s*(\S+)-lts\.Need-(\S+)(?:[ \t(][\s\S]*?)?(?=\n(?:unfolding|\1 ))", r"\1 : tie.Need-\3 of \2", text)
     lines = text.split("\n")
     head = []
     while lines and (lines[0].startswith("--") or lines[0].startswith("use ") or not lines[0].strip()):
@@ -355,7 +385,7 @@ def convert(crate, where, key, info, left_all):
         if not b:
             kept.append("\n".join(pre))
             continue
-        if cycle and re.match(r"abbrev \S+-(?:at|below|calls) : ℕ → ", b[0]):
+        if cycle and re.match(r"abbrev \S+[-_](?:at|below|calls) : ℕ → ", b[0]):
             continue
         m = re.match(r"abbrev μ-(\S+) : Measures ", b[0])
         if m and cycle:

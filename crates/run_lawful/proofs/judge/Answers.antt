@@ -1,5 +1,4 @@
--- `judge`: the table laid out by columns, then the exact test. Assumes nothing.
-use borrow.Author.Rules.{rules}
+-- `judge`: the table laid out by columns, then the exact test.
 use Rattle.run_lawful.proofs.judge.Goals as goal
 
 pub returns : goal.returns

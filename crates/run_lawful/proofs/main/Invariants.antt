@@ -1,6 +1,5 @@
 -- Each turn counts one up, to a bound.
 use Prim.Native.Nat.{◌≤◌, ◌-◌, ◌*◌}
-use borrow.Author.Rules.{rules}
 use Rattle.run_lawful.proofs.main.Given as goal
 
 abbrev pub invariant-loop-cases : goal.invariant-loop-cases

@@ -1,10 +1,6 @@
--- `print_groups`: each turn leaves fewer. Assumes nothing.
-use Prim.Native.Nat.{◌-◌}
-use borrow.Author.Rules.{rules}
+-- `print_groups`: each turn is one on.
+use Rattle.std.proofs.Common.{◌-◌}
 use Rattle.run_readers.proofs.print_groups.Given as goal
 
-abbrev pub invariant-loop-i : goal.invariant-loop-i
-invariant-loop-i l = Unit {0}
-
 abbrev pub decreases-loop-i : goal.decreases-loop-i
-decreases-loop-i l = 8 - l.i
+decreases-loop-i g l = 8 - l.i

@@ -14,8 +14,7 @@ use Rattle.model.proofs.Mailbox.TheLaws as T'
 use Rattle.model.specs.Memory.{no_mailbox}
 use Rattle.model.specs.declared.Mailbox.{Mailbox}
 use Rattle.lent_rows.specs.Standing.{Narrow, narrow-take}
-use Rattle.step.proofs.step.Statement.{statement}
-use Rattle.step.proofs.step.Tie as tie
+use Rattle.step.proofs.step.Goals as goal
 
 narrow-row : (x : Mailbox) (vs : List Val) → Is T.the_row x vs → Narrow x
 narrow-row x vs is =
@@ -29,28 +28,12 @@ narrow-rows (x ∷ l) [] s k h = absurd s
 narrow-rows (x ∷ l) (u ∷ us) s zero h = narrow-row x (u ∷ []) s.0
 narrow-rows (x ∷ l) (u ∷ us) s (suc k) h = narrow-rows l us s.1 k (omega arith)
 
-decide-requires : tie.Need-decide-requires
-decide-requires c κs =
-    let b = c.before.before.before.before.before.before.before.before.before in let lay = b.lay in
-    let s = b.before.before.before.before.before.before.before.before.before.before.before in
-    let rows = s.well-formed.0.1 in
-    let narrow = narrow-take s.args.table s.args.counts.mailboxes (narrow-rows s.args.table _ rows.1) in
-    (s.args.table, record { long = rows.0.1; stands = record { laid = lay.ensures; narrow = narrow } })
+pub decide-requires : goal.decide-requires
+decide-requires c =
+    let narrow = narrow-take c.args.table c.args.counts.mailboxes (narrow-rows c.args.table _ c.well_formed.0.1.1) in
+    (c.args.table, record { long = c.well_formed.0.1.0.1; stands = record { laid = c.lay.ensures; narrow = narrow } })
 
-returns : tie.Need-returns
+pub returns : goal.returns
 returns c =
-    let b = c.before.before.before.before in let decide = b.decide in
-    let b = b.before.before.before.before.before.before.before.before.before.before in let lay = b.lay in
-    let s = b.before.before.before.before.before.before.before.before.before.before.before in
-    let rows = s.well-formed.0.1 in
-    let narrow = narrow-take s.args.table s.args.counts.mailboxes (narrow-rows s.args.table _ rows.1) in
-    decide.ensures s.args.table (record { long = rows.0.1; stands = record { laid = lay.ensures; narrow = narrow } })
-
-pub step_spec : {M : Type 1} → statement M
-step_spec =
-    tie.close
-    (tie.spec
-    (λ c κs. search rules)  -- lay-requires
-    decide-requires
-    (λ c. search rules) (λ c. search rules)  -- same-length, same-length-2
-    returns)
+    let narrow = narrow-take c.args.table c.args.counts.mailboxes (narrow-rows c.args.table _ c.well_formed.0.1.1) in
+    c.decide.ensures c.args.table (record { long = c.well_formed.0.1.0.1; stands = record { laid = c.lay.ensures; narrow = narrow } })

@@ -1,0 +1,34 @@
+-- `walk`: every record of a stream. The invariant: what is still to be written is what the run's memory prints for the rest. Assumes nothing.
+use borrow.Author.Rules.{rules}
+use native.Mathlib.Omega.{arith}
+use mathlib.Core.Path.{◌≡◌, refl, ◌∙◌}
+use Prim.Native.Nat.{◌-◌}
+use lib.ListN.{length, replicate}
+use Rattle.model.specs.Memory.{no_mailbox}
+use Rattle.model.specs.Hidden.{no_counts, no_session}
+use Rattle.model.specs.Pushrun.{records_of, printed}
+use Rattle.step_stream.specs.Printing.{standing, Running, running_start, running_next, running_end}
+use Rattle.step_stream.proofs.walk.Goals as goal
+
+pub loop-i-init : goal.loop-i-init
+loop-i-init c =
+    (refl, refl, running_start c.args.stream.now c.args.out.now c.args.words.now c.args.queue.now c.start-s.ensures.0 c.start-s.ensures.1 c.start-s.ensures.2 c.start-s.ensures.3)
+
+pub record_size-n-requires : goal.record_size-n-requires
+record_size-n-requires c =
+    (c.loop-i-test.true, c.requires.0)
+
+pub turn-s-requires : goal.turn-s-requires
+turn-s-requires c =
+    (omega arith, c.loop-i.invariant.1 ∙ c.requires.1)
+
+pub loop-i-smaller : goal.loop-i-smaller
+loop-i-smaller c =
+    omega arith
+
+pub loop-i-preserved : goal.loop-i-preserved
+loop-i-preserved c =
+    (search rules, search rules, running_next c.loop-i.invariant.2 c.record_size-n.ensures c.turn-s.ensures)
+
+pub returns : goal.returns
+returns c = running_end c.loop-i.invariant.2 c.loop-i-test.false

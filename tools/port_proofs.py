@@ -36,6 +36,20 @@ def params_of(crate, where):
     return []
 
 
+def clauses_of(function):
+    """The names of what a function ensures, in order."""
+    words = function.split("::")
+    for folder, _, files in os.walk(os.path.join("crates", words[0], "src")):
+        for name in files:
+            if len(words) > 2 and name[:-3] != words[-2]:
+                continue
+            with open(os.path.join(folder, name), encoding="utf-8") as it:
+                m = re.search(r"\bfn " + words[-1] + r"(?:<[^>]*>)?\([^)]*\)[^\n]*\n((?:    (?:requires|ensures|ghost)[^\n]*\n)*)", it.read())
+            if m:
+                return re.findall(r"ensures (\w+) \{", m[1])
+    return []
+
+
 def names_of(crate):
     folder = tempfile.mkdtemp(prefix="names-")
     here = os.path.join("crates", crate)
@@ -66,7 +80,8 @@ def substituted(text, table):
 
 
 class Function:
-    def __init__(self, info, params):
+    def __init__(self, info, params, cycle=False):
+        self.cycle = cycle
         self.info = info
         self.params = params
         self.places = {p[0]: p for p in info["places"]}
@@ -81,6 +96,10 @@ class Function:
 
     def turned(self, place, words):
         """An old path behind the context, as its new one; None where no step has the label."""
+        if words[0] == "requires" and self.cycle and len(words) > 1:
+            return ["requires"] + words[2:] if words[1] == "1" else ["decreases"] + words[2:]
+        if words[0] == "well-formed":
+            return ["well_formed"] + words[1:]
         if words[0] in ("requires", "ranges", "lifetimes", "type_inv", "well_formed", "auto", "typed"):
             return words
         if words[0] == "args":
@@ -113,6 +132,13 @@ class Function:
                             k += 1
                         if tail[1 + k: 2 + k] == ["0"] and k < len(names):
                             tail[1: 2 + k] = [names[k]]
+                    if tail[:1] == ["ensures"] and len(tail) > 1 and p[3]:
+                        # a tuple of the clauses, nested to the right
+                        names, k = clauses_of(p[3]), 0
+                        while tail[1 + k: 2 + k] == ["1"] and k + 2 < len(names):
+                            k += 1
+                        if len(names) > 1 and tail[1 + k: 2 + k] in (["0"], ["1"]):
+                            tail[1: 2 + k] = [names[k + int(tail[1 + k])]]
                     return [p[2][1]] + tail
         return None
 
@@ -241,6 +267,7 @@ def of_value(text, f, place, left, alias):
 
 def without_raw(text):
     """A test's fact by its name, where the proof made it from the test's own value."""
+    text = re.sub(r"\bmapped _ \S+ (c\.well_formed)", r"\1", text)
     return re.sub(r"\(?not-(?:true|false) _ \(?([^\s()]+\.(?:true|false))-raw\)?\)?", lambda m: m[1] + ")" * (m[0].count(")") - m[0].count("(")), text)
 
 
@@ -318,7 +345,7 @@ def convert(crate, where, key, info, left_all):
         text = it.read()
     cycle = os.path.basename(where).startswith("+")
     if cycle:
-        fns = {k: Function(i, params_of(crate, os.path.join(os.path.dirname(where), k))) for k, i in info.items()}
+        fns = {k: Function(i, params_of(crate, os.path.join(os.path.dirname(where), k)), True) for k, i in info.items()}
         heads = {a + ".spec": k for k, a in re.findall(r"\.Lts-(\S+) as (\S+)", text)}
     else:
         if "tie.spec" not in text:
@@ -333,7 +360,7 @@ def convert(crate, where, key, info, left_all):
         return fn + "-" if many else ""
 
     text = re.sub(r"(?m)^(abbrev \S+ : )(\S+)-lts\.(invariant|decreases)-(\S+)[ ]*$", r"\1tie.\3-\4 of \2", text)
-    text = re.sub(r"(?m)^(\S+) :\s+\(t : ℕ\) → (\S+)-lts\.Need-(\S+)(?:[ \t(][\s\S]*?)?(?=\n(?:unfolding|\1 ))", r"\1 : tie.Need-\3 of \2", text)
+    text = re.sub(r"(?m)^(\S+) :\s+\(t : ℕ\)\s*→\s*(\S+)-lts\.Need-(\S+)(?:[ \t(][\s\S]*?)?(?=\n(?:unfolding|\1 ))", r"\1 : tie.Need-\3 of \2", text)
     lines = text.split("\n")
     head = []
     while lines and (lines[0].startswith("--") or lines[0].startswith("use ") or not lines[0].strip()):
@@ -355,7 +382,7 @@ def convert(crate, where, key, info, left_all):
         if not b:
             kept.append("\n".join(pre))
             continue
-        if cycle and re.match(r"abbrev \S+-(?:at|below|calls) : ℕ → ", b[0]):
+        if cycle and re.match(r"abbrev \S+[-_](?:at|below|calls) : ℕ → ", b[0]):
             continue
         m = re.match(r"abbrev μ-(\S+) : Measures ", b[0])
         if m and cycle:

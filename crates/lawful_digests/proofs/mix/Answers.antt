@@ -3,4 +3,4 @@ use Rattle.std.proofs.Common.{◌∙◌, rules}
 use Rattle.lawful_digests.proofs.mix.Goals as goal
 
 pub returns : goal.returns
-returns c = c.wrapping_add_u64.ensures ∙ rw (c.wrapping_add_u64-triple.ensures, c.wrapping_add_u64-double.ensures)
+returns c = c.wrapping_add_u64.ensures.value ∙ rw (c.wrapping_add_u64-triple.ensures.value, c.wrapping_add_u64-double.ensures.value)

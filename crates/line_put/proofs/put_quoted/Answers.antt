@@ -27,4 +27,7 @@ loop-i-preserved c =
 pub returns : goal.returns
 unfolding quoted
 returns c =
-    (rw (← take_all c.loop-i.i c.args.text.now c.loop-i-test.false) (◌then◌ (◌then◌ c.put_byte-o.ensures c.loop-i.invariant.3) c.put_byte.ensures), omega arith)
+    record {
+      put = rw (← take_all c.loop-i.i c.args.text.now c.loop-i-test.false) (◌then◌ (◌then◌ c.put_byte-o.ensures c.loop-i.invariant.3) c.put_byte.ensures);
+      upper_bound = omega arith;
+    }

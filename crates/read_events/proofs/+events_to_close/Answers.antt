@@ -12,15 +12,6 @@ use Rattle.read_events.proofs.Gathering.{list_none, list-more, list_last, list-w
 use borrow.Author.Rules.{rules}
 use Rattle.read_events.proofs.+events_to_close.Goals as goal
 
-events-to-close-add-events-to-close :
-    (t : ℕ)
-    → events-to-close-lts.Need-overflow-add-events-to-close (events-to-close-calls t) (events-to-close-at t) events-to-close.Post
-events-to-close-add-events-to-close t c =
-    let b = c.before.before.before in let at-e = b.e in
-    let b = b.before.before.before.before in let args = b.args in
-    let i = in-text args.text.now at-e.given.0.1.0 (sym c.before.octet-at.ensures ∙ c.if1.true) (omega arith) in
-    omega arith
-
 pub events_to_close-requires : goal.events_to_close-requires
 events_to_close-requires t c =
     let w = rw c.in-Is.is at c.event_at.ensures.within in

@@ -31,11 +31,11 @@ key_at-key_at-second-requires t c =
 pub key_at-joined-requires : goal.key_at-joined-requires
 key_at-joined-requires t c =
     let v = rw c.in-Found.is at c.key_at-first.ensures.within in
-    (omega arith, within-small c.args.text.now (c.in-Found.next + 1) c.in-Found.used c.key_at-second.result c.requires.1.short c.key_at-second.ensures.within)
+    (omega arith, within-small c.args.text.now (c.in-Found.next + 1) c.in-Found.used c.key_at-second.result c.requires.short c.key_at-second.ensures.within)
 
 pub key_at-closed-requires-then-octet_at-eq32 : goal.key_at-closed-requires-then-octet_at-eq32
 key_at-closed-requires-then-octet_at-eq32 t c =
-    within_closable c.args.text.now c.in-Alternation.p c.args.n 0 c.joined.result c.requires.1.short (omega arith) (omega arith)
+    within_closable c.args.text.now c.in-Alternation.p c.args.n 0 c.joined.result c.requires.short (omega arith) (omega arith)
     (within_joined c.args.text.now c.in-Alternation.p (c.args.n + 2) (c.in-Found.next + 1) c.key_at-first.result c.key_at-second.result c.joined.result
     (c.joined.ensures ∙ ap (λ (x : Read). join x c.key_at-second.result) (sym c.in-Found.is)) c.in-Found.is (omega arith) c.key_at-first.ensures.within
     c.key_at-second.ensures.within)
@@ -146,7 +146,7 @@ keys_at-keys_at-rest-requires t c =
 pub keys_at-joined-requires : goal.keys_at-joined-requires
 keys_at-joined-requires t c =
     let v = rw c.in-Found.is at c.key_at-first.ensures.within in
-    (omega arith, within-small c.args.text.now c.in-Another.p c.in-Found.used c.keys_at-rest.result c.requires.1.short c.keys_at-rest.ensures.within)
+    (omega arith, within-small c.args.text.now c.in-Another.p c.in-Found.used c.keys_at-rest.result c.requires.short c.keys_at-rest.ensures.within)
 
 pub keys_at-returns-in-Another : goal.keys_at-returns-in-Another
 keys_at-returns-in-Another t c =

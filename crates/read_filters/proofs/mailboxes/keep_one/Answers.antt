@@ -2,9 +2,8 @@
 use borrow.Author.Rules.{rules}
 use native.Mathlib.Omega.{arith}
 use Rattle.read_filters.proofs.Places.{one-dropped}
-use Rattle.model.specs.Laws.{mapped}
 use Rattle.read_filters.proofs.mailboxes.keep_one.Goals as goal
 
 pub returns : goal.returns
 returns c =
-    let l = mapped _ c.args.kept.names c.well-formed.0.1.1.1.0.1.0.1 in one-dropped c.args.kept c.args.name (omega arith)
+    let l = c.well_formed.0.1.1.1.0.1.0.1 in one-dropped c.args.kept c.args.name (omega arith)

@@ -1,0 +1,6 @@
+-- `asks_others`: the three tests together.
+use borrow.Author.Rules.{rules}
+use Rattle.read_notify.proofs.tallies.asks_others.Goals as goal
+
+pub returns : goal.returns
+returns c = rw (c.either-2.ensures, c.either.ensures)

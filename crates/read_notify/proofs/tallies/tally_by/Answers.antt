@@ -1,0 +1,6 @@
+-- `tally_by`: as its calls say.
+use borrow.Author.Rules.{rules}
+use Rattle.read_notify.proofs.tallies.tally_by.Goals as goal
+
+pub returns : goal.returns
+returns c = rw (c.either.ensures, c.amiss.ensures, c.one_if.ensures, c.about_selected-selected.ensures)

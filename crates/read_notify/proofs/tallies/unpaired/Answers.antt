@@ -1,0 +1,6 @@
+-- `unpaired`: as its calls say.
+use borrow.Author.Rules.{rules}
+use Rattle.read_notify.proofs.tallies.unpaired.Goals as goal
+
+pub returns : goal.returns
+returns c = rw (c.both-2.ensures, c.asks_messages.ensures, c.both.ensures)

@@ -1,0 +1,21 @@
+-- `in_by`: the value between its spaces. Assumes nothing.
+use mathlib.Core.Path.{sym, ◌∙◌}
+use Rattle.read_search.proofs.Optional.{in_closed, in-unfit, in_unspaced, in_whole}
+use borrow.Author.Rules.{rules}
+use Rattle.read_search.proofs.parts.in_by.Goals as goal
+
+pub returns-in_default : goal.returns-in_default
+returns-in_default c =
+    in_closed c.args.text.now c.args.at (sym c.in_default.is ∙ c.behind_word.ensures)
+
+pub returns-in_default-sources_at : goal.returns-in_default-sources_at
+returns-in_default-sources_at c =
+    in-unfit c.args.text.now c.args.at (sym c.in-At.is ∙ c.behind_word.ensures) (sym c.in_default-sources_at.is ∙ c.sources_at.ensures.exact)
+
+pub returns-in_default-behind_space : goal.returns-in_default-behind_space
+returns-in_default-behind_space c =
+    in_unspaced c.args.text.now c.args.at (sym c.in-At.is ∙ c.behind_word.ensures) (sym c.in-Is.is ∙ c.sources_at.ensures.exact) (sym c.in_default-behind_space.is ∙ c.behind_space.ensures)
+
+pub returns : goal.returns
+returns c =
+    in_whole c.args.text.now c.args.at (sym c.in-At.is ∙ c.behind_word.ensures) (sym c.in-Is.is ∙ c.sources_at.ensures.exact) (sym c.in-At-behind_space.is ∙ c.behind_space.ensures)

@@ -71,8 +71,10 @@ def tokens(text):
 def substituted(text, table):
     """The text with each word of the table that is no field replaced; a word that a binder hides stays."""
     out, before = [], ""
-    for t in tokens(text):
-        if t in table and before != ".":
+    toks = tokens(text)
+    for i, t in enumerate(toks):
+        # a field of a record that is written stays
+        if t in table and before != "." and [x for x in toks[i + 1: i + 3] if not x.isspace()][:1] != ["="]:
             t = table[t]
         out.append(t)
         before = t
@@ -120,8 +122,9 @@ class Function:
                         return [arm[0], best[0]] + words[1 + len(best[1]):]
                 if plain(p[2][0]) == plain(label):
                     tail = list(words[1:])
+                    variables = [x for (old, _), vs in self.info["loops"] if old == p[2][0] for x in vs]
                     for old, now in p[4]:
-                        if tail and tail[0] == old:
+                        if tail and tail[0] == old and old not in variables:
                             tail[0] = now
                             break
                     if len(tail) > 1 and tail[0] == "new" and tail[1].isdigit() and p[3] in self.info["params"]:
@@ -228,7 +231,7 @@ def of_context(text, f, place, left, c="c"):
                     i = q
                     out.append("" if out[-1].endswith((" ", "\n")) else " ")
                     continue
-        if re.fullmatch(r"[^\s(){}.;,@\"«»\[\]]+", t) and t in alias and (not out or out[-1] != "."):
+        if re.fullmatch(r"[^\s(){}.;,@\"«»\[\]]+", t) and t in alias and (not out or out[-1] != ".") and [x for x in toks[i + 1: i + 3] if not x.isspace()][:1] != ["="]:
             words, end = path_at(i)
             rest = old_path(words)
             if not rest:

@@ -15,7 +15,7 @@ loop-group-init c =
 pub returns-in_default : goal.returns-in_default
 returns-in_default c =
     let e = sym c.in_default.is ∙ c.lent_at.ensures.exact in
-    rw c.ungathered.ensures (record { exact = goes_none c.args.text.now c.args.at c.loop-group.tally c.loop-group.watch c.loop-group.auto c.loop-group.p c.loop-group.invariant e; within = tt; keeps = λ q gs h a n y. absurd (goes_never c.args.text.now c.args.at c.loop-group.tally c.loop-group.watch c.loop-group.auto c.loop-group.p c.loop-group.invariant e q gs h n) })
+    rw c.ungathered.ensures (record { exact = goes_none c.args.text.now c.args.at c.loop-group.tally c.loop-group.watch c.loop-group.kept c.loop-group.p c.loop-group.invariant e; within = tt; keeps = λ q gs h a n y. absurd (goes_never c.args.text.now c.args.at c.loop-group.tally c.loop-group.watch c.loop-group.kept c.loop-group.p c.loop-group.invariant e q gs h n) })
 
 pub keep_more-kept-requires : goal.keep_more-kept-requires
 keep_more-kept-requires c = omega (arith, c.loop-group.invariant.names)
@@ -32,7 +32,7 @@ added-tally-requires c =
 pub returns-then-octet_at-ne32 : goal.returns-then-octet_at-ne32
 returns-then-octet_at-ne32 c =
     let w = rw c.in-Is.is at c.lent_at.ensures.within in
-    goes_last c.args.text.now c.args.at c.loop-group.tally c.loop-group.watch c.loop-group.auto c.loop-group.p c.loop-group.invariant (sym c.in-Is.is ∙ c.lent_at.ensures.exact) w c.keep_more-kept.ensures.exact c.keep_group-watch.result c.keep_group-watch.ensures c.added-tally.result c.added-tally.ensures
+    goes_last c.args.text.now c.args.at c.loop-group.tally c.loop-group.watch c.loop-group.kept c.loop-group.p c.loop-group.invariant (sym c.in-Is.is ∙ c.lent_at.ensures.exact) w c.keep_more-kept.ensures.exact c.keep_group-watch.result c.keep_group-watch.ensures c.added-tally.result c.added-tally.ensures
     (λ e. c.if-octet_at-ne32.true (c.octet_at.ensures ∙ e)) c.gathered.ensures
 
 pub loop-group-smaller : goal.loop-group-smaller
@@ -42,5 +42,5 @@ loop-group-smaller c =
 pub loop-group-preserved : goal.loop-group-preserved
 loop-group-preserved c =
     let w = rw c.in-Is.is at c.lent_at.ensures.within in
-    goes_on c.args.text.now c.args.at c.loop-group.tally c.loop-group.watch c.loop-group.auto c.loop-group.p c.loop-group.invariant (sym c.in-Is.is ∙ c.lent_at.ensures.exact) w c.keep_more-kept.ensures.exact c.keep_group-watch.result c.keep_group-watch.ensures c.added-tally.result c.added-tally.ensures
+    goes_on c.args.text.now c.args.at c.loop-group.tally c.loop-group.watch c.loop-group.kept c.loop-group.p c.loop-group.invariant (sym c.in-Is.is ∙ c.lent_at.ensures.exact) w c.keep_more-kept.ensures.exact c.keep_group-watch.result c.keep_group-watch.ensures c.added-tally.result c.added-tally.ensures
     (sym c.octet_at.ensures ∙ c.if-octet_at-ne32.false)

@@ -1,0 +1,12 @@
+-- `say_status`: measured with limit 0, then written, or else the overflow line. Assumes nothing.
+use borrow.Author.Rules.{rules}
+use mathlib.Core.Path.{refl}
+use native.Mathlib.Omega.{arith}
+use Rattle.line_put.specs.Says.{says-fits, says_over}
+use Rattle.event_message.proofs.say_status.Goals as goal
+
+pub returns-then-end-limit : goal.returns-then-end-limit
+returns-then-end-limit c = says-fits _ _ _ _ _ _ _ _ c.put_status-end.ensures.0 c.put_status-e.ensures.0 refl (omega arith)
+
+pub returns : goal.returns
+returns c = says_over _ _ _ _ _ _ _ _ c.put_status-end.ensures.0 c.overflow.ensures (omega arith) (omega arith) (omega arith)

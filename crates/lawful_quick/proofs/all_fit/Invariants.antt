@@ -1,0 +1,21 @@
+-- The last UID of each row bounds those of its mailbox so far, behind each run and the entry between two; in the end it is below the UIDNEXT.
+use Rattle.std.proofs.Common.{◌≡◌, ◌-◌, ◌*◌, ◌/◌, ◌%◌, ◌≤◌, true, false, List, length, take, refl, arith, length-set, rules, ltb-true}
+use borrow.Author.Tests.{not-false}
+use Rattle.model.specs.Laws.{tf}
+use Rattle.model.specs.Lists.{apart}
+use Rattle.model.specs.Memory.{counter_of}
+use Rattle.model.specs.Lawful.{clash}
+use Rattle.model.specs.declared.Mailbox.{Mailbox}
+use Rattle.table_messages.specs.Words.{messages}
+use Rattle.table_mailboxes.specs.Columns.{Column}
+use Rattle.lawful_digests.specs.Distinct.{low_wider}
+use Rattle.lawful_quick.specs.Passing.{Owners, Passed, Below, good_none, going_start, passed_next, gone}
+use Rattle.lawful_quick.proofs.all_fit.Given as goal
+
+abbrev pub invariant-loop-p : goal.invariant-loop-p
+invariant-loop-p now = (now.end ≡ 6 * now.used) × (now.p.at ≤ now.end) × (now.p.at % 6 ≡ 0) × (length now.last ≡ 64)
+    × ((l : List Mailbox) → length l ≡ now.n → Owners l now.ids now.nexts → Column counter_of l now.counters → apart clash l ≡ true
+    → Passed now.words l now.selected now.told.0 now.p now.last)
+
+abbrev pub decreases-loop-p : goal.decreases-loop-p
+decreases-loop-p l = l.end - l.p.at

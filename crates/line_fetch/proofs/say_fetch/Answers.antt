@@ -1,0 +1,14 @@
+-- `say_fetch`: the line is measured with no room; if it fits it is put, else the queue is as it was for the overflow line. Assumes nothing.
+use borrow.Author.Rules.{rules}
+use mathlib.Core.Path.{refl}
+use native.Mathlib.Omega.{arith}
+use Rattle.line_put.specs.Says.{says-fits, says_over}
+use Rattle.line_fetch.proofs.say_fetch.Goals as goal
+
+pub returns-then-end-limit : goal.returns-then-end-limit
+returns-then-end-limit c =
+    says-fits _ _ _ _ _ _ _ _ c.put_fetch-end.ensures.0 c.put_fetch-e.ensures.0 refl (omega arith)
+
+pub returns : goal.returns
+returns c =
+    says_over _ _ _ _ _ _ _ _ c.put_fetch-end.ensures.0 c.overflow.ensures (omega arith) (omega arith) (omega arith)

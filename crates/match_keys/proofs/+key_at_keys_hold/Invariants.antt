@@ -1,0 +1,20 @@
+-- `key_at`, `keys_hold`: keys and lists of keys call each other on ever fewer cells; the loop keeps what the keys from i on still have to decide. Assumes nothing.
+use Prim.Native.Nat.{ℕ, ◌<◌, ◌≤◌, ◌+◌, ◌-◌, ◌*◌}
+use Rattle.match_keys.specs.Laws.{Going, going_start, going_decided, going_next, going_in, going_end, answers_nest}
+use Rattle.model.specs.Searching.{agrees}
+use mathlib.Core.Path.{ap, sym, ◌∙◌}
+use native.Mathlib.Omega.{arith}
+use borrow.Author.Rules.{rules}
+use Rattle.match_keys.proofs.+key_at_keys_hold.Given as goal
+
+abbrev pub decreases-key_at : goal.decreases-key_at
+decreases-key_at l = 2 * (l.stop - l.at)
+
+abbrev pub decreases-keys_hold : goal.decreases-keys_hold
+decreases-keys_hold l = 2 * (l.stop - l.at) + 1
+
+abbrev pub invariant-keys_hold-loop-i : goal.invariant-keys_hold-loop-i
+invariant-keys_hold-loop-i l = (l.at ≤ l.i) × Going l.cells l.at l.stop l.any l.facts l.i l.some l.on
+
+abbrev pub decreases-keys_hold-loop-i : goal.decreases-keys_hold-loop-i
+decreases-keys_hold-loop-i l = l.stop - l.i

@@ -1,0 +1,12 @@
+-- `in_set`: the loop keeps that no part before i holds the number. Assumes nothing.
+use Rattle.match_keys.specs.Laws.{SetGoing, set_start, set_hit, set_next, set_end}
+use Prim.Native.Nat.{◌+◌, ◌-◌, ◌≤◌}
+use native.Mathlib.Omega.{arith}
+use borrow.Author.Rules.{rules}
+use Rattle.match_keys.proofs.in_set.Given as goal
+
+abbrev pub invariant-loop-i : goal.invariant-loop-i
+invariant-loop-i l = (l.i ≤ l.stop + 1) × SetGoing l.cells l.at l.stop l.last l.n l.i
+
+abbrev pub decreases-loop-i : goal.decreases-loop-i
+decreases-loop-i l = l.stop - l.i

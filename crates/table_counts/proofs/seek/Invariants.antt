@@ -1,0 +1,13 @@
+-- `seek`: the loop keeps that no id before i is this one. Assumes nothing.
+use mathlib.Core.Path.{◌≡◌}
+use Prim.Native.Nat.{◌≤◌, ◌-◌}
+use native.Mathlib.Omega.{arith}
+use Rattle.table_counts.specs.Tally.{Others, others_none, others_next, found, not_found}
+use borrow.Author.Rules.{rules}
+use Rattle.table_counts.proofs.seek.Given as goal
+
+abbrev pub invariant-loop-i : goal.invariant-loop-i
+invariant-loop-i l = (l.i ≤ l.n) × Others l.ids l.i l.id
+
+abbrev pub decreases-loop-i : goal.decreases-loop-i
+decreases-loop-i l = l.n - l.i

@@ -25,7 +25,7 @@ def bands():
             groups[-1][0] = (groups[-1][0] + " " + line.lstrip("# ")).strip()
         elif ":" in line:
             name, _, uses = line.partition(":")
-            groups[-1][1][name] = uses.split()
+            groups[-1][1][name.split()[0]] = uses.split()
     return groups
 
 

@@ -121,13 +121,13 @@ class Function:
                     if best:
                         return [arm[0], best[0]] + words[1 + len(best[1]):]
                 if plain(p[2][0]) == plain(label):
-                    tail = list(words[1:])
+                    tail = [w.replace("type-inv", "type_inv").replace("well-formed", "well_formed") for w in words[1:]]
                     variables = [x for (old, _), vs in self.info["loops"] if old == p[2][0] for x in vs]
                     for old, now in p[4]:
                         if tail and tail[0] == old and old not in variables:
                             tail[0] = now
                             break
-                    if len(tail) > 1 and tail[0] == "new" and tail[1].isdigit() and p[3] in self.info["params"]:
+                    if len(tail) > 1 and tail[0] in ("new", "auto") and tail[1].isdigit() and p[3] in self.info["params"]:
                         # a tuple of the parameters, nested to the right
                         names = self.info["params"][p[3]]
                         k = 0

@@ -1,4 +1,4 @@
-//! Links the proved step, which `rt staticlib exported` writes to target/staticlib of the repository. BORJAVID_LIB names
+//! Links the proved step, which `host/prove exported` writes to target/staticlib of the repository. BORJAVID_LIB names
 //! another folder that has libexported.a. Only linking needs it: `cargo check` and `cargo doc` do without.
 
 use std::path::PathBuf;
@@ -13,7 +13,7 @@ fn main() {
     println!("cargo:rerun-if-changed={}", library.display());
     if !library.exists() {
         println!(
-            "cargo:warning=there is no {}: nothing can be linked until `rt staticlib exported` has made it",
+            "cargo:warning=there is no {}: nothing can be linked until `host/prove exported` has made it",
             library.display()
         );
     }

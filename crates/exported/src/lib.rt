@@ -15,8 +15,7 @@ use model::{Counts, Mailbox, Session};
 // ---- what a host was built for
 
 // The number of the layout of lent memory. A host compares it with the one that it was built for before it lends anything.
-#[unsafe(no_mangle)]
-pub extern "C" fn borjavid_layout() -> u32
+pub fn borjavid_layout() -> u32
     ensures { result ≡ lent_layout }
 {
     2
@@ -27,8 +26,7 @@ pub extern "C" fn borjavid_layout() -> u32
 // One record on the memory that a host lends. The counts stand beside the session, each lent by `&mut`: a command that is not accepted
 // changes the one and not the other. Rows, words, counts and session fill the six registers of a call; queue and record lie behind them,
 // so that no slice is split, which Rust and Rattle do in different ways.
-#[unsafe(no_mangle)]
-pub extern "C" fn borjavid_step(
+pub fn borjavid_step(
     rows: &mut [Mailbox],
     words: &mut [u64],
     counts: &mut Counts,
@@ -51,8 +49,7 @@ pub extern "C" fn borjavid_step(
 // ---- the mailbox table
 
 // The place of the first used row with the id, or how many are used. Of a table that is too long the first 64 rows are searched.
-#[unsafe(no_mangle)]
-pub extern "C" fn borjavid_find_id(rows: &[Mailbox], used: usize, id: u16) -> usize
+pub fn borjavid_find_id(rows: &[Mailbox], used: usize, id: u16) -> usize
     ensures { result ≡ place id (take used (take 64 rows.now)) }
 {
     let n = rows.len();
@@ -62,8 +59,7 @@ pub extern "C" fn borjavid_find_id(rows: &[Mailbox], used: usize, id: u16) -> us
 }
 
 // The place of the first used row with the name, octet for octet, or how many are used; searched likewise.
-#[unsafe(no_mangle)]
-pub extern "C" fn borjavid_find_name(rows: &[Mailbox], used: usize, name: &[u8]) -> usize
+pub fn borjavid_find_name(rows: &[Mailbox], used: usize, name: &[u8]) -> usize
     ensures { result ≡ place_named name.now (take used (take 64 rows.now)) }
 {
     let n = rows.len();
@@ -73,8 +69,7 @@ pub extern "C" fn borjavid_find_name(rows: &[Mailbox], used: usize, name: &[u8])
 }
 
 // Row k becomes x; where there is none, nothing changes.
-#[unsafe(no_mangle)]
-pub extern "C" fn borjavid_set_row(rows: &mut [Mailbox], k: usize, x: Mailbox)
+pub fn borjavid_set_row(rows: &mut [Mailbox], k: usize, x: Mailbox)
     ensures { rows.new ≡ set rows.old k x }
 {
     lent_rows::set_row(rows, k, x);

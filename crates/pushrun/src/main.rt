@@ -3,9 +3,11 @@
 // it writes `! n` where the record is refused and all that the queue holds, and drains the queue.
 #![tactic(auto)]
 
-ghost use Rattle.std.specs.Prelude.{◌≡◌, ◌≤◌, length};
+ghost use Rattle.std.specs.Prelude.{◌≡◌, ◌≤◌, length, IfOk};
 
 use run_input::RECORD;
+use std::io;
+use std::io::Write;
 use step_stream::Standing;
 
 const WORDS: usize = 6144;
@@ -16,59 +18,73 @@ const QUEUE: usize = 8192;
 const SHOWN: usize = 8197;
 
 // Writes what a record shows, which stands at the front of `out`; the next goes there again.
-fn print_shown(s: Standing, out: &[u8]) -> Standing
+fn print_shown<W: Write>(writer: &mut W, s: Standing, out: &[u8]) -> io::Result<Standing>
     requires { s.end ≤ length out.now }
-    ensures { result.end ≡ 0 }
+    ensures { IfOk result (λ t. t.end ≡ 0) }
 {
     let end = s.end;
-    run_input::print(&out[..end]);
+    run_input::print(writer, &out[..end])?;
     let table = s.table;
     let counts = s.counts;
     let session = s.session;
-    Standing {
+    Ok(Standing {
         table,
         counts,
         session,
         end: 0,
-    }
+    })
 }
 
 // One record. What it shows, and what it leaves, the rules say (`step_stream::turn`).
-fn serve_one(
+fn serve_one<W: Write>(
+    writer: &mut W,
     s: Standing,
     words: &mut [u64],
     queue: &mut [u8],
     octets: &[u8],
     out: &mut [u8],
-) -> Standing
+) -> io::Result<Standing>
     requires { (s.end ≡ 0) × (length queue.old ≡ 8192) × (8197 ≤ length out.old) }
-    ensures { result.end ≡ 0 }
+    ensures { IfOk result (λ t. t.end ≡ 0) }
 {
     let t = step_stream::turn(s, words, queue, octets, out);
-    print_shown(t, out)
+    print_shown(writer, t, out)
 }
 
 // A loop that is proved has to end: it counts its turns up to a number that no stream reaches.
-fn serve(words: &mut [u64], queue: &mut [u8], octets: &mut [u8], out: &mut [u8])
+fn serve<R: io::Read, W: Write>(
+    reader: &mut R,
+    writer: &mut W,
+    words: &mut [u64],
+    queue: &mut [u8],
+    octets: &mut [u8],
+    out: &mut [u8],
+) -> io::Result<()>
     requires { (length queue.old ≡ 8192) × (65539 ≤ length octets.old) × (8197 ≤ length out.old) }
 {
     let mut s = step_stream::start();
-    let mut turns: u64 = 0;
-    while turns < 18446744073709551615 {
-        let read = run_input::next_record(0, octets);
+    for _ in 0..u64::MAX {
+        let read = run_input::next_record(reader, octets);
         let n = read.size;
         if n == 0 {
             break;
         }
-        s = serve_one(s, words, queue, &octets[..n], out);
-        turns += 1;
+        s = serve_one(writer, s, words, queue, &octets[..n], out)?;
     }
+    Ok(())
 }
 
-fn main() {
+fn main(rt: HostRuntime) -> io::Result<()> {
     let mut words = [0u64; WORDS];
     let mut queue = [0u8; QUEUE];
     let mut octets = [0u8; RECORD];
     let mut out = [0u8; SHOWN];
-    serve(&mut words, &mut queue, &mut octets, &mut out);
+    serve(
+        &mut rt.stdin(),
+        &mut rt.stdout(),
+        &mut words,
+        &mut queue,
+        &mut octets,
+        &mut out,
+    )
 }

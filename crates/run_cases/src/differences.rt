@@ -1,9 +1,11 @@
 // What differs between a call and what is expected of it, and how that is said.
-ghost use Rattle.std.specs.Prelude.{◌≤◌};
+ghost use Rattle.std.specs.Prelude.{◌≤◌, IfOk};
 
 use crate::print;
 use crate::reading::Expected;
 use model::{Answer, Refusal};
+use std::io;
+use std::io::Write;
 
 #[derive(Clone, Copy)]
 pub enum Difference {
@@ -104,48 +106,40 @@ pub fn compared(
 
 // ---- what is printed
 
-pub fn print_pair(is: u64, wanted: u64) {
-    io::print_decimal(1, is);
-    print(b", not ");
-    io::print_decimal(1, wanted);
+pub fn print_pair<W: Write>(writer: &mut W, is: u64, wanted: u64) -> io::Result<()> {
+    write!(writer, "{is}, not {wanted}")
 }
 
-pub fn print_count(count: u64) {
+pub fn print_count<W: Write>(writer: &mut W, count: u64) -> io::Result<()> {
     if count == 4294967295 {
-        print(b"none");
+        print(writer, b"none")
     } else {
-        io::print_decimal(1, count);
+        write!(writer, "{count}")
     }
 }
 
-pub fn print_counts(is: u64, wanted: u64) {
-    print(b"count ");
-    print_count(is);
-    print(b", not ");
-    print_count(wanted);
+pub fn print_counts<W: Write>(writer: &mut W, is: u64, wanted: u64) -> io::Result<()> {
+    print(writer, b"count ")?;
+    print_count(writer, is)?;
+    print(writer, b", not ")?;
+    print_count(writer, wanted)
 }
 
-pub fn print_difference(d: Difference) {
+pub fn print_difference<W: Write>(writer: &mut W, d: Difference) -> io::Result<()> {
     match d {
-        Difference::Nothing => print(b"ok"),
+        Difference::Nothing => print(writer, b"ok"),
         Difference::Refusal(is, wanted) => {
-            print(b"refusal ");
-            print_pair(is, wanted);
+            print(writer, b"refusal ")?;
+            print_pair(writer, is, wanted)
         }
-        Difference::Count(is, wanted) => print_counts(is, wanted),
+        Difference::Count(is, wanted) => print_counts(writer, is, wanted),
         Difference::Held(is, wanted) => {
-            print(b"octets in the queue: ");
-            print_pair(is, wanted);
+            print(writer, b"octets in the queue: ")?;
+            print_pair(writer, is, wanted)
         }
-        Difference::Octet(at) => {
-            print(b"another octet in the queue at ");
-            io::print_decimal(1, at);
-        }
-        Difference::TooLong(size) => {
-            print(b"longer than can be run: ");
-            io::print_decimal(1, size);
-        }
-        Difference::Torn => print(b"the input ends"),
+        Difference::Octet(at) => write!(writer, "another octet in the queue at {at}"),
+        Difference::TooLong(size) => write!(writer, "longer than can be run: {size}"),
+        Difference::Torn => print(writer, b"the input ends"),
     }
 }
 
@@ -162,23 +156,21 @@ pub fn weight(d: Difference) -> u64
 }
 
 // Writes the difference of call i.
-pub fn print_call(i: u64, d: Difference) {
-    print(b"call ");
-    io::print_decimal(1, i);
-    print(b": ");
-    print_difference(d);
-    print(b"\n");
+pub fn print_call<W: Write>(writer: &mut W, i: u64, d: Difference) -> io::Result<()> {
+    write!(writer, "call {i}: ")?;
+    print_difference(writer, d)?;
+    print(writer, b"\n")
 }
 
 // What is known of a case behind call i: its first difference is written, and any that ends the input.
-pub fn known_after(known: u64, i: u64, d: Difference) -> u64
+pub fn known_after<W: Write>(writer: &mut W, known: u64, i: u64, d: Difference) -> io::Result<u64>
     requires { known ≤ 2 }
-    ensures { result ≤ 2 }
+    ensures { IfOk result (λ n. n ≤ 2) }
 {
     let w = weight(d);
     if w <= known {
-        return known;
+        return Ok(known);
     }
-    print_call(i, d);
-    w
+    print_call(writer, i, d)?;
+    Ok(w)
 }

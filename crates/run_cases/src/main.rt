@@ -9,10 +9,12 @@ mod differences;
 mod reading;
 mod turns;
 
-ghost use Rattle.std.specs.Prelude.{◌≤◌};
+ghost use Rattle.std.specs.Prelude.{◌≤◌, IfOk};
 
 use differences::known_after;
 use reading::{little, little_size};
+use std::io;
+use std::io::{Read, Write};
 use turns::next_turn;
 
 // the longest name, call and queue, and the most words of a message table
@@ -24,38 +26,40 @@ const QUEUE: usize = 65600;
 
 const WORDS: usize = 6240;
 
-fn print(text: &[u8]) {
-    io::write_all(1, text);
+fn print<W: Write>(writer: &mut W, text: &[u8]) -> io::Result<()> {
+    writer.write_all(text)
 }
 
 // ---- a case
 
 // Runs the calls of a case on empty memory: 0 where all are as expected, 1 where one is not, 2 where the input ends.
-fn run_calls(
+fn run_calls<R: Read, W: Write>(
+    reader: &mut R,
+    writer: &mut W,
     lent: usize,
     calls: u64,
     words: &mut [u64],
     queue: &mut [u8],
     octets: &mut [u8],
     wanted: &mut [u8],
-) -> u64
-    ensures { result ≤ 2 }
+) -> io::Result<u64>
+    ensures { IfOk result (λ n. n ≤ 2) }
 {
     let mut m = step_stream::start();
     let mut verdict: u64 = 0;
     let mut i: u64 = 0;
     while i < calls {
         i += 1;
-        let t = next_turn(m, lent, words, queue, octets, wanted);
+        let t = next_turn(reader, m, lent, words, queue, octets, wanted);
         let difference = t.difference;
-        verdict = known_after(verdict, i, difference);
+        verdict = known_after(writer, verdict, i, difference)?;
         if verdict == 2 {
-            return 2;
+            return Ok(2);
         }
         let state = t.state;
         m = state;
     }
-    verdict
+    Ok(verdict)
 }
 
 // What stands before the calls of a case, and how many octets of that there were.
@@ -69,11 +73,11 @@ struct Case {
     calls: u64,
 }
 
-fn next_case() -> Case {
+fn next_case<R: Read>(reader: &mut R) -> Case {
     let mut o = [0u8; 20];
-    let read = io::read_full(0, &mut o);
+    let read = run_input::read_full(reader, &mut o);
     Case {
-        read,
+        read: read.size,
         name: little_size(o[0], o[1], o[2], o[3]),
         queue: little_size(o[4], o[5], o[6], o[7]),
         mailboxes: little_size(o[8], o[9], o[10], o[11]),
@@ -83,22 +87,29 @@ fn next_case() -> Case {
 }
 
 // Reads and writes the octets of a name.
-fn copy_name(name: &mut [u8]) {
-    io::read_full(0, name);
-    print(name);
+fn copy_name<R: Read, W: Write>(reader: &mut R, writer: &mut W, name: &mut [u8]) -> io::Result<()> {
+    run_input::read_full(reader, name);
+    print(writer, name)
 }
 
-fn print_name(n: usize)
+fn print_name<R: Read, W: Write>(reader: &mut R, writer: &mut W, n: usize) -> io::Result<()>
     requires { n ≤ 256 }
 {
     let mut name = [0u8; NAME];
-    copy_name(&mut name[..n]);
+    copy_name(reader, writer, &mut name[..n])
 }
 
 // Lends memory of a case's sizes, all of it zero.
-fn run_case(lent: usize, entries: usize, room: usize, calls: u64) -> u64
+fn run_case<R: Read, W: Write>(
+    reader: &mut R,
+    writer: &mut W,
+    lent: usize,
+    entries: usize,
+    room: usize,
+    calls: u64,
+) -> io::Result<u64>
     requires { (entries ≤ 1040) × (room ≤ 65600) }
-    ensures { result ≤ 2 }
+    ensures { IfOk result (λ n. n ≤ 2) }
 {
     let mut words = [0u64; WORDS];
     let mut queue = [0u8; QUEUE];
@@ -106,6 +117,8 @@ fn run_case(lent: usize, entries: usize, room: usize, calls: u64) -> u64
     let mut wanted = [0u8; QUEUE];
     let n = entries * 6;
     run_calls(
+        reader,
+        writer,
         lent,
         calls,
         &mut words[..n],
@@ -116,29 +129,32 @@ fn run_case(lent: usize, entries: usize, room: usize, calls: u64) -> u64
 }
 
 // Writes what stands at the head of a case's line.
-fn print_head(name: usize, calls: u64)
+fn print_head<R: Read, W: Write>(
+    reader: &mut R,
+    writer: &mut W,
+    name: usize,
+    calls: u64,
+) -> io::Result<()>
     requires { name ≤ 256 }
 {
-    print_name(name);
-    print(b": ");
-    io::print_decimal(1, calls);
-    print(b" calls, ");
+    print_name(reader, writer, name)?;
+    write!(writer, ": {calls} calls, ")
 }
 
-fn try_case(c: Case) -> u64
+fn try_case<R: Read, W: Write>(reader: &mut R, writer: &mut W, c: Case) -> io::Result<u64>
     requires { c.name ≤ 256 }
-    ensures { result ≤ 2 }
+    ensures { IfOk result (λ n. n ≤ 2) }
 {
-    print_head(c.name, c.calls);
+    print_head(reader, writer, c.name, c.calls)?;
     if c.messages > 1040 || c.queue > 65600 {
-        print(b"larger than can be run\n");
-        return 2;
+        print(writer, b"larger than can be run\n")?;
+        return Ok(2);
     }
-    let verdict = run_case(c.mailboxes, c.messages, c.queue, c.calls);
+    let verdict = run_case(reader, writer, c.mailboxes, c.messages, c.queue, c.calls)?;
     if verdict == 0 {
-        print(b"ok\n");
+        print(writer, b"ok\n")?;
     }
-    verdict
+    Ok(verdict)
 }
 
 // ---- all cases
@@ -156,7 +172,7 @@ fn ended(t: Tally, off: u64) -> Tally {
     Tally {
         cases: t.cases,
         calls: t.calls,
-        wrong: std::num::wrapping_add_u64(t.wrong, off),
+        wrong: t.wrong.wrapping_add(off),
         going: false,
     }
 }
@@ -165,51 +181,50 @@ fn ended(t: Tally, off: u64) -> Tally {
 fn counted(t: Tally, calls: u64, verdict: u64) -> Tally {
     let off = if verdict == 0 { 0 } else { 1 };
     Tally {
-        cases: std::num::wrapping_add_u64(t.cases, 1),
-        calls: std::num::wrapping_add_u64(t.calls, calls),
-        wrong: std::num::wrapping_add_u64(t.wrong, off),
+        cases: t.cases.wrapping_add(1),
+        calls: t.calls.wrapping_add(calls),
+        wrong: t.wrong.wrapping_add(off),
         going: verdict != 2,
     }
 }
 
 // The next case, if there is one.
-fn next_tally(t: Tally) -> Tally {
-    let c = next_case();
+fn next_tally<R: Read, W: Write>(reader: &mut R, writer: &mut W, t: Tally) -> io::Result<Tally> {
+    let c = next_case(reader);
     if c.read == 0 {
-        return ended(t, 0);
+        return Ok(ended(t, 0));
     }
     if c.read != 20 || c.name > 256 {
-        print(b"no case stands here\n");
-        return ended(t, 1);
+        print(writer, b"no case stands here\n")?;
+        return Ok(ended(t, 1));
     }
-    let verdict = try_case(c);
-    counted(t, c.calls, verdict)
+    let verdict = try_case(reader, writer, c)?;
+    Ok(counted(t, c.calls, verdict))
 }
 
-fn print_total(t: Tally) {
-    io::print_decimal(1, t.cases);
-    print(b" cases, ");
-    io::print_decimal(1, t.calls);
-    print(b" calls, ");
-    io::print_decimal(1, t.wrong);
-    print(b" wrong\n");
+fn print_total<W: Write>(writer: &mut W, t: Tally) -> io::Result<()> {
+    write!(
+        writer,
+        "{} cases, {} calls, {} wrong\n",
+        t.cases, t.calls, t.wrong
+    )
 }
 
 // A loop that is proved has to end: it counts its turns up to a number that no input reaches.
-fn main() {
+fn main(rt: HostRuntime) -> io::Result<()> {
+    let mut reader = rt.stdin();
+    let mut writer = rt.stdout();
     let mut t = Tally {
         cases: 0,
         calls: 0,
         wrong: 0,
         going: true,
     };
-    let mut turns: u64 = 0;
-    while turns < 18446744073709551615 {
-        t = next_tally(t);
+    for _ in 0..u64::MAX {
+        t = next_tally(&mut reader, &mut writer, t)?;
         if !t.going {
             break;
         }
-        turns += 1;
     }
-    print_total(t);
+    print_total(&mut writer, t)
 }

@@ -1,6 +1,8 @@
 // The numbers of the input: four octets each, the lowest first.
 ghost use Rattle.std.specs.Prelude.{◌<◌};
 
+use std::io::Read;
+
 pub fn wide(x: u8) -> u64
     ensures { result < 256 }
 {
@@ -33,14 +35,14 @@ pub struct Expected {
 }
 
 // The four numbers of the next call; `whole` says that they were there.
-pub fn next_expected() -> Expected {
+pub fn next_expected<R: Read>(reader: &mut R) -> Expected {
     let mut o = [0u8; 16];
-    let n = io::read_full(0, &mut o);
+    let read = run_input::read_full(reader, &mut o);
     Expected {
         refusal: little(o[0], o[1], o[2], o[3]),
         count: little(o[4], o[5], o[6], o[7]),
         size: little_size(o[8], o[9], o[10], o[11]),
         held: little_size(o[12], o[13], o[14], o[15]),
-        whole: n == 16,
+        whole: read.size == 16,
     }
 }

@@ -2,6 +2,7 @@
 use crate::differences::{Difference, compared};
 use crate::reading::{Expected, next_expected};
 use model::Answer;
+use std::io::Read;
 use step_stream::Standing;
 
 // What a call leaves and answers.
@@ -54,7 +55,8 @@ pub fn passed(m: Standing, difference: Difference) -> Turn {
 }
 
 // Reads a call and what the queue must hold, runs it, and compares.
-pub fn run(
+pub fn run<R: Read>(
+    reader: &mut R,
     m: Standing,
     lent: usize,
     words: &mut [u64],
@@ -63,9 +65,9 @@ pub fn run(
     wanted: &mut [u8],
     want: Expected,
 ) -> Turn {
-    let got = io::read_full(0, octets);
-    let more = io::read_full(0, wanted);
-    if got != octets.len() || more != wanted.len() {
+    let got = run_input::read_full(reader, octets);
+    let more = run_input::read_full(reader, wanted);
+    if got.size != octets.len() || more.size != wanted.len() {
         return passed(m, Difference::Torn);
     }
     let r = stepped(m, lent, words, queue, octets);
@@ -77,7 +79,8 @@ pub fn run(
 }
 
 // Runs a call if there is room for what the queue must hold.
-pub fn run_held(
+pub fn run_held<R: Read>(
+    reader: &mut R,
     m: Standing,
     lent: usize,
     words: &mut [u64],
@@ -90,11 +93,21 @@ pub fn run_held(
     if held > wanted.len() {
         return passed(m, Difference::TooLong(held as u64));
     }
-    run(m, lent, words, queue, octets, &mut wanted[..held], want)
+    run(
+        reader,
+        m,
+        lent,
+        words,
+        queue,
+        octets,
+        &mut wanted[..held],
+        want,
+    )
 }
 
 // Reads the numbers of the next call, and runs it if there is room for its octets.
-pub fn next_turn(
+pub fn next_turn<R: Read>(
+    reader: &mut R,
     m: Standing,
     lent: usize,
     words: &mut [u64],
@@ -102,7 +115,7 @@ pub fn next_turn(
     octets: &mut [u8],
     wanted: &mut [u8],
 ) -> Turn {
-    let want = next_expected();
+    let want = next_expected(reader);
     let size = want.size;
     if !want.whole {
         return passed(m, Difference::Torn);
@@ -110,5 +123,14 @@ pub fn next_turn(
     if size > octets.len() {
         return passed(m, Difference::TooLong(size as u64));
     }
-    run_held(m, lent, words, queue, &mut octets[..size], wanted, want)
+    run_held(
+        reader,
+        m,
+        lent,
+        words,
+        queue,
+        &mut octets[..size],
+        wanted,
+        want,
+    )
 }

@@ -1,19 +1,26 @@
-// What programs read: records from a descriptor, arguments, the files that they name; and the refusal that a program prints alone.
-// Which octets come in and go out no contract can say: those of the C library tell how many at most.
+// What programs read: records from a reader, arguments, the files that they name; and the refusal that a program prints alone.
+// Which octets a file or a stream gives and takes no contract can say: those of a reader and a writer whose octets are known do.
 #![tactic(auto)]
 
-ghost use Rattle.std.specs.Prelude.{◌≡◌, ◌||◌, ◌+◌, ◌*◌, ◌≤◌, ◌<◌, eqb, length};
+ghost use Rattle.std.specs.Prelude.{◌≡◌, ◌⊎◌, false, ◌||◌, ◌+◌, ◌*◌, ◌≤◌, ◌<◌, ◌==◌, length, take, drop, OnOk};
+ghost use Rattle.std.specs.Io.KnownBytes.{Appends, Consumes, IsAtEnd};
+ghost use Rattle.model.specs.Text.{little};
 ghost use Rattle.model.specs.Pushrun.{refusal_text};
 ghost use Rattle.line_put.specs.Put.{Put};
-ghost use Rattle.io.specs.Counts.{IsPrefixLen};
 
-use libc::PATH_MAX;
+use std::env::FillError;
+use std::io::Write;
+use std::rt::{Env, Files};
+use std::{fs, io};
 
 // the longest record: its four octets and 65,535 more
 pub const RECORD: usize = 65539;
 
 // the longest argument that Linux passes on, with the 0 behind it
 pub const ARGUMENT: usize = 131072;
+
+// the longest path, with the 0 behind it
+const PATH: usize = 4096;
 
 // ---- records
 
@@ -24,24 +31,33 @@ pub struct Read {
     pub failed: bool,
 }
 
-fn read_once(fd: i32, octets: &mut [u8]) -> Read
-    ensures { result.size ≤ length octets.old }
+fn read_once<R: io::Read>(reader: &mut R, octets: &mut [u8]) -> Read
+    ensures size { result.size ≤ length octets.old }
+    ensures bytes { Consumes (R.remaining reader.old) (R.remaining reader.new) (take result.size octets.new) }
+    ensures end { result.failed ≡ false → result.size ≡ 0 → 0 < length octets.old → IsAtEnd (R.remaining reader.new) }
 {
-    let got = libc::read(fd, octets);
-    Read {
-        size: io::count(got, octets),
-        failed: got < 0,
+    match reader.read(octets) {
+        Ok(size) => Read {
+            size,
+            failed: false,
+        },
+        Err(_) => Read {
+            size: 0,
+            failed: true,
+        },
     }
 }
 
 // Reads until the slice is full, the input ends or a read fails.
-fn read_full(fd: i32, octets: &mut [u8]) -> Read
-    ensures { result.size ≤ length octets.old }
+pub fn read_full<R: io::Read>(reader: &mut R, octets: &mut [u8]) -> Read
+    ensures size { result.size ≤ length octets.old }
+    ensures bytes { Consumes (R.remaining reader.old) (R.remaining reader.new) (take result.size octets.new) }
+    ensures end { result.failed ≡ false → result.size < length octets.old → IsAtEnd (R.remaining reader.new) }
 {
     let mut done = 0;
     let mut failed = false;
     while done < octets.len() {
-        let r = read_once(fd, &mut octets[done..]);
+        let r = read_once(reader, &mut octets[done..]);
         failed = r.failed;
         if r.size == 0 {
             break;
@@ -65,25 +81,31 @@ fn body_size(low: u8, high: u8) -> usize
 }
 
 // Reads so many octets to a place of the slice, or as many as there are.
-fn read_at(fd: i32, octets: &mut [u8], at: usize, size: usize) -> Read
+fn read_at<R: io::Read>(reader: &mut R, octets: &mut [u8], at: usize, size: usize) -> Read
     requires { at + size ≤ length octets.old }
-    ensures { result.size ≤ size }
+    ensures size { result.size ≤ size }
+    ensures bytes { Consumes (R.remaining reader.old) (R.remaining reader.new) (take result.size (drop at octets.new)) }
+    ensures front { take at octets.new ≡ take at octets.old }
+    ensures end { result.failed ≡ false → result.size < size → IsAtEnd (R.remaining reader.new) }
 {
     let end = at + size;
-    read_full(fd, &mut octets[at..end])
+    read_full(reader, &mut octets[at..end])
 }
 
 // Reads the next record to the front of the slice: as many octets as its length field says, or as many as there are, 0 where there is none.
-pub fn next_record(fd: i32, octets: &mut [u8]) -> Read
+pub fn next_record<R: io::Read>(reader: &mut R, octets: &mut [u8]) -> Read
     requires { 65539 ≤ length octets.old }
-    ensures { result.size ≤ 65539 }
+    ensures size { result.size ≤ 65539 }
+    ensures bytes { Consumes (R.remaining reader.old) (R.remaining reader.new) (take result.size octets.new) }
+    ensures most { 4 ≤ result.size → result.size ≤ 4 + little 2 (drop 2 octets.new) }
+    ensures end { result.failed ≡ false → (result.size < 4) ⊎ (result.size < 4 + little 2 (drop 2 octets.new)) → IsAtEnd (R.remaining reader.new) }
 {
-    let head = read_at(fd, octets, 0, 4);
+    let head = read_at(reader, octets, 0, 4);
     if head.size < 4 {
         return head;
     }
     let size = body_size(octets[2], octets[3]);
-    let body = read_at(fd, octets, 4, size);
+    let body = read_at(reader, octets, 4, size);
     Read {
         size: 4 + body.size,
         failed: body.failed,
@@ -92,7 +114,7 @@ pub fn next_record(fd: i32, octets: &mut [u8]) -> Read
 
 // No record was there, or a read failed before its end.
 pub fn is_over(read: Read) -> bool
-    ensures { result ≡ (eqb read.size 0 || read.failed) }
+    ensures { result ≡ ((read.size == 0) || read.failed) }
 {
     if read.size == 0 {
         return true;
@@ -103,30 +125,46 @@ pub fn is_over(read: Read) -> bool
 // ---- arguments and files
 
 // How many arguments there are, the program's own name not counted.
-pub fn arguments() -> usize {
-    let n = os::arg_count();
-    if n == 0 { 0 } else { n - 1 }
+pub fn arguments(env: &impl Env) -> usize {
+    let mut n = 0;
+    for k in 1..usize::MAX {
+        if let Err(FillError::NotPresent) = env.arg(k, &mut []) {
+            break;
+        }
+        n = k;
+    }
+    n
 }
 
 // Argument k, from 1, to the front of the slice: its length, 0 where it is missing or too long for the slice.
-pub fn argument(k: usize, text: &mut [u8]) -> usize
-    ensures { IsPrefixLen result text.new }
+pub fn argument(env: &impl Env, k: usize, text: &mut [u8]) -> usize
+    ensures { (result ≤ length text.new) × (result ≡ length (take result text.new)) }
 {
-    os::arg(k, text)
+    match env.arg(k, text) {
+        Ok(n) => n,
+        Err(_) => 0,
+    }
 }
 
-// Opens the file that argument k names for reading: a descriptor, or a negative number. An argument that is too long for a path leaves
-// the empty path, which no file has.
-pub fn open_argument(k: usize) -> i32 {
-    let mut path = [0u8; PATH_MAX];
-    let n = argument(k, &mut path);
-    os::open_read(&path[..n])
+// Opens the file that argument k names for reading. An argument that is too long for a path leaves the empty path, which no file has;
+// one that is no UTF-8 names no file that std can open.
+pub fn open_argument<R: Env + Files>(rt: &R, k: usize) -> io::Result<R::File> {
+    let mut path = [0u8; PATH];
+    let n = argument(rt, k, &mut path);
+    match str::from_utf8(&path[..n]) {
+        Ok(text) => fs::open(rt, text),
+        Err(_) => Err(io::Error::from(io::ErrorKind::InvalidFilename)),
+    }
 }
 
 // ---- output
 
-pub fn print(text: &[u8]) {
-    io::write_all(1, text);
+// Writes the text at once. A write that fails may leave a part of it written.
+pub fn print<W: Write>(writer: &mut W, text: &[u8]) -> io::Result<()>
+    ensures { OnOk result (Appends (W.contents writer.old) (W.contents writer.new) text.now) }
+{
+    writer.write_all(text)?;
+    writer.flush()
 }
 
 // `! n`, and nothing for 0.
@@ -143,8 +181,10 @@ fn put_refusal(out: &mut [u8], n: u64) -> usize
 }
 
 // Prints `! n` alone.
-pub fn refuse(n: u64) {
+pub fn refuse<W: Write>(writer: &mut W, n: u64) -> io::Result<()>
+    ensures { OnOk result (Appends (W.contents writer.old) (W.contents writer.new) (refusal_text n)) }
+{
     let mut line = [0u8; 24];
     let end = put_refusal(&mut line, n);
-    print(&line[..end]);
+    print(writer, &line[..end])
 }

@@ -4,19 +4,26 @@
 // them, and the session; rows, groups and names lie as the host keeps them. A name of no octets ends the input.
 #![tactic(auto)]
 
-ghost use Rattle.std.specs.Prelude.{◌≡◌, List, ℕ, ◌≤◌, ◌<◌, length};
+ghost use Rattle.std.specs.Prelude.{◌≡◌, List, ℕ, ◌≤◌, ◌<◌, length, IfOk};
 ghost use Rattle.model.specs.Lawful.{lawful};
 ghost use Rattle.model.specs.declared.Mailbox.{Mailbox};
 ghost use Rattle.table_messages.specs.Words.{messages};
 ghost use Rattle.lawful.specs.Lent.{Lent, memory};
 
 use model::{Counts, LentGroup, LentName, Mailbox, Session};
+use std::io;
+use std::io::{Read, Write};
 
-fn print(text: &[u8]) {
-    io::write_all(1, text);
+fn print<W: Write>(writer: &mut W, text: &[u8]) -> io::Result<()> {
+    writer.write_all(text)
 }
 
 // ---- the input
+
+// The next octets fill the slice, as far as there are any: what the input ends before keeps its zeros.
+fn next_octets<R: Read>(reader: &mut R, octets: &mut [u8]) {
+    let _ = reader.read_exact(octets);
+}
 
 // A number of four octets, the lowest first.
 fn little(a: u8, b: u8, c: u8, d: u8) -> u64
@@ -27,9 +34,9 @@ fn little(a: u8, b: u8, c: u8, d: u8) -> u64
 }
 
 // The next number.
-fn next_number() -> u64 {
+fn next_number<R: Read>(reader: &mut R) -> u64 {
     let mut o = [0u8; 8];
-    io::read_full(0, &mut o);
+    next_octets(reader, &mut o);
     little(o[0], o[1], o[2], o[3]) + 4294967296 * little(o[4], o[5], o[6], o[7])
 }
 
@@ -41,17 +48,17 @@ fn at_most(n: usize, most: usize) -> usize
 }
 
 // The next number as a length.
-fn next_length() -> usize {
-    let n = next_number();
+fn next_length<R: Read>(reader: &mut R) -> usize {
+    let n = next_number(reader);
     (n % 4294967296) as usize
 }
 
 // The next row.
-fn next_row() -> Mailbox {
+fn next_row<R: Read>(reader: &mut R) -> Mailbox {
     let mut o = [0u8; 20];
     let mut name = [0u8; 64];
-    io::read_full(0, &mut o);
-    io::read_full(0, &mut name);
+    next_octets(reader, &mut o);
+    next_octets(reader, &mut name);
     Mailbox {
         id: (little(o[0], o[1], 0, 0) % 65536) as u16,
         attributes: o[2],
@@ -65,13 +72,13 @@ fn next_row() -> Mailbox {
 }
 
 // The next n rows, at the front of 64.
-fn next_rows(n: usize) -> [Mailbox; 64] {
+fn next_rows<R: Read>(reader: &mut R, n: usize) -> [Mailbox; 64] {
     let none = table_mailboxes::vacant();
     let mut table = [none; 64];
     let read = at_most(n, 64);
     let mut i: usize = 0;
     while i < read {
-        let x = next_row();
+        let x = next_row(reader);
         table[i] = x;
         i += 1;
     }
@@ -79,9 +86,9 @@ fn next_rows(n: usize) -> [Mailbox; 64] {
 }
 
 // The next group.
-fn next_group() -> LentGroup {
+fn next_group<R: Read>(reader: &mut R) -> LentGroup {
     let mut o = [0u8; 5];
-    io::read_full(0, &mut o);
+    next_octets(reader, &mut o);
     LentGroup {
         selector: o[0],
         first: o[1],
@@ -92,7 +99,7 @@ fn next_group() -> LentGroup {
 }
 
 // The next eight groups.
-fn next_groups() -> [LentGroup; 8] {
+fn next_groups<R: Read>(reader: &mut R) -> [LentGroup; 8] {
     let none = LentGroup {
         selector: 0,
         first: 0,
@@ -103,7 +110,7 @@ fn next_groups() -> [LentGroup; 8] {
     let mut groups = [none; 8];
     let mut i: usize = 0;
     while i < 8 {
-        let g = next_group();
+        let g = next_group(reader);
         groups[i] = g;
         i += 1;
     }
@@ -111,11 +118,11 @@ fn next_groups() -> [LentGroup; 8] {
 }
 
 // The next name of a group.
-fn next_name() -> LentName {
+fn next_name<R: Read>(reader: &mut R) -> LentName {
     let mut len = [0u8; 1];
     let mut octets = [0u8; 64];
-    io::read_full(0, &mut len);
-    io::read_full(0, &mut octets);
+    next_octets(reader, &mut len);
+    next_octets(reader, &mut octets);
     LentName {
         len: len[0],
         octets,
@@ -123,13 +130,13 @@ fn next_name() -> LentName {
 }
 
 // The next sixteen names.
-fn next_names() -> [LentName; 16] {
+fn next_names<R: Read>(reader: &mut R) -> [LentName; 16] {
     let octets = [0u8; 64];
     let none = LentName { len: 0, octets };
     let mut names = [none; 16];
     let mut i: usize = 0;
     while i < 16 {
-        let x = next_name();
+        let x = next_name(reader);
         names[i] = x;
         i += 1;
     }
@@ -137,11 +144,11 @@ fn next_names() -> [LentName; 16] {
 }
 
 // The next session.
-fn next_session() -> Session {
+fn next_session<R: Read>(reader: &mut R) -> Session {
     let mut o = [0u8; 8];
-    io::read_full(0, &mut o);
-    let groups = next_groups();
-    let names = next_names();
+    next_octets(reader, &mut o);
+    let groups = next_groups(reader);
+    let names = next_names(reader);
     Session {
         selected: (little(o[0], o[1], 0, 0) % 65536) as u16,
         notified: o[2],
@@ -153,19 +160,19 @@ fn next_session() -> Session {
 }
 
 // The next words fill the slice.
-fn fill(words: &mut [u64]) {
+fn fill<R: Read>(reader: &mut R, words: &mut [u64]) {
     let mut i = 0;
     while i < words.len() {
-        words[i] = next_number();
+        words[i] = next_number(reader);
         i += 1;
     }
 }
 
 // The next three counts.
-fn next_counts() -> Counts {
-    let mailboxes = next_number();
-    let messages = next_number();
-    let filled = next_number();
+fn next_counts<R: Read>(reader: &mut R) -> Counts {
+    let mailboxes = next_number(reader);
+    let messages = next_number(reader);
+    let filled = next_number(reader);
     Counts {
         mailboxes,
         messages,
@@ -221,86 +228,86 @@ fn judge(
 }
 
 // Writes the answer.
-fn print_answer(yes: bool) {
+fn print_answer<W: Write>(writer: &mut W, yes: bool) -> io::Result<()> {
     if yes {
-        print(b": lawful\n");
+        print(writer, b": lawful\n")
     } else {
-        print(b": refused\n");
+        print(writer, b": refused\n")
     }
 }
 
 // Reads the words and the session of a memory, and answers.
-fn judge_rest(
+fn judge_rest<R: Read>(
+    reader: &mut R,
     words: &mut [u64],
     table: [Mailbox; 64],
     lent: usize,
     counts: Counts,
     room: usize,
 ) -> bool {
-    fill(words);
-    let s = next_session();
+    fill(reader, words);
+    let s = next_session(reader);
     judge(table, lent, words, counts, s, room)
 }
 
 // The memory behind its name: 1 if it is lawful, else 0.
-fn answer() -> u64
-    ensures { result ≤ 1 }
+fn answer<R: Read, W: Write>(reader: &mut R, writer: &mut W) -> io::Result<u64>
+    ensures { IfOk result (λ n. n ≤ 1) }
 {
-    let room = next_length();
-    let lent = next_length();
-    let table = next_rows(lent);
-    let counts = next_counts();
+    let room = next_length(reader);
+    let lent = next_length(reader);
+    let table = next_rows(reader, lent);
+    let counts = next_counts(reader);
     let mut words = [0u64; 6240];
-    let n = at_most(next_length(), 6240);
-    let yes = judge_rest(&mut words[..n], table, lent, counts, room);
-    print_answer(yes);
-    if yes { 1 } else { 0 }
+    let n = at_most(next_length(reader), 6240);
+    let yes = judge_rest(reader, &mut words[..n], table, lent, counts, room);
+    print_answer(writer, yes)?;
+    if yes { Ok(1) } else { Ok(0) }
 }
 
 // Reads and writes the octets of a name.
-fn copy_name(name: &mut [u8]) {
-    io::read_full(0, name);
-    print(name);
+fn copy_name<R: Read, W: Write>(reader: &mut R, writer: &mut W, name: &mut [u8]) -> io::Result<()> {
+    next_octets(reader, name);
+    print(writer, name)
 }
 
 // Reads and writes a name of n octets, of at most 64.
-fn print_name(n: usize) {
+fn print_name<R: Read, W: Write>(reader: &mut R, writer: &mut W, n: usize) -> io::Result<()> {
     let mut name = [0u8; 64];
     let m = at_most(n, 64);
-    copy_name(&mut name[..m]);
+    copy_name(reader, writer, &mut name[..m])
 }
 
 // One memory: 2 where there is none, else the answer.
-fn step() -> u64
-    ensures { result ≤ 2 }
+fn step<R: Read, W: Write>(reader: &mut R, writer: &mut W) -> io::Result<u64>
+    ensures { IfOk result (λ n. n ≤ 2) }
 {
-    let n = next_length();
+    let n = next_length(reader);
     if n == 0 {
-        return 2;
+        return Ok(2);
     }
-    print_name(n);
-    answer()
+    print_name(reader, writer, n)?;
+    answer(reader, writer)
 }
 
 // How many memories there were, and how many of them are lawful.
-fn print_total(cases: u64, yes: u64) {
-    io::print_decimal(1, cases);
-    print(b" memories, ");
-    io::print_decimal(1, yes);
-    print(b" lawful\n");
+fn print_total<W: Write>(writer: &mut W, cases: u64, yes: u64) -> io::Result<()> {
+    write!(writer, "{cases} memories, {yes} lawful\n")
 }
 
 // A loop that is proved has to end: it counts its turns up to a number that no input reaches.
-fn main() {
+fn main(rt: HostRuntime) -> io::Result<()> {
+    let mut reader = rt.stdin();
+    let mut writer = rt.stdout();
     let mut cases: u64 = 0;
     let mut yes: u64 = 0;
     while cases < 100000 {
-        let r = step();
+        let r = step(&mut reader, &mut writer)?;
         if r == 2 {
             break;
         }
         yes += r;
         cases += 1;
     }
-    print_total(cases, yes);
+    print_total(&mut writer, cases, yes)
 }

@@ -11,16 +11,18 @@ use read_notify::NotifyRead;
 use read_options::{Returns, Verb};
 use read_search::SearchRead;
 use read_sources::{Listed, Source};
+use std::io;
+use std::io::{Read, Write};
 
-fn print(text: &[u8]) {
-    io::write_all(1, text);
+fn print<W: Write>(writer: &mut W, text: &[u8]) -> io::Result<()> {
+    writer.write_all(text)
 }
 
-fn print_verb(verb: Verb) {
+fn print_verb<W: Write>(writer: &mut W, verb: Verb) -> io::Result<()> {
     match verb {
-        Verb::Notify => print(b" N "),
-        Verb::Esearch => print(b" S "),
-        Verb::Other => print(b" - "),
+        Verb::Notify => print(writer, b" N "),
+        Verb::Esearch => print(writer, b" S "),
+        Verb::Other => print(writer, b" - "),
     }
 }
 
@@ -44,145 +46,148 @@ fn number_of(reply: Reply) -> u64 {
 
 // ---- names
 
-fn print_octet(octet: u8) {
-    io::print_hex(1, octet as u64, 2);
+fn print_octet<W: Write>(writer: &mut W, octet: u8) -> io::Result<()> {
+    write!(writer, "{octet:02x}")
 }
 
 // A name, each octet as two digits.
-fn print_name(name: LentName) {
-    print(b" /");
+fn print_name<W: Write>(writer: &mut W, name: LentName) -> io::Result<()> {
+    print(writer, b" /")?;
     let octets = name.octets;
     let len = wide(name.len);
     let mut i = 0;
     while i < 64 {
         if i < len {
-            print_octet(octets[i]);
+            print_octet(writer, octets[i])?;
         }
         i += 1;
     }
+    Ok(())
 }
 
 // The names that are in use.
-fn print_names(names: [LentName; 16], count: u64) {
+fn print_names<W: Write>(writer: &mut W, names: [LentName; 16], count: u64) -> io::Result<()> {
     let mut i = 0;
     while i < 16 {
         if (i as u64) < count {
-            print_name(names[i]);
+            print_name(writer, names[i])?;
         }
         i += 1;
     }
+    Ok(())
 }
 
 // ---- what a search asks
 
-fn print_source(source: Source) {
-    print(b" ");
-    io::print_decimal(1, source.scope);
-    print(b",");
-    io::print_decimal(1, source.first);
-    print(b",");
-    io::print_decimal(1, source.count);
+fn print_source<W: Write>(writer: &mut W, source: Source) -> io::Result<()> {
+    write!(
+        writer,
+        " {},{},{}",
+        source.scope, source.first, source.count
+    )
 }
 
 // The sources that are in use.
-fn print_listed(listed: Listed) {
+fn print_listed<W: Write>(writer: &mut W, listed: Listed) -> io::Result<()> {
     let sources = listed.sources;
     let count = listed.count;
     let mut i = 0;
     while i < 8 {
         if (i as u64) < count {
-            print_source(sources[i]);
+            print_source(writer, sources[i])?;
         }
         i += 1;
     }
+    Ok(())
 }
 
 // The sources as they are searched, and their names; they stand behind the space that follows the word.
-fn print_sources(text: &[u8], at: usize) {
+fn print_sources<W: Write>(writer: &mut W, text: &[u8], at: usize) -> io::Result<()> {
     let read = read_sources::keep_sources(text, at);
     let listed = read.listed;
-    print_listed(listed);
+    print_listed(writer, listed)?;
     let kept = listed.kept;
     let names = kept.names;
-    print_names(names, kept.count);
+    print_names(writer, names, kept.count)
 }
 
-fn print_flag(on: bool) {
+fn print_flag<W: Write>(writer: &mut W, on: bool) -> io::Result<()> {
     if on {
-        print(b"1");
+        print(writer, b"1")
     } else {
-        print(b"0");
+        print(writer, b"0")
     }
 }
 
-fn print_returns(r: Returns) {
-    print(b" ");
-    print_flag(r.min);
-    print_flag(r.max);
-    print_flag(r.all);
-    print_flag(r.count);
+fn print_returns<W: Write>(writer: &mut W, r: Returns) -> io::Result<()> {
+    print(writer, b" ")?;
+    print_flag(writer, r.min)?;
+    print_flag(writer, r.max)?;
+    print_flag(writer, r.all)?;
+    print_flag(writer, r.count)
 }
 
-fn print_cell(cell: u64) {
-    print(b" ");
-    io::print_decimal(1, cell);
+fn print_cell<W: Write>(writer: &mut W, cell: u64) -> io::Result<()> {
+    write!(writer, " {cell}")
 }
 
 // The cells that are in use.
-fn print_cells(cells: &[u64], used: usize) {
+fn print_cells<W: Write>(writer: &mut W, cells: &[u64], used: usize) -> io::Result<()> {
     let mut i = 0;
     while i < cells.len() {
         if i < used {
-            print_cell(cells[i]);
+            print_cell(writer, cells[i])?;
         }
         i += 1;
     }
+    Ok(())
 }
 
-fn print_search(text: &[u8], at: usize)
+fn print_search<W: Write>(writer: &mut W, text: &[u8], at: usize) -> io::Result<()>
     requires { length text.now < 4294967296 }
 {
     let mut cells = [0u64; 4096];
     match read_commands::search_at(text, at, &mut cells) {
         SearchRead::Is(asked, _) => {
             let returns = asked.returns;
-            print_returns(returns);
-            print_cells(&cells, asked.used);
+            print_returns(writer, returns)?;
+            print_cells(writer, &cells, asked.used)
         }
-        SearchRead::Bad => print(b" ?"),
+        SearchRead::Bad => print(writer, b" ?"),
     }
 }
 
 // ---- what a NOTIFY asks
 
-fn print_number(number: u8) {
-    io::print_decimal(1, number as u64);
+fn print_number<W: Write>(writer: &mut W, number: u8) -> io::Result<()> {
+    write!(writer, "{number}")
 }
 
-fn print_group(group: LentGroup) {
-    print(b" ");
-    print_number(group.selector);
-    print(b",");
-    print_number(group.first);
-    print(b",");
-    print_number(group.count);
-    print(b",");
-    print_number(group.events);
-    print(b",");
-    print_number(group.attributes);
+fn print_group<W: Write>(writer: &mut W, group: LentGroup) -> io::Result<()> {
+    print(writer, b" ")?;
+    print_number(writer, group.selector)?;
+    print(writer, b",")?;
+    print_number(writer, group.first)?;
+    print(writer, b",")?;
+    print_number(writer, group.count)?;
+    print(writer, b",")?;
+    print_number(writer, group.events)?;
+    print(writer, b",")?;
+    print_number(writer, group.attributes)
 }
 
 // The groups that are in use.
-fn print_groups(session: Session) {
+fn print_groups<W: Write>(writer: &mut W, session: Session) -> io::Result<()> {
     let groups = session.groups;
     let count = wide(session.groupcount);
     let mut i = 0;
     while i < 8 {
         if i < count {
-            print_group(groups[i]);
+            print_group(writer, groups[i])?;
         }
         i += 1;
     }
+    Ok(())
 }
 
 // A session without groups.
@@ -208,41 +213,42 @@ fn silent() -> Session {
     }
 }
 
-fn print_notify(text: &[u8], at: usize) {
+fn print_notify<W: Write>(writer: &mut W, text: &[u8], at: usize) -> io::Result<()> {
     match read_commands::notify_at(text, at) {
-        NotifyRead::Nothing(_) => print(b" none"),
+        NotifyRead::Nothing(_) => print(writer, b" none"),
         NotifyRead::Groups(status, tally, _) => {
-            print(b" ");
-            print_flag(status);
+            print(writer, b" ")?;
+            print_flag(writer, status)?;
             let session = read_commands::watched(text, silent());
-            print_groups(session);
+            print_groups(writer, session)?;
             let names = session.names;
-            print_names(names, tally.names);
+            print_names(writer, names, tally.names)
         }
-        NotifyRead::Bad => print(b" ?"),
+        NotifyRead::Bad => print(writer, b" ?"),
     }
 }
 
 // ---- a line
 
 // What an accepted command asks, from behind its word on: NOTIFY has six octets, ESEARCH seven.
-fn print_asked(verb: Verb, text: &[u8], tag: usize)
+fn print_asked<W: Write>(writer: &mut W, verb: Verb, text: &[u8], tag: usize) -> io::Result<()>
     requires { length text.now < 4294967296 }
 {
     match verb {
         Verb::Notify => {
             if tag <= 32 {
-                print_notify(text, tag + 7);
+                print_notify(writer, text, tag + 7)?;
             }
         }
         Verb::Esearch => {
             if tag <= 32 {
-                print_sources(text, tag + 9);
-                print_search(text, tag + 8);
+                print_sources(writer, text, tag + 9)?;
+                print_search(writer, text, tag + 8)?;
             }
         }
         Verb::Other => {}
     }
+    Ok(())
 }
 
 fn judged(text: &[u8], selected: bool) -> Judged
@@ -252,7 +258,7 @@ fn judged(text: &[u8], selected: bool) -> Judged
     read_commands::judge(text, selected, read_commands::limits(), &mut cells)
 }
 
-fn show(text: &[u8])
+fn show<W: Write>(writer: &mut W, text: &[u8]) -> io::Result<()>
     requires { length text.now < 4294967296 }
 {
     let none = judged(text, false);
@@ -261,14 +267,14 @@ fn show(text: &[u8])
     let verb = some.verb;
     let first = none.reply;
     let second = some.reply;
-    io::print_decimal(1, tag as u64);
-    print_verb(verb);
-    io::print_decimal(1, number_of(first));
-    print_cell(number_of(second));
+    write!(writer, "{tag}")?;
+    print_verb(writer, verb)?;
+    write!(writer, "{}", number_of(first))?;
+    print_cell(writer, number_of(second))?;
     if number_of(second) == 6 {
-        print_asked(verb, text, tag);
+        print_asked(writer, verb, text, tag)?;
     }
-    print(b"\n");
+    print(writer, b"\n")
 }
 
 // ---- the input
@@ -280,35 +286,38 @@ fn little(octets: &[u8; 4]) -> usize {
 }
 
 // The octets of a line, which are read, and its answer; false where they are not all there.
-fn answer(text: &mut [u8]) -> bool
+fn answer<R: Read, W: Write>(reader: &mut R, writer: &mut W, text: &mut [u8]) -> io::Result<bool>
     requires { length text.old < 4294967296 }
 {
-    let n = text.len();
-    if io::read_full(0, text) < n {
-        return false;
+    if reader.read_exact(text).is_err() {
+        return Ok(false);
     }
-    show(text);
-    true
+    show(writer, text)?;
+    Ok(true)
 }
 
 // A line and its answer; false where there is none.
-fn step() -> bool {
+fn step<R: Read, W: Write>(reader: &mut R, writer: &mut W) -> io::Result<bool> {
     let mut head = [0u8; 4];
-    if io::read_full(0, &mut head) < 4 {
-        return false;
+    if reader.read_exact(&mut head).is_err() {
+        return Ok(false);
     }
     let n = little(&head);
     if 1024 < n {
-        return false;
+        return Ok(false);
     }
-    let mut text = io::buffer();
-    answer(&mut text[..n])
+    let mut text = [0u8; 4096];
+    answer(reader, writer, &mut text[..n])
 }
 
-// A loop that is proved has to end, and nothing says that the input does: it counts its turns down, from a number that no run uses up.
-pub fn main() {
-    let mut turns = u64::MAX;
-    while turns > 0 && step() {
-        turns -= 1;
+// A loop that is proved has to end, and nothing says that the input does: it counts its turns, up to a number that no run uses up.
+pub fn main(rt: HostRuntime) -> io::Result<()> {
+    let mut reader = rt.stdin();
+    let mut writer = rt.stdout();
+    for _ in 0..u64::MAX {
+        if !step(&mut reader, &mut writer)? {
+            break;
+        }
     }
+    Ok(())
 }

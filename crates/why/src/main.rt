@@ -7,6 +7,9 @@ ghost use Rattle.std.specs.Prelude.{◌≤◌, length};
 
 use model::Reason;
 use run_input::{ARGUMENT, RECORD, Read};
+use std::io;
+use std::io::Write;
+use std::rt::Env;
 use step_stream::Served;
 
 const WORDS: usize = 6144;
@@ -17,9 +20,9 @@ const QUEUE: usize = 8192;
 const LINE: usize = 64;
 
 // The place that the second argument says; one that is no number says 0, where no record stands.
-fn place() -> u64 {
+fn place(env: &impl Env) -> u64 {
     let mut text = [0u8; ARGUMENT];
-    let n = run_input::argument(2, &mut text);
+    let n = run_input::argument(env, 2, &mut text);
     reason_text::place_of(&text[..n])
 }
 
@@ -33,12 +36,18 @@ struct Reached {
 }
 
 // Serves the records before the place. The first is read whatever the place is: a file that cannot be read is told by that.
-fn reach(fd: i32, place: u64, words: &mut [u64], queue: &mut [u8], octets: &mut [u8]) -> Reached
+fn reach<R: io::Read>(
+    reader: &mut R,
+    place: u64,
+    words: &mut [u64],
+    queue: &mut [u8],
+    octets: &mut [u8],
+) -> Reached
     requires { 65539 ≤ length octets.old }
     ensures { result.read.size ≤ 65539 }
 {
     let mut s = reason_stream::begun();
-    let mut read = run_input::next_record(fd, octets);
+    let mut read = run_input::next_record(reader, octets);
     let mut left = place;
     while 1 < left {
         if run_input::is_over(read) {
@@ -49,7 +58,7 @@ fn reach(fd: i32, place: u64, words: &mut [u64], queue: &mut [u8], octets: &mut 
         let counts = s.counts;
         let session = s.session;
         s = step_stream::serve(table, counts, session, words, queue, &octets[..n]);
-        read = run_input::next_record(fd, octets);
+        read = run_input::next_record(reader, octets);
         left -= 1;
     }
     Reached { state: s, read }
@@ -57,49 +66,51 @@ fn reach(fd: i32, place: u64, words: &mut [u64], queue: &mut [u8], octets: &mut 
 
 // ---- the line
 
-fn print_reason(reason: Reason) {
+fn print_reason<W: Write>(writer: &mut W, reason: Reason) -> io::Result<()> {
     let mut line = [0u8; LINE];
     let end = reason_text::put_reason(&mut line, reason);
-    run_input::print(&line[..end]);
+    run_input::print(writer, &line[..end])
 }
 
 // Of the record that was reached. What its reason is, the rules say (`reason_stream::why_at`).
-fn print_judged(s: Served, words: &mut [u64], queue: &mut [u8], octets: &[u8]) {
+fn print_judged<W: Write>(
+    writer: &mut W,
+    s: Served,
+    words: &mut [u64],
+    queue: &mut [u8],
+    octets: &[u8],
+) -> io::Result<()> {
     let table = s.table;
     let counts = s.counts;
     let session = s.session;
     let j = reason_stream::why_at(table, counts, session, words, queue, octets);
     let reason = j.reason;
-    print_reason(reason);
+    print_reason(writer, reason)
 }
 
-fn answer(fd: i32, place: u64) {
+fn answer<R: io::Read, W: Write>(reader: &mut R, writer: &mut W, place: u64) -> io::Result<()> {
     let mut words = [0u64; WORDS];
     let mut queue = [0u8; QUEUE];
     let mut octets = [0u8; RECORD];
-    let r = reach(fd, place, &mut words, &mut queue, &mut octets);
+    let r = reach(reader, place, &mut words, &mut queue, &mut octets);
     if r.read.failed {
-        run_input::refuse(2);
-        return;
+        return run_input::refuse(writer, 2);
     }
     let n = r.read.size;
     if place == 0 || n == 0 {
-        print_reason(Reason::NoRecord);
-        return;
+        return print_reason(writer, Reason::NoRecord);
     }
     let s = r.state;
-    print_judged(s, &mut words, &mut queue, &octets[..n]);
+    print_judged(writer, s, &mut words, &mut queue, &octets[..n])
 }
 
-fn main() {
-    if run_input::arguments() != 2 {
-        run_input::refuse(2);
-        return;
+fn main(rt: HostRuntime) -> io::Result<()> {
+    let mut writer = rt.stdout();
+    if run_input::arguments(&rt) != 2 {
+        return run_input::refuse(&mut writer, 2);
     }
-    let fd = run_input::open_argument(1);
-    if fd < 0 {
-        run_input::refuse(2);
-        return;
+    match run_input::open_argument(&rt, 1) {
+        Ok(mut file) => answer(&mut file, &mut writer, place(&rt)),
+        Err(_) => run_input::refuse(&mut writer, 2),
     }
-    answer(fd, place());
 }

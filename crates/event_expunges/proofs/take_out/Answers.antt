@@ -1,0 +1,13 @@
+-- `take_out`: removed, or kept as expunged. Assumes nothing.
+use borrow.Author.Rules.{rules}
+use native.Mathlib.Omega.{arith}
+use Rattle.event_message.specs.After.{taken-gone, taken-waits}
+use Rattle.event_expunges.proofs.take_out.Goals as goal
+
+pub returns-then-gone : goal.returns-then-gone
+returns-then-gone c =
+    taken-gone c.args.words.now _ c.args.used c.args.k c.args.gone c.if-gone.true c.remove.ensures
+
+pub returns : goal.returns
+returns c =
+    taken-waits c.args.words.now _ c.args.used c.args.k c.args.gone c.get-e.result c.changed.result c.if-gone.false c.put.ensures (omega arith) c.get-e.ensures c.changed.ensures

@@ -1,0 +1,19 @@
+-- `expunges`: at each turn the run from here over the entries left is the run from the start over all. Assumes nothing.
+use mathlib.Core.Path.{◌≡◌, refl}
+use Prim.Native.Nat.{◌≤◌, ◌+◌, ◌-◌}
+use native.Mathlib.Omega.{arith}
+use lib.ListN.{length}
+use Rattle.table_messages.specs.Words.{messages}
+use Rattle.order_messages.specs.Chosen.{chosen}
+use Rattle.event_view.specs.Saying.{run_e}
+use Rattle.event_view.specs.Coded.{state_of, run_e_next, run_e_end}
+use borrow.Author.Rules.{rules}
+use Rattle.event_view.proofs.expunges.Given as goal
+
+abbrev pub invariant-loop-j : goal.invariant-loop-j
+invariant-loop-j l = (l.j ≤ l.n) × (length l.queue ≡ length l.initial.queue) × (l.s.end ≤ 65536) × (l.s.rest + l.j ≤ l.initial.s.rest + l.n) × (l.s.next.0 + l.j ≤ l.initial.s.next.0 + l.n)
+    × (run_e l.told.0 l.limit (chosen (messages l.words) l.order l.j) (state_of l.queue l.s)
+    ≡ run_e l.told.0 l.limit (chosen (messages l.words) l.order l.n) (state_of l.initial.queue l.initial.s))
+
+abbrev pub decreases-loop-j : goal.decreases-loop-j
+decreases-loop-j l = l.j

@@ -1,0 +1,10 @@
+-- `judge_notify`: what was read, and how it is answered. Assumes nothing.
+use mathlib.Core.Path.{ap, ◌∙◌}
+use Rattle.read_commands.specs.Judging.{notified}
+use Rattle.read_commands.proofs.Wholes.{notify_is}
+use borrow.Author.Rules.{rules}
+use Rattle.read_commands.proofs.judge_notify.Goals as goal
+
+pub returns : goal.returns
+returns c =
+    λ sel. c.notify_reply.ensures ∙ ap (notified c.args.l) c.notify_at.ensures ∙ notify_is c.args.l sel c.args.text.now c.args.at

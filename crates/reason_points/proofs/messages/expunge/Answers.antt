@@ -1,0 +1,22 @@
+-- `expunge`: a message is expunged. Assumes nothing.
+use borrow.Author.Rules.{rules}
+use mathlib.Core.Path.{sym, ◌∙◌, ap, ap₂}
+use mathlib.Core.Bool.{Bool, not, ◌&&◌}
+use borrow.Author.Tests.{not-true, not-false}
+use lib.Dec.{ltb}
+use Rattle.model.specs.Groups.{immediate_asks, asks_expunge}
+use Rattle.reason_points.specs.Showing.{is_here, selected_of, elsewhere_of, the_first, the_second}
+use Rattle.reason_points.proofs.messages.expunge.Goals as goal
+
+pub returns-then-not-is_selected : goal.returns-then-not-is_selected
+returns-then-not-is_selected c =
+    let t = ltb c.args.uid c.args.s.told in
+    the_second (is_here c.args.s c.args.id) (selected_of c.args.s c.args.x 1 (not t) (t && not (immediate_asks c.args.s asks_expunge)) 1) (elsewhere_of c.args.s c.args.x 1)
+    (sym c.is_selected.ensures ∙ c.if-not-is_selected.true) c.elsewhere.ensures
+
+pub returns : goal.returns
+returns c =
+    let t = ltb c.args.uid c.args.s.told in
+    the_first (is_here c.args.s c.args.id) (selected_of c.args.s c.args.x 1 (not t) (t && not (immediate_asks c.args.s asks_expunge)) 1) (elsewhere_of c.args.s c.args.x 1)
+    (sym c.is_selected.ensures ∙ c.if-not-is_selected.false)
+    (c.in_selected.ensures ∙ ap₂ (λ (k w : Bool). selected_of c.args.s c.args.x 1 (not k) w 1) c.is_announced-announced.ensures (c.expunge_waits-waits.ensures ∙ ap (λ (k : Bool). k && not (immediate_asks c.args.s asks_expunge)) c.is_announced-announced.ensures))

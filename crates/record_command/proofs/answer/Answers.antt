@@ -1,0 +1,29 @@
+-- `answer`: the head of the line gives its verb and where the command goes on; a line without a verb is BAD by the rules. Assumes nothing.
+use borrow.Author.Rules.{rules}
+use mathlib.Core.Path.{refl, ap}
+use mathlib.Core.Bool.{not}
+use native.Mathlib.Omega.{arith}
+use lib.Dec.{eqb}
+use Rattle.model.specs.Limits.{limits}
+use Rattle.model.specs.declared.Reply.TheVariants.{Bad}
+use Rattle.read_options.specs.declared.Verb.TheVariants.{Other}
+use Rattle.laws.specs.Room.{sizes}
+use Rattle.read_commands.specs.Judging.{answer_of, judged_of}
+use Rattle.record_reply.specs.Judged.{verb_judged, reply_judged}
+use Rattle.record_command.proofs.answer.Goals as goal
+
+pub refuse-requires : goal.refuse-requires
+refuse-requires c =
+    let z = sizes _ _ c.args.s c.requires.0.room in (omega arith, omega arith)
+
+pub returns-in-Is : goal.returns-in-Is
+returns-in-Is c =
+    λ m lent law laid sel. c.answer_by.ensures m lent law laid sel (rw c.in-Is.is at c.head.ensures)
+
+pub returns-in-Bad : goal.returns-in-Bad
+returns-in-Bad c =
+    λ m lent law laid sel.
+    let e = ap (judged_of limits (not (eqb c.args.s.selected 0))) (rw c.in-Bad.is at c.head.ensures) in
+    c.refuse.ensures m c.args.words.now lent
+    (verb_judged m c.args.words.now c.args.counts c.args.s c.args.queue.now c.args.text.now lent (answer_of Other Bad) e)
+    (reply_judged m c.args.words.now c.args.counts c.args.s c.args.queue.now c.args.text.now lent (answer_of Other Bad) e refl) refl

@@ -1,0 +1,6 @@
+-- `is_stale`: the row's counter beside another. Assumes nothing.
+use borrow.Author.Rules.{rules}
+use Rattle.record_message.proofs.is_stale.Goals as goal
+
+pub returns : goal.returns
+returns c = rw c.counter_of.ensures

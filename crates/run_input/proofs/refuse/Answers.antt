@@ -1,0 +1,17 @@
+-- `refuse`: what is printed is the front of the line, and that is the refusal.
+use Rattle.std.proofs.Common.{◌≡◌, ◌+◌, ℕ, List, ap, ◌∙◌, length, take, drop, take_at, arith}
+use Rattle.model.specs.Queue.{written}
+use Rattle.model.specs.Pushrun.{refusal_text}
+use Rattle.run_input.proofs.refuse.Goals as goal
+
+-- a text at the front is what stands there
+written-front : (q t : List ℕ) (r : ℕ) → length t ≡ r → take r (written q 0 t) ≡ t
+unfolding written
+written-front q t r e = take_at t (drop (0 + length t) q) r e
+
+pub returns : goal.returns
+returns g c =
+    let put = c.put_refusal-end.ensures.0 in
+    let next = put.next in
+    let text = ap (take c.put_refusal-end.result) (put.done (omega arith)) ∙ written-front _ (refusal_text c.args.n) _ (omega arith) in
+    rw text at c.print.ensures

@@ -1,0 +1,16 @@
+-- `tell`: the runs that were found are the ones that are said, and the scratch arrays are long enough for both. Assumes nothing.
+use borrow.Author.Rules.{rules}
+use native.Mathlib.Omega.{arith}
+use Rattle.search_answer.specs.Coming.{tells}
+use Rattle.search_answer.proofs.tell.Goals as goal
+
+pub say-requires : goal.say-requires
+say-requires c =
+    (c.requires.0, record { few = omega arith; in_rows = omega arith; in-starts = omega arith; in-counts = omega arith; room = omega arith; bounded = c.find-hits.ensures.bounded })
+
+pub returns : goal.returns
+returns c =
+    tells c.args.text.now c.args.words.now c.args.used c.args.selected c.args.told.0
+    c.args.ids.now c.args.attributes.now c.args.lens.now c.args.validities.now c.args.names.now c.args.n
+    c.find-hits.new.rows c.find-hits.new.uids c.find-hits.new.starts c.find-hits.new.counts c.find-hits.result c.find-hits.ensures
+    c.args.queue.now c.args.filled _ _ _ c.say.ensures

@@ -5,7 +5,7 @@ use lib.Dec.{eqb}
 use Rattle.model.specs.Memory.{Memory}
 use Rattle.model.specs.Answers.{number_of}
 use Rattle.step_stream.specs.Printing.{standing}
-use Rattle.reason_stream.specs.Judging.{judged}
+use Rattle.reason_stream.proofs.Judging.{judged}
 use Rattle.reason_stream.proofs.why_at.Goals as goal
 
 pub returns : goal.returns

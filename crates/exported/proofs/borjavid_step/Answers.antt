@@ -1,8 +1,6 @@
 -- `borjavid_step`: what is served, what is written back and the answer in numbers make the contract. Assumes nothing.
-use native.Mathlib.Omega.{arith}
-use mathlib.Core.Path.{◌≡◌}
 use lib.ListN.{length}
-use Rattle.exported.specs.Called.{Calls, calls_of}
+use Rattle.exported.specs.Called.{calls_of}
 use Rattle.exported.specs.Written.{moved-fits}
 use Rattle.exported.proofs.borjavid_step.Goals as goal
 

@@ -1,5 +1,4 @@
 -- `by_groups`: the reason by the groups. Assumes nothing.
-use borrow.Author.Rules.{rules}
 use borrow.Author.Tests.{not-false, eq-eqb, ne_eqb}
 use Rattle.reason_stream.proofs.by_groups.Goals as goal
 

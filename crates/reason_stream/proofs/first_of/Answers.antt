@@ -1,5 +1,4 @@
 -- `first_of`: the first reason that holds. Assumes nothing.
-use borrow.Author.Rules.{rules}
 use borrow.Author.Tests.{not-false}
 use Rattle.reason_stream.proofs.first_of.Goals as goal
 

@@ -1,5 +1,4 @@
 -- `reason_by`: the reason of any record. Assumes nothing.
-use borrow.Author.Rules.{rules}
 use borrow.Author.Tests.{eq-eqb, ne_eqb}
 use Rattle.reason_stream.proofs.reason_by.Goals as goal
 

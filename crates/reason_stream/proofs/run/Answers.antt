@@ -1,5 +1,4 @@
 -- `run`: on empty tables the reason at the place, as the tool prints it; a stream that is too long is left unread at once. Assumes nothing.
-use borrow.Author.Rules.{rules}
 use mathlib.Core.Path.{refl, sym, ◌∙◌, ap}
 use native.Mathlib.Omega.{arith}
 use Rattle.model.specs.Memory.{Memory}
@@ -17,8 +16,7 @@ returns-then-place-eq0 c =
     (λ h. put_as c.put_reason.ensures.put (ap (why_text c.args.stream.now) (sym c.if-place-eq0.true)), λ h. absurd (let z : ⊥ = omega arith in z))
 
 pub returns : goal.returns
-returns c =
-    (
-      λ h. put_as c.put_reason-2.ensures.put (ap reason_text (c.walk-reason.ensures ∙ ap (λ (m : Memory). reason_at m (records_of c.args.stream.now) c.args.place) start_memory)),
-      λ h. absurd (let z : ⊥ = omega arith in z),
-    )
+returns c = (
+  λ h. put_as c.put_reason-2.ensures.put (ap reason_text (c.walk-reason.ensures ∙ ap (λ (m : Memory). reason_at m (records_of c.args.stream.now) c.args.place) start_memory)),
+  λ h. absurd (let z : ⊥ = omega arith in z),
+)

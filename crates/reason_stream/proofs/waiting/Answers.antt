@@ -1,5 +1,4 @@
 -- `waiting`: of what waits. Assumes nothing.
-use borrow.Author.Rules.{rules}
 use Rattle.reason_stream.proofs.waiting.Goals as goal
 
 pub returns : goal.returns

@@ -2,12 +2,11 @@
 use borrow.Author.Rules.{rules}
 use native.Mathlib.Omega.{arith}
 use mathlib.Core.Path.{◌≡◌, refl}
-use Prim.Native.Nat.{◌-◌}
-use lib.ListN.{length, replicate}
+use lib.ListN.{replicate}
 use Rattle.model.specs.Memory.{no_mailbox}
 use Rattle.model.specs.Hidden.{no_counts, no_session}
 use Rattle.step_stream.specs.Printing.{standing}
-use Rattle.reason_stream.specs.Placing.{Reaching, reaching_start, reaching_next, reaching_here, reaching_end}
+use Rattle.reason_stream.specs.Placing.{reaching_start, reaching_next, reaching_here, reaching_end}
 use Rattle.reason_stream.proofs.walk.Goals as goal
 
 pub loop-i-init : goal.loop-i-init

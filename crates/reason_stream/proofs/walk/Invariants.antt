@@ -1,13 +1,11 @@
 -- `walk`: the reason at a place. The invariant: it is that of the rest of the stream at the place that is left. Assumes nothing.
-use borrow.Author.Rules.{rules}
-use native.Mathlib.Omega.{arith}
-use mathlib.Core.Path.{◌≡◌, refl}
+use mathlib.Core.Path.{◌≡◌}
 use Prim.Native.Nat.{◌-◌}
 use lib.ListN.{length, replicate}
 use Rattle.model.specs.Memory.{no_mailbox}
 use Rattle.model.specs.Hidden.{no_counts, no_session}
 use Rattle.step_stream.specs.Printing.{standing}
-use Rattle.reason_stream.specs.Placing.{Reaching, reaching_start, reaching_next, reaching_here, reaching_end}
+use Rattle.reason_stream.specs.Placing.{Reaching}
 use Rattle.reason_stream.proofs.walk.Given as goal
 
 abbrev pub invariant-loop-i : goal.invariant-loop-i

@@ -1,5 +1,4 @@
 -- `why_at`: a record is served, and it is said why it was told or not. Assumes nothing.
-use borrow.Author.Rules.{rules}
 use mathlib.Core.Path.{refl, ◌∙◌, ap}
 use lib.Dec.{eqb}
 use Rattle.model.specs.Memory.{Memory}

@@ -16,7 +16,7 @@ use Rattle.read_attributes.specs.declared.AttributeRead.{AttributeRead}
 use Rattle.read_attributes.specs.declared.AttributeRead.TheVariants.{Is, Bad}
 use Rattle.read_attributes.specs.declared.Attributes.{Attributes}
 use Rattle.read_attributes.specs.declared.AttributesRead.{AttributesRead}
-use Rattle.read_attributes.specs.declared.AttributesRead.TheVariants.{Is as Are, Bad as None}
+use Rattle.read_attributes.specs.declared.AttributesRead.TheVariants.{Is as Are, Bad as Unread}
 
 -- an attribute as the code has it
 abbrev pub kind_of : Attribute → Kind
@@ -58,7 +58,7 @@ gather l = record { uid = anyb is_uid_attribute l; flags = anyb is_flags_attribu
 
 -- attributes that were read, as the code answers them
 abbrev pub read_attributes : Parsed (List Attribute) → AttributesRead
-read_attributes bad = None
+read_attributes bad = Unread
 read_attributes (ok p l) = Are (gather l) p
 
 -- one attribute more
@@ -71,12 +71,12 @@ add Other a = record { uid = a.uid; flags = a.flags; size = a.size; other = true
 -- an attribute put to those that follow it
 abbrev pub join : Kind → AttributesRead → AttributesRead
 join k (Are a p) = Are (add k a) p
-join k None = None
+join k Unread = Unread
 
 -- a list stands in the text, and is not empty
 abbrev pub AllWithin : List ℕ → ℕ → AttributesRead → Type 0
 AllWithin s at (Are a p) = (at < p) × (p ≤ length s)
-AllWithin s at None = Unit {0}
+AllWithin s at Unread = Unit {0}
 
 -- attributes up to a parenthesis, read with any fuel that is enough
 pub record ReadsRow (s : List ℕ) (at : ℕ) (r : AttributesRead) : Type 0 where

@@ -9,7 +9,7 @@ use Rattle.model.specs.NotifyGrammar.{event_at}
 use Rattle.read_attributes.specs.Asked.{gather}
 use Rattle.read_attributes.specs.declared.Attributes.{Attributes}
 use Rattle.read_attributes.specs.declared.AttributesRead.{AttributesRead}
-use Rattle.read_attributes.specs.declared.AttributesRead.TheVariants.{Is as Are, Bad as None}
+use Rattle.read_attributes.specs.declared.AttributesRead.TheVariants.{Is as Are, Bad as Unread}
 use Rattle.read_events.specs.declared.Kind.{Kind}
 use Rattle.read_events.specs.declared.Kind.TheVariants.{Expunge, Flag, Annotation, Name, Subscription, Other}
 use Rattle.read_events.specs.declared.Named.{Named}
@@ -81,7 +81,7 @@ with_attributes (Are a p) = Is (record {
   listed = true;
   attributes = a;
 }) p
-with_attributes None = Bad
+with_attributes Unread = Bad
 
 -- two lists of attributes, and two of events, together
 abbrev pub both : Attributes → Attributes → Attributes

@@ -1,7 +1,6 @@
 pub mod Taken
 pub mod After
 pub mod Accepted
-pub mod Arriving
 pub mod Flagged
 pub mod Reflagging
 pub mod Flagging

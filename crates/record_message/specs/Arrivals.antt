@@ -21,7 +21,8 @@ use Rattle.laws.specs.Changing.{used_long}
 use Rattle.table_messages.specs.Words.{messages, messages-count}
 use Rattle.event_message.specs.After.{Leaves}
 use Rattle.event_message.specs.Accepted.{left}
-use Rattle.event_message.specs.Receiving.{receive_after, receive_told, told_low}
+use Rattle.event_message.specs.Receiving.{receive_after, told_low}
+use Rattle.event_message.proofs.Receiving.{receive_told}
 use Rattle.record_outcome.specs.Coming.{Lends, Placed, Comes, refusal, putting, ladder}
 use Rattle.record_outcome.specs.Laws.{comes-refused}
 use Rattle.record_outcome.specs.declared.Outcome.{Outcome as Came}

@@ -2,8 +2,8 @@
 // Which octets a file or a stream gives and takes no contract can say: those of a reader and a writer whose octets are known do.
 #![tactic(auto)]
 
-ghost use Rattle.std.specs.Prelude.{◌≡◌, ◌⊎◌, false, ◌||◌, ◌+◌, ◌*◌, ◌≤◌, ◌<◌, ◌==◌, length, take, drop, OnOk};
-ghost use Rattle.std.specs.Io.KnownBytes.{Appends, Consumes, IsAtEnd};
+ghost use Rattle.std.specs.Prelude.{◌≡◌, ◌⊎◌, false, ◌||◌, ◌+◌, ◌*◌, ◌≤◌, ◌<◌, eqb, ℕ, length, take, drop, IfOk, OnOk, OnErr};
+ghost use Rattle.std.specs.Io.KnownBytes.{Appends, Consumes, IsAtEnd, WriteAppends};
 ghost use Rattle.model.specs.Text.{little};
 ghost use Rattle.model.specs.Pushrun.{refusal_text};
 ghost use Rattle.line_put.specs.Put.{Put};
@@ -114,7 +114,7 @@ pub fn next_record<R: io::Read>(reader: &mut R, octets: &mut [u8]) -> Read
 
 // No record was there, or a read failed before its end.
 pub fn is_over(read: Read) -> bool
-    ensures { result ≡ ((read.size == 0) || read.failed) }
+    ensures { result ≡ (eqb read.size 0 || read.failed) }
 {
     if read.size == 0 {
         return true;
@@ -159,11 +159,27 @@ pub fn open_argument<R: Env + Files>(rt: &R, k: usize) -> io::Result<R::File> {
 
 // ---- output
 
-// Writes the text at once. A write that fails may leave a part of it written.
-pub fn print<W: Write>(writer: &mut W, text: &[u8]) -> io::Result<()>
-    ensures { OnOk result (Appends (W.contents writer.old) (W.contents writer.new) text.now) }
+// Writes at least one octet, or fails and has written none.
+fn write_once<W: Write>(writer: &mut W, text: &[u8]) -> io::Result<usize>
+    ensures size { IfOk result (λ n. (0 < n) × (n ≤ length text.now)) }
+    ensures bytes { WriteAppends (W.contents writer.old) (W.contents writer.new) result text.now }
 {
-    writer.write_all(text)?;
+    let n = writer.write(text)?;
+    if n == 0 {
+        return Err(io::Error::from(io::ErrorKind::WriteZero));
+    }
+    Ok(n)
+}
+
+// Writes the text at once. Where a write fails, the first octets of it may have been written.
+pub fn print<W: Write>(writer: &mut W, text: &[u8]) -> io::Result<()>
+    ensures ok { OnOk result (Appends (W.contents writer.old) (W.contents writer.new) text.now) }
+    ensures err { OnErr result ((n : ℕ) × Appends (W.contents writer.old) (W.contents writer.new) (take n text.now)) }
+{
+    let mut done = 0;
+    while done < text.len() {
+        done += write_once(writer, &text[done..])?;
+    }
     writer.flush()
 }
 
@@ -182,7 +198,8 @@ fn put_refusal(out: &mut [u8], n: u64) -> usize
 
 // Prints `! n` alone.
 pub fn refuse<W: Write>(writer: &mut W, n: u64) -> io::Result<()>
-    ensures { OnOk result (Appends (W.contents writer.old) (W.contents writer.new) (refusal_text n)) }
+    ensures ok { OnOk result (Appends (W.contents writer.old) (W.contents writer.new) (refusal_text n)) }
+    ensures err { OnErr result ((k : ℕ) × Appends (W.contents writer.old) (W.contents writer.new) (take k (refusal_text n))) }
 {
     let mut line = [0u8; 24];
     let end = put_refusal(&mut line, n);

@@ -1,5 +1,4 @@
 -- `drop_now`: the line is said, and the entry goes if it fits and stays otherwise. Assumes nothing.
-use borrow.Author.Rules.{rules}
 use Rattle.table_messages.specs.Words.{messages}
 use Rattle.event_message.specs.After.{once_leaves}
 use Rattle.event_expunges.proofs.drop_now.Goals as goal

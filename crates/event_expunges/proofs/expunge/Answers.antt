@@ -1,5 +1,4 @@
 -- `expunge`: who is told is found, and the place in the view where a line needs it. Assumes nothing.
-use borrow.Author.Rules.{rules}
 use mathlib.Core.Path.{◌∙◌, sym, ap₂}
 use mathlib.Core.Bool.{not, ◌&&◌}
 use borrow.Author.Tests.{not-true, not-false}

@@ -1,5 +1,4 @@
 -- `take_out`: removed, or kept as expunged. Assumes nothing.
-use borrow.Author.Rules.{rules}
 use native.Mathlib.Omega.{arith}
 use Rattle.event_message.specs.After.{taken-gone, taken-waits}
 use Rattle.event_expunges.proofs.take_out.Goals as goal

@@ -1,5 +1,4 @@
 -- `flag`: who is told is found, and the place in the view where a line needs it. Assumes nothing.
-use borrow.Author.Rules.{rules}
 use mathlib.Core.Path.{◌∙◌, ap}
 use mathlib.Core.Bool.{Bool, not, ◌&&◌}
 use native.Mathlib.Omega.{arith}
@@ -10,13 +9,12 @@ use Rattle.event_message.specs.Deciding.{told_some, reflag-tells, reflag_keeps}
 use Rattle.event_flags.proofs.flag.Goals as goal
 
 pub flag_now-requires : goal.flag_now-requires
-flag_now-requires c =
-    (
-      omega (arith, c.requires.0, c.requires.1),
-      c.requires.2,
-      c.requires.3,
-      c.requires.5 (told_some c.args.s c.is_soon.result c.both-seen.result (both_rights c.args.x) _ c.is_soon.ensures c.if-is_soon.true),
-    )
+flag_now-requires c = (
+  omega (arith, c.requires.0, c.requires.1),
+  c.requires.2,
+  c.requires.3,
+  c.requires.5 (told_some c.args.s c.is_soon.result c.both-seen.result (both_rights c.args.x) _ c.is_soon.ensures c.if-is_soon.true),
+)
 
 pub returns-then-is_soon : goal.returns-then-is_soon
 returns-then-is_soon c =
@@ -25,14 +23,13 @@ returns-then-is_soon c =
     c.args.flags c.args.counter c.is_soon.result c.is_soon.ensures c.place_of-n.result.0 c.place_of-n.ensures c.if-is_soon.true c.flag_now.ensures
 
 pub flag_kept-requires : goal.flag_kept-requires
-flag_kept-requires c =
-    (
-      omega (arith, c.requires.0, c.requires.1),
-      c.requires.2,
-      c.requires.3,
-      c.requires.4,
-      λ z. c.requires.5 (told_some c.args.s c.is_told-on.result (not c.is_chosen-chosen.result) (both_rights c.args.x) _ c.is_told-on.ensures z),
-    )
+flag_kept-requires c = (
+  omega (arith, c.requires.0, c.requires.1),
+  c.requires.2,
+  c.requires.3,
+  c.requires.4,
+  λ z. c.requires.5 (told_some c.args.s c.is_told-on.result (not c.is_chosen-chosen.result) (both_rights c.args.x) _ c.is_told-on.ensures z),
+)
 
 pub returns : goal.returns
 returns c =

@@ -1,5 +1,4 @@
 -- `flag_now`: the line is said, and the mark ends if it fits. Assumes nothing.
-use borrow.Author.Rules.{rules}
 use Rattle.event_message.specs.Flagged.{told_leaves}
 use Rattle.event_flags.proofs.flag_now.Goals as goal
 

@@ -1,5 +1,4 @@
 -- `mark_of`: how a mailbox that stands is listed: one that cannot be selected is marked. Assumes nothing.
-use borrow.Author.Rules.{rules}
 use mathlib.Core.Path.{sym, ◌∙◌}
 use Rattle.event_mailbox.proofs.mark_of.Goals as goal
 

@@ -1,5 +1,4 @@
 -- `may_hear`: quiet, then the rights. Assumes nothing.
-use borrow.Author.Rules.{rules}
 use borrow.Author.Tests.{eq-eqb, ne_eqb}
 use Rattle.event_mailbox.proofs.may_hear.Goals as goal
 

@@ -1,7 +1,5 @@
 -- `parent_mark`: without l it is as absent, else as any mailbox that stands. Assumes nothing.
-use borrow.Author.Rules.{rules}
 use mathlib.Core.Path.{sym, ◌∙◌}
-use borrow.Author.Tests.{not-true, not-false}
 use Rattle.event_mailbox.proofs.parent_mark.Goals as goal
 
 pub returns-then-not-has : goal.returns-then-not-has

@@ -1,5 +1,4 @@
 -- `say_both`: the two names by their lengths, the parent with its mark. Assumes nothing.
-use borrow.Author.Rules.{rules}
 use mathlib.Core.Path.{◌≡◌, sym}
 use native.Mathlib.Omega.{arith}
 use lib.ListN.{length, take}

@@ -1,9 +1,7 @@
 -- `tell_both`: nobody is told, or the lines are said and heard. Assumes nothing.
-use borrow.Author.Rules.{rules}
 use mathlib.Core.Path.{sym, ◌∙◌}
 use native.Mathlib.Omega.{arith}
 use mathlib.Core.Bool.{◌||◌}
-use borrow.Author.Tests.{not-true, not-false}
 use Rattle.model.specs.Memory.{name_of}
 use Rattle.model.specs.Lines.{list, render_all}
 use Rattle.model.specs.Events.{parent_mark}

@@ -1,5 +1,4 @@
 -- `tell_change`: each line by whether somebody is told of it; whoever is finds room for the overflow line. Assumes nothing.
-use borrow.Author.Rules.{rules}
 use mathlib.Core.Path.{ap₂, sym, ◌∙◌}
 use mathlib.Core.Bool.{◌||◌}
 use native.Mathlib.Omega.{arith}

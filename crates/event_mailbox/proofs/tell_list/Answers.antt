@@ -1,7 +1,5 @@
 -- `tell_list`: a LIST line, if somebody is told. Assumes nothing.
-use borrow.Author.Rules.{rules}
 use native.Mathlib.Omega.{arith}
-use borrow.Author.Tests.{not-true, not-false}
 use Rattle.model.specs.Lines.{list, render}
 use Rattle.line_mailbox.specs.Texts.{mark_of}
 use Rattle.line_put.specs.Heard.{hears_none, hears-fits, hears_over}

@@ -1,5 +1,4 @@
 -- `tell_row`: a LIST line about a row, by its name. Assumes nothing.
-use borrow.Author.Rules.{rules}
 use mathlib.Core.Path.{◌≡◌, sym}
 use native.Mathlib.Omega.{arith}
 use lib.ListN.{length, take}

@@ -1,7 +1,5 @@
 -- `upper_told`: whether anybody may hear of it, then the groups. Assumes nothing.
-use borrow.Author.Rules.{rules}
 use mathlib.Core.Path.{sym, ◌∙◌}
-use borrow.Author.Tests.{not-true, not-false}
 use Rattle.event_mailbox.proofs.upper_told.Goals as goal
 
 pub returns-then-not-may_hear : goal.returns-then-not-may_hear

@@ -1,5 +1,4 @@
 -- `is_soon`: whether a message is told of at once. Assumes nothing.
-use borrow.Author.Rules.{rules}
 use mathlib.Core.Path.{sym, ◌∙◌}
 use borrow.Author.Tests.{not-true, not-false}
 use Rattle.event_message.proofs.is_soon.Goals as goal

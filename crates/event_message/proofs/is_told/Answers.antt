@@ -1,7 +1,5 @@
 -- `is_told`: not the selected mailbox, both rights, and a group that asks, in this order. Assumes nothing.
-use borrow.Author.Rules.{rules}
 use mathlib.Core.Path.{sym, ◌∙◌}
-use borrow.Author.Tests.{not-true, not-false}
 use Rattle.event_message.proofs.is_told.Goals as goal
 
 pub returns-then-not-has_rights : goal.returns-then-not-has_rights

@@ -1,5 +1,4 @@
 -- `say_change`: the name is cut to its length, and the STATUS line of a change is said. Assumes nothing.
-use borrow.Author.Rules.{rules}
 use mathlib.Core.Path.{◌≡◌, sym}
 use native.Mathlib.Omega.{arith}
 use lib.ListN.{length, take}

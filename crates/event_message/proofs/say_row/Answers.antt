@@ -1,5 +1,4 @@
 -- `say_row`: the messages are counted, and the STATUS line is said with the count. Assumes nothing.
-use borrow.Author.Rules.{rules}
 use mathlib.Core.Path.{◌≡◌, sym}
 use native.Mathlib.Omega.{arith}
 use lib.ListN.{length, take}

@@ -1,8 +1,6 @@
 -- `announced`: announced where EXISTS was written, as it was otherwise. Assumes nothing.
-use borrow.Author.Rules.{rules}
 use mathlib.Core.Path.{sym, ◌∙◌, ap}
 use mathlib.Core.Bool.{Bool, cond}
-use Prim.Native.Nat.{◌-◌}
 use Rattle.model.specs.Memory.{with_view}
 use Rattle.event_session.proofs.announced.Goals as goal
 

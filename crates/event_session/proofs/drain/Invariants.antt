@@ -1,11 +1,8 @@
 -- `drain`: the queue moves up by the octets that were sent, and F falls by them. Assumes nothing.
-use mathlib.Core.Path.{◌≡◌, refl}
+use mathlib.Core.Path.{◌≡◌}
 use Prim.Native.Nat.{◌≤◌, ◌-◌}
-use native.Mathlib.Omega.{arith}
 use lib.ListN.{take, drop, length}
-use Rattle.line_put.specs.Wrote.{Wrote, wrote_none}
-use Rattle.event_session.specs.Shift.{shift_next, shift_end}
-use borrow.Author.Rules.{rules}
+use Rattle.line_put.specs.Wrote.{Wrote}
 use Rattle.event_session.proofs.drain.Given as goal
 
 abbrev pub invariant-loop-i : goal.invariant-loop-i

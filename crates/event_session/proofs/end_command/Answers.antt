@@ -1,6 +1,4 @@
 -- `end_command`: the lines along the view, then one pass that frees what was told; the session by what was announced. Assumes nothing.
-use borrow.Author.Rules.{rules}
-use Prim.Native.Nat.{◌-◌}
 use native.Mathlib.Omega.{arith}
 use borrow.Author.Tests.{not-true, not-false}
 use Rattle.table_messages.specs.Words.{messages}

@@ -1,15 +1,10 @@
 -- `is_owed`: the entries passed are owed nothing. Assumes nothing.
 use borrow.Author.Rules.{rules}
 use borrow.Author.Count.{below_more}
-use mathlib.Core.Path.{◌≡◌, refl, sym, ◌∙◌}
+use mathlib.Core.Path.{refl, sym, ◌∙◌}
 use mathlib.Core.Bool.{true, false}
-use Prim.Native.Nat.{ℕ, ◌≤◌, ◌<◌, ◌-◌}
 use native.Mathlib.Omega.{arith}
-use lib.ListN.{get_or}
 use Rattle.model.specs.Laws.{tf}
-use Rattle.model.specs.Memory.{no_message}
-use Rattle.table_messages.specs.Words.{messages}
-use Rattle.event_session.specs.Quiet.{owes}
 use Rattle.event_session.proofs.is_owed.Goals as goal
 
 pub loop-i-init : goal.loop-i-init

@@ -1,12 +1,8 @@
 -- `is_owed`: the entries passed are owed nothing. Assumes nothing.
-use borrow.Author.Rules.{rules}
-use borrow.Author.Count.{below_more}
-use mathlib.Core.Path.{◌≡◌, refl, sym, ◌∙◌}
-use mathlib.Core.Bool.{true, false}
+use mathlib.Core.Path.{◌≡◌}
+use mathlib.Core.Bool.{false}
 use Prim.Native.Nat.{ℕ, ◌≤◌, ◌<◌, ◌-◌}
-use native.Mathlib.Omega.{arith}
 use lib.ListN.{get_or}
-use Rattle.model.specs.Laws.{tf}
 use Rattle.model.specs.Memory.{no_message}
 use Rattle.table_messages.specs.Words.{messages}
 use Rattle.event_session.specs.Quiet.{owes}

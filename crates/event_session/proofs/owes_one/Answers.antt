@@ -1,5 +1,4 @@
 -- `owes_one`: the mailbox, then the UID, then the states. Assumes nothing.
-use borrow.Author.Rules.{rules}
 use Rattle.event_session.specs.Quiet.{other_box, owes_news, owes_states}
 use Rattle.event_session.proofs.owes_one.Goals as goal
 

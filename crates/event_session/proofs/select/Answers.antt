@@ -1,5 +1,4 @@
 -- `select`: one pass frees what waited, and the view becomes the whole mailbox. Assumes nothing.
-use borrow.Author.Rules.{rules}
 use mathlib.Core.Path.{◌∙◌, ap}
 use mathlib.Core.List.{List}
 use lib.ListN.{take, length}

@@ -1,7 +1,5 @@
 -- `expunge_one`: by the two tests on the entry, one step of the run: none, a line offered, or the next place. Assumes nothing.
-use borrow.Author.Rules.{rules}
 use mathlib.Core.Path.{◌∙◌, ap}
-use Prim.Native.Nat.{◌-◌}
 use native.Mathlib.Omega.{arith}
 use lib.ListN.{get_or}
 use Rattle.model.specs.Memory.{no_message}
@@ -29,8 +27,7 @@ returns-then-e-eq1 c =
 pub returns : goal.returns
 returns c =
     let here = get_or (messages c.args.words.now) c.args.p no_message in
-    let state = state_of c.args.queue.now c.args.g in
-    (
+    let state = state_of c.args.queue.now c.args.g in (
       ap (state_of c.args.queue.now) c.advanced.ensures
           ∙ (more_is state ∙ e_stay c.args.told.0 c.args.limit c.entry-e.result here c.entry-e.ensures state c.if-told-e.false c.if-e-eq1.false),
       omega (arith, ap (λ (x : Going). x.end) c.advanced.ensures),

@@ -1,7 +1,5 @@
 -- `mark_one`: by the three tests on the entry, one step of the run: none, a line offered and the next place, or the next place alone. Assumes nothing.
-use borrow.Author.Rules.{rules}
 use mathlib.Core.Path.{sym, ◌∙◌, ap}
-use Prim.Native.Nat.{◌-◌}
 use native.Mathlib.Omega.{arith}
 use lib.ListN.{get_or}
 use Rattle.model.specs.Memory.{no_message}
@@ -39,8 +37,7 @@ pub returns-then-e-eq1 : goal.returns-then-e-eq1
 returns-then-e-eq1 c =
     let here = get_or (messages c.args.words.now) c.args.p no_message in
     let state = state_of c.args.queue.now c.args.g in
-    let stays = sym c.both.ensures ∙ c.if-both.false in
-    (
+    let stays = sym c.both.ensures ∙ c.if-both.false in (
       ap (state_of _) c.advanced.ensures
           ∙ (more_is (state_of _ c.say_fetch-h.result)
           ∙ (more_as _ _ c.say_fetch-h.ensures.0
@@ -54,8 +51,7 @@ pub returns : goal.returns
 returns c =
     let here = get_or (messages c.args.words.now) c.args.p no_message in
     let state = state_of c.args.queue.now c.args.g in
-    let stays = sym c.both.ensures ∙ c.if-both.false in
-    (
+    let stays = sym c.both.ensures ∙ c.if-both.false in (
       ap (state_of c.args.queue.now) c.advanced-2.ensures
           ∙ (more_is state
           ∙ m_plain c.args.told.0 c.args.limit c.entry-e.result here c.entry-e.ensures state c.args.skip c.if-told-e.false stays c.if-e-eq1.false),

@@ -1,13 +1,11 @@
 -- `marks`: at each turn the run from here over the entries left is the run from the start over all. Assumes nothing.
-use mathlib.Core.Path.{◌≡◌, refl}
-use Prim.Native.Nat.{◌≤◌, ◌+◌, ◌-◌}
-use native.Mathlib.Omega.{arith}
+use mathlib.Core.Path.{◌≡◌}
+use Prim.Native.Nat.{◌≤◌, ◌+◌}
 use lib.ListN.{length}
 use Rattle.table_messages.specs.Words.{messages}
 use Rattle.order_messages.specs.Chosen.{chosen}
 use Rattle.event_view.specs.Saying.{run_m}
-use Rattle.event_view.specs.Coded.{state_of, run_m_next, run_m_end}
-use borrow.Author.Rules.{rules}
+use Rattle.event_view.specs.Coded.{state_of}
 use Rattle.event_view.proofs.marks.Given as goal
 
 abbrev pub invariant-loop-j : goal.invariant-loop-j

@@ -1,8 +1,6 @@
 -- `say_first`: of class 1 the first part is the run of EXPUNGE lines, else it is nothing. Assumes nothing.
-use borrow.Author.Rules.{rules}
 use mathlib.Core.Path.{refl, sym, ◌∙◌, ap}
 use mathlib.Core.Bool.{Bool}
-use Prim.Native.Nat.{◌-◌}
 use native.Mathlib.Omega.{arith}
 use Rattle.table_messages.specs.Words.{messages}
 use Rattle.order_messages.specs.Chosen.{chosen}

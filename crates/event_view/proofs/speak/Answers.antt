@@ -1,7 +1,5 @@
 -- `speak`: the three parts one after the other, each begun anew where the one before ended, are what is said. Assumes nothing.
-use borrow.Author.Rules.{rules}
 use mathlib.Core.Path.{ap}
-use Prim.Native.Nat.{◌-◌}
 use native.Mathlib.Omega.{arith}
 use Rattle.table_messages.specs.Words.{messages}
 use Rattle.order_messages.specs.Chosen.{chosen}
@@ -10,15 +8,14 @@ use Rattle.event_view.specs.Speaking.{speaks}
 use Rattle.event_view.proofs.speak.Goals as goal
 
 pub say_exists-b-requires : goal.say_exists-b-requires
-say_exists-b-requires c =
-    (
-      omega arith,
-      omega arith,
-      omega (arith, ap (λ (x : Going). x.end) c.begun.ensures, c.say_first-a.ensures.1),
-      omega (arith, ap (λ (x : Going). x.rest) c.begun.ensures, c.say_first-a.ensures.2),
-      c.staying-k.ensures.1,
-      c.unseen-f.ensures.1,
-    )
+say_exists-b-requires c = (
+  omega arith,
+  omega arith,
+  omega (arith, ap (λ (x : Going). x.end) c.begun.ensures, c.say_first-a.ensures.1),
+  omega (arith, ap (λ (x : Going). x.rest) c.begun.ensures, c.say_first-a.ensures.2),
+  c.staying-k.ensures.1,
+  c.unseen-f.ensures.1,
+)
 
 pub marks-c-requires : goal.marks-c-requires
 marks-c-requires c =

@@ -1,12 +1,10 @@
 -- One test that says no is enough; where session, view and fields are in order, the tables decide.
 use mathlib.Core.Path.{sym, ◌∙◌}
 use lib.ListN.{take}
-use borrow.Author.Tests.{not-true, not-false}
 use Rattle.model.specs.Lawful.{contents_ok}
 use Rattle.table_messages.specs.Words.{messages}
 use Rattle.lawful_session.specs.Tests.{no_at}
 use Rattle.lawful.specs.Lent.{owners, called, tables_decide}
-use borrow.Author.Rules.{rules}
 use Rattle.lawful.proofs.contents_ok.Goals as goal
 
 pub returns-then-not-session_ok : goal.returns-then-not-session_ok

@@ -1,6 +1,4 @@
 -- `filled_ok`: too full, no group, or 64 octets free: the three cases of the definition. Assumes nothing.
-use borrow.Author.Rules.{rules}
-use Prim.Native.Nat.{◌-◌}
 use Rattle.lawful.specs.Lent.{too-full, none-stands, one-stands}
 use Rattle.lawful.proofs.filled_ok.Goals as goal
 

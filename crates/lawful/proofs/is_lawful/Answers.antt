@@ -3,9 +3,7 @@ use mathlib.Core.Path.{sym, ◌∙◌}
 use Prim.Native.Nat.{◌/◌}
 use native.Mathlib.Omega.{arith}
 use lib.ListN.{length}
-use borrow.Author.Tests.{not-true, not-false}
 use Rattle.lawful.specs.Lent.{few-rows, rows_used, entries_used, enough-words, wrong_sizes, used-length, contents_decide}
-use borrow.Author.Rules.{rules}
 use Rattle.lawful.proofs.is_lawful.Goals as goal
 
 pub returns-then-not-sizes_ok : goal.returns-then-not-sizes_ok

@@ -2,11 +2,9 @@
 use mathlib.Core.Path.{◌≡◌, sym, ◌∙◌}
 use mathlib.Core.Bool.{true, false}
 use lib.ListN.{take}
-use borrow.Author.Tests.{not-true, not-false}
 use Rattle.model.specs.Lists.{allb}
 use Rattle.table_messages.specs.Words.{messages}
 use Rattle.lawful_quick.specs.Passing.{entry_ok, good_decides}
-use borrow.Author.Rules.{rules}
 use Rattle.lawful.proofs.messages_ok.Goals as goal
 
 pub returns-then-all_fit : goal.returns-then-all_fit

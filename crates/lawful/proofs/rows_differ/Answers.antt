@@ -2,7 +2,6 @@
 use mathlib.Core.Path.{◌≡◌, sym}
 use native.Mathlib.Omega.{arith}
 use lib.ListN.{length}
-use borrow.Author.Tests.{not-false}
 use Rattle.lawful_digests.specs.Distinct.{Differ}
 use Rattle.lawful_digests.specs.Digest.{digest}
 use Rattle.lawful_messages.specs.Clashing.{digests-apart}

@@ -1,8 +1,6 @@
 -- `sizes_ok`: each test is one conjunct of the definition, in its order. Assumes nothing.
-use borrow.Author.Rules.{rules}
 use mathlib.Core.Path.{sym, ◌∙◌}
-use Prim.Native.Nat.{◌-◌}
-use borrow.Author.Tests.{not-true, not-false, lt-leb, le-leb}
+use borrow.Author.Tests.{lt-leb, le-leb}
 use Rattle.model.specs.Laws.{all_hold}
 use Rattle.lawful_session.specs.Tests.{no_at}
 use Rattle.lawful.specs.Lent.{sizes_by, too_small, too_large, right-size}

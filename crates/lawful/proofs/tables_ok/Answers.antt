@@ -2,13 +2,11 @@
 use mathlib.Core.Path.{◌≡◌, sym, ◌∙◌}
 use mathlib.Core.Bool.{true}
 use lib.ListN.{take}
-use borrow.Author.Tests.{not-true, not-false}
 use Rattle.model.specs.Lists.{apart, allb}
 use Rattle.model.specs.Lawful.{clash, twin}
 use Rattle.table_messages.specs.Words.{messages}
 use Rattle.table_mailboxes.specs.Walks.{first_no}
 use Rattle.lawful_quick.specs.Passing.{entry_ok, slow_order}
-use borrow.Author.Rules.{rules}
 use Rattle.lawful.proofs.tables_ok.Goals as goal
 
 pub returns-then-not-rows_differ : goal.returns-then-not-rows_differ

@@ -1,5 +1,4 @@
 -- `view_ok`: nothing selected, an unknown mailbox, or a view up to its UIDNEXT: the three cases. Assumes nothing.
-use borrow.Author.Rules.{rules}
 use mathlib.Core.Path.{refl}
 use native.Mathlib.Omega.{arith}
 use Rattle.model.specs.Memory.{place}

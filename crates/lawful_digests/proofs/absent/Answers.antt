@@ -1,7 +1,7 @@
 -- `absent`: the loop keeps that no number before j is x; a no promises nothing. Assumes nothing.
-use Rattle.std.proofs.Common.{◌-◌, false, refl, arith, rules}
+use Rattle.std.proofs.Common.{false, refl, arith}
 use Rattle.model.specs.Laws.{tf}
-use Rattle.lawful_digests.specs.Distinct.{Absent, absent_next}
+use Rattle.lawful_digests.specs.Distinct.{absent_next}
 use Rattle.lawful_digests.proofs.absent.Goals as goal
 
 pub loop-j-init : goal.loop-j-init

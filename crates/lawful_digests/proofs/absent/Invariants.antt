@@ -1,7 +1,6 @@
 -- `absent`: the loop keeps that no number before j is x; a no promises nothing. Assumes nothing.
-use Rattle.std.proofs.Common.{◌-◌, false, refl, arith, rules}
-use Rattle.model.specs.Laws.{tf}
-use Rattle.lawful_digests.specs.Distinct.{Absent, absent_next}
+use Rattle.std.proofs.Common.{◌-◌}
+use Rattle.lawful_digests.specs.Distinct.{Absent}
 use Rattle.lawful_digests.proofs.absent.Given as goal
 
 abbrev pub invariant-loop-j : goal.invariant-loop-j

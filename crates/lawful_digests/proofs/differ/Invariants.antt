@@ -1,10 +1,6 @@
 -- Each number is none of those before it; then its slot names it, and its row the one that had the slot.
-use Rattle.std.proofs.Common.{◌≡◌, ℕ, ◌-◌, ◌≤◌, false, length, get_or, refl, arith, length-set, rules}
-use lib.ListN.{length-replicate}
-use borrow.Author.Tests.{not-false}
-use Rattle.model.specs.Laws.{tf}
-use Rattle.table_mailboxes.specs.Columns.{all_below}
-use Rattle.lawful_digests.specs.Distinct.{Absent, Differ, Low, Taken, low_zeros, taken_next, low_next}
+use Rattle.std.proofs.Common.{◌≡◌, ◌-◌, ◌≤◌, length}
+use Rattle.lawful_digests.specs.Distinct.{Differ, Low, Taken}
 use Rattle.lawful_digests.proofs.differ.Given as goal
 
 abbrev pub invariant-loop-i : goal.invariant-loop-i

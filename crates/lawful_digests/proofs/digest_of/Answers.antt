@@ -1,6 +1,5 @@
 -- Each turn mixes in one word more of the row.
-use Rattle.std.proofs.Common.{◌≡◌, ◌-◌, ◌≤◌, refl, ap, ◌∙◌, arith, rules}
-use Rattle.table_mailboxes.specs.Columns.{block}
+use Rattle.std.proofs.Common.{◌≡◌, refl, ap, ◌∙◌, arith, rules}
 use Rattle.lawful_digests.specs.Digest.{mixed_up, folded, mixed_next}
 use Rattle.lawful_digests.proofs.digest_of.Goals as goal
 

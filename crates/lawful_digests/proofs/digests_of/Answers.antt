@@ -1,7 +1,6 @@
 -- `digests_of`: the loop keeps that each row before i has its digest. Assumes nothing.
-use Rattle.std.proofs.Common.{◌≡◌, ℕ, ◌-◌, ◌<◌, ◌≤◌, length, get_or, arith, length-set, rules}
-use Rattle.table_mailboxes.specs.Columns.{block}
-use Rattle.lawful_digests.specs.Digest.{digest, digested_next}
+use Rattle.std.proofs.Common.{arith, length-set, rules}
+use Rattle.lawful_digests.specs.Digest.{digested_next}
 use Rattle.lawful_digests.proofs.digests_of.Goals as goal
 
 pub loop-i-init : goal.loop-i-init

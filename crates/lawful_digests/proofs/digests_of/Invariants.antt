@@ -1,7 +1,7 @@
 -- `digests_of`: the loop keeps that each row before i has its digest. Assumes nothing.
-use Rattle.std.proofs.Common.{◌≡◌, ℕ, ◌-◌, ◌<◌, ◌≤◌, length, get_or, arith, length-set, rules}
+use Rattle.std.proofs.Common.{◌≡◌, ℕ, ◌-◌, ◌<◌, ◌≤◌, length, get_or}
 use Rattle.table_mailboxes.specs.Columns.{block}
-use Rattle.lawful_digests.specs.Digest.{digest, digested_next}
+use Rattle.lawful_digests.specs.Digest.{digest}
 use Rattle.lawful_digests.proofs.digests_of.Given as goal
 
 abbrev pub invariant-loop-i : goal.invariant-loop-i

@@ -1,5 +1,5 @@
 -- `guesses`: a slot is below 1024, so each store is within the table; a guess promises nothing. Assumes nothing.
-use Rattle.std.proofs.Common.{◌≡◌, ◌-◌, ◌≤◌, length, length-set, rules}
+use Rattle.std.proofs.Common.{◌≡◌, ◌-◌, ◌≤◌, length}
 use Rattle.lawful_digests.proofs.guesses.Given as goal
 
 abbrev pub invariant-loop-i : goal.invariant-loop-i

@@ -1,5 +1,5 @@
 -- A slot that is free was taken by none before, and the first is compared.
-use Rattle.std.proofs.Common.{◌≡◌, get_or, rules}
+use Rattle.std.proofs.Common.{◌≡◌, get_or}
 use borrow.Author.Tests.{not-true, eqb-false}
 use Rattle.lawful_digests.specs.Distinct.{slot_of, slot_free}
 use Rattle.lawful_digests.proofs.is_new.Goals as goal

@@ -1,5 +1,5 @@
 -- `mix`: each sum is cut to 64 bits, as in the definition. Assumes nothing.
-use Rattle.std.proofs.Common.{◌∙◌, rules}
+use Rattle.std.proofs.Common.{◌∙◌}
 use Rattle.lawful_digests.proofs.mix.Goals as goal
 
 pub returns : goal.returns

@@ -1,5 +1,5 @@
 -- `seek`: the place stays below 64, and no more is promised of it. Assumes nothing.
-use Rattle.std.proofs.Common.{◌-◌, ◌≤◌, rules}
+use Rattle.std.proofs.Common.{◌-◌, ◌≤◌}
 use Rattle.lawful_digests.proofs.seek.Given as goal
 
 abbrev pub invariant-loop-i : goal.invariant-loop-i

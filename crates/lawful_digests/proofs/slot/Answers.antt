@@ -1,5 +1,5 @@
 -- `slot`: the upper ten of 32 bits are below 1024. Assumes nothing.
-use Rattle.std.proofs.Common.{refl, arith, rules}
+use Rattle.std.proofs.Common.{refl, arith}
 use Rattle.lawful_digests.specs.Distinct.{slot_of}
 use Rattle.lawful_digests.proofs.slot.Goals as goal
 

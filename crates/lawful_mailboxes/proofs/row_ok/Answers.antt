@@ -1,8 +1,6 @@
 -- `row_ok`: the numbers first, then the name by the quick look, and by the exact test where that says nothing. Assumes nothing.
-use borrow.Author.Rules.{rules}
 use mathlib.Core.Path.{sym, ◌∙◌, ap}
 use mathlib.Core.Bool.{Bool, ◌&&◌}
-use borrow.Author.Tests.{not-true, not-false}
 use lib.ListN.{get_or}
 use Rattle.table_mailboxes.specs.Columns.{block}
 use Rattle.lawful_mailboxes.specs.Fields.{row_by_lem, name_by, long_enough}

@@ -1,18 +1,12 @@
 -- `rows_ok`: the loop keeps that all rows are in order exactly if those from i on are. Assumes nothing.
-use mathlib.Core.Path.{◌≡◌, refl, sym, ◌∙◌}
+use mathlib.Core.Path.{◌≡◌}
 use mathlib.Core.List.{List}
 use Prim.Native.Nat.{◌≤◌, ◌-◌}
-use native.Mathlib.Omega.{arith}
 use lib.ListN.{length, drop}
-use borrow.Author.Tests.{not-true, not-false}
 use Rattle.model.specs.Lists.{allb}
-use Rattle.model.specs.Memory.{no_mailbox}
 use Rattle.model.specs.Lawful.{mailbox_ok}
 use Rattle.model.specs.declared.Mailbox.{Mailbox}
 use Rattle.table_mailboxes.specs.Columns.{Laid}
-use Rattle.table_mailboxes.specs.Walks.{all_broken, all_on, all_over}
-use Rattle.lawful_mailboxes.specs.Fields.{row_at_lem}
-use borrow.Author.Rules.{rules}
 use Rattle.lawful_mailboxes.proofs.rows_ok.Given as goal
 
 abbrev pub invariant-loop-i : goal.invariant-loop-i

@@ -1,16 +1,13 @@
 -- `any_clash`: the loop keeps that row j clashes with a row from `from` on exactly if it does with one from i on. Assumes nothing.
-use mathlib.Core.Path.{◌≡◌, refl, sym, ◌∙◌}
+use mathlib.Core.Path.{◌≡◌}
 use mathlib.Core.List.{List}
 use Prim.Native.Nat.{◌≤◌, ◌-◌}
-use native.Mathlib.Omega.{arith}
 use lib.ListN.{length, drop, get_or}
 use Rattle.model.specs.Lists.{anyb}
 use Rattle.model.specs.Memory.{no_mailbox}
 use Rattle.model.specs.Lawful.{clash}
 use Rattle.model.specs.declared.Mailbox.{Mailbox}
-use Rattle.table_mailboxes.specs.Walks.{any_found, any_on, any_over}
-use Rattle.lawful_messages.specs.Clashing.{Called, clash_at_lem}
-use borrow.Author.Rules.{rules}
+use Rattle.lawful_messages.specs.Clashing.{Called}
 use Rattle.lawful_messages.proofs.any_clash.Given as goal
 
 abbrev pub invariant-loop-i : goal.invariant-loop-i

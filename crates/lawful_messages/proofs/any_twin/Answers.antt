@@ -1,9 +1,6 @@
 -- `any_twin`: the loop keeps that the entry has a twin from `from` on exactly if it has one from i on. Assumes nothing.
-use mathlib.Core.Path.{◌≡◌, refl, sym, ◌∙◌, ap}
-use Prim.Native.Nat.{◌≤◌, ◌-◌}
+use mathlib.Core.Path.{refl, sym, ◌∙◌, ap}
 use native.Mathlib.Omega.{arith}
-use lib.ListN.{take, drop}
-use Rattle.model.specs.Lists.{anyb}
 use Rattle.model.specs.Memory.{no_message}
 use Rattle.model.specs.Lawful.{twin}
 use Rattle.table_messages.specs.Words.{messages, messages-length}

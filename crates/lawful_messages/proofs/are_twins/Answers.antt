@@ -1,5 +1,4 @@
 -- `are_twins`: the same mailbox and the same UID, tested one after the other. Assumes nothing.
-use Prim.Native.Nat.{◌-◌}
 use borrow.Author.Tests.{eq-eqb, ne_eqb}
 use Rattle.lawful_messages.proofs.are_twins.Goals as goal
 

@@ -1,10 +1,8 @@
 -- `entry_ok`: three tests in the order of the definition; the first that fails decides. Assumes nothing.
 use mathlib.Core.Path.{sym, ◌∙◌}
-use borrow.Author.Tests.{not-true, not-false}
 use Rattle.model.specs.Lawful.{message_ok, owned}
 use Rattle.lawful_quick.specs.Passing.{state_at}
 use Rattle.table_mailboxes.specs.Walks.{first_no, second_no, third}
-use borrow.Author.Rules.{rules}
 use Rattle.lawful_messages.proofs.entry_ok.Goals as goal
 
 pub returns-then-not-message_ok : goal.returns-then-not-message_ok

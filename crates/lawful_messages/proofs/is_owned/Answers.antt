@@ -1,5 +1,4 @@
 -- `is_owned`: the mailbox is found by its id; UIDNEXT and counter are those of its columns. Assumes nothing.
-use borrow.Author.Rules.{rules}
 use native.Mathlib.Omega.{arith}
 use Rattle.lawful_messages.specs.Owning.{owner_unknown, owner_passed, owner-known}
 use Rattle.lawful_messages.proofs.is_owned.Goals as goal

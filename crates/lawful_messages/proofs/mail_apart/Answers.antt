@@ -1,9 +1,9 @@
 -- `mail_apart`: the loop keeps that no two of all entries are twins exactly if none is from i on. Assumes nothing.
-use mathlib.Core.Path.{◌≡◌, refl, sym, ◌∙◌, ap}
-use Prim.Native.Nat.{◌≤◌, ◌-◌, ◌+◌}
+use mathlib.Core.Path.{refl, sym, ◌∙◌, ap}
+use Prim.Native.Nat.{◌+◌}
 use native.Mathlib.Omega.{arith}
 use lib.ListN.{take, drop}
-use Rattle.model.specs.Lists.{anyb, apart}
+use Rattle.model.specs.Lists.{anyb}
 use Rattle.model.specs.Memory.{no_message}
 use Rattle.model.specs.Lawful.{twin}
 use Rattle.model.specs.declared.Message.{Message}

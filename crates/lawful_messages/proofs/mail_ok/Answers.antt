@@ -1,17 +1,10 @@
 -- `mail_ok`: the loop keeps that all entries are in order exactly if those from i on are. Assumes nothing.
-use mathlib.Core.Path.{◌≡◌, refl, sym, ◌∙◌, ap}
-use mathlib.Core.List.{List}
-use Prim.Native.Nat.{◌≤◌, ◌-◌}
+use mathlib.Core.Path.{refl, sym, ◌∙◌, ap}
 use native.Mathlib.Omega.{arith}
-use lib.ListN.{length, take, drop}
-use borrow.Author.Tests.{not-true, not-false}
-use Rattle.model.specs.Lists.{allb}
-use Rattle.model.specs.Memory.{no_message, counter_of}
-use Rattle.model.specs.declared.Mailbox.{Mailbox}
+use Rattle.model.specs.Memory.{no_message}
 use Rattle.table_messages.specs.Words.{messages, messages-length}
-use Rattle.table_mailboxes.specs.Columns.{Column}
 use Rattle.table_mailboxes.specs.Walks.{all_here, all_next, all_past}
-use Rattle.lawful_quick.specs.Passing.{Owners, entry_ok}
+use Rattle.lawful_quick.specs.Passing.{entry_ok}
 use borrow.Author.Rules.{rules}
 use Rattle.lawful_messages.proofs.mail_ok.Goals as goal
 
@@ -26,14 +19,13 @@ returns-then-not-entry_ok c =
     sym (c.loop-i.invariant.1 l h w v ∙ all_here p (messages c.args.words.now) c.args.used c.loop-i.i many no_message (omega arith) (sym (c.entry_ok.ensures l h w v ∙ ap p c.get.ensures) ∙ c.if-not-entry_ok.true))
 
 pub loop-i-preserved : goal.loop-i-preserved
-loop-i-preserved c =
-    (
-      search rules,
-      λ l h w v.
-          let many = messages-length c.args.used c.args.words.now c.requires.1 in
-          let p = entry_ok l c.args.selected c.args.told.0 in
-          c.loop-i.invariant.1 l h w v ∙ all_next p (messages c.args.words.now) c.args.used c.loop-i.i many no_message (omega arith) (sym (c.entry_ok.ensures l h w v ∙ ap p c.get.ensures) ∙ c.if-not-entry_ok.false),
-    )
+loop-i-preserved c = (
+  search rules,
+  λ l h w v.
+      let many = messages-length c.args.used c.args.words.now c.requires.1 in
+      let p = entry_ok l c.args.selected c.args.told.0 in
+      c.loop-i.invariant.1 l h w v ∙ all_next p (messages c.args.words.now) c.args.used c.loop-i.i many no_message (omega arith) (sym (c.entry_ok.ensures l h w v ∙ ap p c.get.ensures) ∙ c.if-not-entry_ok.false),
+)
 
 pub returns : goal.returns
 returns c =

@@ -1,18 +1,14 @@
 -- `mail_ok`: the loop keeps that all entries are in order exactly if those from i on are. Assumes nothing.
-use mathlib.Core.Path.{◌≡◌, refl, sym, ◌∙◌, ap}
+use mathlib.Core.Path.{◌≡◌}
 use mathlib.Core.List.{List}
 use Prim.Native.Nat.{◌≤◌, ◌-◌}
-use native.Mathlib.Omega.{arith}
 use lib.ListN.{length, take, drop}
-use borrow.Author.Tests.{not-true, not-false}
 use Rattle.model.specs.Lists.{allb}
-use Rattle.model.specs.Memory.{no_message, counter_of}
+use Rattle.model.specs.Memory.{counter_of}
 use Rattle.model.specs.declared.Mailbox.{Mailbox}
-use Rattle.table_messages.specs.Words.{messages, messages-length}
+use Rattle.table_messages.specs.Words.{messages}
 use Rattle.table_mailboxes.specs.Columns.{Column}
-use Rattle.table_mailboxes.specs.Walks.{all_here, all_next, all_past}
 use Rattle.lawful_quick.specs.Passing.{Owners, entry_ok}
-use borrow.Author.Rules.{rules}
 use Rattle.lawful_messages.proofs.mail_ok.Given as goal
 
 abbrev pub invariant-loop-i : goal.invariant-loop-i

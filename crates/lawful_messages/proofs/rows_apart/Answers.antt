@@ -1,15 +1,9 @@
 -- No two rows clash: the fold of all is the fold from row i on.
-use mathlib.Core.Path.{◌≡◌, refl, sym, ◌∙◌}
-use mathlib.Core.List.{List}
-use Prim.Native.Nat.{◌≤◌, ◌-◌}
+use mathlib.Core.Path.{refl, sym, ◌∙◌}
 use native.Mathlib.Omega.{arith}
-use lib.ListN.{length, drop}
-use Rattle.model.specs.Lists.{apart}
 use Rattle.model.specs.Memory.{no_mailbox}
 use Rattle.model.specs.Lawful.{clash}
-use Rattle.model.specs.declared.Mailbox.{Mailbox}
 use Rattle.table_mailboxes.specs.Walks.{apart_broken, apart_on, apart_over}
-use Rattle.lawful_messages.specs.Clashing.{Called}
 use borrow.Author.Rules.{rules}
 use Rattle.lawful_messages.proofs.rows_apart.Goals as goal
 

@@ -1,16 +1,12 @@
 -- No two rows clash: the fold of all is the fold from row i on.
-use mathlib.Core.Path.{◌≡◌, refl, sym, ◌∙◌}
+use mathlib.Core.Path.{◌≡◌}
 use mathlib.Core.List.{List}
 use Prim.Native.Nat.{◌≤◌, ◌-◌}
-use native.Mathlib.Omega.{arith}
 use lib.ListN.{length, drop}
 use Rattle.model.specs.Lists.{apart}
-use Rattle.model.specs.Memory.{no_mailbox}
 use Rattle.model.specs.Lawful.{clash}
 use Rattle.model.specs.declared.Mailbox.{Mailbox}
-use Rattle.table_mailboxes.specs.Walks.{apart_broken, apart_on, apart_over}
 use Rattle.lawful_messages.specs.Clashing.{Called}
-use borrow.Author.Rules.{rules}
 use Rattle.lawful_messages.proofs.rows_apart.Given as goal
 
 abbrev pub invariant-loop-i : goal.invariant-loop-i

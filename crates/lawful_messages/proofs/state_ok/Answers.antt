@@ -1,5 +1,4 @@
 -- `state_ok`: no state, or a place in the view: the two cases of the definition. Assumes nothing.
-use Prim.Native.Nat.{◌-◌}
 use borrow.Author.Tests.{eq-eqb, ne_eqb}
 use Rattle.lawful_messages.proofs.state_ok.Goals as goal
 

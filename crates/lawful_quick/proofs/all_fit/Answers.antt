@@ -1,15 +1,9 @@
 -- The last UID of each row bounds those of its mailbox so far, behind each run and the entry between two; in the end it is below the UIDNEXT.
-use Rattle.std.proofs.Common.{◌≡◌, ◌-◌, ◌*◌, ◌/◌, ◌%◌, ◌≤◌, true, false, List, length, take, refl, arith, length-set, rules, ltb-true}
-use borrow.Author.Tests.{not-false}
+use Rattle.std.proofs.Common.{◌≡◌, ◌/◌, false, length, take, refl, arith, length-set, rules, ltb-true}
 use Rattle.model.specs.Laws.{tf}
-use Rattle.model.specs.Lists.{apart}
-use Rattle.model.specs.Memory.{counter_of}
-use Rattle.model.specs.Lawful.{clash}
-use Rattle.model.specs.declared.Mailbox.{Mailbox}
 use Rattle.table_messages.specs.Words.{messages}
-use Rattle.table_mailboxes.specs.Columns.{Column}
 use Rattle.lawful_digests.specs.Distinct.{low_wider}
-use Rattle.lawful_quick.specs.Passing.{Owners, Passed, Below, good_none, going_start, passed_next, gone}
+use Rattle.lawful_quick.specs.Passing.{Below, good_none, going_start, passed_next, gone}
 use Rattle.lawful_quick.proofs.all_fit.Goals as goal
 
 pub returns-then-n-lt1 : goal.returns-then-n-lt1
@@ -17,25 +11,23 @@ returns-then-n-lt1 c =
     λ l h w v ok a z. let e : c.args.used ≡ 0 = omega (arith, ltb-true c.args.used 1 z) in rw e (good_none l c.args.selected c.args.told.0)
 
 pub run-p-requires : goal.run-p-requires
-run-p-requires c =
-    (
-      search rules,
-      search rules,
-      search rules,
-      omega arith,
-      search rules,
-      low_wider c.args.slots.now c.args.n 64 (omega arith) c.requires.1 c.requires.2,
-    )
+run-p-requires c = (
+  search rules,
+  search rules,
+  search rules,
+  omega arith,
+  search rules,
+  low_wider c.args.slots.now c.args.n 64 (omega arith) c.requires.1 c.requires.2,
+)
 
 pub loop-p-init : goal.loop-p-init
-loop-p-init c =
-    (
-      search rules,
-      c.run-p.ensures.inside,
-      c.run-p.ensures.whole,
-      c.run-p.ensures.long,
-      λ l q w v a. c.run-p.ensures.kept l c.args.nexts.now w v a (omega arith) (rw q c.requires.2) (going_start l _ _ _ _ _),
-    )
+loop-p-init c = (
+  search rules,
+  c.run-p.ensures.inside,
+  c.run-p.ensures.whole,
+  c.run-p.ensures.long,
+  λ l q w v a. c.run-p.ensures.kept l c.args.nexts.now w v a (omega arith) (rw q c.requires.2) (going_start l _ _ _ _ _),
+)
 
 pub bounds-words-at : goal.bounds-words-at
 bounds-words-at c = omega arith
@@ -65,23 +57,21 @@ pub bounds-words-at-in-loop-p-3 : goal.bounds-words-at-in-loop-p-3
 bounds-words-at-in-loop-p-3 c = omega arith
 
 pub run-p-requires-in-loop-p : goal.run-p-requires-in-loop-p
-run-p-requires-in-loop-p c =
-    (
-      omega arith,
-      omega arith,
-      omega arith,
-      omega arith,
-      simp length-set c.loop-p.invariant.3,
-      low_wider c.args.slots.now c.args.n 64 (omega arith) c.requires.1 c.requires.2,
-    )
+run-p-requires-in-loop-p c = (
+  omega arith,
+  omega arith,
+  omega arith,
+  omega arith,
+  simp length-set c.loop-p.invariant.3,
+  low_wider c.args.slots.now c.args.n 64 (omega arith) c.requires.1 c.requires.2,
+)
 
 pub loop-p-smaller : goal.loop-p-smaller
 loop-p-smaller c = omega arith
 
 pub loop-p-preserved : goal.loop-p-preserved
 loop-p-preserved c =
-    let fits = c.entry_fits.ensures c.if-not-entry_fits.false in
-    (
+    let fits = c.entry_fits.ensures c.if-not-entry_fits.false in (
       c.loop-p.invariant.0,
       c.run-p-in-loop-p.ensures.inside,
       c.run-p-in-loop-p.ensures.whole,

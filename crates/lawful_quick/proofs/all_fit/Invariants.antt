@@ -1,15 +1,11 @@
 -- The last UID of each row bounds those of its mailbox so far, behind each run and the entry between two; in the end it is below the UIDNEXT.
-use Rattle.std.proofs.Common.{◌≡◌, ◌-◌, ◌*◌, ◌/◌, ◌%◌, ◌≤◌, true, false, List, length, take, refl, arith, length-set, rules, ltb-true}
-use borrow.Author.Tests.{not-false}
-use Rattle.model.specs.Laws.{tf}
+use Rattle.std.proofs.Common.{◌≡◌, ◌-◌, ◌*◌, ◌%◌, ◌≤◌, true, List, length}
 use Rattle.model.specs.Lists.{apart}
 use Rattle.model.specs.Memory.{counter_of}
 use Rattle.model.specs.Lawful.{clash}
 use Rattle.model.specs.declared.Mailbox.{Mailbox}
-use Rattle.table_messages.specs.Words.{messages}
 use Rattle.table_mailboxes.specs.Columns.{Column}
-use Rattle.lawful_digests.specs.Distinct.{low_wider}
-use Rattle.lawful_quick.specs.Passing.{Owners, Passed, Below, good_none, going_start, passed_next, gone}
+use Rattle.lawful_quick.specs.Passing.{Owners, Passed}
 use Rattle.lawful_quick.proofs.all_fit.Given as goal
 
 abbrev pub invariant-loop-p : goal.invariant-loop-p

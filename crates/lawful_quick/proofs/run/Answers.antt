@@ -1,7 +1,6 @@
 -- Each turn is a step of the pass, with the row of the entry's slot; where the loop is left nothing changes.
-use Rattle.std.proofs.Common.{◌-◌, arith, length-set, rules}
-use borrow.Author.Tests.{not-false}
-use Rattle.lawful_quick.specs.Passing.{Ran, passed_next}
+use Rattle.std.proofs.Common.{arith, length-set, rules}
+use Rattle.lawful_quick.specs.Passing.{passed_next}
 use Rattle.lawful_quick.proofs.run.Goals as goal
 
 pub loop-b-init : goal.loop-b-init

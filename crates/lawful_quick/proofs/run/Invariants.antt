@@ -1,7 +1,6 @@
 -- Each turn is a step of the pass, with the row of the entry's slot; where the loop is left nothing changes.
-use Rattle.std.proofs.Common.{◌-◌, arith, length-set, rules}
-use borrow.Author.Tests.{not-false}
-use Rattle.lawful_quick.specs.Passing.{Ran, passed_next}
+use Rattle.std.proofs.Common.{◌-◌}
+use Rattle.lawful_quick.specs.Passing.{Ran}
 use Rattle.lawful_quick.proofs.run.Given as goal
 
 abbrev pub invariant-loop-b : goal.invariant-loop-b

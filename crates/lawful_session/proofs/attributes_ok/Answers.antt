@@ -1,6 +1,4 @@
 -- `attributes_ok`: the tests of the definition, each by its own function, joined by `both` and `either` in the same shape. Assumes nothing.
-use borrow.Author.Rules.{rules}
-use Prim.Native.Nat.{◌-◌}
 use Rattle.lawful_session.proofs.attributes_ok.Goals as goal
 
 pub returns : goal.returns

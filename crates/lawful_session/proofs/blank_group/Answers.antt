@@ -1,7 +1,5 @@
 -- `blank_group`: five fields compared with 0; `blank_is` regroups them as the definition has them. Assumes nothing.
-use borrow.Author.Rules.{rules}
 use mathlib.Core.Path.{sym}
-use Prim.Native.Nat.{◌-◌}
 use lib.Dec.{eqb}
 use Rattle.lawful_session.specs.Tests.{blank_is}
 use Rattle.lawful_session.proofs.blank_group.Goals as goal

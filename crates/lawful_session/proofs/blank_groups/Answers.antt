@@ -1,10 +1,7 @@
 -- `blank_groups`: the loop keeps that the groups from `from` on are blank exactly if those from i on are. Assumes nothing.
 use mathlib.Core.Path.{◌≡◌, refl, sym, ◌∙◌}
-use Prim.Native.Nat.{◌≤◌, ◌-◌}
 use native.Mathlib.Omega.{arith}
-use lib.ListN.{length, drop}
-use borrow.Author.Tests.{not-true, not-false}
-use Rattle.model.specs.Lists.{allb}
+use lib.ListN.{length}
 use Rattle.model.specs.Lawful.{blank_group}
 use Rattle.model.specs.Memory.{no_group}
 use Rattle.table_mailboxes.specs.Walks.{mapped-length, all_on, all_broken, all_over}

@@ -1,14 +1,9 @@
 -- `blank_groups`: the loop keeps that the groups from `from` on are blank exactly if those from i on are. Assumes nothing.
-use mathlib.Core.Path.{◌≡◌, refl, sym, ◌∙◌}
+use mathlib.Core.Path.{◌≡◌}
 use Prim.Native.Nat.{◌≤◌, ◌-◌}
-use native.Mathlib.Omega.{arith}
-use lib.ListN.{length, drop}
-use borrow.Author.Tests.{not-true, not-false}
+use lib.ListN.{drop}
 use Rattle.model.specs.Lists.{allb}
 use Rattle.model.specs.Lawful.{blank_group}
-use Rattle.model.specs.Memory.{no_group}
-use Rattle.table_mailboxes.specs.Walks.{mapped-length, all_on, all_broken, all_over}
-use borrow.Author.Rules.{rules}
 use Rattle.lawful_session.proofs.blank_groups.Given as goal
 
 abbrev pub invariant-loop-i : goal.invariant-loop-i

@@ -1,7 +1,6 @@
 -- `blank_name`: the length is 0 and none of the 64 octets is filled, as the definition says of a blank name. Assumes nothing.
 use borrow.Author.Rules.{rules}
 use mathlib.Core.Path.{◌≡◌}
-use Prim.Native.Nat.{◌-◌}
 use lib.ListN.{length}
 use Rattle.lawful_session.proofs.blank_name.Goals as goal
 

@@ -1,6 +1,4 @@
 -- `events_fit`: the two mailbox events are asked for by their bits, as in the definition. Assumes nothing.
-use borrow.Author.Rules.{rules}
-use Prim.Native.Nat.{◌-◌}
 use Rattle.lawful_session.proofs.events_fit.Goals as goal
 
 pub returns : goal.returns

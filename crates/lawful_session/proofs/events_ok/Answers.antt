@@ -1,6 +1,4 @@
 -- `events_ok`: each condition on the events is one test of bits, joined in the order of the definition. Assumes nothing.
-use borrow.Author.Rules.{rules}
-use Prim.Native.Nat.{◌-◌}
 use Rattle.lawful_session.proofs.events_ok.Goals as goal
 
 pub returns : goal.returns

@@ -1,11 +1,6 @@
 -- As many as are not zero so far; none, and all of them are.
-use mathlib.Core.Path.{◌≡◌, refl}
-use mathlib.Core.Bool.{◌&&◌}
-use Prim.Native.Nat.{◌≤◌, ◌-◌}
+use mathlib.Core.Path.{refl}
 use native.Mathlib.Omega.{arith}
-use lib.Dec.{eqb}
-use lib.ListN.{drop}
-use Rattle.model.specs.Lawful.{zeros}
 use Rattle.names.specs.Once.{sum_past}
 use Rattle.lawful_session.specs.Tests.{filled_next}
 use borrow.Author.Rules.{rules}

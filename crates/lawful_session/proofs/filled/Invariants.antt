@@ -1,14 +1,10 @@
 -- As many as are not zero so far; none, and all of them are.
-use mathlib.Core.Path.{◌≡◌, refl}
+use mathlib.Core.Path.{◌≡◌}
 use mathlib.Core.Bool.{◌&&◌}
 use Prim.Native.Nat.{◌≤◌, ◌-◌}
-use native.Mathlib.Omega.{arith}
 use lib.Dec.{eqb}
 use lib.ListN.{drop}
 use Rattle.model.specs.Lawful.{zeros}
-use Rattle.names.specs.Once.{sum_past}
-use Rattle.lawful_session.specs.Tests.{filled_next}
-use borrow.Author.Rules.{rules}
 use Rattle.lawful_session.proofs.filled.Given as goal
 
 abbrev pub invariant-loop-i : goal.invariant-loop-i

@@ -1,6 +1,4 @@
 -- `group_ok`: the four tests of a lent group, joined as `group_is` has them. Assumes nothing.
-use borrow.Author.Rules.{rules}
-use Prim.Native.Nat.{◌-◌}
 use Rattle.lawful_session.specs.Tests.{group_is}
 use Rattle.lawful_session.proofs.group_ok.Goals as goal
 

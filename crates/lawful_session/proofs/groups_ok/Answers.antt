@@ -1,10 +1,7 @@
 -- `groups_ok`: the loop keeps how many names the groups before i have, which is where the names of group i must begin. Assumes nothing.
 use mathlib.Core.Path.{◌≡◌, refl, sym, ◌∙◌}
-use Prim.Native.Nat.{◌≤◌, ◌-◌, ◌*◌}
 use native.Mathlib.Omega.{arith}
-use lib.ListN.{length, take, drop}
-use borrow.Author.Tests.{not-true, not-false}
-use Rattle.model.specs.Lawful.{groups_ok}
+use lib.ListN.{length}
 use Rattle.model.specs.Memory.{no_group}
 use Rattle.table_mailboxes.specs.Walks.{mapped-length}
 use Rattle.lawful_session.specs.Tests.{groups_next, groups_here, groups_past}

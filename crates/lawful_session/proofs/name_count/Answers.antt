@@ -1,9 +1,7 @@
 -- `name_count`: the loop keeps that the sum and the names of the groups from i on make up all names. Assumes nothing.
 use mathlib.Core.Path.{◌≡◌}
-use Prim.Native.Nat.{◌≤◌, ◌-◌, ◌+◌, ◌*◌}
 use native.Mathlib.Omega.{arith}
-use lib.ListN.{length, take, drop}
-use Rattle.model.specs.Lawful.{lent_name_count}
+use lib.ListN.{length}
 use Rattle.model.specs.Memory.{no_group}
 use Rattle.table_mailboxes.specs.Walks.{mapped-length}
 use Rattle.lawful_session.specs.Tests.{count_next, count_past}

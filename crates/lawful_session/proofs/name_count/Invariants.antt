@@ -1,13 +1,8 @@
 -- `name_count`: the loop keeps that the sum and the names of the groups from i on make up all names. Assumes nothing.
 use mathlib.Core.Path.{◌≡◌}
 use Prim.Native.Nat.{◌≤◌, ◌-◌, ◌+◌, ◌*◌}
-use native.Mathlib.Omega.{arith}
-use lib.ListN.{length, take, drop}
+use lib.ListN.{take, drop}
 use Rattle.model.specs.Lawful.{lent_name_count}
-use Rattle.model.specs.Memory.{no_group}
-use Rattle.table_mailboxes.specs.Walks.{mapped-length}
-use Rattle.lawful_session.specs.Tests.{count_next, count_past}
-use borrow.Author.Rules.{rules}
 use Rattle.lawful_session.proofs.name_count.Given as goal
 
 abbrev pub invariant-loop-i : goal.invariant-loop-i

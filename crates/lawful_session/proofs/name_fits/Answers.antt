@@ -1,5 +1,4 @@
 -- `name_fits`: by whether the name is used. Assumes nothing.
-use borrow.Author.Rules.{rules}
 use mathlib.Core.Path.{◌∙◌}
 use Rattle.lawful_session.proofs.name_fits.Goals as goal
 

@@ -1,13 +1,9 @@
 -- One walk over the names: what is left to test from place i on says what all says. Assumes nothing.
-use mathlib.Core.Path.{◌≡◌, sym, ◌∙◌}
+use mathlib.Core.Path.{◌≡◌}
 use Prim.Native.Nat.{◌≤◌, ◌-◌}
-use native.Mathlib.Omega.{arith}
-use lib.ListN.{length, drop}
-use borrow.Author.Tests.{not-true, not-false}
+use lib.ListN.{drop}
 use Rattle.model.specs.Lawful.{lent_name_ok, blank_name}
-use Rattle.table_mailboxes.specs.Walks.{mapped-length}
-use Rattle.lawful_session.specs.Tests.{unnamed, split, split_next, split_here, split_past}
-use borrow.Author.Rules.{rules}
+use Rattle.lawful_session.specs.Tests.{split}
 use Rattle.lawful_session.proofs.names_fit.Given as goal
 
 abbrev pub invariant-loop-i : goal.invariant-loop-i

@@ -1,6 +1,4 @@
 -- `range_ok`: without names the range is zero; with names it begins where the last ended and is not empty. Assumes nothing.
-use borrow.Author.Rules.{rules}
-use Prim.Native.Nat.{◌-◌}
 use borrow.Author.Tests.{lt-ltb, le-ltb}
 use Rattle.lawful_session.proofs.range_ok.Goals as goal
 

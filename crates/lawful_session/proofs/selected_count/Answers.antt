@@ -1,11 +1,10 @@
 -- `selected_count`: the loop keeps that the sum and the selected groups from i on make up all of them. Assumes nothing.
 use mathlib.Core.Path.{◌≡◌}
-use Prim.Native.Nat.{◌≤◌, ◌-◌, ◌+◌}
 use native.Mathlib.Omega.{arith}
-use lib.ListN.{length, take, drop}
+use lib.ListN.{length}
 use Rattle.model.specs.Memory.{no_group}
 use Rattle.table_mailboxes.specs.Walks.{mapped-length}
-use Rattle.lawful_session.specs.Tests.{selectings, selected_next, selected_past}
+use Rattle.lawful_session.specs.Tests.{selected_next, selected_past}
 use borrow.Author.Rules.{rules}
 use Rattle.lawful_session.proofs.selected_count.Goals as goal
 

@@ -1,5 +1,4 @@
 -- `selector_of`: a rung for each number, in the order of the definition. Assumes nothing.
-use Prim.Native.Nat.{◌-◌}
 use borrow.Author.Tests.{eq-eqb, ne_eqb}
 use Rattle.lawful_session.proofs.selector_of.Goals as goal
 

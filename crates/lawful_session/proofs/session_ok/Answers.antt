@@ -1,7 +1,6 @@
 -- `session_ok`: each test is one conjunct of the definition, tried in its order; the first that fails decides. Assumes nothing.
-use borrow.Author.Rules.{rules}
 use mathlib.Core.Path.{sym, ◌∙◌}
-use borrow.Author.Tests.{not-true, not-false, le-leb, lt-leb}
+use borrow.Author.Tests.{le-leb, lt-leb}
 use Rattle.model.specs.Laws.{all_hold}
 use Rattle.lawful_session.specs.Tests.{group_tests, session_tests, no_at, many-selected, few-selected, names_last}
 use Rattle.lawful_session.proofs.session_ok.Goals as goal

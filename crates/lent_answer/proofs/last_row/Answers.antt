@@ -1,5 +1,4 @@
 -- `last_row`: the last used row, or the place behind the last lent row. Assumes nothing.
-use borrow.Author.Rules.{rules}
 use mathlib.Core.Path.{refl}
 use borrow.Author.Tests.{lt-ltb, le-ltb}
 use Rattle.lent_answer.proofs.last_row.Goals as goal

@@ -1,5 +1,4 @@
 -- `moved_from`: whence the rows move up. Assumes nothing.
-use borrow.Author.Rules.{rules}
 use mathlib.Core.Path.{refl, sym, ◌∙◌, ap}
 use borrow.Author.Tests.{le-leb, lt-leb, lt-ltb, le-ltb}
 use Rattle.record_outcome.specs.declared.Change.{Change}

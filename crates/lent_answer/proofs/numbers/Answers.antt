@@ -1,5 +1,4 @@
 -- `numbers`: the answer of an outcome, in numbers. Assumes nothing.
-use borrow.Author.Rules.{rules}
 use mathlib.Core.Path.{sym, ◌∙◌, ap}
 use Prim.Native.Nat.{ℕ}
 use Rattle.lent_answer.specs.Numbers.{numbers_said}

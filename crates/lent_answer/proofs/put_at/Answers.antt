@@ -1,5 +1,4 @@
 -- `put_at`: the row that is written. Assumes nothing.
-use borrow.Author.Rules.{rules}
 use mathlib.Core.Path.{sym, ◌∙◌, ap}
 use Rattle.record_outcome.specs.declared.Change.{Change}
 use Rattle.lent_answer.specs.Places.{placed}

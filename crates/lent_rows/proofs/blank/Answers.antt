@@ -1,5 +1,4 @@
 -- `blank`: 64 empty rows are an array of them. Assumes nothing.
-use borrow.Author.Rules.{rules}
 use mathlib.Core.Path.{ap}
 use lib.ListN.{replicate}
 use Rattle.model.specs.declared.Mailbox.{Mailbox}

@@ -1,13 +1,8 @@
 -- `find_id`: the loop keeps that no row before i has the id. Assumes nothing.
-use mathlib.Core.Path.{◌≡◌, sym, ◌∙◌, ap}
+use mathlib.Core.Path.{◌≡◌}
 use Prim.Native.Nat.{◌≤◌, ◌-◌, ◌+◌}
-use native.Mathlib.Omega.{arith}
-use lib.ListN.{length, take, drop}
-use lib.Seq.{length-take-le, get_or-take}
+use lib.ListN.{take, drop}
 use Rattle.model.specs.Memory.{place}
-use Rattle.model.specs.declared.Mailbox.{Mailbox}
-use Rattle.table_mailboxes.specs.Walks.{vacant, mapped-length, place_found, place_on, place_over}
-use borrow.Author.Rules.{rules}
 use Rattle.lent_rows.proofs.find_id.Given as goal
 
 abbrev pub invariant-loop-i : goal.invariant-loop-i

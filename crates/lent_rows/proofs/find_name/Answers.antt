@@ -1,8 +1,8 @@
 -- `find_name`: the loop keeps that no row before i has the name. Assumes nothing.
 use mathlib.Core.Path.{◌≡◌, sym, ◌∙◌, ap}
-use Prim.Native.Nat.{◌≤◌, ◌-◌, ◌+◌}
+use Prim.Native.Nat.{◌+◌}
 use native.Mathlib.Omega.{arith}
-use lib.ListN.{length, take, drop}
+use lib.ListN.{length, take}
 use lib.Seq.{length-take-le, get_or-take}
 use Rattle.model.specs.Lists.{same}
 use Rattle.model.specs.Memory.{name_of}

@@ -1,15 +1,8 @@
 -- `find_name`: the loop keeps that no row before i has the name. Assumes nothing.
-use mathlib.Core.Path.{◌≡◌, sym, ◌∙◌, ap}
+use mathlib.Core.Path.{◌≡◌}
 use Prim.Native.Nat.{◌≤◌, ◌-◌, ◌+◌}
-use native.Mathlib.Omega.{arith}
-use lib.ListN.{length, take, drop}
-use lib.Seq.{length-take-le, get_or-take}
-use Rattle.model.specs.Lists.{same}
-use Rattle.model.specs.Memory.{name_of}
-use Rattle.model.specs.declared.Mailbox.{Mailbox}
-use Rattle.table_mailboxes.specs.Walks.{vacant, mapped-length}
-use Rattle.lent_rows.specs.Rows.{place_named, named-found, named_on, named_over}
-use borrow.Author.Rules.{rules}
+use lib.ListN.{take, drop}
+use Rattle.lent_rows.specs.Rows.{place_named}
 use Rattle.lent_rows.proofs.find_name.Given as goal
 
 abbrev pub invariant-loop-i : goal.invariant-loop-i

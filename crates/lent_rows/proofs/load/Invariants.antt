@@ -1,7 +1,5 @@
 -- `load`: the array has the first i rows over the first i empty ones. Assumes nothing.
 use Rattle.std.proofs.Common.{◌≡◌, ◌≤◌, ◌-◌}
-use Rattle.std.proofs.lemmas.List.{length-replicate}
-use mathlib.Core.List.{List}
 use lib.ListN.{replicate, length}
 use Rattle.model.specs.Memory.{no_mailbox}
 use Rattle.laws.specs.Shift.{over}

@@ -1,10 +1,9 @@
 -- `move_up`: each turn moves one row more. Assumes nothing.
-use borrow.Author.Rules.{rules}
 use native.Mathlib.Omega.{arith}
-use mathlib.Core.Path.{◌≡◌, refl, ap, sym, ◌∙◌}
+use mathlib.Core.Path.{◌≡◌, refl, ap, ◌∙◌}
 use mathlib.Core.List.{List}
 use Prim.Native.Nat.{◌+◌}
-use lib.ListN.{length, set, get_or, length-set}
+use lib.ListN.{set, get_or, length-set}
 use Rattle.std.proofs.lemmas.List.{get_or_default}
 use Rattle.model.specs.Memory.{no_mailbox}
 use Rattle.model.specs.declared.Mailbox.{Mailbox}

@@ -1,5 +1,5 @@
 -- `move_up`: the rows before place i have moved. Assumes nothing.
-use Rattle.std.proofs.Common.{◌≡◌, ◌≤◌, ◌-◌, ◌+◌, length}
+use Rattle.std.proofs.Common.{◌≡◌, ◌≤◌, ◌-◌, length}
 use Rattle.laws.specs.Shift.{over, without}
 use Rattle.lent_rows.proofs.move_up.Given as goal
 

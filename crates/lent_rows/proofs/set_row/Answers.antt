@@ -1,5 +1,4 @@
 -- `set_row`: where there is no row k, setting it changes nothing. Assumes nothing.
-use native.Mathlib.Omega.{arith}
 use borrow.Author.Tests.{ltb-true, ltb-false}
 use mathlib.Core.Path.{sym, ◌∙◌}
 use Rattle.std.proofs.lemmas.List.{set_past}

@@ -1,5 +1,4 @@
 -- `put_answer`: the tagged line, or the line of `*`. Assumes nothing.
-use borrow.Author.Rules.{rules}
 use native.Mathlib.Omega.{arith}
 use Rattle.line_put.specs.Put.{◌then◌, put_as}
 use Rattle.read_commands.specs.Judging.{word_of}

@@ -1,11 +1,9 @@
 -- `put_reply`: the same to a command line: with its tag, or with `*` where it has none. Assumes nothing.
-use borrow.Author.Rules.{rules}
 use mathlib.Core.Path.{sym, ap, ◌∙◌}
 use mathlib.Core.List.{List}
 use Prim.Native.Nat.{ℕ}
 use native.Mathlib.Omega.{arith}
 use lib.Seq.{length-take-le}
-use borrow.Author.Tests.{not-true, not-false}
 use Rattle.model.specs.Lines.{answer, render}
 use Rattle.line_put.specs.Put.{put_as}
 use Rattle.read_commands.specs.Judging.{word_of}

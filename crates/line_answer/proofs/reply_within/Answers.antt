@@ -1,8 +1,6 @@
 -- `reply_within`: the reply, where all that an accepted command would write has n octets, and at most `most` may be written. Assumes nothing.
-use borrow.Author.Rules.{rules}
 use mathlib.Core.Path.{sym, ◌∙◌}
 use native.Mathlib.Omega.{arith}
-use borrow.Author.Tests.{not-true, not-false}
 use Rattle.line_answer.specs.Sizes.{reply-other, reply-small, reply_large}
 use Rattle.line_answer.proofs.reply_within.Goals as goal
 

@@ -1,5 +1,4 @@
 -- `say_reply`: it is written, if it leaves the last 64 octets free, or nothing is. Assumes nothing.
-use borrow.Author.Rules.{rules}
 use native.Mathlib.Omega.{arith}
 use Rattle.model.specs.Commands.{tag_of}
 use Rattle.model.specs.Lines.{answer}

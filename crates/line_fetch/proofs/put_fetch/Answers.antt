@@ -1,5 +1,4 @@
 -- `put_fetch`: seven texts, each put where the one before ended, are the line; their lengths add up to at most 200. Assumes nothing.
-use borrow.Author.Rules.{rules}
 use native.Mathlib.Omega.{arith}
 use Rattle.line_put.specs.Put.{◌then◌}
 use Rattle.line_fetch.specs.Fetch.{fetch_text}
@@ -11,8 +10,7 @@ put-requires c =
 
 pub returns : goal.returns
 unfolding fetch_text
-returns c =
-    (
-      ◌then◌ (◌then◌ (◌then◌ (◌then◌ (◌then◌ (◌then◌ c.put-a.ensures c.put_number-b.ensures.put) c.put-c.ensures) c.put_number-d.ensures.put) c.put_flag_item-e.ensures.0) c.put_modseq-f.ensures.0) c.put.ensures,
-      omega (arith, c.requires, c.put-a.ensures.next, c.put_number-b.ensures.upper_bound, c.put-c.ensures.next, c.put_number-d.ensures.upper_bound, c.put_flag_item-e.ensures.1, c.put_modseq-f.ensures.1, c.put.ensures.next),
-    )
+returns c = (
+  ◌then◌ (◌then◌ (◌then◌ (◌then◌ (◌then◌ (◌then◌ c.put-a.ensures c.put_number-b.ensures.put) c.put-c.ensures) c.put_number-d.ensures.put) c.put_flag_item-e.ensures.0) c.put_modseq-f.ensures.0) c.put.ensures,
+  omega (arith, c.requires, c.put-a.ensures.next, c.put_number-b.ensures.upper_bound, c.put-c.ensures.next, c.put_number-d.ensures.upper_bound, c.put_flag_item-e.ensures.1, c.put_modseq-f.ensures.1, c.put.ensures.next),
+)

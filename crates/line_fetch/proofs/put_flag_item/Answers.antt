@@ -1,6 +1,4 @@
 -- `put_flag_item`: not asked, nothing is put; asked, the gap and the names between their parentheses are the piece. Assumes nothing.
-use borrow.Author.Rules.{rules}
-use Prim.Native.Nat.{◌-◌}
 use native.Mathlib.Omega.{arith}
 use borrow.Author.Tests.{not-true, not-false}
 use Rattle.line_put.specs.Put.{◌then◌, put_as, put_none}
@@ -13,9 +11,8 @@ returns-then-not-on c =
     (put_as (put_none _ _ _ c.requires.0) (piece_off c.args.on c.args.began (flag_item c.args.flags) (not-true c.args.on c.if-not-on.true-raw)), omega arith)
 
 pub returns : goal.returns
-returns c =
-    (
-      put_as (◌then◌ c.put_gap-a.ensures.0 (◌then◌ (◌then◌ c.put-b.ensures c.put_flags-c.ensures.0) c.put.ensures))
-          (piece_gap c.args.on c.args.began (flag_item c.args.flags) (not-false c.args.on c.if-not-on.false-raw)),
-      omega (arith, c.put_gap-a.ensures.1, c.put-b.ensures.next, c.put_flags-c.ensures.1, c.put.ensures.next),
-    )
+returns c = (
+  put_as (◌then◌ c.put_gap-a.ensures.0 (◌then◌ (◌then◌ c.put-b.ensures c.put_flags-c.ensures.0) c.put.ensures))
+      (piece_gap c.args.on c.args.began (flag_item c.args.flags) (not-false c.args.on c.if-not-on.false-raw)),
+  omega (arith, c.put_gap-a.ensures.1, c.put-b.ensures.next, c.put_flags-c.ensures.1, c.put.ensures.next),
+)

@@ -1,6 +1,4 @@
 -- `put_gap`: nothing is put, or one octet, as the flag says; both are the gap. Assumes nothing.
-use borrow.Author.Rules.{rules}
-use Prim.Native.Nat.{◌-◌}
 use native.Mathlib.Omega.{arith}
 use borrow.Author.Tests.{not-true, not-false}
 use Rattle.line_put.specs.Put.{put_as, put_none}

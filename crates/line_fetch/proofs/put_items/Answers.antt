@@ -1,5 +1,4 @@
 -- `put_items`: three items, each with a gap if one stands before it, and the counter last; `either` says whether one does. Assumes nothing.
-use borrow.Author.Rules.{rules}
 use mathlib.Core.Path.{ap, ◌∙◌}
 use mathlib.Core.Bool.{Bool, true, ◌||◌}
 use native.Mathlib.Omega.{arith}
@@ -11,8 +10,7 @@ use Rattle.line_fetch.proofs.put_items.Goals as goal
 
 pub returns : goal.returns
 returns c =
-    let any = c.either.ensures ∙ ap (λ (b : Bool). b || c.args.w.size) c.either-began.ensures in
-    (
+    let any = c.either.ensures ∙ ap (λ (b : Bool). b || c.args.w.size) c.either-began.ensures in (
       ◌then◌
           (◌then◌ (◌then◌ c.put_counted-a.ensures.0 c.put_flag_item-b.ensures.0) (put_as c.put_counted-c.ensures.0 (ap (λ (b : Bool). piece c.args.w.size b (size_text c.args.e.size)) c.either-began.ensures)))
           (put_as c.put_modseq.ensures.0 (ap (λ (b : Bool). piece true b (item_text (modseq c.args.e.counter))) any)),

@@ -1,5 +1,4 @@
 -- `put_modseq`: the gap, the word, the number and the parenthesis stand one behind the other, as in the item. Assumes nothing.
-use borrow.Author.Rules.{rules}
 use mathlib.Core.Path.{refl}
 use mathlib.Core.Bool.{true}
 use native.Mathlib.Omega.{arith}
@@ -9,8 +8,7 @@ use Rattle.line_fetch.specs.Items.{piece_gap}
 use Rattle.line_fetch.proofs.put_modseq.Goals as goal
 
 pub returns : goal.returns
-returns c =
-    (
-      put_as (◌then◌ c.put_gap-a.ensures.0 (◌then◌ c.put-b.ensures (◌then◌ c.put_number-c.ensures.put c.put.ensures))) (piece_gap true c.args.began (item_text (modseq c.args.counter)) refl),
-      omega (arith, c.put_gap-a.ensures.1, c.put-b.ensures.next, c.put_number-c.ensures.upper_bound, c.put.ensures.next),
-    )
+returns c = (
+  put_as (◌then◌ c.put_gap-a.ensures.0 (◌then◌ c.put-b.ensures (◌then◌ c.put_number-c.ensures.put c.put.ensures))) (piece_gap true c.args.began (item_text (modseq c.args.counter)) refl),
+  omega (arith, c.put_gap-a.ensures.1, c.put-b.ensures.next, c.put_number-c.ensures.upper_bound, c.put.ensures.next),
+)

@@ -1,5 +1,4 @@
 -- `say_fetch`: the line is measured with no room; if it fits it is put, else the queue is as it was for the overflow line. Assumes nothing.
-use borrow.Author.Rules.{rules}
 use mathlib.Core.Path.{refl}
 use native.Mathlib.Omega.{arith}
 use Rattle.line_put.specs.Says.{says-fits, says_over}

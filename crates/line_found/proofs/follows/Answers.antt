@@ -1,5 +1,4 @@
 -- `follows`: 0 follows nothing; any other number follows the one before it. Assumes nothing.
-use borrow.Author.Rules.{rules}
 use Rattle.line_found.specs.Writing.{follows_not, follows_by}
 use Rattle.line_found.proofs.follows.Goals as goal
 

@@ -1,5 +1,4 @@
 -- `put_box`: four texts one behind the other make the text of the definition. Assumes nothing.
-use borrow.Author.Rules.{rules}
 use native.Mathlib.Omega.{arith}
 use Rattle.line_put.specs.Put.{◌then◌}
 use Rattle.line_found.specs.Line.{box_text}

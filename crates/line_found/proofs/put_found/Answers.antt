@@ -1,5 +1,4 @@
 -- `put_found`: tag, mailbox, results and line end, one behind the other. Assumes nothing.
-use borrow.Author.Rules.{rules}
 use native.Mathlib.Omega.{arith}
 use Rattle.line_put.specs.Put.{◌then◌, put_as}
 use Rattle.line_found.specs.Writing.{line_pieces}

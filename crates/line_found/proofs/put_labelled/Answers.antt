@@ -1,8 +1,6 @@
 -- `put_labelled`: nothing where it is not asked for; else the label and the number. Assumes nothing.
-use borrow.Author.Rules.{rules}
 use native.Mathlib.Omega.{arith}
 use Rattle.line_put.specs.Put.{◌then◌, put_as, put_none}
-use borrow.Author.Tests.{not-true, not-false}
 use mathlib.Core.List.{◌++◌}
 use Rattle.model.specs.Text.{decimal}
 use Rattle.line_found.specs.Writing.{asked_not, asked}

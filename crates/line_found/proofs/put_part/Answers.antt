@@ -1,5 +1,4 @@
 -- `put_part`: a run and a comma behind it. Assumes nothing.
-use borrow.Author.Rules.{rules}
 use native.Mathlib.Omega.{arith}
 use Rattle.line_put.specs.Put.{◌then◌}
 use Rattle.line_found.proofs.put_part.Goals as goal

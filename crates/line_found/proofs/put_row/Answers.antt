@@ -1,5 +1,4 @@
 -- `put_row`: nothing where nothing was found; else the line of the run that the row has. Assumes nothing.
-use borrow.Author.Rules.{rules}
 use mathlib.Core.Path.{◌≡◌, ap₂}
 use mathlib.Core.List.{List}
 use native.Mathlib.Omega.{arith}
@@ -13,13 +12,12 @@ use Rattle.line_found.specs.Telling.{line_none, run-part}
 use Rattle.line_found.proofs.put_row.Goals as goal
 
 pub returns-then-n-eq0 : goal.returns-then-n-eq0
-returns-then-n-eq0 c =
-    (
-      put_as (put_none c.args.queue.now c.args.at c.args.limit c.requires.0.0)
-          (line_none c.args.tag.now (name_at c.args.names.now c.args.k c.args.len) c.args.validity c.args.w
-          (drop c.args.from c.args.uids.now) c.args.n c.if-n-eq0.true),
-      omega arith,
-    )
+returns-then-n-eq0 c = (
+  put_as (put_none c.args.queue.now c.args.at c.args.limit c.requires.0.0)
+      (line_none c.args.tag.now (name_at c.args.names.now c.args.k c.args.len) c.args.validity c.args.w
+      (drop c.args.from c.args.uids.now) c.args.n c.if-n-eq0.true),
+  omega arith,
+)
 
 pub returns : goal.returns
 returns c =

@@ -1,9 +1,8 @@
 -- `put_rows`: the loop keeps that the lines of the places above i are written, from the top down. Assumes nothing.
-use mathlib.Core.Path.{◌≡◌, refl, ◌∙◌}
+use mathlib.Core.Path.{refl, ◌∙◌}
 use native.Mathlib.Omega.{arith}
-use Prim.Native.Nat.{◌+◌, ◌-◌, ◌*◌, ◌≤◌, ◌<◌}
-use lib.ListN.{length}
-use Rattle.line_found.specs.Telling.{Goes, goes_next, goes_end}
+use Prim.Native.Nat.{◌-◌, ◌<◌}
+use Rattle.line_found.specs.Telling.{goes_next, goes_end}
 use borrow.Author.Rules.{rules}
 use Rattle.line_found.proofs.put_rows.Goals as goal
 
@@ -18,8 +17,7 @@ put_row-end-requires c =
 
 pub loop-i-preserved : goal.loop-i-preserved
 loop-i-preserved c =
-    let h : 0 < c.loop-i.i = search rules in
-    (
+    let h : 0 < c.loop-i.i = search rules in (
       omega arith,
       c.put_row-end.ensures.0.same ∙ c.loop-i.invariant.1,
       omega arith,
@@ -29,10 +27,9 @@ loop-i-preserved c =
     )
 
 pub returns : goal.returns
-returns c =
-    (
-      goes_end c.args.tag.now c.args.lens.now c.args.names.now c.args.validities.now c.args.rows.now c.args.w
-          c.args.uids.now c.args.starts.now c.args.counts.now c.args.queue.now c.args.at c.args.limit c.args.n
-          c.loop-i.queue c.loop-i.end c.loop-i.i (omega arith) (omega arith) c.loop-i.invariant.3,
-      omega arith,
-    )
+returns c = (
+  goes_end c.args.tag.now c.args.lens.now c.args.names.now c.args.validities.now c.args.rows.now c.args.w
+      c.args.uids.now c.args.starts.now c.args.counts.now c.args.queue.now c.args.at c.args.limit c.args.n
+      c.loop-i.queue c.loop-i.end c.loop-i.i (omega arith) (omega arith) c.loop-i.invariant.3,
+  omega arith,
+)

@@ -1,10 +1,8 @@
 -- `put_rows`: the loop keeps that the lines of the places above i are written, from the top down. Assumes nothing.
-use mathlib.Core.Path.{◌≡◌, refl, ◌∙◌}
-use native.Mathlib.Omega.{arith}
-use Prim.Native.Nat.{◌+◌, ◌-◌, ◌*◌, ◌≤◌, ◌<◌}
+use mathlib.Core.Path.{◌≡◌}
+use Prim.Native.Nat.{◌+◌, ◌*◌, ◌≤◌}
 use lib.ListN.{length}
-use Rattle.line_found.specs.Telling.{Goes, goes_next, goes_end}
-use borrow.Author.Rules.{rules}
+use Rattle.line_found.specs.Telling.{Goes}
 use Rattle.line_found.proofs.put_rows.Given as goal
 
 abbrev pub invariant-loop-i : goal.invariant-loop-i

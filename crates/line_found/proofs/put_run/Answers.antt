@@ -1,5 +1,4 @@
 -- `put_run`: one number where both ends are the same, else both with a colon between. Assumes nothing.
-use borrow.Author.Rules.{rules}
 use native.Mathlib.Omega.{arith}
 use Rattle.line_put.specs.Put.{◌then◌, put_as}
 use Rattle.line_found.specs.Writing.{run_one, run_two}

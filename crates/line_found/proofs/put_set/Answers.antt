@@ -1,9 +1,7 @@
 -- `put_set`: the open run and what is left are all that is to be written. Assumes nothing.
 use mathlib.Core.Path.{◌∙◌}
 use native.Mathlib.Omega.{arith}
-use Prim.Native.Nat.{◌-◌}
-use Rattle.line_found.specs.Writing.{Writing, writing_start, writing_joined, writing-apart, writing_end}
-use borrow.Author.Rules.{rules}
+use Rattle.line_found.specs.Writing.{writing_start, writing_joined, writing-apart, writing_end}
 use Rattle.line_found.proofs.put_set.Goals as goal
 
 pub loop-i-init : goal.loop-i-init

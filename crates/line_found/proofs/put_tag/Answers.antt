@@ -1,5 +1,4 @@
 -- `put_tag`: three texts one behind the other. Assumes nothing.
-use borrow.Author.Rules.{rules}
 use native.Mathlib.Omega.{arith}
 use Rattle.line_put.specs.Put.{◌then◌}
 use Rattle.line_found.specs.Line.{tag_text}

@@ -1,10 +1,8 @@
 -- `put_lines`: the loop keeps that the lines of the places above i are written. Assumes nothing.
 use mathlib.Core.Path.{◌≡◌, refl, ◌∙◌}
-use Prim.Native.Nat.{◌≤◌, ◌+◌, ◌*◌, ◌-◌}
 use native.Mathlib.Omega.{arith}
-use lib.ListN.{length}
 use Rattle.line_put.specs.Put.{put_as}
-use Rattle.line_listing.specs.Telling.{texts, texts_are, Goes, goes_next, goes_end}
+use Rattle.line_listing.specs.Telling.{texts_are, goes_next, goes_end}
 use borrow.Author.Rules.{rules}
 use Rattle.line_listing.proofs.put_lines.Goals as goal
 
@@ -15,13 +13,12 @@ pub put_row-end-requires : goal.put_row-end-requires
 put_row-end-requires c = (omega arith, omega arith, omega arith)
 
 pub loop-i-preserved : goal.loop-i-preserved
-loop-i-preserved c =
-    (
-      search rules,
-      c.put_row-end.ensures.0.same ∙ c.loop-i.invariant.1,
-      omega (arith, c.put_row-end.ensures.1),
-      goes_next c.args.attributes.now c.args.lens.now c.args.validities.now c.args.nexts.now c.args.counters.now c.args.names.now c.args.order.now c.args.counts.now c.args.asks.now c.args.queue.now c.args.at c.args.limit _ c.loop-i.queue c.loop-i.end c.loop-i.i _ _ (omega arith) c.loop-i.invariant.3 c.put_row-end.ensures.0,
-    )
+loop-i-preserved c = (
+  search rules,
+  c.put_row-end.ensures.0.same ∙ c.loop-i.invariant.1,
+  omega (arith, c.put_row-end.ensures.1),
+  goes_next c.args.attributes.now c.args.lens.now c.args.validities.now c.args.nexts.now c.args.counters.now c.args.names.now c.args.order.now c.args.counts.now c.args.asks.now c.args.queue.now c.args.at c.args.limit _ c.loop-i.queue c.loop-i.end c.loop-i.i _ _ (omega arith) c.loop-i.invariant.3 c.put_row-end.ensures.0,
+)
 
 pub returns : goal.returns
 returns c =

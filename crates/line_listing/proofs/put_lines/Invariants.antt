@@ -1,11 +1,8 @@
 -- `put_lines`: the loop keeps that the lines of the places above i are written. Assumes nothing.
-use mathlib.Core.Path.{◌≡◌, refl, ◌∙◌}
-use Prim.Native.Nat.{◌≤◌, ◌+◌, ◌*◌, ◌-◌}
-use native.Mathlib.Omega.{arith}
+use mathlib.Core.Path.{◌≡◌}
+use Prim.Native.Nat.{◌≤◌, ◌+◌, ◌*◌}
 use lib.ListN.{length}
-use Rattle.line_put.specs.Put.{put_as}
-use Rattle.line_listing.specs.Telling.{texts, texts_are, Goes, goes_next, goes_end}
-use borrow.Author.Rules.{rules}
+use Rattle.line_listing.specs.Telling.{texts, Goes}
 use Rattle.line_listing.proofs.put_lines.Given as goal
 
 abbrev pub invariant-loop-i : goal.invariant-loop-i

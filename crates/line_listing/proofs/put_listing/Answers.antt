@@ -1,5 +1,4 @@
 -- `put_listing`: the lines of an order that is the listing's. Assumes nothing.
-use borrow.Author.Rules.{rules}
 use native.Mathlib.Omega.{arith}
 use Rattle.model.specs.Memory.{boxes}
 use Rattle.model.specs.Listing.{listing_line}

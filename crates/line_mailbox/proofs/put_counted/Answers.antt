@@ -1,5 +1,4 @@
 -- `put_counted`: a label and a number behind it. Assumes nothing.
-use borrow.Author.Rules.{rules}
 use native.Mathlib.Omega.{arith}
 use Rattle.line_put.specs.Put.{◌then◌}
 use Rattle.line_mailbox.proofs.put_counted.Goals as goal

@@ -1,5 +1,4 @@
 -- `line_mailbox::put_flag_status` meets its contract: its pieces are those of the line. Assumes nothing.
-use borrow.Author.Rules.{rules}
 use native.Mathlib.Omega.{arith}
 use Rattle.line_put.specs.Put.{◌then◌, put_as}
 use Rattle.line_mailbox.specs.Texts.{flag-text}

@@ -1,5 +1,4 @@
 -- `put_list`: the opening, the mark, the name and the line end, one behind the other. Assumes nothing.
-use borrow.Author.Rules.{rules}
 use native.Mathlib.Omega.{arith}
 use Rattle.line_put.specs.Put.{◌then◌, put_as}
 use Rattle.line_mailbox.specs.Texts.{mark_of, list-text}

@@ -1,5 +1,4 @@
 -- `put_listed`: mark, separator and name, one behind the other. Assumes nothing.
-use borrow.Author.Rules.{rules}
 use native.Mathlib.Omega.{arith}
 use Rattle.line_put.specs.Put.{◌then◌}
 use Rattle.line_mailbox.specs.Texts.{listed}

@@ -1,5 +1,4 @@
 -- `put_mark`: a text for each mark. Assumes nothing.
-use borrow.Author.Rules.{rules}
 use mathlib.Core.Path.{sym, ap}
 use native.Mathlib.Omega.{arith}
 use Rattle.line_put.specs.Put.{put_as}

@@ -1,5 +1,4 @@
 -- `line_mailbox::put_opening` meets its contract: the word, the name, the parenthesis. Assumes nothing.
-use borrow.Author.Rules.{rules}
 use native.Mathlib.Omega.{arith}
 use Rattle.line_put.specs.Put.{◌then◌}
 use Rattle.line_mailbox.specs.Texts.{opening}

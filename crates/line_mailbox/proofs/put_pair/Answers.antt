@@ -1,5 +1,4 @@
 -- `put_pair`: the one line behind the other. Assumes nothing.
-use borrow.Author.Rules.{rules}
 use native.Mathlib.Omega.{arith}
 use Rattle.model.specs.Lines.{list}
 use Rattle.line_put.specs.Put.{◌then◌, put_as}

@@ -1,5 +1,4 @@
 -- `put_renamed`: the line of the new name with the old one in OLDNAME. Assumes nothing.
-use borrow.Author.Rules.{rules}
 use native.Mathlib.Omega.{arith}
 use Rattle.line_put.specs.Put.{◌then◌, put_as}
 use Rattle.line_mailbox.specs.Texts.{mark_of, renamed-text}

@@ -1,7 +1,5 @@
 -- `put_wanted`: nothing, or the line. Assumes nothing.
-use borrow.Author.Rules.{rules}
 use native.Mathlib.Omega.{arith}
-use borrow.Author.Tests.{not-true, not-false}
 use Rattle.model.specs.Lines.{list}
 use Rattle.line_put.specs.Put.{put_none, put_as}
 use Rattle.line_mailbox.specs.Texts.{mark_of, none-text, one-text}

@@ -1,5 +1,4 @@
 -- `say_pair`: measured with limit 0, then written, or else the overflow line. Assumes nothing.
-use borrow.Author.Rules.{rules}
 use mathlib.Core.Path.{refl}
 use native.Mathlib.Omega.{arith}
 use Rattle.line_put.specs.Says.{says-fits, says_over}

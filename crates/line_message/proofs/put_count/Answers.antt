@@ -1,5 +1,4 @@
 -- `put_count`: three texts one behind the other. Assumes nothing.
-use borrow.Author.Rules.{rules}
 use native.Mathlib.Omega.{arith}
 use Rattle.line_put.specs.Put.{◌then◌}
 use Rattle.line_message.specs.Counts.{count_text}

@@ -1,6 +1,4 @@
 -- `put_exists`: no line where nothing is new; else the number of all. Assumes nothing.
-use borrow.Author.Rules.{rules}
-use Prim.Native.Nat.{◌-◌}
 use native.Mathlib.Omega.{arith}
 use Rattle.line_put.specs.Put.{put_as, put_none}
 use Rattle.line_message.specs.Counts.{exists_none, exists_some}

@@ -1,6 +1,4 @@
 -- `put_news`: EXISTS, and behind it a FETCH of each that is new, where one is asked. Assumes nothing.
-use borrow.Author.Rules.{rules}
-use Prim.Native.Nat.{◌-◌}
 use native.Mathlib.Omega.{arith}
 use borrow.Author.Tests.{not-true, not-false}
 use Rattle.line_put.specs.Put.{◌then◌, put_as}

@@ -1,6 +1,4 @@
 -- `put_owed`: the three parts one behind the other, EXISTS by the two counts along the order. Assumes nothing.
-use borrow.Author.Rules.{rules}
-use Prim.Native.Nat.{◌-◌}
 use native.Mathlib.Omega.{arith}
 use Rattle.line_put.specs.Put.{◌then◌, put_as}
 use Rattle.line_message.specs.Whole.{owed_text, exists_as}

@@ -1,7 +1,5 @@
 -- `say_news`: measured with limit 0, then written, or else the overflow line. Assumes nothing.
-use borrow.Author.Rules.{rules}
 use mathlib.Core.Path.{refl}
-use Prim.Native.Nat.{◌-◌}
 use native.Mathlib.Omega.{arith}
 use Rattle.line_put.specs.Says.{says-fits, says_over}
 use Rattle.line_message.proofs.say_news.Goals as goal

@@ -1,11 +1,11 @@
 -- `copy`: the loop keeps that the first i octets are written. Assumes nothing.
-use mathlib.Core.Path.{◌≡◌, refl, sym}
-use Prim.Native.Nat.{◌≤◌, ◌-◌, ◌<◌, ◌+◌}
+use mathlib.Core.Path.{refl, sym}
+use Prim.Native.Nat.{◌<◌, ◌+◌}
 use native.Mathlib.Omega.{arith}
 use native.Mathlib.Numerals.{add-one}
-use lib.ListN.{take, length, get_or}
+use lib.ListN.{length, get_or}
 use lib.Seq.{take-suc, take_all}
-use Rattle.line_put.specs.Wrote.{Wrote, wrote_none, wrote_one, ◌then◌, wrote_as}
+use Rattle.line_put.specs.Wrote.{wrote_none, wrote_one, ◌then◌, wrote_as}
 use borrow.Author.Rules.{rules}
 use Rattle.line_put.proofs.copy.Goals as goal
 

@@ -1,5 +1,4 @@
 -- `hear`: the session as it is where the line fits, silenced where it does not. Assumes nothing.
-use borrow.Author.Rules.{rules}
 use mathlib.Core.Path.{refl, sym, ◌∙◌, ap}
 use mathlib.Core.Bool.{Bool, cond}
 use Rattle.model.specs.Memory.{silenced}

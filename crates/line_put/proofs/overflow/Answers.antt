@@ -1,5 +1,4 @@
 -- `overflow`: the line itself, in the octets that were kept for it. Assumes nothing.
-use borrow.Author.Rules.{rules}
 use mathlib.Core.Path.{refl}
 use Rattle.model.specs.Lines.{render}
 use Rattle.line_put.proofs.overflow.Goals as goal

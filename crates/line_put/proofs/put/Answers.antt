@@ -1,5 +1,4 @@
 -- `put`: past the limit nothing is written and the end is told; else the text is copied. Assumes nothing.
-use borrow.Author.Rules.{rules}
 use native.Mathlib.Omega.{arith}
 use Rattle.line_put.specs.Put.{put_past, put_wrote}
 use mathlib.Core.Path.{refl}

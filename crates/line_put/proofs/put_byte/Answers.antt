@@ -1,5 +1,4 @@
 -- `put_byte`: past the limit nothing is written; else one octet. Assumes nothing.
-use borrow.Author.Rules.{rules}
 use native.Mathlib.Omega.{arith}
 use Rattle.line_put.specs.Put.{put_past, put_wrote}
 use Rattle.line_put.specs.Wrote.{wrote_one}

@@ -1,14 +1,9 @@
 -- `put_quoted`: the loop keeps that the octets before i are written, escaped, behind the opening quote. Assumes nothing.
-use mathlib.Core.Path.{◌≡◌, refl, sym}
-use Prim.Native.Nat.{◌≤◌, ◌-◌, ◌<◌, ◌+◌, ◌*◌}
-use native.Mathlib.Omega.{arith}
-use native.Mathlib.Numerals.{add-one}
-use lib.ListN.{take, length, get_or}
-use lib.Seq.{take-suc, take_all}
-use Rattle.line_put.specs.Put.{Put, put_none, ◌then◌, put_as}
-use Rattle.model.specs.Text.{escape, quoted}
-use Rattle.line_put.specs.Decimals.{escape-snoc}
-use borrow.Author.Rules.{rules}
+use mathlib.Core.Path.{◌≡◌}
+use Prim.Native.Nat.{◌≤◌, ◌-◌, ◌+◌, ◌*◌}
+use lib.ListN.{take, length}
+use Rattle.line_put.specs.Put.{Put}
+use Rattle.model.specs.Text.{escape}
 use Rattle.line_put.proofs.put_quoted.Given as goal
 
 abbrev pub invariant-loop-i : goal.invariant-loop-i

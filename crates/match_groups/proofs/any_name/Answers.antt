@@ -1,6 +1,6 @@
 -- `any_name`: whether a name of the range is the name, or has it in its subtree. Assumes nothing.
 use mathlib.Core.Path.{◌≡◌, refl, sym, ◌∙◌, ap}
-use Prim.Native.Nat.{ℕ, ◌-◌}
+use Prim.Native.Nat.{ℕ}
 use native.Mathlib.Omega.{arith}
 use lib.ListN.{length, take, drop}
 use Rattle.table_mailboxes.specs.Walks.{any_here, any_next, any_past, mapped-length}

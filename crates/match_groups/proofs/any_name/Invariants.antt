@@ -1,13 +1,9 @@
 -- `any_name`: whether a name of the range is the name, or has it in its subtree. Assumes nothing.
-use mathlib.Core.Path.{◌≡◌, refl, sym, ◌∙◌, ap}
-use Prim.Native.Nat.{ℕ, ◌-◌}
-use native.Mathlib.Omega.{arith}
-use lib.ListN.{length, take, drop}
-use Rattle.table_mailboxes.specs.Walks.{any_here, any_next, any_past, mapped-length}
+use mathlib.Core.Path.{◌≡◌}
+use Prim.Native.Nat.{◌-◌}
+use lib.ListN.{take, drop}
 use Rattle.model.specs.Lists.{anyb}
-use Rattle.model.specs.Names.{Name}
-use Rattle.match_groups.specs.Asking.{vacant_name, hit, hit_by, names_run}
-use borrow.Author.Rules.{rules}
+use Rattle.match_groups.specs.Asking.{hit_by}
 use Rattle.match_groups.proofs.any_name.Given as goal
 
 abbrev pub invariant-loop-i : goal.invariant-loop-i

@@ -1,10 +1,8 @@
 -- `asking`: the number of the first group that meets the mailbox and asks for event k, or 0. Assumes nothing.
 use mathlib.Core.Path.{◌≡◌, sym, ◌∙◌, ap}
-use Prim.Native.Nat.{◌-◌}
 use native.Mathlib.Omega.{arith}
-use lib.ListN.{length, take, drop}
+use lib.ListN.{length}
 use Rattle.table_mailboxes.specs.Walks.{mapped-length}
-use Rattle.model.specs.Groups.{behind, number}
 use Rattle.match_groups.specs.Asking.{vacant_group, asks_as, asks_in, number_groups, number_start, number_here, number_next, number_past}
 use borrow.Author.Rules.{rules}
 use Rattle.match_groups.proofs.asking.Goals as goal

@@ -1,12 +1,9 @@
 -- `asking`: the number of the first group that meets the mailbox and asks for event k, or 0. Assumes nothing.
-use mathlib.Core.Path.{◌≡◌, sym, ◌∙◌, ap}
+use mathlib.Core.Path.{◌≡◌}
 use Prim.Native.Nat.{◌-◌}
-use native.Mathlib.Omega.{arith}
-use lib.ListN.{length, take, drop}
-use Rattle.table_mailboxes.specs.Walks.{mapped-length}
+use lib.ListN.{take, drop}
 use Rattle.model.specs.Groups.{behind, number}
-use Rattle.match_groups.specs.Asking.{vacant_group, asks_as, asks_in, number_groups, number_start, number_here, number_next, number_past}
-use borrow.Author.Rules.{rules}
+use Rattle.match_groups.specs.Asking.{asks_as}
 use Rattle.match_groups.proofs.asking.Given as goal
 
 abbrev pub invariant-loop-i : goal.invariant-loop-i

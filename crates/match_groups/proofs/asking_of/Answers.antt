@@ -1,5 +1,4 @@
 -- `asking_of`: the number of the first group that meets a row and asks for event k, or 0. Assumes nothing.
-use borrow.Author.Rules.{rules}
 use mathlib.Core.Path.{sym, ◌∙◌, ap}
 use native.Mathlib.Omega.{arith}
 use lib.Seq.{length-take-le}

@@ -1,7 +1,5 @@
 -- `asks`: whether a group meets it and asks for event k. Assumes nothing.
-use borrow.Author.Rules.{rules}
 use mathlib.Core.Path.{sym, ◌∙◌}
-use borrow.Author.Tests.{not-true, not-false}
 use Rattle.match_groups.proofs.asks.Goals as goal
 
 pub returns-then-not-is_met : goal.returns-then-not-is_met

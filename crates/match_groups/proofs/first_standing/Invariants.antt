@@ -1,12 +1,9 @@
 -- `first_standing`: the number of the first of the session's that stands for the selected mailbox and asks for event k, or 0. Assumes nothing.
-use mathlib.Core.Path.{◌≡◌, sym, ◌∙◌, ap}
+use mathlib.Core.Path.{◌≡◌}
 use Prim.Native.Nat.{◌-◌}
-use native.Mathlib.Omega.{arith}
-use lib.ListN.{length, take, drop}
-use Rattle.table_mailboxes.specs.Walks.{mapped-length}
+use lib.ListN.{take, drop}
 use Rattle.model.specs.Groups.{behind, number}
-use Rattle.match_groups.specs.Asking.{vacant_group, standing, stands_as, number_groups, number_start, number_here, number_next, number_past}
-use borrow.Author.Rules.{rules}
+use Rattle.match_groups.specs.Asking.{stands_as}
 use Rattle.match_groups.proofs.first_standing.Given as goal
 
 abbrev pub invariant-loop-at : goal.invariant-loop-at

@@ -1,5 +1,4 @@
 -- `immediate_asks`: whether a selected group asks for event k at once. Assumes nothing.
-use borrow.Author.Rules.{rules}
 use mathlib.Core.Path.{◌∙◌, ap}
 use mathlib.Core.Bool.{not, false}
 use Prim.Native.Nat.{ℕ}

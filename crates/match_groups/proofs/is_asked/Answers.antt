@@ -1,5 +1,4 @@
 -- `is_asked`: whether a group asks for event k of the mailbox with this name and these attributes. Assumes nothing.
-use borrow.Author.Rules.{rules}
 use mathlib.Core.Path.{◌∙◌, ap}
 use mathlib.Core.Bool.{not, ◌&&◌}
 use Prim.Native.Nat.{ℕ}

@@ -1,5 +1,4 @@
 -- `is_met`: whether a selector is about the mailbox with this name and these attributes. Assumes nothing.
-use borrow.Author.Rules.{rules}
 use mathlib.Core.Path.{sym, ◌∙◌, ap}
 use Rattle.model.specs.Groups.{meets}
 use Rattle.match_groups.proofs.is_met.Goals as goal

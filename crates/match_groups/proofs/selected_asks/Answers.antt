@@ -1,5 +1,4 @@
 -- `selected_asks`: whether a selected group asks for event k, at once or delayed. Assumes nothing.
-use borrow.Author.Rules.{rules}
 use mathlib.Core.Path.{◌∙◌, ap}
 use mathlib.Core.Bool.{not, true}
 use Prim.Native.Nat.{ℕ}

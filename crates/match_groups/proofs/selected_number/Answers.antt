@@ -1,5 +1,4 @@
 -- `selected_number`: the number of the selected group that asks for event k, or 0. Assumes nothing.
-use borrow.Author.Rules.{rules}
 use mathlib.Core.Path.{◌∙◌}
 use Rattle.match_groups.specs.Asking.{selected-number_is}
 use Rattle.match_groups.proofs.selected_number.Goals as goal

@@ -1,5 +1,4 @@
 -- `selects`: whether a selector is about the selected mailbox; a delayed one if `delayed` says so. Assumes nothing.
-use borrow.Author.Rules.{rules}
 use mathlib.Core.Path.{sym, ap}
 use Rattle.match_groups.specs.Asking.{selecting}
 use Rattle.match_groups.proofs.selects.Goals as goal

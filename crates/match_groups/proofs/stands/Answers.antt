@@ -1,7 +1,5 @@
 -- `stands`: whether such a group asks for event k. Assumes nothing.
-use borrow.Author.Rules.{rules}
 use mathlib.Core.Path.{sym, ◌∙◌}
-use borrow.Author.Tests.{not-true, not-false}
 use Rattle.match_groups.proofs.stands.Goals as goal
 
 pub returns-then-not-selects : goal.returns-then-not-selects

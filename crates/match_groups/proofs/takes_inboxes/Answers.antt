@@ -1,7 +1,5 @@
 -- `takes_inboxes`: selectable, personal and for delivery. Assumes nothing.
-use borrow.Author.Rules.{rules}
 use mathlib.Core.Path.{sym, ◌∙◌}
-use borrow.Author.Tests.{not-true, not-false}
 use Rattle.match_groups.specs.Asking.{inboxes_no, inboxes_yes}
 use Rattle.match_groups.proofs.takes_inboxes.Goals as goal
 

@@ -1,7 +1,5 @@
 -- `takes_personal`: selectable and personal. Assumes nothing.
-use borrow.Author.Rules.{rules}
 use mathlib.Core.Path.{sym, ◌∙◌}
-use borrow.Author.Tests.{not-true, not-false}
 use Rattle.match_groups.proofs.takes_personal.Goals as goal
 
 pub returns-then-not-has : goal.returns-then-not-has

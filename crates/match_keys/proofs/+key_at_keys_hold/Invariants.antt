@@ -1,10 +1,6 @@
 -- `key_at`, `keys_hold`: keys and lists of keys call each other on ever fewer cells; the loop keeps what the keys from i on still have to decide. Assumes nothing.
-use Prim.Native.Nat.{ℕ, ◌<◌, ◌≤◌, ◌+◌, ◌-◌, ◌*◌}
-use Rattle.match_keys.specs.Laws.{Going, going_start, going_decided, going_next, going_in, going_end, answers_nest}
-use Rattle.model.specs.Searching.{agrees}
-use mathlib.Core.Path.{ap, sym, ◌∙◌}
-use native.Mathlib.Omega.{arith}
-use borrow.Author.Rules.{rules}
+use Prim.Native.Nat.{◌≤◌, ◌+◌, ◌-◌, ◌*◌}
+use Rattle.match_keys.specs.Laws.{Going}
 use Rattle.match_keys.proofs.+key_at_keys_hold.Given as goal
 
 abbrev pub decreases-key_at : goal.decreases-key_at

@@ -1,5 +1,4 @@
 -- `all_hold`: a search that holds all of its keys is a list of keys, of which none may fail. Assumes nothing.
-use borrow.Author.Rules.{rules}
 use Rattle.match_keys.specs.Laws.{all_is}
 use Rattle.match_keys.proofs.all_hold.Goals as goal
 

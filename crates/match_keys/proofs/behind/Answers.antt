@@ -1,5 +1,4 @@
 -- `behind`: the width of a key from its second cell, cut at `stop`. Assumes nothing.
-use borrow.Author.Rules.{rules}
 use Rattle.match_keys.specs.Laws.{behind_all, behind-part}
 use mathlib.Core.Path.{refl}
 use Prim.Native.Nat.{◌-◌}

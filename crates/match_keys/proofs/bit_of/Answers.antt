@@ -1,5 +1,4 @@
 -- `bit_of`: a bit above 63 is never set; any other by a shift. Assumes nothing.
-use borrow.Author.Rules.{rules}
 use Rattle.match_keys.specs.Laws.{bit_shifted, bit_none}
 use Rattle.match_keys.proofs.bit_of.Goals as goal
 

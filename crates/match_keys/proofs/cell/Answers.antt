@@ -1,5 +1,4 @@
 -- `cell`: a cell within the slice; 0 behind it, as `get_or` has it. Assumes nothing.
-use borrow.Author.Rules.{rules}
 use Rattle.match_keys.specs.Laws.{past_end}
 use Rattle.match_keys.proofs.cell.Goals as goal
 

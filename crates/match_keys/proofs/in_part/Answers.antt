@@ -1,5 +1,4 @@
 -- `in_part`: the two bounds in either order, by the three places that a number can have. Assumes nothing.
-use borrow.Author.Rules.{rules}
 use Rattle.match_keys.specs.Laws.{part-above, part_below, part_on}
 use Rattle.match_keys.proofs.in_part.Goals as goal
 

@@ -1,8 +1,6 @@
 -- `in_set`: the loop keeps that no part before i holds the number. Assumes nothing.
-use Rattle.match_keys.specs.Laws.{SetGoing, set_start, set_hit, set_next, set_end}
-use Prim.Native.Nat.{◌+◌, ◌-◌, ◌≤◌}
+use Rattle.match_keys.specs.Laws.{set_start, set_hit, set_next, set_end}
 use native.Mathlib.Omega.{arith}
-use borrow.Author.Rules.{rules}
 use Rattle.match_keys.proofs.in_set.Goals as goal
 
 pub loop-i-init : goal.loop-i-init

@@ -1,5 +1,4 @@
 -- `last_nest`: it promises only its yes: the key holds keys and ends where the row does. Assumes nothing.
-use borrow.Author.Rules.{rules}
 use Rattle.match_keys.specs.Laws.{nest_not, nest_by}
 use Rattle.match_keys.proofs.last_nest.Goals as goal
 

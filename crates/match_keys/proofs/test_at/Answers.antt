@@ -1,5 +1,4 @@
 -- `test_at`: each kind of key that holds no keys is tested on the facts that the definition of its test names. Assumes nothing.
-use borrow.Author.Rules.{rules}
 use Rattle.match_keys.specs.Laws.{answers_uids, answers_numbers, answers_kind, answers_bare}
 use Rattle.model.specs.Searching.{agrees}
 use lib.Dec.{eqb, ltb}

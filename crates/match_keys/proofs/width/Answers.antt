@@ -1,5 +1,4 @@
 -- `width`: the cells that a key says it has, and no more than are left. Assumes nothing.
-use borrow.Author.Rules.{rules}
 use borrow.Author.Tests.{lt-ltb, le-ltb, le-leb, lt-leb}
 use native.Mathlib.Omega.{arith}
 use Rattle.match_keys.proofs.width.Goals as goal

@@ -1,5 +1,4 @@
 -- `is_asked`: no name, or asked as any row is. Assumes nothing.
-use borrow.Author.Rules.{rules}
 use borrow.Author.Tests.{eq-eqb, ne_eqb}
 use Rattle.match_parent.proofs.is_asked.Goals as goal
 

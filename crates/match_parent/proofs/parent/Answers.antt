@@ -1,5 +1,4 @@
 -- `parent`: no group stands, or the row is found by the parent's name. Assumes nothing.
-use borrow.Author.Rules.{rules}
 use mathlib.Core.Path.{ap, sym, ◌∙◌}
 use native.Mathlib.Omega.{arith}
 use lib.ListN.{take}

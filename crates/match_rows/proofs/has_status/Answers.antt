@@ -1,5 +1,4 @@
 -- `has_status`: the tests are those of the rule: STATUS was wanted, the mailbox is not selected, its messages are asked for. Assumes nothing.
-use borrow.Author.Tests.{not-true, not-false}
 use Rattle.match_rows.specs.Picked.{status_no, status-selected, status-asked}
 use Rattle.match_rows.proofs.has_status.Goals as goal
 

@@ -1,7 +1,5 @@
 -- `is_picked`: the tests are those of the rule, in its order: l, mailbox events, then what the selected group or the others ask. Assumes nothing.
-use borrow.Author.Rules.{rules}
 use mathlib.Core.Path.{sym, ◌∙◌}
-use borrow.Author.Tests.{not-true, not-false}
 use Rattle.match_rows.specs.Picked.{picked-hidden, picked_mailbox, picked-selected, picked-other}
 use Rattle.match_rows.proofs.is_picked.Goals as goal
 

@@ -1,5 +1,4 @@
 -- `is_selected`: an id of 0 is no mailbox's, and any other is selected where it is the session's. Assumes nothing.
-use borrow.Author.Rules.{rules}
 use mathlib.Core.Path.{ap, ◌∙◌}
 use lib.Dec.{eqb}
 use borrow.Author.Tests.{eq-eqb, ne_eqb}

@@ -1,5 +1,4 @@
 -- `note`: the two octets say what the two tests say, on the id's being selected. Assumes nothing.
-use borrow.Author.Rules.{rules}
 use mathlib.Core.Path.{ap, ◌∙◌}
 use mathlib.Core.Bool.{Bool}
 use Rattle.match_rows.specs.Picked.{picked_by, status_by}

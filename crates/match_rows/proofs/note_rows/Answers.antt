@@ -1,9 +1,8 @@
 -- `note_rows`: the marks say of each row what the groups ask; the loop keeps that every row before k is noted. Assumes nothing.
-use borrow.Author.Rules.{rules}
-use mathlib.Core.Path.{◌≡◌, refl, ◌∙◌}
-use Prim.Native.Nat.{ℕ, ◌≤◌, ◌<◌, ◌-◌}
+use mathlib.Core.Path.{refl, ◌∙◌}
+use Prim.Native.Nat.{ℕ, ◌<◌}
 use native.Mathlib.Omega.{arith}
-use lib.ListN.{length, get_or, length-set}
+use lib.ListN.{get_or, length-set}
 use Rattle.table_mailboxes.specs.Columns.{name_at}
 use Rattle.match_rows.specs.Notes.{Notes, notes_next, notes_all}
 use Rattle.match_rows.specs.Marks.{fresh}

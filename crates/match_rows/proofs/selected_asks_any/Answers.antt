@@ -1,5 +1,4 @@
 -- `selected_asks_any`: an event is one of five, and each is asked about until one is asked for. Assumes nothing.
-use borrow.Author.Rules.{rules}
 use mathlib.Core.Path.{sym, ◌∙◌}
 use Rattle.match_rows.specs.Picked.{any_first, any-second, any-third, any-fourth, any-fifth}
 use Rattle.match_rows.proofs.selected_asks_any.Goals as goal

@@ -1,5 +1,4 @@
 -- `admits`: by the number of the scope, and by the bits of the attributes where the scope asks for them. Assumes nothing.
-use borrow.Author.Rules.{rules}
 use mathlib.Core.Path.{◌∙◌}
 use borrow.Author.Tests.{eq-eqb, ne_eqb}
 use Rattle.match_sources.proofs.admits.Goals as goal

@@ -2,8 +2,7 @@
 use mathlib.Core.Path.{◌≡◌, refl, sym, ap, ◌∙◌}
 use mathlib.Core.List.{List}
 use native.Mathlib.Omega.{arith}
-use Prim.Native.Nat.{◌-◌}
-use lib.ListN.{length, take, drop}
+use lib.ListN.{length}
 use Rattle.model.specs.Lists.{anyb}
 use Rattle.read_sources.specs.declared.Source.{Source}
 use Rattle.table_mailboxes.specs.Walks.{mapped-length, any_here, any_next, any_past}

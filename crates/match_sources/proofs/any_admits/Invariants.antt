@@ -1,14 +1,9 @@
 -- `any_admits`: the loop keeps that a source among those from i on admits where one among all does. Assumes nothing.
-use mathlib.Core.Path.{◌≡◌, refl, sym, ap, ◌∙◌}
-use mathlib.Core.List.{List}
-use native.Mathlib.Omega.{arith}
+use mathlib.Core.Path.{◌≡◌}
 use Prim.Native.Nat.{◌-◌}
-use lib.ListN.{length, take, drop}
+use lib.ListN.{take, drop}
 use Rattle.model.specs.Lists.{anyb}
-use Rattle.read_sources.specs.declared.Source.{Source}
-use Rattle.table_mailboxes.specs.Walks.{mapped-length, any_here, any_next, any_past}
-use Rattle.match_sources.specs.Admitting.{admits_in, vacant_source}
-use borrow.Author.Rules.{rules}
+use Rattle.match_sources.specs.Admitting.{admits_in}
 use Rattle.match_sources.proofs.any_admits.Given as goal
 
 abbrev pub invariant-loop-i : goal.invariant-loop-i

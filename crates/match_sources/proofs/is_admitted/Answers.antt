@@ -1,5 +1,4 @@
 -- `is_admitted`: the source's scope, with its names looked through. Assumes nothing.
-use borrow.Author.Rules.{rules}
 use mathlib.Core.Path.{ap, ◌∙◌}
 use Rattle.match_sources.specs.Admitting.{admits_by}
 use Rattle.match_sources.proofs.is_admitted.Goals as goal

@@ -1,9 +1,7 @@
 -- `is_named`: the loop keeps that one of the names means the mailbox exactly if one from i on does. Assumes nothing.
 use mathlib.Core.Path.{◌≡◌, refl, sym, ◌∙◌}
 use native.Mathlib.Omega.{arith}
-use Prim.Native.Nat.{◌-◌}
-use lib.ListN.{length, take, drop}
-use Rattle.model.specs.Lists.{anyb}
+use lib.ListN.{length}
 use Rattle.model.specs.Groups.{lent_name}
 use Rattle.model.specs.declared.LentName.{LentName}
 use Rattle.table_mailboxes.specs.Walks.{mapped-length, any_here, any_next, any_past}

@@ -1,14 +1,11 @@
 -- `is_named`: the loop keeps that one of the names means the mailbox exactly if one from i on does. Assumes nothing.
-use mathlib.Core.Path.{◌≡◌, refl, sym, ◌∙◌}
-use native.Mathlib.Omega.{arith}
+use mathlib.Core.Path.{◌≡◌}
 use Prim.Native.Nat.{◌-◌}
-use lib.ListN.{length, take, drop}
+use lib.ListN.{take, drop}
 use Rattle.model.specs.Lists.{anyb}
 use Rattle.model.specs.Groups.{lent_name}
 use Rattle.model.specs.declared.LentName.{LentName}
-use Rattle.table_mailboxes.specs.Walks.{mapped-length, any_here, any_next, any_past}
-use Rattle.match_sources.specs.Admitting.{meant, named_run, vacant_name}
-use borrow.Author.Rules.{rules}
+use Rattle.match_sources.specs.Admitting.{meant}
 use Rattle.match_sources.proofs.is_named.Given as goal
 
 abbrev pub invariant-loop-i : goal.invariant-loop-i

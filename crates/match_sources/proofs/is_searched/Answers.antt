@@ -1,7 +1,5 @@
 -- `is_searched`: without the right to read nothing is searched; else one of the sources must admit the mailbox. Assumes nothing.
-use borrow.Author.Rules.{rules}
 use mathlib.Core.Path.{sym, ◌∙◌}
-use borrow.Author.Tests.{not-true, not-false}
 use Rattle.match_sources.specs.Admitting.{searched_not, searched_by_lem}
 use Rattle.match_sources.proofs.is_searched.Goals as goal
 

@@ -1,5 +1,4 @@
 -- `listed_count`: a count within the eight sources. Assumes nothing.
-use borrow.Author.Rules.{rules}
 use native.Mathlib.Omega.{arith}
 use Rattle.model.specs.Laws.{take_within}
 use Rattle.match_sources.proofs.listed_count.Goals as goal

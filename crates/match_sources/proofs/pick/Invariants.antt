@@ -1,10 +1,8 @@
 -- `pick`: the loop keeps that the notes before i say whether their rows are searched. Assumes nothing.
-use mathlib.Core.Path.{◌≡◌, refl, ◌∙◌}
-use native.Mathlib.Omega.{arith}
+use mathlib.Core.Path.{◌≡◌}
 use Prim.Native.Nat.{◌≤◌, ◌-◌}
-use lib.ListN.{length, length-set}
-use Rattle.match_sources.specs.Picking.{Noted, noted-next}
-use borrow.Author.Rules.{rules}
+use lib.ListN.{length}
+use Rattle.match_sources.specs.Picking.{Noted}
 use Rattle.match_sources.proofs.pick.Given as goal
 
 abbrev pub invariant-loop-k : goal.invariant-loop-k

@@ -1,5 +1,4 @@
 -- `run_end`: where the names of a source end, within the sixteen. Assumes nothing.
-use borrow.Author.Rules.{rules}
 use native.Mathlib.Omega.{arith}
 use Prim.Native.Nat.{◌+◌}
 use Rattle.model.specs.Laws.{take_within}

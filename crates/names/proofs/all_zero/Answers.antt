@@ -1,11 +1,6 @@
 -- `all_zero`: the loop keeps that the sum is 0 exactly if the octets before i are. Assumes nothing.
-use mathlib.Core.Path.{◌≡◌, refl}
-use mathlib.Core.Bool.{◌&&◌}
-use Prim.Native.Nat.{◌≤◌, ◌-◌, ◌*◌}
+use mathlib.Core.Path.{refl}
 use native.Mathlib.Omega.{arith}
-use lib.Dec.{eqb}
-use lib.ListN.{length, drop}
-use Rattle.model.specs.Lawful.{zeros}
 use Rattle.names.specs.Once.{sum_next, sum_past}
 use borrow.Author.Rules.{rules}
 use Rattle.names.proofs.all_zero.Goals as goal

@@ -1,9 +1,6 @@
 -- `names::before` meets its contract. The invariant: the order from the place on is the order from the start. Assumes nothing.
-use mathlib.Core.Path.{◌≡◌, refl, sym, ◌∙◌}
-use Prim.Native.Nat.{◌≤◌, ◌-◌}
+use mathlib.Core.Path.{refl, sym, ◌∙◌}
 use native.Mathlib.Omega.{arith}
-use lib.ListN.{length, drop}
-use Rattle.model.specs.Names.{before}
 use Rattle.names.proofs.Walks.{before_next, before_differs, before_past, before_short}
 use borrow.Author.Rules.{rules}
 use Rattle.names.proofs.before.Goals as goal

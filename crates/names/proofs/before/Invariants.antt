@@ -1,11 +1,8 @@
 -- `names::before` meets its contract. The invariant: the order from the place on is the order from the start. Assumes nothing.
-use mathlib.Core.Path.{◌≡◌, refl, sym, ◌∙◌}
+use mathlib.Core.Path.{◌≡◌}
 use Prim.Native.Nat.{◌≤◌, ◌-◌}
-use native.Mathlib.Omega.{arith}
 use lib.ListN.{length, drop}
 use Rattle.model.specs.Names.{before}
-use Rattle.names.proofs.Walks.{before_next, before_differs, before_past, before_short}
-use borrow.Author.Rules.{rules}
 use Rattle.names.proofs.before.Given as goal
 
 abbrev pub invariant-loop-i : goal.invariant-loop-i

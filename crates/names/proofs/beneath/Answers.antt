@@ -1,7 +1,6 @@
 -- `names::beneath` meets its contract: beneath the empty name lies nothing, beneath any other what it leads. Assumes nothing.
 use mathlib.Core.Path.{sym, ◌∙◌}
 use Rattle.names.proofs.Answers.{beneath-empty, beneath-other}
-use borrow.Author.Rules.{rules}
 use Rattle.names.proofs.beneath.Goals as goal
 
 pub returns-then-top-eq0 : goal.returns-then-top-eq0

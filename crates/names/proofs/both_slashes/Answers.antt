@@ -1,5 +1,4 @@
 -- `both_slashes`: the first test decides whether the second counts. Assumes nothing.
-use Prim.Native.Nat.{◌-◌}
 use borrow.Author.Tests.{eq-eqb, ne_eqb}
 use Rattle.names.proofs.both_slashes.Goals as goal
 

@@ -1,5 +1,4 @@
 -- `names::in_one_level` meets its contract. Each way out is one case of `subtree_one`. Assumes nothing.
-use borrow.Author.Rules.{rules}
 use mathlib.Core.Path.{ap, sym, ◌∙◌}
 use mathlib.Core.Bool.{not}
 use Rattle.names.proofs.Answers.{level_same, level-beneath, level-other}

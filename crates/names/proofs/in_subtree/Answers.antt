@@ -1,5 +1,4 @@
 -- `names::in_subtree` meets its contract. Each way out is one case of `subtree`. Assumes nothing.
-use borrow.Author.Rules.{rules}
 use mathlib.Core.Path.{sym, ◌∙◌}
 use Rattle.names.proofs.Answers.{tree_same, tree-other}
 use Rattle.names.proofs.in_subtree.Goals as goal

@@ -1,7 +1,5 @@
 -- `is_folded`: INBOX must be in capitals; any other name is folded as it is. Assumes nothing.
-use borrow.Author.Rules.{rules}
 use mathlib.Core.Path.{sym, ◌∙◌}
-use Prim.Native.Nat.{◌-◌}
 use Rattle.names.specs.Folding.{folded-inbox, folded-other}
 use Rattle.names.proofs.is_folded.Goals as goal
 

@@ -1,9 +1,7 @@
 -- `is_kept`: valid, folded, and zeros behind: the three tests of the definition. Assumes nothing.
-use borrow.Author.Rules.{rules}
 use mathlib.Core.Path.{sym, ◌∙◌}
 use native.Mathlib.Omega.{arith}
 use lib.Seq.{length-take-le}
-use borrow.Author.Tests.{not-true, not-false}
 use Rattle.names.proofs.Answers.{by_invalid, by_unfolded, by-rest}
 use Rattle.names.proofs.is_kept.Goals as goal
 

@@ -1,5 +1,4 @@
 -- `is_valid`: none, too many, or the octets one by one. Assumes nothing.
-use borrow.Author.Rules.{rules}
 use mathlib.Core.Path.{◌∙◌}
 use Rattle.names.specs.Once.{no_octet, many-octets, some-octets}
 use Rattle.names.proofs.is_valid.Goals as goal

@@ -1,9 +1,6 @@
 -- `names::kept` meets its contract. The invariant: the octets are those of the name up to the place, and zeros behind it. Assumes nothing.
-use mathlib.Core.Path.{◌≡◌, refl}
-use Prim.Native.Nat.{◌≤◌, ◌-◌, ◌+◌}
+use mathlib.Core.Path.{refl}
 use native.Mathlib.Omega.{arith}
-use lib.ListN.{length, take, replicate}
-use mathlib.Core.List.{◌++◌}
 use Rattle.names.proofs.Walks.{copied_next, copied_all}
 use borrow.Author.Rules.{rules}
 use Rattle.names.proofs.kept.Goals as goal

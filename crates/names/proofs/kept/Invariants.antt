@@ -1,11 +1,8 @@
 -- `names::kept` meets its contract. The invariant: the octets are those of the name up to the place, and zeros behind it. Assumes nothing.
-use mathlib.Core.Path.{◌≡◌, refl}
-use Prim.Native.Nat.{◌≤◌, ◌-◌, ◌+◌}
-use native.Mathlib.Omega.{arith}
+use mathlib.Core.Path.{◌≡◌}
+use Prim.Native.Nat.{◌≤◌, ◌-◌}
 use lib.ListN.{length, take, replicate}
 use mathlib.Core.List.{◌++◌}
-use Rattle.names.proofs.Walks.{copied_next, copied_all}
-use borrow.Author.Rules.{rules}
 use Rattle.names.proofs.kept.Given as goal
 
 abbrev pub invariant-loop-i : goal.invariant-loop-i

@@ -1,11 +1,9 @@
 -- `names::last_slash` meets its contract. The invariant: among the last k octets is no slash. Assumes nothing.
 use mathlib.Core.Path.{◌≡◌, sym}
 use mathlib.Core.Bool.{false}
-use Prim.Native.Nat.{◌-◌, ◌≤◌}
+use Prim.Native.Nat.{◌-◌}
 use native.Mathlib.Omega.{arith}
-use lib.ListN.{length, drop}
-use lib.Dec.{eqb}
-use Rattle.model.specs.Lists.{anyb}
+use lib.ListN.{length}
 use Rattle.model.specs.Laws.{before_none}
 use Rattle.names.proofs.Walks.{slash_past, last_here, last-before}
 use borrow.Author.Rules.{rules}

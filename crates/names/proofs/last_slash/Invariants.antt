@@ -1,14 +1,10 @@
 -- `names::last_slash` meets its contract. The invariant: among the last k octets is no slash. Assumes nothing.
-use mathlib.Core.Path.{◌≡◌, sym}
+use mathlib.Core.Path.{◌≡◌}
 use mathlib.Core.Bool.{false}
 use Prim.Native.Nat.{◌-◌, ◌≤◌}
-use native.Mathlib.Omega.{arith}
 use lib.ListN.{length, drop}
 use lib.Dec.{eqb}
 use Rattle.model.specs.Lists.{anyb}
-use Rattle.model.specs.Laws.{before_none}
-use Rattle.names.proofs.Walks.{slash_past, last_here, last-before}
-use borrow.Author.Rules.{rules}
 use Rattle.names.proofs.last_slash.Given as goal
 
 abbrev pub invariant-loop-k : goal.invariant-loop-k

@@ -1,11 +1,8 @@
 -- `names::leads` meets its contract. The invariant: from the place on top leads the name where it is from the start; it is the longer one. Assumes nothing.
-use mathlib.Core.Path.{◌≡◌, refl, sym, ◌∙◌}
+use mathlib.Core.Path.{◌≡◌}
 use Prim.Native.Nat.{◌≤◌, ◌-◌, ◌<◌}
-use native.Mathlib.Omega.{arith}
 use lib.ListN.{length, drop}
 use Rattle.model.specs.Names.{leads}
-use Rattle.names.proofs.Walks.{leads_next, leads_differs, leads_past, leads_short}
-use borrow.Author.Rules.{rules}
 use Rattle.names.proofs.leads.Given as goal
 
 abbrev pub invariant-loop-i : goal.invariant-loop-i

@@ -1,5 +1,4 @@
 -- `names::parent_of` meets its contract. What stands before the last slash is kept as an argument is. Assumes nothing.
-use borrow.Author.Rules.{rules}
 use mathlib.Core.Path.{ap, sym, ◌∙◌}
 use native.Mathlib.Omega.{arith}
 use lib.Seq.{length-take-le}

@@ -1,12 +1,8 @@
 -- `names::same` meets its contract. The invariant: from the place on the names are the same where they are from the start; their lengths are equal. Assumes nothing.
-use mathlib.Core.Path.{◌≡◌, refl, sym, ◌∙◌}
+use mathlib.Core.Path.{◌≡◌}
 use Prim.Native.Nat.{◌≤◌, ◌-◌}
-use native.Mathlib.Omega.{arith}
 use lib.ListN.{length, drop}
 use Rattle.model.specs.Lists.{same}
-use Rattle.model.specs.Laws.{same_lengths}
-use Rattle.names.proofs.Walks.{same_next, same_differs, same_past}
-use borrow.Author.Rules.{rules}
 use Rattle.names.proofs.same.Given as goal
 
 abbrev pub invariant-loop-i : goal.invariant-loop-i

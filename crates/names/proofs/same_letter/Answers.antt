@@ -1,5 +1,4 @@
 -- `names::same_letter` meets its contract: the same octet is the same in upper case. Assumes nothing.
-use borrow.Author.Rules.{rules}
 use mathlib.Core.Path.{sym, ap}
 use borrow.Author.Tests.{eq-eqb}
 use Rattle.model.specs.Text.{upper}

@@ -1,12 +1,8 @@
 -- `names::same_word` meets its contract. As `same`, with each octet in upper case. Assumes nothing.
-use mathlib.Core.Path.{◌≡◌, refl, sym, ◌∙◌}
+use mathlib.Core.Path.{◌≡◌}
 use Prim.Native.Nat.{◌≤◌, ◌-◌}
-use native.Mathlib.Omega.{arith}
 use lib.ListN.{length, drop}
 use Rattle.model.specs.Text.{same_word}
-use Rattle.names.proofs.Walks.{words_next, words_differ, words_past, words_lengths}
-use borrow.Author.Rules.{rules}
-use borrow.Author.Tests.{not-true, not-false}
 use Rattle.names.proofs.same_word.Given as goal
 
 abbrev pub invariant-loop-i : goal.invariant-loop-i

@@ -1,7 +1,5 @@
 -- `names::stored` meets its contract. Each way out is one case of `argument`. Assumes nothing.
-use borrow.Author.Rules.{rules}
 use mathlib.Core.Path.{sym, ◌∙◌}
-use borrow.Author.Tests.{not-true, not-false}
 use Rattle.names.proofs.Answers.{valid-fits, kept_none, kept-inbox, kept_itself}
 use Rattle.names.proofs.stored.Goals as goal
 

@@ -1,9 +1,7 @@
 -- `text_ok`: the loop keeps that the whole is in order exactly if it is from i on, behind the octet last seen. Assumes nothing.
-use mathlib.Core.Path.{◌≡◌, refl, sym, ◌∙◌}
-use Prim.Native.Nat.{◌≤◌, ◌-◌}
+use mathlib.Core.Path.{refl, sym, ◌∙◌}
 use native.Mathlib.Omega.{arith}
-use lib.ListN.{length}
-use Rattle.names.specs.Once.{text_ok, text_from, too_low, too_high, empty-part, text_next, text_past}
+use Rattle.names.specs.Once.{too_low, too_high, empty-part, text_next, text_past}
 use borrow.Author.Rules.{rules}
 use Rattle.names.proofs.text_ok.Goals as goal
 

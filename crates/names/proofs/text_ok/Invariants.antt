@@ -1,10 +1,8 @@
 -- `text_ok`: the loop keeps that the whole is in order exactly if it is from i on, behind the octet last seen. Assumes nothing.
-use mathlib.Core.Path.{◌≡◌, refl, sym, ◌∙◌}
+use mathlib.Core.Path.{◌≡◌}
 use Prim.Native.Nat.{◌≤◌, ◌-◌}
-use native.Mathlib.Omega.{arith}
 use lib.ListN.{length}
-use Rattle.names.specs.Once.{text_ok, text_from, too_low, too_high, empty-part, text_next, text_past}
-use borrow.Author.Rules.{rules}
+use Rattle.names.specs.Once.{text_ok, text_from}
 use Rattle.names.proofs.text_ok.Given as goal
 
 abbrev pub invariant-loop-i : goal.invariant-loop-i

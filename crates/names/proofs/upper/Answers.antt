@@ -1,5 +1,4 @@
 -- `names::upper` meets its contract. By the two tests. Assumes nothing.
-use borrow.Author.Rules.{rules}
 use borrow.Author.Tests.{lt-leb, le-leb}
 use Rattle.names.proofs.upper.Goals as goal
 

@@ -1,9 +1,7 @@
 -- `attributes_to_close`: each case is one of a row of attributes. It ends: the measure is the octets that are left. Assumes nothing.
-use Prim.Native.Nat.{ℕ, ◌<◌}
 use mathlib.Core.Path.{sym, ap, ◌∙◌}
 use native.Mathlib.Omega.{arith}
 use Prim.Native.Nat.{◌+◌, ◌-◌}
-use lib.ListN.{length}
 use Rattle.read_attributes.specs.Asked.{add, join}
 use Rattle.read_attributes.specs.declared.Attributes.{Attributes}
 use Rattle.read_attributes.specs.declared.AttributesRead.TheVariants.{Is}

@@ -1,5 +1,4 @@
 -- `added`: each kind of attribute sets its own mark, as in the definition. Assumes nothing.
-use borrow.Author.Rules.{rules}
 use Rattle.read_attributes.proofs.added.Goals as goal
 
 pub returns-in-Uid : goal.returns-in-Uid

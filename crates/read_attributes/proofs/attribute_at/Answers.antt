@@ -1,5 +1,4 @@
 -- `attribute_at`: the run is what stands up to its end, and its word decides. Assumes nothing.
-use borrow.Author.Rules.{rules}
 use mathlib.Core.Path.{sym, ap, ◌∙◌}
 use native.Mathlib.Omega.{arith}
 use Rattle.read_attributes.specs.Asked.{sectioned}

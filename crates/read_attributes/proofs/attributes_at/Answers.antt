@@ -1,11 +1,9 @@
 -- `attributes_at`: the row behind the parenthesis is read with as many steps as `list_at` gives. Assumes nothing.
-use borrow.Author.Rules.{rules}
 use mathlib.Core.Path.{sym, ◌∙◌}
 use native.Mathlib.Omega.{arith}
 use Prim.Native.Nat.{◌+◌}
 use lib.ListN.{length}
 use Rattle.read_attributes.proofs.Asking.{list_blank, list_open, all-within-from}
-use Rattle.octets.specs.Rows.{in-text}
 use Rattle.read_attributes.proofs.attributes_at.Goals as goal
 
 pub returns-then-octet_at-ne40 : goal.returns-then-octet_at-ne40

@@ -1,5 +1,4 @@
 -- `joined`: an answer that is Bad makes both Bad; two that are not are joined mark by mark. Assumes nothing.
-use borrow.Author.Rules.{rules}
 use Rattle.read_attributes.proofs.joined.Goals as goal
 
 pub returns-in-Is : goal.returns-in-Is

@@ -1,5 +1,4 @@
 -- `head`: by the tag and the verb. Assumes nothing.
-use borrow.Author.Rules.{rules}
 use mathlib.Core.Path.{sym, ◌∙◌}
 use borrow.Author.Tests.{not-true, not-false}
 use Rattle.read_commands.proofs.Wholes.{no_tag, heads_by}

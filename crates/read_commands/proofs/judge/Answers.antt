@@ -1,5 +1,4 @@
 -- `judge`: by the tag and the verb. Assumes nothing.
-use borrow.Author.Rules.{rules}
 use Rattle.read_commands.proofs.Wholes.{judges_same, judges_none}
 use Rattle.read_commands.proofs.judge.Goals as goal
 

@@ -1,7 +1,6 @@
 -- `judge_by`: by the verb. Assumes nothing.
 use mathlib.Core.Path.{refl}
 use Rattle.read_commands.proofs.Wholes.{judges_notify, judges_none}
-use borrow.Author.Rules.{rules}
 use Rattle.read_commands.proofs.judge_by.Goals as goal
 
 pub returns-in-Notify : goal.returns-in-Notify

@@ -2,7 +2,6 @@
 use mathlib.Core.Path.{ap, ◌∙◌}
 use Rattle.read_commands.specs.Judging.{notified}
 use Rattle.read_commands.proofs.Wholes.{notify_is}
-use borrow.Author.Rules.{rules}
 use Rattle.read_commands.proofs.judge_notify.Goals as goal
 
 pub returns : goal.returns

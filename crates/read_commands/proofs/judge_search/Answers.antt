@@ -1,6 +1,5 @@
 -- `judge_search`: what was read, and how it is answered. Assumes nothing.
 use Rattle.read_commands.proofs.Wholes.{judges-search}
-use borrow.Author.Rules.{rules}
 use Rattle.read_commands.proofs.judge_search.Goals as goal
 
 pub returns : goal.returns

@@ -1,9 +1,6 @@
 -- `keep_notify`: a space, and the command behind it up to the end of the line. Assumes nothing.
-use borrow.Author.Rules.{rules}
 use mathlib.Core.Path.{sym, ◌∙◌}
-use native.Mathlib.Omega.{arith}
 use Rattle.read_commands.proofs.Wholes.{keeps_blank, keeps_whole}
-use Rattle.octets.specs.Rows.{in-text}
 use Rattle.read_commands.proofs.keep_notify.Goals as goal
 
 pub returns-then-octet_at-ne32 : goal.returns-then-octet_at-ne32

@@ -1,6 +1,5 @@
 -- `notify_reply`: each answer by its case. Assumes nothing.
 use mathlib.Core.Path.{◌∙◌}
-use borrow.Author.Rules.{rules}
 use Rattle.read_commands.proofs.notify_reply.Goals as goal
 
 pub returns-in-Nothing : goal.returns-in-Nothing

@@ -1,6 +1,5 @@
 -- `notify_upto`: each answer by where it ends. Assumes nothing.
 use borrow.Author.Tests.{eq-eqb, ne_eqb}
-use borrow.Author.Rules.{rules}
 use Rattle.read_commands.proofs.notify_upto.Goals as goal
 
 pub returns-then-next-end : goal.returns-then-next-end

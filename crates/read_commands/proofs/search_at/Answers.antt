@@ -1,9 +1,6 @@
 -- `search_at`: a space, and the search behind it up to the end of the line. Assumes nothing.
 use mathlib.Core.Path.{sym, ◌∙◌}
-use native.Mathlib.Omega.{arith}
 use Rattle.read_commands.proofs.Wholes.{search_blank, search_none, search_whole}
-use borrow.Author.Rules.{rules}
-use Rattle.octets.specs.Rows.{in-text}
 use Rattle.read_commands.proofs.search_at.Goals as goal
 
 pub returns-then-octet_at-ne32 : goal.returns-then-octet_at-ne32

@@ -1,6 +1,5 @@
 -- `search_reply`: each answer by its case. Assumes nothing.
 use mathlib.Core.Path.{◌∙◌}
-use borrow.Author.Rules.{rules}
 use Rattle.read_commands.proofs.search_reply.Goals as goal
 
 pub returns-in-Is : goal.returns-in-Is

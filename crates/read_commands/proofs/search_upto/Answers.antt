@@ -1,6 +1,5 @@
 -- `search_upto`: a search by where it ends. Assumes nothing.
 use borrow.Author.Tests.{eq-eqb, ne_eqb}
-use borrow.Author.Rules.{rules}
 use Rattle.read_commands.proofs.search_upto.Goals as goal
 
 pub returns-then-next-end : goal.returns-then-next-end

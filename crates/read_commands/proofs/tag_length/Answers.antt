@@ -1,7 +1,6 @@
 -- `tag_length`: with and without a tag. Assumes nothing.
 use mathlib.Core.Path.{sym, ◌∙◌}
 use Rattle.read_commands.proofs.Wholes.{tag-there, tag_missing}
-use borrow.Author.Rules.{rules}
 use Rattle.read_commands.proofs.tag_length.Goals as goal
 
 pub returns-then-is_tagged : goal.returns-then-is_tagged

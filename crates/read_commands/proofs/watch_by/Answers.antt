@@ -1,6 +1,5 @@
 -- `watch_by`: by the verb. Assumes nothing.
 use Rattle.read_commands.proofs.Wholes.{esearch_watched}
-use borrow.Author.Rules.{rules}
 use Rattle.read_commands.proofs.watch_by.Goals as goal
 
 pub returns-in-Notify : goal.returns-in-Notify

@@ -1,5 +1,4 @@
 -- `watch_notify`: by what was read and is kept. Assumes nothing.
-use borrow.Author.Rules.{rules}
 use Rattle.read_commands.proofs.watch_notify.Goals as goal
 
 pub returns : goal.returns

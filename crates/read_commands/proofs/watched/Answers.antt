@@ -1,5 +1,4 @@
 -- `watched`: by the tag and the verb. Assumes nothing.
-use borrow.Author.Rules.{rules}
 use Rattle.read_commands.proofs.Wholes.{unread_watched, same_watched}
 use Rattle.read_commands.proofs.watched.Goals as goal
 

@@ -1,5 +1,4 @@
 -- `all_attributes`: field by field.
-use borrow.Author.Rules.{rules}
 use Rattle.read_events.proofs.all_attributes.Goals as goal
 
 pub returns : goal.returns

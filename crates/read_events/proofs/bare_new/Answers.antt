@@ -1,5 +1,4 @@
 -- `bare_new`: the tests of an event with no attributes behind it, and one more.
-use borrow.Author.Rules.{rules}
 use Rattle.read_events.proofs.bare_new.Goals as goal
 
 pub returns : goal.returns

@@ -1,5 +1,4 @@
 -- `event_at`: the run is what stands up to its end, and its word decides.
-use borrow.Author.Rules.{rules}
 use mathlib.Core.Path.{sym, ap, ◌∙◌}
 use native.Mathlib.Omega.{arith}
 use Rattle.read_events.specs.declared.Events.{Events}

@@ -5,9 +5,7 @@ use Prim.Native.Nat.{◌+◌}
 use lib.ListN.{length}
 use Rattle.read_events.specs.declared.Events.{Events}
 use Rattle.read_events.specs.declared.EventsRead.TheVariants.{Is}
-use Rattle.octets.specs.Rows.{in-text}
 use Rattle.read_events.proofs.Gathering.{within-from, events_list, events_none, events-neither, none_inside}
-use borrow.Author.Rules.{rules}
 use Rattle.read_events.proofs.events_at.Goals as goal
 
 pub returns-then-octet_at-eq40 : goal.returns-then-octet_at-eq40

@@ -1,5 +1,4 @@
 -- `joined`: by the two answers for what follows.
-use borrow.Author.Rules.{rules}
 use Rattle.read_events.proofs.joined.Goals as goal
 
 pub returns-in-Is : goal.returns-in-Is

@@ -1,5 +1,4 @@
 -- `merged`: each field is made from the two fields as in the definition. Assumes nothing.
-use borrow.Author.Rules.{rules}
 use Rattle.read_events.proofs.merged.Goals as goal
 
 pub returns : goal.returns

@@ -1,12 +1,10 @@
 -- `new_at`: a space and a parenthesis have attributes behind them; anything else is not looked at. Assumes nothing.
-use borrow.Author.Rules.{rules}
 use mathlib.Core.Path.{sym, ap, ◌∙◌}
 use native.Mathlib.Omega.{arith}
 use Prim.Native.Nat.{◌+◌}
 use Rattle.read_events.specs.Gathered.{with_attributes}
 use Rattle.read_events.specs.declared.Events.{Events}
 use Rattle.read_events.specs.declared.EventsRead.TheVariants.{Is}
-use Rattle.octets.specs.Rows.{in-text}
 use Rattle.read_events.proofs.Gathering.{new_blank, new_shut, new_list, onward_list}
 use Rattle.read_events.proofs.new_at.Goals as goal
 

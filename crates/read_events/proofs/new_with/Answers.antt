@@ -1,5 +1,4 @@
 -- `new_with`: by the two answers for the attributes.
-use borrow.Author.Rules.{rules}
 use Rattle.read_events.proofs.new_with.Goals as goal
 
 pub returns-in-Is : goal.returns-in-Is

@@ -1,5 +1,4 @@
 -- `no_events`: of an empty list each test says no.
-use borrow.Author.Rules.{rules}
 use Rattle.read_events.proofs.no_events.Goals as goal
 
 pub returns : goal.returns

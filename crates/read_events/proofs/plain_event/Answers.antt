@@ -1,5 +1,4 @@
 -- `plain_event`: by the event.
-use borrow.Author.Rules.{rules}
 use Rattle.read_events.proofs.plain_event.Goals as goal
 
 pub returns-in-Expunge : goal.returns-in-Expunge

@@ -1,5 +1,4 @@
 -- `filter_at`: an atom is the filter's word, and what stands behind it is read by the word. Assumes nothing.
-use borrow.Author.Rules.{rules}
 use mathlib.Core.Path.{sym, ◌∙◌}
 use native.Mathlib.Omega.{arith}
 use Rattle.model.specs.Reading.{piece}

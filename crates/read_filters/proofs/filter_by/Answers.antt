@@ -1,5 +1,4 @@
 -- A word that stands alone is the whole filter; behind another the names are read.
-use borrow.Author.Rules.{rules}
 use mathlib.Core.Path.{sym, ◌∙◌}
 use native.Mathlib.Omega.{arith}
 use Rattle.read_filters.proofs.Scoping.{by-alone, by-named, by_unknown}

@@ -1,5 +1,4 @@
 -- Each scope may have a group but one level of a subtree.
-use borrow.Author.Rules.{rules}
 use Rattle.read_filters.proofs.Scoping.{grouped}
 use Rattle.read_filters.proofs.is_groupable.Goals as goal
 

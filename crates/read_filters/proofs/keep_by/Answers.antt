@@ -1,8 +1,6 @@
 -- A word that stands alone has no names; behind another they are kept.
-use borrow.Author.Rules.{rules}
 use mathlib.Core.Path.{sym, ◌∙◌}
 use native.Mathlib.Omega.{arith}
-use Prim.Native.Nat.{◌-◌}
 use Rattle.read_filters.proofs.Selecting.{keeps-alone, keeps_by, keeps_unknown}
 use Rattle.read_filters.proofs.keep_by.Goals as goal
 

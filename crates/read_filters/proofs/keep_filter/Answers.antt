@@ -1,8 +1,6 @@
 -- `keep_filter`: an atom is the filter's word, and what stands behind it is kept by the word. Assumes nothing.
-use borrow.Author.Rules.{rules}
 use mathlib.Core.Path.{sym, ◌∙◌}
 use native.Mathlib.Omega.{arith}
-use Prim.Native.Nat.{◌-◌}
 use Rattle.model.specs.Reading.{piece}
 use Rattle.model.specs.NotifyGrammar.{scope_of}
 use Rattle.read_filters.proofs.Scoping.{plain}

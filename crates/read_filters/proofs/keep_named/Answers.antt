@@ -1,11 +1,7 @@
 -- `keep_named`: behind a space the names are kept as `keep_names` has it; without one nothing is. Assumes nothing.
-use borrow.Author.Rules.{rules}
 use mathlib.Core.Path.{sym, ◌∙◌}
-use native.Mathlib.Omega.{arith}
-use Prim.Native.Nat.{◌-◌}
 use Rattle.read_filters.proofs.Storing.{fits-named}
 use Rattle.read_filters.proofs.Selecting.{keeps_unspaced, keeps-named}
-use Rattle.octets.specs.Rows.{in-text}
 use Rattle.read_filters.proofs.keep_named.Goals as goal
 
 pub returns-then-octet_at-ne32 : goal.returns-then-octet_at-ne32

@@ -1,10 +1,7 @@
 -- `named_at`: behind a space stand the names, of which there is at least one; without either the definition is bad too. Assumes nothing.
-use borrow.Author.Rules.{rules}
 use mathlib.Core.Path.{sym, ◌∙◌}
 use native.Mathlib.Omega.{arith}
-use Prim.Native.Nat.{◌-◌}
 use Rattle.read_filters.proofs.Scoping.{named_unspaced, named-bad, named_is}
-use Rattle.octets.specs.Rows.{in-text}
 use Rattle.read_filters.proofs.named_at.Goals as goal
 
 pub returns-then-octet_at-ne32 : goal.returns-then-octet_at-ne32

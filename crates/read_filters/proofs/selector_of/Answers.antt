@@ -1,5 +1,4 @@
 -- Each scope has its number.
-use borrow.Author.Rules.{rules}
 use Rattle.read_filters.proofs.Scoping.{numbered}
 use Rattle.read_filters.proofs.selector_of.Goals as goal
 

@@ -1,7 +1,6 @@
 -- `closed`: the two cells before what was read say its kind and its length; the counts have room for one key more. Assumes nothing.
 use native.Mathlib.Omega.{arith}
 use mathlib.Core.Path.{refl}
-use borrow.Author.Rules.{rules}
 use Rattle.read_keys.proofs.closed.Goals as goal
 
 pub store_two-requires : goal.store_two-requires

@@ -1,6 +1,5 @@
 -- `ended`: all but the position stays as it was read. Assumes nothing.
 use mathlib.Core.Path.{refl}
-use borrow.Author.Rules.{rules}
 use Rattle.read_keys.proofs.ended.Goals as goal
 
 pub returns-in-Found : goal.returns-in-Found

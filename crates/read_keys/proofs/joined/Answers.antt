@@ -1,6 +1,4 @@
 -- `joined`: counts have room to be added, the larger depth and number of parts stay, and one Bad makes both Bad. Assumes nothing.
-use native.Mathlib.Omega.{arith}
-use borrow.Author.Rules.{rules}
 use Rattle.read_keys.proofs.joined.Goals as goal
 
 pub returns-in-Found-b : goal.returns-in-Found-b

@@ -3,7 +3,6 @@ use Rattle.read_keys.proofs.KeyLaws.{next-space, next_over}
 use Rattle.read_keys.specs.Keys.{ending_of}
 use native.Mathlib.Omega.{arith}
 use mathlib.Core.Path.{sym, ◌∙◌}
-use borrow.Author.Rules.{rules}
 use Rattle.octets.specs.Rows.{in-text}
 use Rattle.read_keys.proofs.next_at.Goals as goal
 

@@ -2,7 +2,6 @@
 use Rattle.read_keys.proofs.KeyLaws.{over_closing, over_unclosed, over_line, over-rest}
 use native.Mathlib.Omega.{arith}
 use mathlib.Core.Path.{sym, ◌∙◌}
-use borrow.Author.Rules.{rules}
 use Rattle.octets.specs.Rows.{in-text}
 use Rattle.read_keys.proofs.over_at.Goals as goal
 

@@ -2,7 +2,6 @@
 use lib.ListN.{length}
 use native.Mathlib.Omega.{arith}
 use Prim.Native.Nat.{◌+◌, ◌*◌}
-use borrow.Author.Rules.{rules}
 use Rattle.read_keys.proofs.program_at.Goals as goal
 
 pub returns : goal.returns

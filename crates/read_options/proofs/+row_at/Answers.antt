@@ -1,9 +1,7 @@
 -- `row_at`: what it reads of a row is right for every fuel above the octets left, which fall at each call. Assumes nothing.
 use mathlib.Core.Path.{sym, ap, ◌∙◌}
 use native.Mathlib.Omega.{arith}
-use borrow.Author.Rules.{rules}
-use Prim.Native.Nat.{ℕ, ◌+◌, ◌-◌, ◌<◌}
-use lib.ListN.{length}
+use Prim.Native.Nat.{◌+◌, ◌-◌}
 use Rattle.model.specs.Reading.{next_at, closing}
 use Rattle.model.specs.SearchGrammar.{return_at}
 use Rattle.read_options.specs.Returning.{put_option}

@@ -1,7 +1,6 @@
 -- `charset_at`: the string that was read is the charset. Assumes nothing.
 use mathlib.Core.Path.{sym, ◌∙◌}
 use Rattle.read_options.proofs.Strings.{charset-found, charset_missing}
-use borrow.Author.Rules.{rules}
 use Rattle.read_options.proofs.charset_at.Goals as goal
 
 pub returns-in-At : goal.returns-in-At

@@ -5,7 +5,6 @@ use Rattle.model.specs.Octets.{atom_octet}
 use Rattle.model.specs.Reading.{text_at}
 use Rattle.octets.specs.Values.{value_of}
 use Rattle.read_options.proofs.Strings.{name_long, name-known}
-use borrow.Author.Rules.{rules}
 use Rattle.read_options.proofs.is_known.Goals as goal
 
 pub returns-then-n-gt8 : goal.returns-then-n-gt8

@@ -3,7 +3,6 @@ use mathlib.Core.Path.{ap, ◌∙◌}
 use Prim.Native.Nat.{ℕ}
 use lib.Dec.{eqb}
 use Rattle.read_options.proofs.Atoms.{tag-empty, tag_long, tag_fits}
-use borrow.Author.Rules.{rules}
 use Rattle.read_options.proofs.is_tagged.Goals as goal
 
 pub returns-then-end-lt1 : goal.returns-then-end-lt1

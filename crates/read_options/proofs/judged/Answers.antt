@@ -1,5 +1,4 @@
 -- `judged`: a row in which none is written twice. Assumes nothing.
-use borrow.Author.Rules.{rules}
 use Rattle.read_options.proofs.judged.Goals as goal
 
 pub returns-then-once : goal.returns-then-once

@@ -2,7 +2,6 @@
 use mathlib.Core.Path.{sym, ◌∙◌}
 use Rattle.model.specs.Reading.{piece}
 use Rattle.read_options.proofs.Atoms.{option-found, option_missing, option-within}
-use borrow.Author.Rules.{rules}
 use Rattle.read_options.proofs.option_at.Goals as goal
 
 pub returns-in-At : goal.returns-in-At

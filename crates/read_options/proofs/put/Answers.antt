@@ -1,5 +1,4 @@
 -- `put`: a row that was read. Assumes nothing.
-use borrow.Author.Rules.{rules}
 use Rattle.read_options.proofs.put.Goals as goal
 
 pub returns-in-Is : goal.returns-in-Is

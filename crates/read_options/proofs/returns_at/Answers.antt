@@ -6,7 +6,6 @@ use lib.ListN.{length}
 use Rattle.read_options.specs.Returning.{judge}
 use Rattle.read_options.proofs.Rows.{returns_closed, returns-empty, returns_row, judge-within}
 use Rattle.octets.specs.Rows.{in-text}
-use borrow.Author.Rules.{rules}
 use Rattle.read_options.proofs.returns_at.Goals as goal
 
 pub returns-then-octet_at-ne40 : goal.returns-then-octet_at-ne40

@@ -1,7 +1,6 @@
 -- `verb_at`: the atom that was read is the verb. Assumes nothing.
 use mathlib.Core.Path.{sym, ◌∙◌}
 use Rattle.read_options.proofs.Atoms.{verb_read, verb_none}
-use borrow.Author.Rules.{rules}
 use Rattle.read_options.proofs.verb_at.Goals as goal
 
 pub returns-in-At : goal.returns-in-At

@@ -1,5 +1,4 @@
 -- `with`: each option by its field. Assumes nothing.
-use borrow.Author.Rules.{rules}
 use Rattle.read_options.proofs.with.Goals as goal
 
 pub returns-in-Min : goal.returns-in-Min

@@ -1,5 +1,4 @@
 -- `close_at`: a bracket stands there, and a partial is read where one begins behind it. Assumes nothing.
-use borrow.Author.Rules.{rules}
 use mathlib.Core.Path.{sym, ◌∙◌}
 use native.Mathlib.Omega.{arith}
 use Prim.Native.Nat.{◌+◌}

@@ -1,5 +1,4 @@
 -- `count_at`: an octet, a number and an octet are read in the order of the definition, and the first that is wrong ends it. Assumes nothing.
-use borrow.Author.Rules.{rules}
 use mathlib.Core.Path.{sym, ◌∙◌}
 use native.Mathlib.Omega.{arith}
 use Rattle.read_sections.proofs.Sectioning.{count_blank, count_none, count_shut, count_open}

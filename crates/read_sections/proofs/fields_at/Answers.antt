@@ -1,12 +1,10 @@
 -- `fields_at`: the row behind the parenthesis is read with as many steps as `list_at` gives. Assumes nothing.
-use borrow.Author.Rules.{rules}
 use mathlib.Core.Path.{sym, ◌∙◌}
 use native.Mathlib.Omega.{arith}
 use Prim.Native.Nat.{◌+◌}
 use lib.ListN.{length}
 use Rattle.read_sections.proofs.Rows.{within-from}
 use Rattle.read_sections.proofs.Sectioning.{fields_blank, fields_shut, fields_list}
-use Rattle.octets.specs.Rows.{in-text}
 use Rattle.read_sections.proofs.fields_at.Goals as goal
 
 pub returns-then-octet_at-ne32 : goal.returns-then-octet_at-ne32

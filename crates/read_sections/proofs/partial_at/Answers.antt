@@ -1,10 +1,8 @@
 -- `partial_at`: an octet and a number are read in the order of the definition, and `count_at` reads what is behind them. Assumes nothing.
-use borrow.Author.Rules.{rules}
 use mathlib.Core.Path.{sym, ◌∙◌}
 use native.Mathlib.Omega.{arith}
 use Rattle.read_sections.proofs.Rows.{within-from}
 use Rattle.read_sections.proofs.Sectioning.{partial_blank, partial_none, partial-count}
-use Rattle.octets.specs.Rows.{in-text}
 use Rattle.read_sections.proofs.partial_at.Goals as goal
 
 pub returns-then-octet_at-ne60 : goal.returns-then-octet_at-ne60

@@ -1,10 +1,8 @@
 -- `section_at`: a bracket stands there, then what it encloses, and `close_at` reads what is behind that. Assumes nothing.
-use borrow.Author.Rules.{rules}
 use mathlib.Core.Path.{sym, ◌∙◌}
 use native.Mathlib.Omega.{arith}
 use Rattle.read_sections.proofs.Rows.{within-from}
 use Rattle.read_sections.proofs.Sectioning.{section_blank, section_none, section_close}
-use Rattle.octets.specs.Rows.{in-text}
 use Rattle.read_sections.proofs.section_at.Goals as goal
 
 pub returns-then-octet_at-ne91 : goal.returns-then-octet_at-ne91

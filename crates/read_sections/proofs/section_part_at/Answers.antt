@@ -1,12 +1,10 @@
 -- `section_part_at`: the parts are read with as many steps as the definition gives; a dot behind them has a text behind it. Assumes nothing.
-use borrow.Author.Rules.{rules}
 use mathlib.Core.Path.{sym, ◌∙◌}
 use native.Mathlib.Omega.{arith}
 use Prim.Native.Nat.{◌+◌}
 use lib.ListN.{length}
 use Rattle.read_sections.proofs.Rows.{within-from}
 use Rattle.read_sections.proofs.Sectioning.{part_none, part-text, part-alone}
-use Rattle.octets.specs.Rows.{in-text}
 use Rattle.read_sections.proofs.section_part_at.Goals as goal
 
 pub returns-then-octet_at-eq46 : goal.returns-then-octet_at-eq46

@@ -1,5 +1,4 @@
 -- `section_spec_at`: the octet at the position decides, as in the definition: nothing, a part or a text. Assumes nothing.
-use borrow.Author.Rules.{rules}
 use mathlib.Core.Path.{sym, ◌∙◌}
 use native.Mathlib.Omega.{arith}
 use Rattle.read_sections.proofs.Sectioning.{within_onward, spec-empty, spec-part, spec-text}

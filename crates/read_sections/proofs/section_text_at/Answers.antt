@@ -1,5 +1,4 @@
 -- `section_text_at`: the run is what stands up to its end, and its word decides. Assumes nothing.
-use borrow.Author.Rules.{rules}
 use mathlib.Core.Path.{sym, ap, ◌∙◌}
 use mathlib.Core.Bool.{Bool}
 use native.Mathlib.Omega.{arith}

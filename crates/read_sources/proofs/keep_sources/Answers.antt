@@ -2,7 +2,6 @@
 use mathlib.Core.Path.{sym, ◌∙◌}
 use native.Mathlib.Omega.{arith}
 use Rattle.read_sources.proofs.Keeping.{sources_given, sources_left}
-use borrow.Author.Rules.{rules}
 use Rattle.read_sources.proofs.keep_sources.Goals as goal
 
 pub returns-then-word_at : goal.returns-then-word_at

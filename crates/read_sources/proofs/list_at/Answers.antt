@@ -6,7 +6,6 @@ use lib.ListN.{length}
 use Rattle.read_sources.specs.Listing.{nothing_listed, read_listed}
 use Rattle.read_sources.specs.declared.Listed.{Listed}
 use Rattle.read_sources.proofs.Keeping.{row, list_row, list_none}
-use borrow.Author.Rules.{rules}
 use Rattle.octets.specs.Rows.{in-text}
 use Rattle.read_sources.proofs.list_at.Goals as goal
 

@@ -2,7 +2,6 @@
 use mathlib.Core.Path.{sym, ◌∙◌}
 use Rattle.read_sources.specs.Listing.{nothing_listed}
 use Rattle.read_sources.proofs.Keeping.{listed_closed, listed-unfit, listed_unspaced, listed_whole}
-use borrow.Author.Rules.{rules}
 use Rattle.read_sources.proofs.list_by.Goals as goal
 
 pub returns-in_default : goal.returns-in_default

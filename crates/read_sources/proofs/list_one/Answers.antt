@@ -1,6 +1,5 @@
 -- `list_one`: the names of the filter are kept, and its source is put. Assumes nothing.
 use Rattle.read_sources.proofs.Keeping.{one-listed}
-use borrow.Author.Rules.{rules}
 use Rattle.read_sources.proofs.list_one.Goals as goal
 
 pub returns : goal.returns

@@ -1,11 +1,7 @@
 -- `list_row`: the list grows by a source at each turn; what is left of the row says the same behind it. Assumes nothing.
-use borrow.Author.Rules.{rules}
-use mathlib.Core.Path.{sym, ◌∙◌}
-use native.Mathlib.Omega.{arith}
 use Prim.Native.Nat.{◌-◌}
 use lib.ListN.{length}
-use Rattle.read_sources.proofs.Keeping.{Goes, goes_start, goes_none, goes-wrong, goes_last, goes_on}
-use Rattle.octets.specs.Rows.{in-text}
+use Rattle.read_sources.proofs.Keeping.{Goes}
 use Rattle.read_sources.proofs.list_row.Given as goal
 
 abbrev pub invariant-loop-scope : goal.invariant-loop-scope

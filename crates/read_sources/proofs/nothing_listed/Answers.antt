@@ -1,5 +1,4 @@
 -- `nothing_listed`: eight empty sources, and no name kept, are the empty list. Assumes nothing.
-use borrow.Author.Rules.{rules}
 use Rattle.read_sources.proofs.nothing_listed.Goals as goal
 
 pub returns : goal.returns

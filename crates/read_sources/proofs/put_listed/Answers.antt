@@ -1,8 +1,6 @@
 -- `put_listed`: the source is set at its place, or dropped where there is none; there are 8. Assumes nothing.
 use native.Mathlib.Omega.{arith}
 use Rattle.read_sources.proofs.Keeping.{one-dropped}
-use borrow.Author.Rules.{rules}
-use Rattle.model.specs.Laws.{mapped}
 use Rattle.read_sources.proofs.put_listed.Goals as goal
 
 pub returns : goal.returns

@@ -1,5 +1,4 @@
 -- `unlisted`: the answer that nothing fits has the empty list. Assumes nothing.
-use borrow.Author.Rules.{rules}
 use Rattle.read_sources.proofs.unlisted.Goals as goal
 
 pub returns : goal.returns

@@ -5,7 +5,6 @@ use Rattle.model.specs.Octets.{digit}
 use Prim.Native.Nat.{◌+◌}
 use native.Mathlib.Omega.{arith}
 use mathlib.Core.Path.{refl, sym, ap, ◌∙◌}
-use borrow.Author.Rules.{rules}
 use Rattle.octets.specs.Rows.{in-text}
 use Rattle.read_tests.proofs.begin.Goals as goal
 

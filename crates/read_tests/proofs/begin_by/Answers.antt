@@ -6,7 +6,6 @@ use Rattle.model.specs.SearchGrammar.{negation, alternation}
 use Prim.Native.Nat.{◌+◌}
 use native.Mathlib.Omega.{arith}
 use mathlib.Core.Path.{refl, sym, ◌∙◌}
-use borrow.Author.Rules.{rules}
 use Rattle.octets.specs.Rows.{in-text}
 use Rattle.read_tests.proofs.begin_by.Goals as goal
 

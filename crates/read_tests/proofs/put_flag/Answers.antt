@@ -2,7 +2,6 @@
 use Rattle.read_tests.specs.Table.{flag_number}
 use Rattle.read_tests.proofs.Shapes.{stored_three}
 use mathlib.Core.Path.{refl}
-use borrow.Author.Rules.{rules}
 use Rattle.read_tests.proofs.put_flag.Goals as goal
 
 pub returns : goal.returns

@@ -3,7 +3,6 @@ use Rattle.read_tests.proofs.Shapes.{put_parts, put_none}
 use Rattle.model.specs.Reading.{number_set_at}
 use lib.ListN.{length}
 use native.Mathlib.Omega.{arith}
-use borrow.Author.Rules.{rules}
 use Rattle.read_tests.proofs.put_set.Goals as goal
 
 pub returns-in-Is : goal.returns-in-Is

@@ -1,6 +1,5 @@
 -- `put_size`: a number that was read stands in the cell behind its kind; where none was read no cell is promised. Assumes nothing.
 use mathlib.Core.Path.{refl}
-use borrow.Author.Rules.{rules}
 use Rattle.read_tests.proofs.put_size.Goals as goal
 
 pub returns-in-Is : goal.returns-in-Is

@@ -1,6 +1,5 @@
 -- `put_unsupported`: one cell is the whole code, and it is written where the argument was read. Assumes nothing.
 use mathlib.Core.Path.{refl}
-use borrow.Author.Rules.{rules}
 use Rattle.read_tests.proofs.put_unsupported.Goals as goal
 
 pub returns-in-At : goal.returns-in-At

@@ -4,7 +4,6 @@ use Rattle.read_words.specs.declared.Argument.{Argument}
 use Rattle.read_words.specs.Words.{argument_at}
 use native.Mathlib.Omega.{arith}
 use mathlib.Core.Path.{sym, ap, ◌∙◌}
-use borrow.Author.Rules.{rules}
 use Rattle.read_words.proofs.argument_at.Goals as goal
 
 pub returns-in-Nothing : goal.returns-in-Nothing

@@ -1,10 +1,7 @@
 -- `date_behind`: behind a space stands a date or none; without a space the definition answers Bad too. Assumes nothing.
 use Rattle.read_words.proofs.Behind.{next_yes, next_no, within-from}
 use Rattle.model.specs.Reading.{date_at}
-use native.Mathlib.Omega.{arith}
 use mathlib.Core.Path.{sym, ◌∙◌}
-use borrow.Author.Rules.{rules}
-use Rattle.octets.specs.Rows.{in-text}
 use Rattle.read_words.proofs.date_behind.Goals as goal
 
 pub returns-then-octet_at-eq32 : goal.returns-then-octet_at-eq32

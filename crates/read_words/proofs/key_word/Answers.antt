@@ -1,9 +1,8 @@
 -- `key_word`: the definition asks for the words in the order of the table, so that the place says which key it is. Assumes nothing.
 -- the key whose word has a place in the table
-use borrow.Author.Rules.{rules}
 use mathlib.Core.Path.{refl}
 use mathlib.Core.Bool.{cond}
-use mathlib.Core.List.{[], ◌∷◌}
+use mathlib.Core.List.{◌∷◌}
 use Prim.Native.Nat.{ℕ, ◌-◌, ◌/◌, ◌%◌}
 use native.Mathlib.Omega.{arith}
 use lib.Dec.{eqb, ltb}
@@ -34,13 +33,13 @@ returns-then-place-gt28 c = simp one_by_one (simp (le-ltb _ _ c.if-place-gt34.fa
 
 pub returns-then-place-gt26 : goal.returns-then-place-gt26
 unfolding keyword_of
-returns-then-place-gt26 c = 
+returns-then-place-gt26 c =
     simp one_by_one (simp (le-ltb _ _ c.if-place-gt34.false, le-ltb _ _ c.if-place-gt28.false, lt-ltb _ _ c.if-place-gt26.true)
     at (found key_at _ _ c.word_place-place.ensures refl))
 
 pub returns-then-place-gt19 : goal.returns-then-place-gt19
 unfolding keyword_of
-returns-then-place-gt19 c = 
+returns-then-place-gt19 c =
     simp one_by_one (simp (
       le-ltb _ _ c.if-place-gt34.false,
       le-ltb _ _ c.if-place-gt28.false,
@@ -51,7 +50,7 @@ returns-then-place-gt19 c =
 
 pub returns-then-place-gt16 : goal.returns-then-place-gt16
 unfolding keyword_of
-returns-then-place-gt16 c = 
+returns-then-place-gt16 c =
     simp one_by_one (simp (
       le-ltb _ _ c.if-place-gt34.false,
       le-ltb _ _ c.if-place-gt28.false,
@@ -63,7 +62,7 @@ returns-then-place-gt16 c =
 
 pub returns-then-place-gt6 : goal.returns-then-place-gt6
 unfolding keyword_of
-returns-then-place-gt6 c = 
+returns-then-place-gt6 c =
     simp one_by_one (simp (
       le-ltb _ _ c.if-place-gt34.false,
       le-ltb _ _ c.if-place-gt28.false,

@@ -2,10 +2,7 @@
 use Rattle.read_words.proofs.Behind.{after_yes, after_no, small-from}
 use Rattle.model.specs.Reading.{number_at}
 use Rattle.octets.specs.Numerals.{number_read}
-use native.Mathlib.Omega.{arith}
 use mathlib.Core.Path.{sym, ap, ◌∙◌}
-use borrow.Author.Rules.{rules}
-use Rattle.octets.specs.Rows.{in-text}
 use Rattle.read_words.proofs.size_behind.Goals as goal
 
 pub returns-then-octet_at-eq32 : goal.returns-then-octet_at-eq32

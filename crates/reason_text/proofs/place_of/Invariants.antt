@@ -1,11 +1,9 @@
 -- `place_of`: the number of all digits is the number of those from i on behind v; above the top of u64 it does not count how far. Assumes nothing.
-use mathlib.Core.Path.{◌≡◌, refl, ◌∙◌}
-use Prim.Native.Nat.{◌≤◌, ◌<◌, ◌-◌, min}
-use native.Mathlib.Omega.{arith}
+use mathlib.Core.Path.{◌≡◌}
+use Prim.Native.Nat.{◌≤◌, ◌-◌, min}
 use lib.ListN.{length, drop}
-use borrow.Author.Rules.{rules}
 use Rattle.model.specs.Reading.{value_from}
-use Rattle.reason_text.proofs.Places.{top, place_none, place_some, value_next, value_end}
+use Rattle.reason_text.proofs.Places.{top}
 use Rattle.reason_text.proofs.place_of.Given as goal
 
 abbrev pub invariant-loop-i : goal.invariant-loop-i

@@ -1,5 +1,4 @@
 -- `put_line`: the words, and the end of the line. Assumes nothing.
-use borrow.Author.Rules.{rules}
 use native.Mathlib.Omega.{arith}
 use Rattle.line_put.specs.Put.{◌then◌}
 use Rattle.reason_text.proofs.put_line.Goals as goal

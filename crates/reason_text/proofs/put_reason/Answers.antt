@@ -1,6 +1,5 @@
 -- `put_reason`: the line is measured first, and written where it has room. Assumes nothing.
 -- it was only measured
-use borrow.Author.Rules.{rules}
 use mathlib.Core.List.{List}
 use Prim.Native.Nat.{ℕ, ◌<◌}
 use native.Mathlib.Omega.{arith}

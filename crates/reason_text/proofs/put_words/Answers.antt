@@ -1,5 +1,4 @@
 -- `put_words`: a text for each reason. Assumes nothing.
-use borrow.Author.Rules.{rules}
 use mathlib.Core.Path.{sym, ap}
 use native.Mathlib.Omega.{arith}
 use Rattle.model.specs.Reasons.{words}

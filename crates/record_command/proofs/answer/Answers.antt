@@ -1,5 +1,4 @@
 -- `answer`: the head of the line gives its verb and where the command goes on; a line without a verb is BAD by the rules. Assumes nothing.
-use borrow.Author.Rules.{rules}
 use mathlib.Core.Path.{refl, ap}
 use mathlib.Core.Bool.{not}
 use native.Mathlib.Omega.{arith}

@@ -1,5 +1,4 @@
 -- `answer_by`: behind each verb stands the command that the rules read there; one of no verb that is served is BAD. Assumes nothing.
-use borrow.Author.Rules.{rules}
 use mathlib.Core.Path.{refl, ap, sym, ◌∙◌}
 use mathlib.Core.Bool.{not}
 use native.Mathlib.Omega.{arith}

@@ -1,10 +1,8 @@
 -- `search`: the reply that was judged is the rules', and a line whose word is ESEARCH and that is accepted is a search. Assumes nothing.
-use borrow.Author.Rules.{rules}
 use mathlib.Core.Path.{◌≡◌, ap, sym, ◌∙◌}
 use mathlib.Core.Bool.{not}
 use native.Mathlib.Omega.{arith}
 use lib.Dec.{eqb}
-use borrow.Author.Tests.{not-true, not-false}
 use Rattle.model.specs.Requests.{esearch}
 use Rattle.model.specs.Commands.{command_of}
 use Rattle.model.specs.Limits.{limits}

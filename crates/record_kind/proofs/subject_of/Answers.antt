@@ -1,5 +1,4 @@
 -- `subject_of`: each arm is that case of `subject_of`. Assumes nothing.
-use borrow.Author.Rules.{rules}
 use mathlib.Core.Path.{ap, sym}
 use Rattle.record_kind.specs.Subjects.{subject_of}
 use Rattle.record_kind.proofs.subject_of.Goals as goal

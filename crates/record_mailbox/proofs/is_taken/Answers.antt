@@ -1,5 +1,4 @@
 -- `is_taken`: whether a mailbox with another id has the name; INBOX in any case is INBOX. Assumes nothing.
-use borrow.Author.Rules.{rules}
 use mathlib.Core.Path.{◌∙◌, ap}
 use mathlib.Core.List.{List}
 use Prim.Native.Nat.{ℕ, ◌-◌}

@@ -1,5 +1,4 @@
 -- `expunge`: each end comes to what the ladder says of `XP`. Assumes nothing.
-use borrow.Author.Rules.{rules}
 use mathlib.Core.Path.{sym, ◌∙◌}
 use native.Mathlib.Omega.{arith}
 use lib.ListN.{length}

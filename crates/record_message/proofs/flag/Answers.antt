@@ -1,5 +1,4 @@
 -- `flag`: each end comes to what the ladder says of `FL`. Assumes nothing.
-use borrow.Author.Rules.{rules}
 use mathlib.Core.Path.{sym, ◌∙◌}
 use native.Mathlib.Omega.{arith}
 use lib.ListN.{length}

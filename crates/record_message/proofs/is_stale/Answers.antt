@@ -1,5 +1,4 @@
 -- `is_stale`: the row's counter beside another. Assumes nothing.
-use borrow.Author.Rules.{rules}
 use Rattle.record_message.proofs.is_stale.Goals as goal
 
 pub returns : goal.returns

@@ -1,5 +1,4 @@
 -- `none`: its tagged line has at most 130 octets, so it is never too large; it fits, or refusal 8 is due. Assumes nothing.
-use borrow.Author.Rules.{rules}
 use mathlib.Core.Path.{ap, ◌∙◌}
 use native.Mathlib.Omega.{arith}
 use Rattle.model.specs.declared.Counts.{Counts}

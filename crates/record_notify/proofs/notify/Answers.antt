@@ -1,10 +1,8 @@
 -- `notify`: the reply that was judged is the rules', and what was read is the command, so NONE or SET stands in it; what was not read is never accepted. Assumes nothing.
-use borrow.Author.Rules.{rules}
 use mathlib.Core.Path.{◌≡◌, ap, sym, ◌∙◌}
 use mathlib.Core.Bool.{not}
 use native.Mathlib.Omega.{arith}
 use lib.Dec.{eqb}
-use borrow.Author.Tests.{not-true, not-false}
 use Rattle.model.specs.Laws.{tf}
 use Rattle.model.specs.Requests.{notify}
 use Rattle.model.specs.Commands.{command_of}

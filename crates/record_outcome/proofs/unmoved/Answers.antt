@@ -1,5 +1,4 @@
 -- `unmoved`: an answer, and no row changes. Assumes nothing.
-use borrow.Author.Rules.{rules}
 use mathlib.Core.Path.{ap}
 use Rattle.record_outcome.specs.Coming.{calm}
 use Rattle.record_outcome.proofs.unmoved.Goals as goal

@@ -1,7 +1,5 @@
 -- `record_read::about` meets its contract: one test after the other. Assumes nothing.
-use borrow.Author.Rules.{rules}
 use mathlib.Core.Path.{◌∙◌}
-use borrow.Author.Tests.{not-true, not-false}
 use Rattle.record_read.proofs.Frames.{starts_as, about_none, about_short, about_id}
 use Rattle.record_read.proofs.about.Goals as goal
 

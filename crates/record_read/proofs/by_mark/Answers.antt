@@ -1,5 +1,4 @@
 -- `record_read::by_mark` meets its contract: a rung of the ladder of marks. Assumes nothing.
-use borrow.Author.Rules.{rules}
 use mathlib.Core.Path.{sym, ◌∙◌}
 use Rattle.record_read.proofs.by_mark.Goals as goal
 

@@ -1,5 +1,4 @@
 -- `record_read::is_marked` meets its contract: the length, then each octet. Assumes nothing.
-use borrow.Author.Rules.{rules}
 use Rattle.record_read.proofs.Marks.{mark_short, mark-other, mark-second}
 use Rattle.record_read.proofs.is_marked.Goals as goal
 

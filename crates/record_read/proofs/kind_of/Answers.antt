@@ -1,5 +1,4 @@
 -- `record_read::kind_of` meets its contract: its six rungs are those of the definition, and then the later ones. Assumes nothing.
-use borrow.Author.Rules.{rules}
 use Rattle.record_read.proofs.kind_of.Goals as goal
 
 pub returns : goal.returns

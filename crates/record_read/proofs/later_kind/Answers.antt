@@ -1,5 +1,4 @@
 -- `record_read::later_kind` meets its contract: its six rungs are those of the definition. Assumes nothing.
-use borrow.Author.Rules.{rules}
 use Rattle.record_read.proofs.later_kind.Goals as goal
 
 pub returns : goal.returns

@@ -1,5 +1,4 @@
 -- `record_read::read` meets its contract: its parts answer what the rules ask. Assumes nothing.
-use borrow.Author.Rules.{rules}
 use Rattle.record_read.proofs.Whole.{few-fields, octets_read}
 use Rattle.record_read.proofs.read.Goals as goal
 

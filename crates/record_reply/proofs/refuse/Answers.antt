@@ -1,5 +1,4 @@
 -- `refuse`: the line that is written is all of the answer that the rules give, so whether it fits decides between done and refusal 8. Assumes nothing.
-use borrow.Author.Rules.{rules}
 use mathlib.Core.Path.{ap, ◌∙◌}
 use Rattle.model.specs.declared.Counts.{Counts}
 use Rattle.model.specs.declared.Answer.TheVariants.{Done}

@@ -1,5 +1,4 @@
 -- `drain`: octets were sent, or they are more than the queue holds. Assumes nothing.
-use borrow.Author.Rules.{rules}
 use Rattle.record_session.specs.Leaving.{drain-refused, drain_comes}
 use Rattle.record_session.proofs.drain.Goals as goal
 

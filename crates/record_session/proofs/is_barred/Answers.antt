@@ -1,5 +1,4 @@
 -- `is_barred`: whether the row of an id stands in the way of its selection. Assumes nothing.
-use borrow.Author.Rules.{rules}
 use borrow.Author.Tests.{eq-eqb, ne_eqb}
 use Rattle.record_session.proofs.is_barred.Goals as goal
 

@@ -1,8 +1,6 @@
 -- `is_unfit`: whether a mailbox cannot be selected. Assumes nothing.
-use borrow.Author.Rules.{rules}
 use mathlib.Core.Path.{sym, ◌∙◌, ap}
 use mathlib.Core.Bool.{not}
-use borrow.Author.Tests.{not-true, not-false}
 use Rattle.record_session.proofs.is_unfit.Goals as goal
 
 pub returns-then-not-has : goal.returns-then-not-has

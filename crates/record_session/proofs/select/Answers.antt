@@ -1,5 +1,4 @@
 -- `select`: a mailbox or none is selected, or it is not known, or it cannot be selected. Assumes nothing.
-use borrow.Author.Rules.{rules}
 use mathlib.Core.Path.{sym, ◌∙◌}
 use Rattle.record_session.specs.Leaving.{select_unknown, select_barred, select_comes}
 use Rattle.record_session.proofs.select.Goals as goal

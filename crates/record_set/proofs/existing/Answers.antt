@@ -1,5 +1,4 @@
 -- `existing`: with STATUS the count is `table_counts`' own; without it nothing is asked of the result. Assumes nothing.
-use borrow.Author.Rules.{rules}
 use Rattle.model.specs.Laws.{tf}
 use Rattle.record_set.proofs.existing.Goals as goal
 

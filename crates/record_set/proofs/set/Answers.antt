@@ -1,5 +1,4 @@
 -- `set`: the notes and the order are made of the rows as they stand, so the listing that goes by them is that of the session that is asked for. Assumes nothing.
-use borrow.Author.Rules.{rules}
 use mathlib.Core.Path.{ap, ◌∙◌}
 use native.Mathlib.Omega.{arith}
 use Rattle.model.specs.Memory.{both_rights}

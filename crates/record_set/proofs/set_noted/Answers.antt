@@ -1,5 +1,4 @@
 -- `set_noted`: measuring leaves the queue and gives the length of the whole answer, by which the rules too choose between too large, refusal 8 and done. Assumes nothing.
-use borrow.Author.Rules.{rules}
 use mathlib.Core.Path.{ap, sym, refl, subst, ◌∙◌}
 use mathlib.Core.List.{List}
 use Prim.Native.Nat.{ℕ}

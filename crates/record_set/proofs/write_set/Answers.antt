@@ -1,5 +1,4 @@
 -- `write_set`: a command of class 1 ends, and the listing and the tagged line are put behind what it owed; the groups that are asked for go into the view that it left. Assumes nothing.
-use borrow.Author.Rules.{rules}
 use mathlib.Core.Path.{ap, ◌∙◌}
 use native.Mathlib.Omega.{arith}
 use lib.ListN.{length}

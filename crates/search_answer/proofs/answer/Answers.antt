@@ -1,5 +1,4 @@
 -- `answer`: the memory that is lent is the one that is searched, so what was said of it is the rules' answer. Assumes nothing.
-use borrow.Author.Rules.{rules}
 use native.Mathlib.Omega.{arith}
 use lib.ListN.{length}
 use Rattle.laws.specs.Room.{sizes}

@@ -1,5 +1,4 @@
 -- `outcome`: what was said fits or it does not, and each arm is that case of `came_by`. Assumes nothing.
-use borrow.Author.Rules.{rules}
 use mathlib.Core.Path.{ap, sym, ◌∙◌}
 use mathlib.Core.Bool.{Bool}
 use Rattle.search_answer.specs.Coming.{came_by}

@@ -1,5 +1,4 @@
 -- `tell`: the runs that were found are the ones that are said, and the scratch arrays are long enough for both. Assumes nothing.
-use borrow.Author.Rules.{rules}
 use native.Mathlib.Omega.{arith}
 use Rattle.search_answer.specs.Coming.{tells}
 use Rattle.search_answer.proofs.tell.Goals as goal

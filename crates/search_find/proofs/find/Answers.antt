@@ -1,10 +1,9 @@
 -- `find`: the loop keeps that the UIDs of those that match above place k are put, rising. Assumes nothing.
-use Rattle.search_find.specs.Laws.{Sought, find_none, sought_start, sought_next, sought_end}
+use Rattle.search_find.specs.Laws.{find_none, sought_start, sought_next, sought_end}
 use Rattle.table_messages.specs.Words.{messages}
 use Rattle.model.specs.declared.Message.{Message}
 use native.Mathlib.Omega.{arith}
 use mathlib.Core.Path.{ap}
-use borrow.Author.Rules.{rules}
 use Rattle.search_find.proofs.find.Goals as goal
 
 pub returns-then-n-eq0 : goal.returns-then-n-eq0

@@ -1,10 +1,6 @@
 -- `find`: the loop keeps that the UIDs of those that match above place k are put, rising. Assumes nothing.
-use Rattle.search_find.specs.Laws.{Sought, find_none, sought_start, sought_next, sought_end}
+use Rattle.search_find.specs.Laws.{Sought}
 use Rattle.table_messages.specs.Words.{messages}
-use Rattle.model.specs.declared.Message.{Message}
-use native.Mathlib.Omega.{arith}
-use mathlib.Core.Path.{ap}
-use borrow.Author.Rules.{rules}
 use Rattle.search_find.proofs.find.Given as goal
 
 abbrev pub invariant-loop-k : goal.invariant-loop-k

@@ -1,10 +1,10 @@
 -- `find_runs`: the loop keeps that the runs of the places above i stand one behind the other. Assumes nothing.
-use mathlib.Core.Path.{◌≡◌, refl, ◌∙◌}
+use mathlib.Core.Path.{refl, ◌∙◌}
 use native.Mathlib.Omega.{arith}
 use Prim.Native.Nat.{◌≤◌, ◌-◌}
 use lib.ListN.{length, take, drop}
 use Rattle.table_messages.specs.Words.{messages}
-use Rattle.search_find.specs.Runs.{Finding, finding_start, finding_next, finding_end, row_longer, id_at}
+use Rattle.search_find.specs.Runs.{finding_start, finding_next, finding_end, row_longer, id_at}
 use borrow.Author.Rules.{rules}
 use borrow.Rule.Slice.PartMut.{mid_len}
 use Rattle.search_find.proofs.find_runs.Goals as goal

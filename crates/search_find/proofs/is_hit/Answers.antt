@@ -1,5 +1,4 @@
 -- `is_hit`: an expunged message matches nothing; any other by its keys. Assumes nothing.
-use borrow.Author.Rules.{rules}
 use Rattle.search_find.specs.Laws.{hit_not, hit_by_lem}
 use borrow.Author.Tests.{eq-eqb, ne_eqb}
 use Rattle.search_find.proofs.is_hit.Goals as goal

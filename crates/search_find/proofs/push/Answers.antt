@@ -1,5 +1,4 @@
 -- `push`: the element is put at the end, or nothing changes. Assumes nothing.
-use borrow.Author.Rules.{rules}
 use Rattle.search_find.specs.Laws.{pushed_on, pushed_off}
 use Rattle.search_find.proofs.push.Goals as goal
 

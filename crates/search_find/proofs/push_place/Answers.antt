@@ -1,5 +1,4 @@
 -- `push_place`: the place is put at the end, or nothing changes. Assumes nothing.
-use borrow.Author.Rules.{rules}
 use Rattle.search_find.specs.Laws.{pushed_on, pushed_off}
 use Rattle.search_find.proofs.push_place.Goals as goal
 

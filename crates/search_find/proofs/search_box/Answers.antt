@@ -1,5 +1,4 @@
 -- `search_box`: the order by UID, and what matches along it. Assumes nothing.
-use borrow.Author.Rules.{rules}
 use Rattle.search_find.specs.Searched.{order_few, box-searched}
 use Rattle.table_messages.specs.Words.{messages}
 use native.Mathlib.Omega.{arith}

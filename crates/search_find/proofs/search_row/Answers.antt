@@ -1,5 +1,4 @@
 -- `search_row`: the selected mailbox by its view, any other by rank. Assumes nothing.
-use borrow.Author.Rules.{rules}
 use lib.ListN.{take}
 use Rattle.table_messages.specs.Words.{messages}
 use Rattle.search_find.specs.Runs.{row-viewed, row_boxed}

@@ -1,10 +1,7 @@
 -- `told_of`: the loop keeps that the places before it are those of the view. Assumes nothing.
-use Rattle.search_find.specs.Laws.{Keeping, keeping_start, keeping_next, keeping_end}
+use Rattle.search_find.specs.Laws.{Keeping}
 use Rattle.table_messages.specs.Words.{messages}
-use native.Mathlib.Omega.{arith}
 use Prim.Native.Nat.{◌-◌}
-use mathlib.Core.Path.{refl}
-use borrow.Author.Rules.{rules}
 use Rattle.search_find.proofs.told_of.Given as goal
 
 abbrev pub invariant-loop-i : goal.invariant-loop-i

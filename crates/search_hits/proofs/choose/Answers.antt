@@ -1,5 +1,4 @@
 -- `choose`: the rows that are noted are those that the search admits, and they are put in order by their names. Assumes nothing.
-use borrow.Author.Rules.{rules}
 use Rattle.search_hits.specs.Finding.{chooses}
 use Rattle.search_hits.proofs.choose.Goals as goal
 

@@ -1,5 +1,4 @@
 -- `find`: what was read of the line chooses the rows, and the runs found in them by its keys are those of the rules. Assumes nothing.
-use borrow.Author.Rules.{rules}
 use native.Mathlib.Omega.{arith}
 use Rattle.search_hits.specs.Finding.{gathers}
 use Rattle.search_hits.proofs.find.Goals as goal

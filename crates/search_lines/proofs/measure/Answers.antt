@@ -1,5 +1,4 @@
 -- `measure`: with the limit 0 nothing is written, so both parts can be measured from one place and their lengths added. Assumes nothing.
-use borrow.Author.Rules.{rules}
 use Rattle.model.specs.Requests.{esearch}
 use Rattle.model.specs.Commands.{tag_of}
 use Rattle.model.specs.Lines.{answer}

@@ -1,5 +1,4 @@
 -- `put_lines`: the part of the line that is cut out is its tag, so the rows' lines are those of the rules. Assumes nothing.
-use borrow.Author.Rules.{rules}
 use mathlib.Core.Path.{ap, sym}
 use mathlib.Core.List.{List}
 use Prim.Native.Nat.{ℕ, ◌≤◌}

@@ -1,5 +1,4 @@
 -- `put_whole`: the tagged line is put where the lines end, so both stand behind each other. Assumes nothing.
-use borrow.Author.Rules.{rules}
 use Rattle.line_put.specs.Put.{◌then◌}
 use Rattle.search_lines.proofs.put_whole.Goals as goal
 

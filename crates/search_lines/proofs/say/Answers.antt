@@ -1,8 +1,6 @@
 -- `say`: the measured length is that of the whole answer, by which it is too large, finds no room or is written. Assumes nothing.
-use borrow.Author.Rules.{rules}
 use mathlib.Core.Path.{refl, sym, ◌∙◌}
 use native.Mathlib.Omega.{arith}
-use borrow.Author.Tests.{not-true, not-false}
 use lib.ListN.{length-append}
 use Rattle.model.specs.Requests.{esearch}
 use Rattle.model.specs.Commands.{tag_of}

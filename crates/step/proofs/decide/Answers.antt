@@ -1,5 +1,4 @@
 -- `decide`: the exact test is refusal 1 and the reader's verdict is refusal 2; behind both the memory is lawful, and `serve` says the rest of the ladder. Assumes nothing.
-use borrow.Author.Rules.{rules}
 use borrow.Author.Tests.{not-true, not-false}
 use mathlib.Core.Path.{refl, sym, ◌∙◌}
 use Rattle.record_read.specs.Laws.{read-refused}

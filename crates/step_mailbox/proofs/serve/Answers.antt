@@ -1,5 +1,4 @@
 -- `serve`: the function of each kind says what the rules make of a record of that kind; a name that follows is a valid one. Assumes nothing.
-use borrow.Author.Rules.{rules}
 use mathlib.Core.Path.{ap}
 use Rattle.record_read.specs.declared.Kind.TheVariants.{Create, Delete, Rename, Subscribe, Grant}
 use Rattle.record_kind.specs.Subjects.{mailbox_kind}

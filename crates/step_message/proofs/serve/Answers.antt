@@ -1,5 +1,4 @@
 -- `serve`: the function of each kind says what the rules make of a record of that kind, from the numbers at its fields' places. Assumes nothing.
-use borrow.Author.Rules.{rules}
 use mathlib.Core.Path.{ap}
 use Rattle.record_read.specs.declared.Kind.TheVariants.{Arrive, Expunge, Reflag}
 use Rattle.record_kind.specs.Subjects.{message_kind}

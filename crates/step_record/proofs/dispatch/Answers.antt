@@ -1,5 +1,4 @@
 -- `dispatch`: a subject stands for one kind, so what serves it says what the rules make of the record; a record of no kind is none. Assumes nothing.
-use borrow.Author.Rules.{rules}
 use Rattle.record_read.specs.declared.Kind.TheVariants.{Command}
 use Rattle.record_read.specs.Laws.{command_bounds}
 use Rattle.record_kind.specs.declared.Subject.TheVariants as S

@@ -1,5 +1,4 @@
 -- `serve`: the row that was found is at the place of the id that the record's kind needs, in every memory with these columns. Assumes nothing.
-use borrow.Author.Rules.{rules}
 use borrow.Author.Tests.{leb-true}
 use mathlib.Core.Path.{◌≡◌, refl, ap, ◌∙◌}
 use lib.ListN.{length}

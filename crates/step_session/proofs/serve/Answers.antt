@@ -1,5 +1,4 @@
 -- `serve`: the function of each kind says what the rules make of a record of that kind; at `CE` the mailbox that was sought is the selected one. Assumes nothing.
-use borrow.Author.Rules.{rules}
 use mathlib.Core.Path.{ap}
 use Rattle.laws.specs.Room.{sizes}
 use Rattle.record_read.specs.declared.Kind.TheVariants.{Select, Ended, Drained}

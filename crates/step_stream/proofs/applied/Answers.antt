@@ -1,7 +1,6 @@
 -- `applied`: the table after an outcome. Assumes nothing.
 use mathlib.Core.Path.{◌∙◌}
 use Rattle.step_stream.specs.Applying.{changed-nothing, changed_put, changed-taken}
-use borrow.Author.Rules.{rules}
 use Rattle.step_stream.proofs.applied.Goals as goal
 
 pub returns-in-Nothing : goal.returns-in-Nothing

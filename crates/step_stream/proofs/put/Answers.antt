@@ -3,7 +3,6 @@ use native.Mathlib.Omega.{arith}
 use mathlib.Core.Path.{refl}
 use Rattle.line_put.specs.Put.{put_past}
 use Rattle.step_stream.specs.Printing.{put-part}
-use borrow.Author.Rules.{rules}
 use Rattle.step_stream.proofs.put.Goals as goal
 
 pub returns-then-out-end : goal.returns-then-out-end

@@ -3,7 +3,6 @@ use native.Mathlib.Omega.{arith}
 use mathlib.Core.Path.{sym}
 use lib.Seq.{take_all, length-take-le}
 use Rattle.line_put.specs.Put.{put_as}
-use borrow.Author.Rules.{rules}
 use Rattle.step_stream.proofs.put_held.Goals as goal
 
 pub returns-then-filled-gt8192 : goal.returns-then-filled-gt8192

@@ -6,7 +6,6 @@ use Rattle.model.specs.Answers.{number_of}
 use Rattle.model.specs.Pushrun.{refusal_text}
 use Rattle.line_put.specs.Put.{put_none, put_as}
 use Rattle.step_stream.specs.Printing.{refusal-text}
-use borrow.Author.Rules.{rules}
 use Rattle.step_stream.proofs.put_refusal.Goals as goal
 
 pub returns-then-n-eq0 : goal.returns-then-n-eq0

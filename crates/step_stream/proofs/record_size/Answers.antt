@@ -3,7 +3,6 @@ use native.Mathlib.Omega.{arith}
 use mathlib.Core.Path.{sym, ◌∙◌}
 use lib.ListN.{drop, length-drop}
 use Rattle.step_stream.specs.Cutting.{cuts, size_short, size-torn, size_entire, field_at}
-use borrow.Author.Rules.{rules}
 use Rattle.step_stream.proofs.record_size.Goals as goal
 
 pub returns-then-left-lt4 : goal.returns-then-left-lt4

@@ -3,7 +3,6 @@ use mathlib.Core.Path.{refl}
 use native.Mathlib.Omega.{arith}
 use Rattle.line_put.specs.Put.{put_as}
 use Rattle.step_stream.specs.Printing.{start_is}
-use borrow.Author.Rules.{rules}
 use Rattle.step_stream.proofs.run.Goals as goal
 
 pub returns-then-stream-ge4294967296 : goal.returns-then-stream-ge4294967296

@@ -2,7 +2,6 @@
 use mathlib.Core.Path.{◌≡◌}
 use lib.ListN.{length}
 use Rattle.step_stream.specs.Printing.{serves}
-use borrow.Author.Rules.{rules}
 use Rattle.step_stream.proofs.serve.Goals as goal
 
 pub returns : goal.returns

@@ -2,7 +2,6 @@
 use mathlib.Core.Path.{refl, ap}
 use lib.ListN.{replicate}
 use Rattle.model.specs.declared.Mailbox.{Mailbox}
-use borrow.Author.Rules.{rules}
 use Rattle.step_stream.proofs.start.Goals as goal
 
 pub returns : goal.returns

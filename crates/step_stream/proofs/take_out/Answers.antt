@@ -2,7 +2,6 @@
 use native.Mathlib.Omega.{arith}
 use mathlib.Core.Path.{◌∙◌}
 use Rattle.step_stream.specs.Applying.{taken_none, taken-early, taken-late}
-use borrow.Author.Rules.{rules}
 use Rattle.step_stream.proofs.take_out.Goals as goal
 
 pub returns-then-n-eq0 : goal.returns-then-n-eq0

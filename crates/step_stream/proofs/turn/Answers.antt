@@ -1,7 +1,6 @@
 -- `turn`: a record of a stream. Assumes nothing.
 use native.Mathlib.Omega.{arith}
 use Rattle.step_stream.specs.Printing.{turns}
-use borrow.Author.Rules.{rules}
 use Rattle.step_stream.proofs.turn.Goals as goal
 
 pub returns : goal.returns

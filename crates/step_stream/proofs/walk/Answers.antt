@@ -1,13 +1,8 @@
 -- `walk`: every record of a stream. The invariant: what is still to be written is what the run's memory prints for the rest. Assumes nothing.
 use borrow.Author.Rules.{rules}
 use native.Mathlib.Omega.{arith}
-use mathlib.Core.Path.{◌≡◌, refl, ◌∙◌}
-use Prim.Native.Nat.{◌-◌}
-use lib.ListN.{length, replicate}
-use Rattle.model.specs.Memory.{no_mailbox}
-use Rattle.model.specs.Hidden.{no_counts, no_session}
-use Rattle.model.specs.Pushrun.{records_of, printed}
-use Rattle.step_stream.specs.Printing.{standing, Running, running_start, running_next, running_end}
+use mathlib.Core.Path.{refl, ◌∙◌}
+use Rattle.step_stream.specs.Printing.{running_start, running_next, running_end}
 use Rattle.step_stream.proofs.walk.Goals as goal
 
 pub loop-i-init : goal.loop-i-init

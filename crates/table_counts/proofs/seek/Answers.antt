@@ -1,8 +1,7 @@
 -- `seek`: the loop keeps that no id before i is this one. Assumes nothing.
 use mathlib.Core.Path.{◌≡◌}
-use Prim.Native.Nat.{◌≤◌, ◌-◌}
 use native.Mathlib.Omega.{arith}
-use Rattle.table_counts.specs.Tally.{Others, others_none, others_next, found, not_found}
+use Rattle.table_counts.specs.Tally.{others_none, others_next, found, not_found}
 use borrow.Author.Rules.{rules}
 use Rattle.table_counts.proofs.seek.Goals as goal
 

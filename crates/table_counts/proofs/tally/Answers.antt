@@ -1,6 +1,4 @@
 -- `tally`: an entry that exists counts for the row with its id, and for no other. Assumes nothing.
-use borrow.Author.Rules.{rules}
-use Prim.Native.Nat.{◌-◌}
 use native.Mathlib.Omega.{arith}
 use Rattle.table_counts.specs.Tally.{tally-gone, tally_none, tally_one}
 use Rattle.table_counts.proofs.tally.Goals as goal

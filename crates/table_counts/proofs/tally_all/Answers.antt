@@ -1,10 +1,9 @@
 -- `tally_all`: the loop keeps that the counts are those of the entries before i. Assumes nothing.
 use mathlib.Core.Path.{◌≡◌, refl, sym, ◌∙◌}
-use Prim.Native.Nat.{ℕ, ◌≤◌, ◌-◌}
 use native.Mathlib.Omega.{arith}
-use lib.ListN.{length, take, get_or}
+use lib.ListN.{take, get_or}
 use Rattle.table_messages.specs.Words.{messages, messages-length}
-use Rattle.table_counts.specs.Tally.{Apart, Counted, counted_next, existing-count}
+use Rattle.table_counts.specs.Tally.{counted_next, existing-count}
 use borrow.Author.Rules.{rules}
 use Rattle.table_counts.proofs.tally_all.Goals as goal
 

@@ -1,11 +1,9 @@
 -- `tally_all`: the loop keeps that the counts are those of the entries before i. Assumes nothing.
-use mathlib.Core.Path.{◌≡◌, refl, sym, ◌∙◌}
+use mathlib.Core.Path.{◌≡◌}
 use Prim.Native.Nat.{ℕ, ◌≤◌, ◌-◌}
-use native.Mathlib.Omega.{arith}
-use lib.ListN.{length, take, get_or}
-use Rattle.table_messages.specs.Words.{messages, messages-length}
-use Rattle.table_counts.specs.Tally.{Apart, Counted, counted_next, existing-count}
-use borrow.Author.Rules.{rules}
+use lib.ListN.{length, get_or}
+use Rattle.table_messages.specs.Words.{messages}
+use Rattle.table_counts.specs.Tally.{Apart, Counted}
 use Rattle.table_counts.proofs.tally_all.Given as goal
 
 abbrev pub invariant-loop-i : goal.invariant-loop-i

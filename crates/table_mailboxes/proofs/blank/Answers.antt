@@ -1,8 +1,7 @@
 -- `blank`: the loop keeps that every number before i is 0 and the others are as they were. Assumes nothing.
-use mathlib.Core.Path.{◌≡◌, refl}
-use Prim.Native.Nat.{ℕ, ◌≤◌, ◌-◌, ◌<◌}
+use mathlib.Core.Path.{refl}
 use native.Mathlib.Omega.{arith}
-use lib.ListN.{length, get_or, length-set}
+use lib.ListN.{length-set}
 use Rattle.table_mailboxes.specs.Columns.{zeros_all, zeros_next}
 use borrow.Author.Rules.{rules}
 use Rattle.table_mailboxes.proofs.blank.Goals as goal

@@ -1,10 +1,7 @@
 -- `blank`: the loop keeps that every number before i is 0 and the others are as they were. Assumes nothing.
-use mathlib.Core.Path.{◌≡◌, refl}
+use mathlib.Core.Path.{◌≡◌}
 use Prim.Native.Nat.{ℕ, ◌≤◌, ◌-◌, ◌<◌}
-use native.Mathlib.Omega.{arith}
-use lib.ListN.{length, get_or, length-set}
-use Rattle.table_mailboxes.specs.Columns.{zeros_all, zeros_next}
-use borrow.Author.Rules.{rules}
+use lib.ListN.{length, get_or}
 use Rattle.table_mailboxes.proofs.blank.Given as goal
 
 abbrev pub invariant-loop-i : goal.invariant-loop-i

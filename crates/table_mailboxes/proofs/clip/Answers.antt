@@ -1,5 +1,4 @@
 -- `clip`: a length above 64 is cut, which changes no list of 64. Assumes nothing.
-use borrow.Author.Rules.{rules}
 use native.Mathlib.Omega.{arith}
 use mathlib.Core.Path.{sym, ◌∙◌}
 use lib.Seq.{take_all}

@@ -1,15 +1,7 @@
 -- `close_up`: the loop keeps that rows before i have moved up and the others stand as they did. Assumes nothing.
-use mathlib.Core.Path.{◌≡◌, ◌∙◌, ap}
-use mathlib.Core.List.{List}
+use mathlib.Core.Path.{◌≡◌}
 use Prim.Native.Nat.{◌≤◌, ◌-◌, ◌+◌}
-use native.Mathlib.Omega.{arith}
-use lib.ListN.{length, get_or, set}
-use Rattle.model.specs.declared.Mailbox.{Mailbox}
-use Rattle.table_mailboxes.specs.Walks.{mapped-length}
-use Rattle.table_mailboxes.specs.Walks.{vacant}
-use Rattle.laws.specs.Shift.{over, without, over_start, shift-step}
-use Rattle.table_mailboxes.specs.Shift.{shift_end}
-use borrow.Author.Rules.{rules}
+use Rattle.laws.specs.Shift.{over, without}
 use Rattle.table_mailboxes.proofs.close_up.Given as goal
 
 abbrev pub invariant-loop-i : goal.invariant-loop-i

@@ -1,5 +1,4 @@
 -- `few`: the smaller of the two, so at most 64. Assumes nothing.
-use borrow.Author.Rules.{rules}
 use native.Mathlib.Omega.{arith}
 use mathlib.Core.Path.{sym, ◌∙◌}
 use lib.Seq.{take_all}

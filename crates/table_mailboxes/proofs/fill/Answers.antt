@@ -1,11 +1,10 @@
 -- `fill`: the loop keeps that the columns hold the rows before i. Assumes nothing.
 use mathlib.Core.Path.{◌≡◌, sym, ◌∙◌}
-use Prim.Native.Nat.{◌≤◌, ◌-◌}
 use native.Mathlib.Omega.{arith}
 use lib.ListN.{length}
 use Rattle.model.specs.Memory.{no_mailbox}
 use Rattle.table_mailboxes.specs.Walks.{any_default, mapped-length}
-use Rattle.table_mailboxes.specs.Filling.{Filling, filling_start, filling_next, filling_end}
+use Rattle.table_mailboxes.specs.Filling.{filling_start, filling_next, filling_end}
 use borrow.Author.Rules.{rules}
 use Rattle.table_mailboxes.proofs.fill.Goals as goal
 

@@ -1,14 +1,11 @@
 -- `find`: the loop keeps that no row before i has the id. Assumes nothing.
-use mathlib.Core.Path.{◌≡◌, sym, ◌∙◌}
+use mathlib.Core.Path.{◌≡◌}
 use mathlib.Core.List.{List}
 use Prim.Native.Nat.{◌≤◌, ◌-◌, ◌+◌}
-use native.Mathlib.Omega.{arith}
 use lib.ListN.{length, drop}
-use Rattle.model.specs.Memory.{no_mailbox, place}
+use Rattle.model.specs.Memory.{place}
 use Rattle.model.specs.declared.Mailbox.{Mailbox}
 use Rattle.table_mailboxes.specs.Columns.{Column}
-use Rattle.table_mailboxes.specs.Walks.{place_found, place_on, place_over}
-use borrow.Author.Rules.{rules}
 use Rattle.table_mailboxes.proofs.find.Given as goal
 
 abbrev pub invariant-loop-i : goal.invariant-loop-i

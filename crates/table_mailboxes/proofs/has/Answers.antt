@@ -1,10 +1,9 @@
 -- `has`: one bit, read by a shift for each place. Assumes nothing.
 use mathlib.Core.Path.{◌≡◌, refl, sym, ◌∙◌, ap}
-use Prim.Native.Nat.{ℕ, ◌-◌}
+use Prim.Native.Nat.{ℕ}
 use native.Mathlib.Omega.{arith}
 use Rattle.model.specs.Text.{bit}
 use Rattle.table_mailboxes.specs.Bits.{bit_down}
-use borrow.Author.Rules.{rules}
 use Rattle.table_mailboxes.proofs.has.Goals as goal
 
 pub loop-i-init : goal.loop-i-init

@@ -1,10 +1,6 @@
 -- `has`: one bit, read by a shift for each place. Assumes nothing.
-use mathlib.Core.Path.{◌≡◌, refl, sym, ◌∙◌, ap}
-use Prim.Native.Nat.{ℕ, ◌-◌}
-use native.Mathlib.Omega.{arith}
+use mathlib.Core.Path.{◌≡◌}
 use Rattle.model.specs.Text.{bit}
-use Rattle.table_mailboxes.specs.Bits.{bit_down}
-use borrow.Author.Rules.{rules}
 use Rattle.table_mailboxes.proofs.has.Given as goal
 
 abbrev pub invariant-loop-i : goal.invariant-loop-i

@@ -1,5 +1,4 @@
 -- `is_another`: another id and the same name, in this order. Assumes nothing.
-use borrow.Author.Rules.{rules}
 use borrow.Author.Tests.{not-true, not-false}
 use Rattle.table_mailboxes.proofs.is_another.Goals as goal
 

@@ -1,13 +1,7 @@
 -- `is_held`: the loop keeps that no row before i is another that holds the name. Assumes nothing.
-use mathlib.Core.Path.{◌≡◌, refl, sym, ◌∙◌}
-use mathlib.Core.List.{List}
-use Prim.Native.Nat.{◌≤◌, ◌-◌}
+use mathlib.Core.Path.{refl, sym, ◌∙◌}
 use native.Mathlib.Omega.{arith}
-use lib.ListN.{length, drop}
-use Rattle.model.specs.Lists.{anyb}
 use Rattle.model.specs.Memory.{no_mailbox}
-use Rattle.model.specs.declared.Mailbox.{Mailbox}
-use Rattle.table_mailboxes.specs.Columns.{Column, Names}
 use Rattle.table_mailboxes.specs.Rows.{holds, holds_at}
 use Rattle.table_mailboxes.specs.Walks.{any_found, any_on, any_over}
 use borrow.Author.Rules.{rules}
@@ -23,13 +17,12 @@ returns-then-is_another c =
     sym (c.loop-i.invariant.1 l h p q r ∙ any_found (holds c.args.id c.args.name.now) l c.loop-i.i no_mailbox (omega arith) (sym (c.is_another.ensures ∙ at) ∙ c.if-is_another.true))
 
 pub loop-i-preserved : goal.loop-i-preserved
-loop-i-preserved c =
-    (
-      search rules,
-      λ l h p q r.
-          let at = holds_at l c.args.ids.now c.args.lens.now c.args.names.now c.loop-i.i c.args.id c.args.name.now p q r (omega arith) in
-          c.loop-i.invariant.1 l h p q r ∙ any_on (holds c.args.id c.args.name.now) l c.loop-i.i no_mailbox (omega arith) (sym (c.is_another.ensures ∙ at) ∙ c.if-is_another.false),
-    )
+loop-i-preserved c = (
+  search rules,
+  λ l h p q r.
+      let at = holds_at l c.args.ids.now c.args.lens.now c.args.names.now c.loop-i.i c.args.id c.args.name.now p q r (omega arith) in
+      c.loop-i.invariant.1 l h p q r ∙ any_on (holds c.args.id c.args.name.now) l c.loop-i.i no_mailbox (omega arith) (sym (c.is_another.ensures ∙ at) ∙ c.if-is_another.false),
+)
 
 pub returns : goal.returns
 returns c =

@@ -1,16 +1,12 @@
 -- `is_held`: the loop keeps that no row before i is another that holds the name. Assumes nothing.
-use mathlib.Core.Path.{◌≡◌, refl, sym, ◌∙◌}
+use mathlib.Core.Path.{◌≡◌}
 use mathlib.Core.List.{List}
 use Prim.Native.Nat.{◌≤◌, ◌-◌}
-use native.Mathlib.Omega.{arith}
 use lib.ListN.{length, drop}
 use Rattle.model.specs.Lists.{anyb}
-use Rattle.model.specs.Memory.{no_mailbox}
 use Rattle.model.specs.declared.Mailbox.{Mailbox}
 use Rattle.table_mailboxes.specs.Columns.{Column, Names}
-use Rattle.table_mailboxes.specs.Rows.{holds, holds_at}
-use Rattle.table_mailboxes.specs.Walks.{any_found, any_on, any_over}
-use borrow.Author.Rules.{rules}
+use Rattle.table_mailboxes.specs.Rows.{holds}
 use Rattle.table_mailboxes.proofs.is_held.Given as goal
 
 abbrev pub invariant-loop-i : goal.invariant-loop-i

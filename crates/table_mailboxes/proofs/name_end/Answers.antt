@@ -1,5 +1,4 @@
 -- `name_end`: the place where the row's 64 octets begin, and its clipped length. Assumes nothing.
-use borrow.Author.Rules.{rules}
 use mathlib.Core.Path.{refl}
 use Rattle.table_mailboxes.specs.Columns.{ends_at}
 use Rattle.table_mailboxes.proofs.name_end.Goals as goal

@@ -1,5 +1,4 @@
 -- `with_counter`: the row with both halves of the counter; the halves make the number again. Assumes nothing.
-use borrow.Author.Rules.{rules}
 use Rattle.table_mailboxes.proofs.with_counter.Goals as goal
 
 pub returns : goal.returns

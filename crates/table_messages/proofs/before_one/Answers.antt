@@ -1,7 +1,6 @@
 -- `before_one`: each test that fails leaves the entry out, and what passes all three stands before the message. Assumes nothing.
-use borrow.Author.Rules.{rules}
 use native.Mathlib.Omega.{arith}
-use Rattle.table_messages.specs.Counted.{before, off-other, off-new, off-late, on-before}
+use Rattle.table_messages.specs.Counted.{off-other, off-new, off-late, on-before}
 use Rattle.table_messages.proofs.before_one.Goals as goal
 
 pub returns-then-e-mailbox : goal.returns-then-e-mailbox

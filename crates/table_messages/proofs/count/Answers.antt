@@ -1,5 +1,4 @@
 -- Where the join of the states is zero the tally has the number; else each entry is tested.
-use borrow.Author.Rules.{rules}
 use mathlib.Core.Path.{sym, ◌∙◌}
 use native.Mathlib.Omega.{arith}
 use lib.ListN.{take}

@@ -1,12 +1,10 @@
 -- `count_each`: the loop keeps how many of the first i entries exist; these are at most i, so the sum fits. Assumes nothing.
-use mathlib.Core.Path.{◌≡◌, refl}
+use mathlib.Core.Path.{◌≡◌}
 use Prim.Native.Nat.{◌≤◌, ◌-◌}
-use native.Mathlib.Omega.{arith}
 use lib.ListN.{take}
-use Rattle.table_messages.specs.Words.{messages, messages-length}
+use Rattle.table_messages.specs.Words.{messages}
 use Rattle.laws.specs.Counting.{countb}
-use Rattle.table_messages.specs.Counted.{lives, count_next, count_end}
-use borrow.Author.Rules.{rules}
+use Rattle.table_messages.specs.Counted.{lives}
 use Rattle.table_messages.proofs.count_each.Given as goal
 
 abbrev pub invariant-loop-i : goal.invariant-loop-i

@@ -1,5 +1,4 @@
 -- `count_one`: an entry of another mailbox or an expunged one counts nothing, any other one. Assumes nothing.
-use borrow.Author.Rules.{rules}
 use native.Mathlib.Omega.{arith}
 use Rattle.table_messages.specs.Counted.{one-other, one-gone, one_here}
 use Rattle.table_messages.proofs.count_one.Goals as goal

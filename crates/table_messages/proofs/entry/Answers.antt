@@ -1,5 +1,4 @@
 -- `entry`: a place behind the last whole entry has nothing; any other has its six words in the slice. Assumes nothing.
-use borrow.Author.Rules.{rules}
 use mathlib.Core.Path.{sym, ◌∙◌}
 use native.Mathlib.Omega.{arith}
 use Rattle.table_messages.specs.Words.{messages, messages-count, past}

@@ -1,5 +1,4 @@
 -- `get`: six words from 6 i on are entry i. Assumes nothing.
-use borrow.Author.Rules.{rules}
 use mathlib.Core.Path.{sym}
 use native.Mathlib.Omega.{arith}
 use Rattle.table_messages.specs.Words.{messages_get}

@@ -1,5 +1,4 @@
 -- `is_message`: mailbox, UID and the bit of the expunged are tested one by one, as in the definition. Assumes nothing.
-use borrow.Author.Rules.{rules}
 use Rattle.table_messages.specs.Found.{other_box, other-uid, that_one}
 use Rattle.table_messages.proofs.is_message.Goals as goal
 

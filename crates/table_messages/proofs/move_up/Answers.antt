@@ -1,8 +1,7 @@
 -- `move_up`: the first i words are those from the seventh on. Assumes nothing.
 use mathlib.Core.Path.{◌≡◌, ◌∙◌, ap}
-use Prim.Native.Nat.{◌≤◌, ◌-◌}
 use native.Mathlib.Omega.{arith}
-use lib.ListN.{length, drop}
+use lib.ListN.{drop}
 use Rattle.laws.specs.Shift.{over}
 use Rattle.table_messages.specs.Taken.{down_start, down_next}
 use borrow.Author.Rules.{rules}

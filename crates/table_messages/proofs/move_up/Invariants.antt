@@ -1,11 +1,8 @@
 -- `move_up`: the first i words are those from the seventh on. Assumes nothing.
-use mathlib.Core.Path.{◌≡◌, ◌∙◌, ap}
+use mathlib.Core.Path.{◌≡◌}
 use Prim.Native.Nat.{◌≤◌, ◌-◌}
-use native.Mathlib.Omega.{arith}
 use lib.ListN.{length, drop}
 use Rattle.laws.specs.Shift.{over}
-use Rattle.table_messages.specs.Taken.{down_start, down_next}
-use borrow.Author.Rules.{rules}
 use Rattle.table_messages.proofs.move_up.Given as goal
 
 abbrev pub invariant-loop-i : goal.invariant-loop-i

@@ -1,5 +1,4 @@
 -- The first word of an entry is its mailbox.
-use borrow.Author.Rules.{rules}
 use native.Mathlib.Omega.{arith}
 use Rattle.table_messages.specs.Counted.{of_this, of_other}
 use Rattle.table_messages.proofs.of_one.Goals as goal

@@ -1,12 +1,10 @@
 -- `place_of`: the loop keeps how many of the first i entries stand before the message; its place is one more. Assumes nothing.
-use mathlib.Core.Path.{◌≡◌, refl}
+use mathlib.Core.Path.{◌≡◌}
 use Prim.Native.Nat.{◌≤◌, ◌-◌}
-use native.Mathlib.Omega.{arith}
 use lib.ListN.{take}
-use Rattle.table_messages.specs.Words.{messages, messages-length}
+use Rattle.table_messages.specs.Words.{messages}
 use Rattle.laws.specs.Counting.{countb}
-use Rattle.table_messages.specs.Counted.{before, count_next, place_end}
-use borrow.Author.Rules.{rules}
+use Rattle.table_messages.specs.Counted.{before}
 use Rattle.table_messages.proofs.place_of.Given as goal
 
 abbrev pub invariant-loop-i : goal.invariant-loop-i

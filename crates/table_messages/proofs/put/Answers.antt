@@ -1,5 +1,4 @@
 -- `put`: six stores from 6 i on are the entry put at i; its bound keeps them within the slice. Assumes nothing.
-use borrow.Author.Rules.{rules}
 use native.Mathlib.Omega.{arith}
 use lib.ListN.{length-set}
 use mathlib.Core.Path.{refl}

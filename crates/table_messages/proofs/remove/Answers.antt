@@ -1,5 +1,4 @@
 -- `remove`: the words behind entry k move down, and the last entry is wiped. Assumes nothing.
-use borrow.Author.Rules.{rules}
 use mathlib.Core.Path.{◌∙◌}
 use native.Mathlib.Omega.{arith}
 use Rattle.table_messages.specs.Taken.{taken}

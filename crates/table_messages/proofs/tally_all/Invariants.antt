@@ -1,12 +1,10 @@
 -- The number is right where no state was met; it is at most the place, so the sum fits.
-use mathlib.Core.Path.{◌≡◌, refl}
+use mathlib.Core.Path.{◌≡◌}
 use Prim.Native.Nat.{◌≤◌, ◌-◌}
-use native.Mathlib.Omega.{arith}
 use lib.ListN.{take}
 use Rattle.table_messages.specs.Words.{messages}
 use Rattle.laws.specs.Counting.{countb}
-use Rattle.table_messages.specs.Counted.{lives, tally_next}
-use borrow.Author.Rules.{rules}
+use Rattle.table_messages.specs.Counted.{lives}
 use Rattle.table_messages.proofs.tally_all.Given as goal
 
 abbrev pub invariant-loop-i : goal.invariant-loop-i

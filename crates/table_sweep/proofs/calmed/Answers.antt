@@ -1,5 +1,4 @@
 -- `calmed`: each kind of pass has its case in the definition. Assumes nothing.
-use borrow.Author.Rules.{rules}
 use mathlib.Core.Path.{sym, ◌∙◌, ap}
 use Rattle.table_sweep.specs.Swept.{calm}
 use Rattle.table_sweep.specs.declared.Sweep.{Sweep}

@@ -1,11 +1,8 @@
 -- `compact`: the loop keeps that those of the first i entries that stay lie in the first o places, and that o is at most i. Assumes nothing.
 use mathlib.Core.Path.{◌≡◌}
 use Prim.Native.Nat.{◌≤◌, ◌-◌}
-use native.Mathlib.Omega.{arith}
 use lib.ListN.{length}
-use Rattle.table_messages.specs.Words.{messages-length}
-use Rattle.table_sweep.specs.Swept.{Passing, passing_start, passed}
-use borrow.Author.Rules.{rules}
+use Rattle.table_sweep.specs.Swept.{Passing}
 use Rattle.table_sweep.proofs.compact.Given as goal
 
 abbrev pub invariant-loop-i : goal.invariant-loop-i

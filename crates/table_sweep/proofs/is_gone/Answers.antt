@@ -1,5 +1,4 @@
 -- `is_gone`: each kind of pass has its case in the definition, with the same tests. Assumes nothing.
-use borrow.Author.Rules.{rules}
 use mathlib.Core.Path.{sym, ◌∙◌, ap}
 use mathlib.Core.Bool.{Bool, ◌&&◌}
 use Rattle.model.specs.Memory.{expunged}

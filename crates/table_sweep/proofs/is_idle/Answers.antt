@@ -1,5 +1,4 @@
 -- `is_idle`: both bounds are 0 where nothing was told. Assumes nothing.
-use borrow.Author.Rules.{rules}
 use mathlib.Core.Path.{sym, ◌∙◌, ap}
 use Rattle.table_sweep.specs.Swept.{idle}
 use Rattle.table_sweep.proofs.is_idle.Goals as goal

@@ -1,5 +1,4 @@
 -- `move_one`: an entry goes, or stands where it is as it is, or is put where it moves to. Assumes nothing.
-use borrow.Author.Rules.{rules}
 use mathlib.Core.Path.{sym, ◌∙◌}
 use native.Mathlib.Omega.{arith}
 use lib.Dec.{eqb}

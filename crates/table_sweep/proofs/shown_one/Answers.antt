@@ -1,5 +1,4 @@
 -- `shown_one`: the two tests together are the condition of the definition, so each branch is its own. Assumes nothing.
-use borrow.Author.Rules.{rules}
 use mathlib.Core.Path.{sym, ◌∙◌, ap}
 use mathlib.Core.Bool.{Bool, cond, ◌&&◌}
 use Rattle.model.specs.Memory.{marked, with_states}

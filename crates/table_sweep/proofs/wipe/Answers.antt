@@ -1,10 +1,7 @@
 -- `wipe`: the loop keeps that the places up to j are nothing, and that all others are as they were. Assumes nothing.
-use mathlib.Core.Path.{◌≡◌}
-use Prim.Native.Nat.{◌≤◌, ◌-◌}
 use native.Mathlib.Omega.{arith}
-use lib.ListN.{length}
 use Rattle.table_messages.specs.Words.{messages-length}
-use Rattle.table_sweep.specs.Swept.{Wiping, wiping_start, wiping_next, wiping_end}
+use Rattle.table_sweep.specs.Swept.{wiping_start, wiping_next, wiping_end}
 use borrow.Author.Rules.{rules}
 use Rattle.table_sweep.proofs.wipe.Goals as goal
 

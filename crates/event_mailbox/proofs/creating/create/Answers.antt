@@ -1,5 +1,4 @@
 -- `create`: row x is new, listed by whether it can be selected. Assumes nothing.
-use borrow.Author.Rules.{rules}
 use Rattle.event_mailbox.specs.Creating.{create_leaves}
 use Rattle.event_mailbox.proofs.creating.create.Goals as goal
 

@@ -1,6 +1,5 @@
 -- `new_box`: the row of a new mailbox; INBOX in any case is INBOX. Assumes nothing.
 -- the row with a name as it is kept
-use borrow.Author.Rules.{rules}
 use mathlib.Core.Path.{ap}
 use Rattle.model.specs.declared.LentName.{LentName}
 use Rattle.model.specs.declared.Mailbox.{Mailbox}

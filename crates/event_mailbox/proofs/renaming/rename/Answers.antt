@@ -1,5 +1,4 @@
 -- `rename`: row x gets a name. Assumes nothing.
-use borrow.Author.Rules.{rules}
 use mathlib.Core.Path.{sym, ◌∙◌}
 use native.Mathlib.Omega.{arith}
 use Rattle.model.specs.Names.{argument}

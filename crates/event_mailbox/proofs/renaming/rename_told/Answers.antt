@@ -1,8 +1,7 @@
 -- `rename_told`: whether somebody is told that row x becomes y: asked by the old name or by the new one. Assumes nothing.
-use borrow.Author.Rules.{rules}
 use mathlib.Core.Path.{sym, ◌∙◌}
 use lib.Dec.{eqb}
-use borrow.Author.Tests.{not-true, not-false, eq-eqb, ne_eqb}
+use borrow.Author.Tests.{eq-eqb, ne_eqb}
 use Rattle.model.specs.Memory.{both_rights}
 use Rattle.model.specs.Groups.{asked_of, asks_name}
 use Rattle.event_mailbox.specs.Renaming.{told-loud, told-rights, told_old, told-new}

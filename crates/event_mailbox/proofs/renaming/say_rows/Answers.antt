@@ -1,5 +1,4 @@
 -- `say_rows`: the LIST line of row y that was x, or the overflow line. Assumes nothing.
-use borrow.Author.Rules.{rules}
 use mathlib.Core.Path.{sym}
 use native.Mathlib.Omega.{arith}
 use lib.Seq.{length-take-le}

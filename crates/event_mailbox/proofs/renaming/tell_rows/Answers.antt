@@ -1,7 +1,5 @@
 -- `tell_rows`: the same, if somebody is told. Assumes nothing.
-use borrow.Author.Rules.{rules}
 use native.Mathlib.Omega.{arith}
-use borrow.Author.Tests.{not-true, not-false}
 use Rattle.model.specs.Memory.{name_of}
 use Rattle.model.specs.Lines.{renamed, render}
 use Rattle.line_mailbox.specs.Texts.{mark_of}

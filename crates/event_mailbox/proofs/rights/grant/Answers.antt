@@ -1,5 +1,4 @@
 -- `grant`: told by the row whose rights count. Assumes nothing.
-use borrow.Author.Rules.{rules}
 use Rattle.event_mailbox.specs.Rights.{grant_leaves}
 use Rattle.event_mailbox.proofs.rights.grant.Goals as goal
 

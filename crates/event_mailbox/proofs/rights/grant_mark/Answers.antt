@@ -1,5 +1,4 @@
 -- `grant_mark`: how the mailbox is listed then. Assumes nothing.
-use borrow.Author.Rules.{rules}
 use mathlib.Core.Path.{sym, ◌∙◌}
 use Rattle.event_mailbox.proofs.rights.grant_mark.Goals as goal
 

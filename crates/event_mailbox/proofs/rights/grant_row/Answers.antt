@@ -1,5 +1,4 @@
 -- `grant_row`: l is kept, lost, gained or missing as before. Assumes nothing.
-use borrow.Author.Rules.{rules}
 use mathlib.Core.Path.{sym, ◌∙◌}
 use Rattle.event_mailbox.specs.Rights.{counts-kept, counts_was, counts_is, counts_none}
 use Rattle.event_mailbox.proofs.rights.grant_row.Goals as goal

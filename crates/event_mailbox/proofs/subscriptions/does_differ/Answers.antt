@@ -1,5 +1,4 @@
 -- `does_differ`: whether bit 3 of the attributes is not b. Assumes nothing.
-use borrow.Author.Rules.{rules}
 use mathlib.Core.Path.{sym, ◌∙◌}
 use Rattle.event_mailbox.proofs.subscriptions.does_differ.Goals as goal
 

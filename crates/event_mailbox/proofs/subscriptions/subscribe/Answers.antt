@@ -1,5 +1,4 @@
 -- `subscribe`: row x becomes subscribed or unsubscribed. Assumes nothing.
-use borrow.Author.Rules.{rules}
 use mathlib.Core.Path.{sym, ◌∙◌}
 use native.Mathlib.Omega.{arith}
 use Rattle.laws.specs.Room.{sizes}

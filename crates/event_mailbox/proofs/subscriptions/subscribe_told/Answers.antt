@@ -1,8 +1,7 @@
 -- `subscribe_told`: whether somebody is told. Assumes nothing.
-use borrow.Author.Rules.{rules}
 use mathlib.Core.Path.{sym, ◌∙◌, ap}
 use lib.Dec.{eqb}
-use borrow.Author.Tests.{not-true, not-false, eq-eqb, ne_eqb}
+use borrow.Author.Tests.{eq-eqb, ne_eqb}
 use Rattle.model.specs.Memory.{name_of, both_rights, with_attributes}
 use Rattle.model.specs.Groups.{asked, asked_of, asks_subscription}
 use Rattle.model.specs.Events.{with_subscribed}

@@ -1,11 +1,9 @@
 -- `any_part`: whether one of the session's groups asks for a part. Assumes nothing.
 use borrow.Author.Rules.{rules}
 use mathlib.Core.Path.{◌≡◌, refl, sym, ◌∙◌}
-use Prim.Native.Nat.{◌-◌}
 use native.Mathlib.Omega.{arith}
-use lib.ListN.{length, take, drop}
+use lib.ListN.{length}
 use Rattle.table_mailboxes.specs.Walks.{any_here, any_next, any_past, mapped-length}
-use Rattle.model.specs.Lists.{anyb}
 use Rattle.match_groups.specs.Asking.{vacant_group, any_groups}
 use Rattle.event_message.specs.Shown.{part_of, part_as}
 use Rattle.event_message.proofs.showing.any_part.Goals as goal

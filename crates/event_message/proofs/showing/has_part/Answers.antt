@@ -1,5 +1,4 @@
 -- `has_part`: whether a group is about the selected mailbox and asks for a part. Assumes nothing.
-use borrow.Author.Rules.{rules}
 use native.Mathlib.Omega.{arith}
 use Rattle.event_message.specs.Shown.{part-elsewhere, part_here}
 use Rattle.event_message.proofs.showing.has_part.Goals as goal

@@ -1,5 +1,4 @@
 -- `holds`: whether attributes hold a part. Assumes nothing.
-use borrow.Author.Rules.{rules}
 use Rattle.event_message.specs.Shown.{part_any, part_one}
 use Rattle.event_message.proofs.showing.holds.Goals as goal
 

@@ -1,5 +1,4 @@
 -- `shows`: what is shown. Assumes nothing.
-use borrow.Author.Rules.{rules}
 use Rattle.event_message.proofs.showing.shows.Goals as goal
 
 pub returns : goal.returns

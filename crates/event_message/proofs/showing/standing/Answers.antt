@@ -1,5 +1,4 @@
 -- `standing`: how many groups stand. Assumes nothing.
-use borrow.Author.Rules.{rules}
 use native.Mathlib.Omega.{arith}
 use Rattle.model.specs.Laws.{take_within}
 use Rattle.event_message.proofs.showing.standing.Goals as goal

@@ -1,5 +1,4 @@
 -- `say_fetch`: a line that is refused leaves the state with one more counted; one that fits is measured, then put. Assumes nothing.
-use borrow.Author.Rules.{rules}
 use mathlib.Core.Path.{refl, ◌∙◌, ap}
 use native.Mathlib.Omega.{arith}
 use borrow.Author.Tests.{not-true, not-false}
@@ -12,8 +11,7 @@ use Rattle.event_view.proofs.lines.say_fetch.Goals as goal
 pub returns-then-not-g : goal.returns-then-not-g
 returns-then-not-g c =
     let text = fetch_text c.args.n.0 c.args.uid.0 c.args.flags c.args.counter in
-    let state = state_of c.args.queue.now c.args.g in
-    (
+    let state = state_of c.args.queue.now c.args.g in (
       ap (state_of c.args.queue.now) c.refused.ensures ∙ say_shut c.args.limit c.args.uid.0 text state (not-true _ c.if-not-g.true),
       omega (arith, ap (λ (x : Going). x.end) c.refused.ensures),
       omega (arith, ap (λ (x : Going). x.rest) c.refused.ensures),
@@ -23,8 +21,7 @@ returns-then-not-g c =
 pub returns-then-limit-end : goal.returns-then-limit-end
 returns-then-limit-end c =
     let text = fetch_text c.args.n.0 c.args.uid.0 c.args.flags c.args.counter in
-    let state = state_of c.args.queue.now c.args.g in
-    (
+    let state = state_of c.args.queue.now c.args.g in (
       ap (state_of _) c.refused-then-limit-end.ensures
           ∙ say_over c.args.queue.now _ c.args.limit c.args.uid.0 text state c.put_fetch-end.result refl c.put_fetch-end.ensures.0 c.if-limit-end.true,
       omega (arith, ap (λ (x : Going). x.end) c.refused-then-limit-end.ensures),

@@ -4,7 +4,6 @@ use mathlib.Core.Bool.{false}
 use native.Mathlib.Omega.{arith}
 use borrow.Author.Tests.{eqb-true}
 use Rattle.model.specs.Laws.{tf}
-use borrow.Author.Rules.{rules}
 use Rattle.lawful_mailboxes.proofs.naming.ends_ok.Goals as goal
 
 pub returns-then-len-lt1 : goal.returns-then-len-lt1

@@ -1,5 +1,4 @@
 -- `is_placed`: the tests of two neighbouring octets, joined as the definition joins them. Assumes nothing.
-use borrow.Author.Rules.{rules}
 use Rattle.lawful_mailboxes.proofs.naming.is_placed.Goals as goal
 
 pub returns : goal.returns

@@ -1,7 +1,6 @@
 -- `misplaced`: one where a pair is not placed, and 0 where it is. Assumes nothing.
 use mathlib.Core.Path.{sym, ◌∙◌}
 use native.Mathlib.Omega.{arith}
-use borrow.Author.Rules.{rules}
 use Rattle.lawful_mailboxes.specs.Neighbours.{misplaced}
 use Rattle.lawful_mailboxes.proofs.naming.misplaced.Goals as goal
 

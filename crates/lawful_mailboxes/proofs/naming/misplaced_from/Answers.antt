@@ -1,6 +1,5 @@
 -- `misplaced_from`: the loop keeps that the sum counts the misplaced pairs before i. Assumes nothing.
 use mathlib.Core.Path.{◌≡◌, refl}
-use Prim.Native.Nat.{◌≤◌, ◌-◌}
 use native.Mathlib.Omega.{arith}
 use Rattle.lawful_mailboxes.specs.Neighbours.{misplaced_up, misplaced_next}
 use borrow.Author.Rules.{rules}

@@ -1,9 +1,7 @@
 -- `misplaced_from`: the loop keeps that the sum counts the misplaced pairs before i. Assumes nothing.
-use mathlib.Core.Path.{◌≡◌, refl}
+use mathlib.Core.Path.{◌≡◌}
 use Prim.Native.Nat.{◌≤◌, ◌-◌}
-use native.Mathlib.Omega.{arith}
-use Rattle.lawful_mailboxes.specs.Neighbours.{misplaced_up, misplaced_next}
-use borrow.Author.Rules.{rules}
+use Rattle.lawful_mailboxes.specs.Neighbours.{misplaced_up}
 use Rattle.lawful_mailboxes.proofs.naming.misplaced_from.Given as goal
 
 abbrev pub invariant-loop-i : goal.invariant-loop-i

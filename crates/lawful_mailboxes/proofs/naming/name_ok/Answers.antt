@@ -1,5 +1,4 @@
 -- `name_ok`: the exact test of a kept name, on the row's own 64 octets. Assumes nothing.
-use borrow.Author.Rules.{rules}
 use mathlib.Core.Path.{refl, ap, ◌∙◌}
 use Rattle.lawful_mailboxes.specs.Fields.{name_by, row-part}
 use Rattle.lawful_mailboxes.proofs.naming.name_ok.Goals as goal

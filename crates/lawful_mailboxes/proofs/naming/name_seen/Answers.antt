@@ -3,7 +3,7 @@ use mathlib.Core.Path.{◌≡◌, refl, sym, ◌∙◌}
 use mathlib.Core.Bool.{false}
 use Prim.Native.Nat.{◌*◌}
 use lib.ListN.{length}
-use borrow.Author.Tests.{not-false, eqb-true}
+use borrow.Author.Tests.{eqb-true}
 use Rattle.model.specs.Laws.{tf}
 use Rattle.lawful_mailboxes.specs.Neighbours.{all_placed, name_placed}
 use borrow.Author.Rules.{rules}

@@ -4,7 +4,6 @@ use mathlib.Core.Bool.{false}
 use borrow.Author.Tests.{eqb-true}
 use Rattle.model.specs.Laws.{tf}
 use Rattle.lawful_mailboxes.specs.Neighbours.{all_placed, short_placed}
-use borrow.Author.Rules.{rules}
 use Rattle.lawful_mailboxes.proofs.naming.short_seen.Goals as goal
 
 pub returns-then-misplaced_from-ne0 : goal.returns-then-misplaced_from-ne0

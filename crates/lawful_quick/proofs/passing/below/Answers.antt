@@ -1,8 +1,7 @@
 -- `below`: the loop keeps that the last UIDs before i are below; a no promises nothing. Assumes nothing.
-use Rattle.std.proofs.Common.{ℕ, ◌-◌, ◌<◌, ◌≤◌, false, get_or, refl, arith, rules}
+use Rattle.std.proofs.Common.{ℕ, ◌<◌, false, get_or, refl, arith, rules}
 use Rattle.model.specs.Laws.{tf}
 use Rattle.table_mailboxes.specs.Columns.{all_below}
-use Rattle.lawful_quick.specs.Passing.{Below}
 use Rattle.lawful_quick.proofs.passing.below.Goals as goal
 
 pub loop-i-init : goal.loop-i-init

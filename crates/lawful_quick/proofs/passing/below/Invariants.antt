@@ -1,7 +1,5 @@
 -- `below`: the loop keeps that the last UIDs before i are below; a no promises nothing. Assumes nothing.
-use Rattle.std.proofs.Common.{ℕ, ◌-◌, ◌<◌, ◌≤◌, false, get_or, refl, arith, rules}
-use Rattle.model.specs.Laws.{tf}
-use Rattle.table_mailboxes.specs.Columns.{all_below}
+use Rattle.std.proofs.Common.{◌-◌, ◌≤◌}
 use Rattle.lawful_quick.specs.Passing.{Below}
 use Rattle.lawful_quick.proofs.passing.below.Given as goal
 

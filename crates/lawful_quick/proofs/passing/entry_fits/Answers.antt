@@ -1,6 +1,5 @@
 -- `entry_fits`: a yes comes behind four tests, one for each condition; a no promises nothing. Assumes nothing.
-use Rattle.std.proofs.Common.{false, refl, arith, rules}
-use borrow.Author.Tests.{not-false}
+use Rattle.std.proofs.Common.{false, refl, arith}
 use Rattle.model.specs.Laws.{tf}
 use Rattle.lawful_quick.proofs.passing.entry_fits.Goals as goal
 

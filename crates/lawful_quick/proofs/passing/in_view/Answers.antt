@@ -1,5 +1,5 @@
 -- `in_view`: an entry without a state may stand; one with a state was tested to be of the view. Assumes nothing.
-use Rattle.std.proofs.Common.{false, refl, arith, rules}
+use Rattle.std.proofs.Common.{false, refl, arith}
 use Rattle.model.specs.Laws.{tf}
 use Rattle.lawful_quick.specs.Passing.{at_rest, in-view}
 use Rattle.lawful_quick.proofs.passing.in_view.Goals as goal

@@ -1,5 +1,5 @@
 -- Below the highest, the difference did not wrap.
-use Rattle.std.proofs.Common.{arith, rules, ltb-true}
+use Rattle.std.proofs.Common.{arith, ltb-true}
 use Rattle.lawful_quick.proofs.passing.is_counted.Goals as goal
 
 pub returns : goal.returns

@@ -2,11 +2,11 @@
 use borrow.Author.Rules.{rules}
 use mathlib.Core.Path.{◌≡◌, refl, ◌∙◌}
 use mathlib.Core.List.{append-nil}
-use Prim.Native.Nat.{◌≤◌, ◌+◌, ◌-◌, ◌*◌}
+use Prim.Native.Nat.{◌+◌, ◌*◌}
 use native.Mathlib.Omega.{arith}
 use native.Mathlib.Numerals.{add-one}
 use lib.ListN.{length, drop, replicate, length-drop}
-use lib.Seq.{paste, paste-suc, get_or-drop}
+use lib.Seq.{paste-suc, get_or-drop}
 use Rattle.table_mailboxes.specs.Columns.{block}
 use Rattle.lent_rows.proofs.columns.octets_of.Goals as goal
 

@@ -1,13 +1,8 @@
 -- `octets_of`: the 64 octets of the name of row k. The invariant: the first j of them are copied. Assumes nothing.
-use borrow.Author.Rules.{rules}
-use mathlib.Core.Path.{◌≡◌, refl, ◌∙◌}
-use mathlib.Core.List.{append-nil}
-use Prim.Native.Nat.{◌≤◌, ◌+◌, ◌-◌, ◌*◌}
-use native.Mathlib.Omega.{arith}
-use native.Mathlib.Numerals.{add-one}
-use lib.ListN.{length, drop, replicate, length-drop}
-use lib.Seq.{paste, paste-suc, get_or-drop}
-use Rattle.table_mailboxes.specs.Columns.{block}
+use mathlib.Core.Path.{◌≡◌}
+use Prim.Native.Nat.{◌≤◌, ◌-◌}
+use lib.ListN.{drop}
+use lib.Seq.{paste}
 use Rattle.lent_rows.proofs.columns.octets_of.Given as goal
 
 abbrev pub invariant-loop-j : goal.invariant-loop-j

@@ -1,5 +1,4 @@
 -- `row_at`: row k of the first n, or none. Assumes nothing.
-use borrow.Author.Rules.{rules}
 use mathlib.Core.Path.{◌∙◌}
 use native.Mathlib.Omega.{arith}
 use Rattle.lent_rows.specs.Standing.{row_none, row-stands}

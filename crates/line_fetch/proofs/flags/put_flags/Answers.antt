@@ -1,5 +1,4 @@
 -- `put_flags`: halving the number and its rest by 2 give the five bits; the first three names and the last two are all. Assumes nothing.
-use borrow.Author.Rules.{rules}
 use mathlib.Core.Path.{◌∙◌, ap}
 use mathlib.Core.Bool.{Bool, ◌||◌}
 use native.Mathlib.Omega.{arith}

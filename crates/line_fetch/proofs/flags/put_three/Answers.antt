@@ -1,5 +1,4 @@
 -- `put_three`: three pieces one behind the other; the third has a space before it if one of the two is set. Assumes nothing.
-use borrow.Author.Rules.{rules}
 use mathlib.Core.Path.{ap}
 use mathlib.Core.Bool.{Bool}
 use native.Mathlib.Omega.{arith}
@@ -9,10 +8,9 @@ use Rattle.model.specs.Text.{octets}
 use Rattle.line_fetch.proofs.flags.put_three.Goals as goal
 
 pub returns : goal.returns
-returns c =
-    (
-      ◌then◌
-          (◌then◌ c.put_flag-o.ensures.0 c.put_flag-p.ensures.0)
-          (put_as c.put_flag.ensures.0 (ap (λ (b : Bool). piece c.args.c b (octets "\\Deleted")) c.either-began.ensures)),
-      omega (arith, c.put_flag-o.ensures.1, c.put_flag-p.ensures.1, c.put_flag.ensures.1),
-    )
+returns c = (
+  ◌then◌
+      (◌then◌ c.put_flag-o.ensures.0 c.put_flag-p.ensures.0)
+      (put_as c.put_flag.ensures.0 (ap (λ (b : Bool). piece c.args.c b (octets "\\Deleted")) c.either-began.ensures)),
+  omega (arith, c.put_flag-o.ensures.1, c.put_flag-p.ensures.1, c.put_flag.ensures.1),
+)

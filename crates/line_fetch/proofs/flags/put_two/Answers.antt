@@ -1,5 +1,4 @@
 -- `put_two`: two pieces one behind the other; the second has a space before it if any name stands before. Assumes nothing.
-use borrow.Author.Rules.{rules}
 use mathlib.Core.Path.{ap}
 use mathlib.Core.Bool.{Bool}
 use native.Mathlib.Omega.{arith}
@@ -9,8 +8,7 @@ use Rattle.model.specs.Text.{octets}
 use Rattle.line_fetch.proofs.flags.put_two.Goals as goal
 
 pub returns : goal.returns
-returns c =
-    (
-      ◌then◌ c.put_flag-o.ensures.0 (put_as c.put_flag.ensures.0 (ap (λ (b : Bool). piece c.args.e b (octets "\\Draft")) c.either-more.ensures)),
-      omega (arith, c.put_flag-o.ensures.1, c.put_flag.ensures.1),
-    )
+returns c = (
+  ◌then◌ c.put_flag-o.ensures.0 (put_as c.put_flag.ensures.0 (ap (λ (b : Bool). piece c.args.e b (octets "\\Draft")) c.either-more.ensures)),
+  omega (arith, c.put_flag-o.ensures.1, c.put_flag.ensures.1),
+)

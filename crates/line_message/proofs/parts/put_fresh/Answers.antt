@@ -1,7 +1,5 @@
 -- `put_fresh`: a message that the client has leaves no line; any other its FETCH. Assumes nothing.
-use borrow.Author.Rules.{rules}
 use mathlib.Core.Path.{refl}
-use Prim.Native.Nat.{◌-◌}
 use native.Mathlib.Omega.{arith}
 use Rattle.line_message.specs.Parts.{puts_none, puts_some, not_new, not-new_next, is-new, is-new_next}
 use Rattle.line_message.proofs.parts.put_fresh.Goals as goal

@@ -1,7 +1,5 @@
 -- `put_gone`: an expunged message of the view has its line and gives its place to the next; any other takes one. Assumes nothing.
-use borrow.Author.Rules.{rules}
 use mathlib.Core.Path.{refl}
-use Prim.Native.Nat.{◌-◌}
 use native.Mathlib.Omega.{arith}
 use Rattle.line_message.specs.Parts.{puts_none, puts_some, off-gone, off-gone_next, is-gone, is-gone_next, is_live, is_live_next}
 use Rattle.line_message.proofs.parts.put_gone.Goals as goal

@@ -1,7 +1,5 @@
 -- `put_marked`: a marked message of the view that exists has its line; places count those that exist. Assumes nothing.
-use borrow.Author.Rules.{rules}
 use mathlib.Core.Path.{refl}
-use Prim.Native.Nat.{◌-◌}
 use native.Mathlib.Omega.{arith}
 use Rattle.line_message.specs.Parts.{puts_none, puts_some, off-marked, off-marked_next, gone-marked, gone-marked_next, live-marked_next, is-marked, not-marked}
 use Rattle.line_message.proofs.parts.put_marked.Goals as goal

@@ -1,6 +1,4 @@
 -- `put_one`: a function for each part. Assumes nothing.
-use borrow.Author.Rules.{rules}
-use Prim.Native.Nat.{◌-◌}
 use Rattle.line_message.proofs.parts.put_one.Goals as goal
 
 pub returns-in-Expunged : goal.returns-in-Expunged

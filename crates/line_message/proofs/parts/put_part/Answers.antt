@@ -1,13 +1,8 @@
 -- `put_part`: the loop keeps that the lines of the places above j are written, and the place of the next message. Assumes nothing.
-use mathlib.Core.Path.{◌≡◌, refl, ◌∙◌}
-use Prim.Native.Nat.{◌≤◌, ◌+◌, ◌-◌, ◌*◌}
+use mathlib.Core.Path.{refl, ◌∙◌}
 use native.Mathlib.Omega.{arith}
-use lib.ListN.{length}
-use Rattle.line_put.specs.Put.{Goes}
 use Rattle.table_messages.specs.Words.{messages}
-use Rattle.order_messages.specs.Chosen.{chosen}
-use Rattle.line_message.specs.Parts.{part_text, part_next_lem, part_end, next_most}
-use borrow.Author.Rules.{rules}
+use Rattle.line_message.specs.Parts.{part_next_lem, part_end, next_most}
 use Rattle.line_message.proofs.parts.put_part.Goals as goal
 
 pub loop-j-init : goal.loop-j-init

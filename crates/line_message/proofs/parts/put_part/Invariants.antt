@@ -1,13 +1,11 @@
 -- `put_part`: the loop keeps that the lines of the places above j are written, and the place of the next message. Assumes nothing.
-use mathlib.Core.Path.{◌≡◌, refl, ◌∙◌}
-use Prim.Native.Nat.{◌≤◌, ◌+◌, ◌-◌, ◌*◌}
-use native.Mathlib.Omega.{arith}
+use mathlib.Core.Path.{◌≡◌}
+use Prim.Native.Nat.{◌≤◌, ◌+◌, ◌*◌}
 use lib.ListN.{length}
 use Rattle.line_put.specs.Put.{Goes}
 use Rattle.table_messages.specs.Words.{messages}
 use Rattle.order_messages.specs.Chosen.{chosen}
-use Rattle.line_message.specs.Parts.{part_text, part_next_lem, part_end, next_most}
-use borrow.Author.Rules.{rules}
+use Rattle.line_message.specs.Parts.{part_text}
 use Rattle.line_message.proofs.parts.put_part.Given as goal
 
 abbrev pub invariant-loop-j : goal.invariant-loop-j

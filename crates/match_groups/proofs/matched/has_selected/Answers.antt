@@ -1,11 +1,9 @@
 -- `has_selected`: whether a selected group stands. Assumes nothing.
 use mathlib.Core.Path.{◌≡◌, refl, sym, ◌∙◌, ap}
-use Prim.Native.Nat.{◌-◌}
 use native.Mathlib.Omega.{arith}
-use lib.ListN.{length, take, drop}
+use lib.ListN.{length}
 use Rattle.table_mailboxes.specs.Walks.{any_here, any_next, any_past, mapped-length}
 use mathlib.Core.Bool.{Bool}
-use Rattle.model.specs.Lists.{anyb}
 use Rattle.model.specs.Groups.{is_selecting}
 use Rattle.model.specs.declared.Group.{Group}
 use Rattle.match_groups.specs.Asking.{vacant_group, selects_as, any_groups, selecting_is}

@@ -1,10 +1,8 @@
 -- `is_matched`: whether a group of the session matches a mailbox. Assumes nothing.
 use mathlib.Core.Path.{◌≡◌, refl, sym, ◌∙◌, ap}
-use Prim.Native.Nat.{◌-◌}
 use native.Mathlib.Omega.{arith}
-use lib.ListN.{length, take, drop}
+use lib.ListN.{length}
 use Rattle.table_mailboxes.specs.Walks.{any_here, any_next, any_past, mapped-length}
-use Rattle.model.specs.Lists.{anyb}
 use Rattle.match_groups.specs.Asking.{vacant_group, matched_by, matched_as, any_groups}
 use borrow.Author.Rules.{rules}
 use Rattle.match_groups.proofs.matched.is_matched.Goals as goal

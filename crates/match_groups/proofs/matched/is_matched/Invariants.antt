@@ -1,12 +1,9 @@
 -- `is_matched`: whether a group of the session matches a mailbox. Assumes nothing.
-use mathlib.Core.Path.{◌≡◌, refl, sym, ◌∙◌, ap}
+use mathlib.Core.Path.{◌≡◌}
 use Prim.Native.Nat.{◌-◌}
-use native.Mathlib.Omega.{arith}
-use lib.ListN.{length, take, drop}
-use Rattle.table_mailboxes.specs.Walks.{any_here, any_next, any_past, mapped-length}
+use lib.ListN.{take, drop}
 use Rattle.model.specs.Lists.{anyb}
-use Rattle.match_groups.specs.Asking.{vacant_group, matched_by, matched_as, any_groups}
-use borrow.Author.Rules.{rules}
+use Rattle.match_groups.specs.Asking.{matched_as}
 use Rattle.match_groups.proofs.matched.is_matched.Given as goal
 
 abbrev pub invariant-loop-i : goal.invariant-loop-i

@@ -1,7 +1,5 @@
 -- `matches`: whether a group matches a mailbox, the selected one if `here` says so. Assumes nothing.
-use borrow.Author.Rules.{rules}
 use mathlib.Core.Path.{sym, ◌∙◌}
-use borrow.Author.Tests.{not-true, not-false}
 use Rattle.model.specs.Groups.{meets, is_selecting}
 use Rattle.match_groups.specs.Asking.{selecting_is, matched-met, matched-elsewhere, matched_here}
 use Rattle.match_groups.proofs.matched.matches.Goals as goal

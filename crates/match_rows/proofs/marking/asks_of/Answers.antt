@@ -1,5 +1,4 @@
 -- `asks_of`: a message event is bit 0, 1 or 2, a mailbox event bit 3 or 4; the first that is set decides. Assumes nothing.
-use borrow.Author.Rules.{rules}
 use mathlib.Core.Path.{sym, ◌∙◌}
 use borrow.Author.Tests.{not-true, not-false}
 use Rattle.match_rows.proofs.marking.asks_of.Goals as goal

@@ -2,21 +2,16 @@
 -- a group asks for such events of row k, and the same of one as it is kept
 use borrow.Author.Rules.{rules}
 use mathlib.Core.Path.{◌≡◌, refl, sym, ap, ◌∙◌}
-use mathlib.Core.Bool.{Bool, ◌&&◌, ◌||◌}
-use mathlib.Core.List.{List}
-use Prim.Native.Nat.{ℕ, ◌+◌, ◌-◌}
+use mathlib.Core.Bool.{Bool, ◌||◌}
+use Prim.Native.Nat.{◌+◌}
 use native.Mathlib.Omega.{arith}
 use lib.ListN.{length, take, drop, get_or}
 use Rattle.model.specs.Lists.{anyb}
-use Rattle.model.specs.Groups.{group_of, meets}
 use Rattle.model.specs.declared.Group.{Group}
-use Rattle.model.specs.declared.LentGroup.{LentGroup}
-use Rattle.model.specs.declared.Session.{Session}
-use Rattle.table_mailboxes.specs.Columns.{name_at}
 use Rattle.table_mailboxes.specs.Walks.{front, any_past, mapped-length}
 use Rattle.match_groups.specs.Asking.{vacant_group, any_groups}
 use Rattle.table_mailboxes.specs.Columns.{noted}
-use Rattle.match_rows.specs.Marks.{asks_of, Left, left_next, left_past}
+use Rattle.match_rows.specs.Marks.{left_next, left_past}
 use Rattle.match_rows.proofs.marking.mark_asked.Invariants.{asking, asks}
 use Rattle.match_rows.proofs.marking.mark_asked.Goals as goal
 

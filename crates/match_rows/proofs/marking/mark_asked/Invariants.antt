@@ -1,11 +1,9 @@
 -- `mark_asked`: the loop keeps that the marks with the groups to come are the marks of all groups. Assumes nothing.
 -- a group asks for such events of row k, and the same of one as it is kept
-use borrow.Author.Rules.{rules}
-use mathlib.Core.Path.{◌≡◌, refl, sym, ap, ◌∙◌}
-use mathlib.Core.Bool.{Bool, ◌&&◌, ◌||◌}
+use mathlib.Core.Path.{◌≡◌}
+use mathlib.Core.Bool.{Bool, ◌&&◌}
 use mathlib.Core.List.{List}
-use Prim.Native.Nat.{ℕ, ◌+◌, ◌-◌}
-use native.Mathlib.Omega.{arith}
+use Prim.Native.Nat.{ℕ, ◌-◌}
 use lib.ListN.{length, take, drop, get_or}
 use Rattle.model.specs.Lists.{anyb}
 use Rattle.model.specs.Groups.{group_of, meets}
@@ -13,10 +11,7 @@ use Rattle.model.specs.declared.Group.{Group}
 use Rattle.model.specs.declared.LentGroup.{LentGroup}
 use Rattle.model.specs.declared.Session.{Session}
 use Rattle.table_mailboxes.specs.Columns.{name_at}
-use Rattle.table_mailboxes.specs.Walks.{front, any_past, mapped-length}
-use Rattle.match_groups.specs.Asking.{vacant_group, any_groups}
-use Rattle.table_mailboxes.specs.Columns.{noted}
-use Rattle.match_rows.specs.Marks.{asks_of, Left, left_next, left_past}
+use Rattle.match_rows.specs.Marks.{asks_of, Left}
 use Rattle.match_rows.proofs.marking.mark_asked.Given as goal
 
 abbrev pub asking : Session → Bool → List ℕ → List ℕ → List ℕ → ℕ → Group → Bool

@@ -1,9 +1,7 @@
 -- `mark_group`: a group that asks for none of them marks nobody, any other whom its selector meets. Assumes nothing.
-use borrow.Author.Rules.{rules}
 use mathlib.Core.Path.{sym, ap, ◌∙◌}
 use mathlib.Core.Bool.{Bool, ◌||◌}
 use lib.ListN.{get_or}
-use borrow.Author.Tests.{not-true, not-false}
 use Rattle.table_mailboxes.specs.Columns.{name_at}
 use Rattle.table_mailboxes.specs.Columns.{noted}
 use Rattle.match_rows.specs.Marks.{marks_none, met_asking, met-silent}

@@ -1,5 +1,4 @@
 -- `mark_met`: each selector meets nobody, or by attributes, or by its names; the marks are those of that way. Assumes nothing.
-use borrow.Author.Rules.{rules}
 use mathlib.Core.Path.{refl, sym, ap, ◌∙◌}
 use mathlib.Core.Bool.{Bool, ◌||◌}
 use lib.ListN.{get_or}

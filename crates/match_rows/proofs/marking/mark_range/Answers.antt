@@ -3,18 +3,15 @@
 use borrow.Author.Rules.{rules}
 use mathlib.Core.Path.{◌≡◌, refl, sym, ap, ◌∙◌}
 use mathlib.Core.Bool.{Bool, ◌||◌}
-use mathlib.Core.List.{List}
-use Prim.Native.Nat.{ℕ, ◌+◌, ◌-◌}
+use Prim.Native.Nat.{ℕ, ◌+◌}
 use native.Mathlib.Omega.{arith}
 use lib.ListN.{length, take, drop, get_or}
 use Rattle.model.specs.Lists.{anyb}
-use Rattle.model.specs.Groups.{lent_name}
-use Rattle.model.specs.declared.LentName.{LentName}
 use Rattle.table_mailboxes.specs.Columns.{name_at}
 use Rattle.table_mailboxes.specs.Walks.{front, any_past, mapped-length}
 use Rattle.match_groups.specs.Asking.{vacant_name, names_run}
 use Rattle.table_mailboxes.specs.Columns.{noted}
-use Rattle.match_rows.specs.Marks.{taken_by_name, Left, left_next, left_past}
+use Rattle.match_rows.specs.Marks.{taken_by_name, left_next, left_past}
 use Rattle.match_rows.proofs.marking.mark_range.Invariants.{taken}
 use Rattle.match_rows.proofs.marking.mark_range.Goals as goal
 

@@ -1,20 +1,15 @@
 -- `mark_range`: the loop keeps that the marks with the names to come are the marks of the range. Assumes nothing.
 -- a name as it is kept takes row k
-use borrow.Author.Rules.{rules}
-use mathlib.Core.Path.{◌≡◌, refl, sym, ap, ◌∙◌}
-use mathlib.Core.Bool.{Bool, ◌||◌}
+use mathlib.Core.Path.{◌≡◌}
+use mathlib.Core.Bool.{Bool}
 use mathlib.Core.List.{List}
-use Prim.Native.Nat.{ℕ, ◌+◌, ◌-◌}
-use native.Mathlib.Omega.{arith}
+use Prim.Native.Nat.{ℕ, ◌-◌}
 use lib.ListN.{length, take, drop, get_or}
 use Rattle.model.specs.Lists.{anyb}
 use Rattle.model.specs.Groups.{lent_name}
 use Rattle.model.specs.declared.LentName.{LentName}
 use Rattle.table_mailboxes.specs.Columns.{name_at}
-use Rattle.table_mailboxes.specs.Walks.{front, any_past, mapped-length}
-use Rattle.match_groups.specs.Asking.{vacant_name, names_run}
-use Rattle.table_mailboxes.specs.Columns.{noted}
-use Rattle.match_rows.specs.Marks.{taken_by_name, Left, left_next, left_past}
+use Rattle.match_rows.specs.Marks.{taken_by_name, Left}
 use Rattle.match_rows.proofs.marking.mark_range.Given as goal
 
 abbrev pub taken : Bool → List ℕ → List ℕ → List ℕ → ℕ → LentName → Bool

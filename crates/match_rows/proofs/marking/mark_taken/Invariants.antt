@@ -1,12 +1,8 @@
 -- `mark_taken`: the loop keeps that the rows before k are marked by the test and the others as they were. Assumes nothing.
-use borrow.Author.Rules.{rules}
-use mathlib.Core.Path.{◌≡◌, refl, ap, ◌∙◌}
-use mathlib.Core.Bool.{Bool, ◌||◌}
+use mathlib.Core.Path.{◌≡◌}
 use Prim.Native.Nat.{ℕ, ◌≤◌, ◌-◌}
-use native.Mathlib.Omega.{arith}
-use lib.ListN.{length, get_or, length-set}
-use Rattle.table_mailboxes.specs.Columns.{noted}
-use Rattle.match_rows.specs.Marks.{taken_by, Marking, marking_start, marking_next}
+use lib.ListN.{length, get_or}
+use Rattle.match_rows.specs.Marks.{taken_by, Marking}
 use Rattle.match_rows.proofs.marking.mark_taken.Given as goal
 
 abbrev pub invariant-loop-k : goal.invariant-loop-k

@@ -1,5 +1,4 @@
 -- `takes`: three selectors go by attributes, each by its own bits; the others take nobody so. Assumes nothing.
-use borrow.Author.Rules.{rules}
 use mathlib.Core.Path.{sym, ap, ◌∙◌}
 use Rattle.model.specs.declared.Selector.{Selector}
 use Rattle.match_rows.specs.Marks.{taken_by}

@@ -1,5 +1,4 @@
 -- `octets::classes::in_class` meets its contract: by the table. Assumes nothing.
-use borrow.Author.Rules.{rules}
 use mathlib.Core.Path.{refl}
 use Rattle.octets.specs.Classes.{class_table}
 use Rattle.octets.proofs.classes.in_class.Goals as goal

@@ -1,5 +1,4 @@
 -- `octets::classes::octet_at` meets its contract: past the end getD gives 0. Assumes nothing.
-use borrow.Author.Rules.{rules}
 use mathlib.Core.Path.{sym}
 use lib.ListN.{get_or-eq_default}
 use Rattle.octets.proofs.classes.octet_at.Goals as goal

@@ -1,9 +1,6 @@
 -- `bare_date_at`: day, dash, month, dash and year are read in the order of the definition, which is bad where one lacks. Assumes nothing.
-use borrow.Author.Rules.{rules}
-use mathlib.Core.Path.{◌≡◌, sym, ◌∙◌}
+use mathlib.Core.Path.{sym, ◌∙◌}
 use native.Mathlib.Omega.{arith}
-use lib.ListN.{get_or}
-use Rattle.octets.proofs.Strings.{octet_in}
 use Rattle.octets.proofs.Chains.{within-from}
 use Rattle.octets.proofs.Days.{date_no_day, date_no_dash, date_no_month, date_no-second, date_year}
 use Prim.Native.Nat.{◌+◌}

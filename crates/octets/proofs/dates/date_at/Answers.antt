@@ -1,5 +1,4 @@
 -- `date_at`: the first octet says whether there are quotes; between them stands a bare date, as in the definition. Assumes nothing.
-use borrow.Author.Rules.{rules}
 use mathlib.Core.Path.{◌≡◌, sym, ◌∙◌}
 use native.Mathlib.Omega.{arith}
 use lib.ListN.{get_or}

@@ -1,5 +1,4 @@
 -- `octets::dates::digits_at` meets its contract: by the end of the digits. Assumes nothing.
-use borrow.Author.Rules.{rules}
 use native.Mathlib.Omega.{arith}
 use Rattle.octets.proofs.Days.{digits_few, digits_many, digits_are}
 use Rattle.octets.proofs.dates.digits_at.Goals as goal

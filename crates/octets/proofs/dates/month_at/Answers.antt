@@ -1,5 +1,4 @@
 -- `octets::dates::month_at` meets its contract: a shorter text is no month, and the table has all of them. Assumes nothing.
-use borrow.Author.Rules.{rules}
 use mathlib.Core.Path.{sym, ◌∙◌}
 use native.Mathlib.Omega.{arith}
 use Rattle.octets.proofs.Days.{month_short}

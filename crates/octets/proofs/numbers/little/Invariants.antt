@@ -1,11 +1,8 @@
 -- `little`: the loop goes from the highest octet down, and keeps that v is the number of the octets from i on. Assumes nothing.
 use mathlib.Core.Path.{◌≡◌}
-use native.Mathlib.Omega.{arith}
-use Prim.Native.Nat.{◌+◌, ◌-◌, ◌≤◌, ◌<◌, min}
+use Prim.Native.Nat.{◌+◌, ◌-◌, ◌≤◌, ◌<◌}
 use lib.ListN.{drop}
 use Rattle.model.specs.Text.{little}
-use Rattle.octets.proofs.Weights.{little_none, little-back, little-small}
-use borrow.Author.Rules.{rules}
 use Rattle.octets.proofs.numbers.little.Given as goal
 
 abbrev pub invariant-loop-i : goal.invariant-loop-i

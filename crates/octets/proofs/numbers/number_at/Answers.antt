@@ -1,10 +1,9 @@
 -- `octets::numbers::number_at` meets its contract: the value from the start is the value from here; more digits make none less. Assumes nothing.
-use mathlib.Core.Path.{◌≡◌, refl, ◌∙◌}
+use mathlib.Core.Path.{refl, ◌∙◌}
 use native.Mathlib.Omega.{arith}
-use Prim.Native.Nat.{◌≤◌, ◌+◌, ◌-◌}
-use Rattle.model.specs.Reading.{piece, value_from}
+use Prim.Native.Nat.{◌+◌}
+use Rattle.model.specs.Reading.{piece}
 use Rattle.octets.proofs.Digits.{value_done, value-step, number_none, number_is, number_large}
-use borrow.Author.Rules.{rules}
 use Rattle.octets.proofs.numbers.number_at.Goals as goal
 
 pub returns-then-end-at : goal.returns-then-end-at

@@ -1,10 +1,7 @@
 -- `octets::numbers::number_at` meets its contract: the value from the start is the value from here; more digits make none less. Assumes nothing.
-use mathlib.Core.Path.{◌≡◌, refl, ◌∙◌}
-use native.Mathlib.Omega.{arith}
-use Prim.Native.Nat.{◌≤◌, ◌+◌, ◌-◌}
+use mathlib.Core.Path.{◌≡◌}
+use Prim.Native.Nat.{◌≤◌, ◌-◌}
 use Rattle.model.specs.Reading.{piece, value_from}
-use Rattle.octets.proofs.Digits.{value_done, value-step, number_none, number_is, number_large}
-use borrow.Author.Rules.{rules}
 use Rattle.octets.proofs.numbers.number_at.Given as goal
 
 abbrev pub invariant-loop-i : goal.invariant-loop-i

@@ -1,5 +1,4 @@
 -- `octets::numbers::octet_from` meets its contract: past the end getD gives 0. Assumes nothing.
-use borrow.Author.Rules.{rules}
 use mathlib.Core.Path.{sym}
 use native.Mathlib.Omega.{arith}
 use Prim.Native.Nat.{◌+◌}

@@ -1,5 +1,4 @@
 -- `octets::numbers::positive_at` meets its contract: by its first octet. Assumes nothing.
-use borrow.Author.Rules.{rules}
 use mathlib.Core.Path.{sym, ◌∙◌}
 use borrow.Author.Tests.{ne_eqb}
 use Rattle.octets.proofs.numbers.positive_at.Goals as goal

@@ -1,5 +1,4 @@
 -- `octets::runs::run_at` meets its contract: by the end of the run. Assumes nothing.
-use borrow.Author.Rules.{rules}
 use native.Mathlib.Omega.{arith}
 use Rattle.octets.proofs.Ends.{run-found, run_none}
 use Rattle.octets.proofs.runs.run_at.Goals as goal

@@ -1,12 +1,8 @@
 -- `octets::runs::run_end` meets its contract: the end of the run from the start is its end from here. Assumes nothing.
-use mathlib.Core.Path.{◌≡◌, refl, sym, ◌∙◌}
+use mathlib.Core.Path.{refl, sym, ◌∙◌}
 use native.Mathlib.Omega.{arith}
-use Prim.Native.Nat.{◌≤◌, ◌+◌, ◌-◌}
-use lib.ListN.{length}
-use Rattle.model.specs.Reading.{end_of}
 use Rattle.octets.specs.Classes.{in_class, class_table}
 use Rattle.octets.proofs.Ends.{run_past, run-stops, run-goes}
-use borrow.Author.Rules.{rules}
 use Rattle.octets.proofs.runs.run_end.Goals as goal
 
 pub loop-p-init : goal.loop-p-init

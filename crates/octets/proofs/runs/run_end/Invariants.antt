@@ -1,12 +1,9 @@
 -- `octets::runs::run_end` meets its contract: the end of the run from the start is its end from here. Assumes nothing.
-use mathlib.Core.Path.{◌≡◌, refl, sym, ◌∙◌}
-use native.Mathlib.Omega.{arith}
+use mathlib.Core.Path.{◌≡◌}
 use Prim.Native.Nat.{◌≤◌, ◌+◌, ◌-◌}
 use lib.ListN.{length}
 use Rattle.model.specs.Reading.{end_of}
 use Rattle.octets.specs.Classes.{in_class, class_table}
-use Rattle.octets.proofs.Ends.{run_past, run-stops, run-goes}
-use borrow.Author.Rules.{rules}
 use Rattle.octets.proofs.runs.run_end.Given as goal
 
 abbrev pub invariant-loop-p : goal.invariant-loop-p

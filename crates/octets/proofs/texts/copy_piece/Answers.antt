@@ -1,11 +1,8 @@
 -- `octets::texts::copy_piece` meets its contract: what is written and what is left make the whole. Assumes nothing.
-use mathlib.Core.Path.{◌≡◌, refl}
+use mathlib.Core.Path.{refl}
 use native.Mathlib.Omega.{arith}
-use Prim.Native.Nat.{◌≤◌, ◌-◌}
-use lib.ListN.{length}
-use Rattle.model.specs.Reading.{piece}
 use Rattle.octets.proofs.Pieces.{piece_over, piece_past, piece-cons}
-use Rattle.octets.proofs.Filling.{Copied, copied_start, copied_one, copied_long, copied_is}
+use Rattle.octets.proofs.Filling.{copied_start, copied_one, copied_long, copied_is}
 use borrow.Author.Rules.{rules}
 use Rattle.octets.proofs.texts.copy_piece.Goals as goal
 

@@ -1,12 +1,9 @@
 -- `octets::texts::copy_piece` meets its contract: what is written and what is left make the whole. Assumes nothing.
-use mathlib.Core.Path.{◌≡◌, refl}
-use native.Mathlib.Omega.{arith}
+use mathlib.Core.Path.{◌≡◌}
 use Prim.Native.Nat.{◌≤◌, ◌-◌}
 use lib.ListN.{length}
 use Rattle.model.specs.Reading.{piece}
-use Rattle.octets.proofs.Pieces.{piece_over, piece_past, piece-cons}
-use Rattle.octets.proofs.Filling.{Copied, copied_start, copied_one, copied_long, copied_is}
-use borrow.Author.Rules.{rules}
+use Rattle.octets.proofs.Filling.{Copied}
 use Rattle.octets.proofs.texts.copy_piece.Given as goal
 
 abbrev pub invariant-loop-i : goal.invariant-loop-i

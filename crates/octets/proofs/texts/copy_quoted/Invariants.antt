@@ -1,15 +1,12 @@
 -- `copy_quoted`: the loop keeps that what is written and the value of what is left of the string make the whole. Assumes nothing.
-use mathlib.Core.Path.{◌≡◌, refl, sym, ap, ◌∙◌}
-use native.Mathlib.Omega.{arith}
+use mathlib.Core.Path.{◌≡◌}
 use Prim.Native.Nat.{◌≤◌, ◌<◌, ◌-◌}
-use lib.ListN.{length, get_or, drop}
+use lib.ListN.{length, drop}
 use Rattle.model.specs.Reading.{unquote, quoted_at}
 use Rattle.octets.specs.Found.{next_of}
 use Rattle.octets.specs.Values.{value_of}
 use Rattle.octets.specs.declared.Next.TheVariants.{Bad}
-use Rattle.octets.proofs.Strings.{quote_past}
-use borrow.Author.Rules.{rules}
-use Rattle.octets.proofs.Filling.{Copied, copied_start, copied-kept, copied_long, copied_is, bad_value, never, string_closes, string-goes, string-still, fill_none, kept_short, string_begins}
+use Rattle.octets.proofs.Filling.{Copied}
 use Rattle.octets.proofs.texts.copy_quoted.Given as goal
 
 abbrev pub invariant-loop-p : goal.invariant-loop-p

@@ -1,5 +1,4 @@
 -- `octets::texts::quote_step` meets its contract: the tests pick the case. Assumes nothing.
-use borrow.Author.Rules.{rules}
 use mathlib.Core.Path.{sym, ◌∙◌}
 use borrow.Author.Tests.{eq-eqb, ne_eqb}
 use Rattle.octets.proofs.texts.quote_step.Goals as goal

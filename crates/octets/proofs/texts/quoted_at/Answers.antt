@@ -1,12 +1,9 @@
 -- `octets::texts::quoted_at` meets its contract: the answer from the start is the answer from here. Assumes nothing.
 use mathlib.Core.Path.{◌≡◌, sym, ap, ◌∙◌}
 use native.Mathlib.Omega.{arith}
-use Prim.Native.Nat.{◌≤◌, ◌<◌, ◌-◌}
-use lib.ListN.{length, get_or, drop}
-use Rattle.model.specs.Reading.{unquote, quoted_at}
+use lib.ListN.{get_or}
 use Rattle.octets.specs.Found.{next_of}
 use Rattle.octets.proofs.Strings.{octet_in, quote_none, quote_begins, quote_past, quote_closes, quote_fails, quote-goes}
-use borrow.Author.Rules.{rules}
 use Rattle.octets.proofs.texts.quoted_at.Goals as goal
 
 pub returns-then-octet_at-ne34 : goal.returns-then-octet_at-ne34

@@ -1,5 +1,4 @@
 -- `octets::texts::store` meets its contract: a write past the end is none. Assumes nothing.
-use borrow.Author.Rules.{rules}
 use mathlib.Core.Path.{sym}
 use lib.Seq.{set_out}
 use Rattle.octets.proofs.texts.store.Goals as goal

@@ -1,5 +1,4 @@
 -- `octets::texts::text_at` meets its contract: by its first octet. Assumes nothing.
-use borrow.Author.Rules.{rules}
 use mathlib.Core.Path.{sym, ◌∙◌}
 use mathlib.Core.Path.{sym, ap, ◌∙◌}
 use Rattle.octets.specs.Classes.{in_class}

@@ -1,5 +1,4 @@
 -- `octets::texts::value_of` meets its contract: by its first octet. Assumes nothing.
-use borrow.Author.Rules.{rules}
 use mathlib.Core.Path.{sym, ◌∙◌}
 use Rattle.octets.specs.Classes.{in_class}
 use Rattle.octets.proofs.Strings.{text-quoted, text_run}

@@ -1,5 +1,4 @@
 -- `octets::words::is_one_of` meets its contract: a word that has a place is one of them. Assumes nothing.
-use borrow.Author.Rules.{rules}
 use Rattle.model.specs.Reading.{piece}
 use Rattle.octets.specs.Vocabulary.{words_of, place_of}
 use Rattle.octets.proofs.Pieces.{any_place}

@@ -1,5 +1,4 @@
 -- `octets::words::is_word` meets its contract: by the part of the text. Assumes nothing.
-use borrow.Author.Rules.{rules}
 use Rattle.octets.proofs.words.is_word.Goals as goal
 
 pub returns : goal.returns

@@ -1,5 +1,4 @@
 -- `octets::words::part` meets its contract: nothing, all that is left or a part of it. Assumes nothing.
-use borrow.Author.Rules.{rules}
 use mathlib.Core.Path.{sym, ◌∙◌}
 use Rattle.octets.proofs.Pieces.{piece_over, piece_past, piece-rest}
 use native.Mathlib.Omega.{arith}

@@ -1,12 +1,9 @@
 -- `octets::words::place_of` meets its contract: the place from the start is the place from here. Assumes nothing.
-use mathlib.Core.Path.{◌≡◌, refl, sym, ◌∙◌}
+use mathlib.Core.Path.{refl, sym, ◌∙◌}
 use mathlib.Core.Bool.{true, false}
 use native.Mathlib.Omega.{arith}
-use Prim.Native.Nat.{◌+◌, ◌-◌, ◌≤◌}
-use lib.ListN.{length, drop}
-use Rattle.octets.specs.Vocabulary.{words_from, words_of, place_from, place_of}
+use Rattle.octets.specs.Vocabulary.{place_of}
 use Rattle.octets.proofs.Pieces.{table_over, table-cut, table_word}
-use borrow.Author.Rules.{rules}
 use Rattle.octets.proofs.words.place_of.Goals as goal
 
 pub loop-i-init : goal.loop-i-init

@@ -1,5 +1,4 @@
 -- `octets::words::word_at` meets its contract: by the end of the atom. Assumes nothing.
-use borrow.Author.Rules.{rules}
 use Rattle.octets.proofs.words.word_at.Goals as goal
 
 pub returns : goal.returns

@@ -1,5 +1,4 @@
 -- `octets::words::word_place` meets its contract: by the part of the text. Assumes nothing.
-use borrow.Author.Rules.{rules}
 use Rattle.octets.proofs.words.word_place.Goals as goal
 
 pub returns : goal.returns

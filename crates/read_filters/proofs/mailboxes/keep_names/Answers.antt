@@ -1,8 +1,6 @@
 -- `keep_names`: behind a parenthesis a row is kept, and else the one name that stands there. Assumes nothing.
-use borrow.Author.Rules.{rules}
 use mathlib.Core.Path.{sym, ap, ◌∙◌}
 use native.Mathlib.Omega.{arith}
-use Prim.Native.Nat.{◌-◌}
 use lib.ListN.{length}
 use Rattle.read_filters.specs.Keeping.{with_one}
 use Rattle.read_filters.specs.declared.Kept.{Kept}

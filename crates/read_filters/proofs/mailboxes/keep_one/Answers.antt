@@ -1,5 +1,4 @@
 -- The name is set at its place, or dropped where there is none; there are 16.
-use borrow.Author.Rules.{rules}
 use native.Mathlib.Omega.{arith}
 use Rattle.read_filters.proofs.Places.{one-dropped}
 use Rattle.read_filters.proofs.mailboxes.keep_one.Goals as goal

@@ -1,5 +1,4 @@
 -- The value is read into 64 octets; one that is longer is no name, and any other is at their front.
-use borrow.Author.Rules.{rules}
 use mathlib.Core.Path.{ap, ◌∙◌}
 use native.Mathlib.Omega.{arith}
 use Prim.Native.Nat.{◌<◌}
@@ -7,7 +6,7 @@ use lib.ListN.{length, replicate}
 use Rattle.model.specs.Reading.{astring_at}
 use Rattle.model.specs.Listing.{lend_name}
 use Rattle.octets.specs.Values.{value_of}
-use Rattle.read_filters.proofs.Places.{front, front_length, too_long}
+use Rattle.read_filters.proofs.Places.{front, too_long}
 use Rattle.read_filters.proofs.mailboxes.name_at.Goals as goal
 
 pub returns-then-len-gt64 : goal.returns-then-len-gt64

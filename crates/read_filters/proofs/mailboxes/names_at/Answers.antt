@@ -1,8 +1,6 @@
 -- One name is counted, or the row behind a parenthesis.
-use borrow.Author.Rules.{rules}
 use mathlib.Core.Path.{sym, ◌∙◌}
 use native.Mathlib.Omega.{arith}
-use Prim.Native.Nat.{◌-◌}
 use lib.ListN.{length}
 use Rattle.read_filters.proofs.Rows.{names_row, names_one, names_none, within-from}
 use Rattle.octets.specs.Rows.{in-text}

@@ -1,7 +1,5 @@
 -- One name more is counted: the count has room for it.
-use borrow.Author.Rules.{rules}
 use mathlib.Core.Path.{sym, ap}
-use native.Mathlib.Omega.{arith}
 use Rattle.read_filters.specs.Counted.{counted_more}
 use Rattle.read_filters.proofs.mailboxes.one_more.Goals as goal
 

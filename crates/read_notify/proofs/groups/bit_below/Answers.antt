@@ -1,6 +1,5 @@
 -- `bit_below`: by the bit.
 use native.Mathlib.Omega.{arith}
-use borrow.Author.Rules.{rules}
 use Rattle.read_notify.proofs.groups.bit_below.Goals as goal
 
 pub returns-then-b : goal.returns-then-b

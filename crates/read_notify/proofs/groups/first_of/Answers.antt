@@ -1,6 +1,5 @@
 -- `first_of`: by the test.
 use borrow.Author.Tests.{eq-eqb, ne_eqb}
-use borrow.Author.Rules.{rules}
 use Rattle.read_notify.proofs.groups.first_of.Goals as goal
 
 pub returns-then-names-eq0 : goal.returns-then-names-eq0

@@ -1,5 +1,4 @@
 -- `lent`: as its calls say.
-use borrow.Author.Rules.{rules}
 use Rattle.read_notify.proofs.groups.lent.Goals as goal
 
 pub returns : goal.returns

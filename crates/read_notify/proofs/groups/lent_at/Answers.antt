@@ -1,10 +1,7 @@
 -- `lent_at`: a group opens with a parenthesis and a filter that may group, and `lent_behind` has the rest; else both are bad. Assumes nothing.
 use native.Mathlib.Omega.{arith}
 use mathlib.Core.Path.{sym, ◌∙◌}
-use Prim.Native.Nat.{◌-◌}
 use Rattle.read_notify.proofs.Lending.{lent_blank, lent_none, lent_odd, lent_by_lem, within_lent}
-use borrow.Author.Rules.{rules}
-use Rattle.octets.specs.Rows.{in-text}
 use Rattle.read_notify.proofs.groups.lent_at.Goals as goal
 
 pub returns-then-octet_at-ne40 : goal.returns-then-octet_at-ne40

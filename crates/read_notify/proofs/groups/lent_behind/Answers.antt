@@ -1,5 +1,4 @@
 -- `lent_behind`: a space, events and a parenthesis make the group; where one of them lacks, the definition is bad too. Assumes nothing.
-use borrow.Author.Rules.{rules}
 use mathlib.Core.Path.{sym, ap, ◌∙◌}
 use native.Mathlib.Omega.{arith}
 use Rattle.read_notify.specs.Tallies.{about_selected}

@@ -1,6 +1,5 @@
 -- `low`: by the test.
 use borrow.Author.Tests.{lt-ltb, le-ltb}
-use borrow.Author.Rules.{rules}
 use Rattle.read_notify.proofs.groups.low.Goals as goal
 
 pub returns-then-x-lt256 : goal.returns-then-x-lt256

@@ -1,5 +1,4 @@
 -- `added`: the sums have room.
-use borrow.Author.Rules.{rules}
 use Rattle.read_notify.proofs.tallies.added.Goals as goal
 
 pub returns : goal.returns

@@ -1,5 +1,4 @@
 -- `amiss`: as its calls say.
-use borrow.Author.Rules.{rules}
 use Rattle.read_notify.proofs.tallies.amiss.Goals as goal
 
 pub returns : goal.returns

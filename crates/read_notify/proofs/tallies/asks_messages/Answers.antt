@@ -1,5 +1,4 @@
 -- `asks_messages`: the four tests together.
-use borrow.Author.Rules.{rules}
 use Rattle.read_notify.proofs.tallies.asks_messages.Goals as goal
 
 pub returns : goal.returns

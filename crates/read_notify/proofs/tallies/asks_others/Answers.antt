@@ -1,5 +1,4 @@
 -- `asks_others`: the three tests together.
-use borrow.Author.Rules.{rules}
 use Rattle.read_notify.proofs.tallies.asks_others.Goals as goal
 
 pub returns : goal.returns

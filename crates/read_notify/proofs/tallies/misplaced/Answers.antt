@@ -1,5 +1,4 @@
 -- `misplaced`: by the two kinds of group.
-use borrow.Author.Rules.{rules}
 use Rattle.read_notify.proofs.tallies.misplaced.Goals as goal
 
 pub returns-then-selected : goal.returns-then-selected

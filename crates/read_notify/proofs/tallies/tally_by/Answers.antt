@@ -1,5 +1,4 @@
 -- `tally_by`: as its calls say.
-use borrow.Author.Rules.{rules}
 use Rattle.read_notify.proofs.tallies.tally_by.Goals as goal
 
 pub returns : goal.returns

@@ -1,5 +1,4 @@
 -- `unpaired`: as its calls say.
-use borrow.Author.Rules.{rules}
 use Rattle.read_notify.proofs.tallies.unpaired.Goals as goal
 
 pub returns : goal.returns

@@ -1,5 +1,4 @@
 -- `bare`: as its calls say. Assumes nothing.
-use borrow.Author.Rules.{rules}
 use Rattle.read_notify.proofs.watches.bare.Goals as goal
 
 pub returns : goal.returns

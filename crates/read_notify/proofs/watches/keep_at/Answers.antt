@@ -1,7 +1,6 @@
 -- `keep_at`: by the word. Assumes nothing.
-use borrow.Author.Rules.{rules}
 use mathlib.Core.Path.{sym, ◌∙◌}
-use Prim.Native.Nat.{◌+◌, ◌-◌}
+use Prim.Native.Nat.{◌+◌}
 use native.Mathlib.Omega.{arith}
 use borrow.Author.Tests.{not-true, not-false}
 use Rattle.read_notify.proofs.Grouping.{notify_none_lem, notify_unknown, notify_blank, notify-set, keeps_as, keeps-bad, keeps_none, keeps-later}

@@ -1,8 +1,6 @@
 -- `keep_group`: the group is set at its place, or dropped where there is none; there are 8.
 use native.Mathlib.Omega.{arith}
 use Rattle.read_notify.proofs.Filling.{group-dropped}
-use borrow.Author.Rules.{rules}
-use Rattle.model.specs.Laws.{mapped}
 use Rattle.read_notify.proofs.watches.keep_group.Goals as goal
 
 pub returns : goal.returns

@@ -1,5 +1,4 @@
 -- `keep_more`: no name, or those that the filter has. Assumes nothing.
-use borrow.Author.Rules.{rules}
 use mathlib.Core.Path.{◌∙◌}
 use Rattle.model.specs.NotifyGrammar.{filter_at}
 use Rattle.read_notify.proofs.Storing.{more_none, more-kept}

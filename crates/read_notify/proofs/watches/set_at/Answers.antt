@@ -1,10 +1,8 @@
 -- `set_at`: by the word STATUS. Assumes nothing.
-use borrow.Author.Rules.{rules}
 use mathlib.Core.Path.{sym, ◌∙◌}
-use Prim.Native.Nat.{◌+◌, ◌-◌}
+use Prim.Native.Nat.{◌+◌}
 use native.Mathlib.Omega.{arith}
 use Rattle.read_notify.proofs.Grouping.{set_plain, set_blank, set-status, keeps_as, keeps-bad, keeps-set}
-use Rattle.octets.specs.Rows.{in-text}
 use Rattle.read_notify.proofs.watches.set_at.Goals as goal
 
 pub returns-then-octet_at-ne32 : goal.returns-then-octet_at-ne32

@@ -1,5 +1,4 @@
 -- `silence`: as its calls say.
-use borrow.Author.Rules.{rules}
 use Rattle.read_notify.proofs.watches.silence.Goals as goal
 
 pub returns : goal.returns

@@ -1,5 +1,4 @@
 -- `ungathered`: as its calls say. Assumes nothing.
-use borrow.Author.Rules.{rules}
 use Rattle.read_notify.proofs.watches.ungathered.Goals as goal
 
 pub returns : goal.returns

@@ -1,5 +1,4 @@
 -- `watch_by`: by what was read and by the counts. Assumes nothing.
-use borrow.Author.Rules.{rules}
 use mathlib.Core.Path.{sym, ◌∙◌}
 use Rattle.read_notify.proofs.Watching.{watched-silent, watched_unread, watched_many, watched-named, watched_few}
 use Rattle.read_notify.proofs.watches.watch_by.Goals as goal

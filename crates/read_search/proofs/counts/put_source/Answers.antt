@@ -1,5 +1,4 @@
 -- `put_source`: a source in front of others as they were read. Assumes nothing.
-use borrow.Author.Rules.{rules}
 use Rattle.read_search.proofs.counts.put_source.Goals as goal
 
 pub with_source-requires : goal.with_source-requires

@@ -3,7 +3,6 @@ use mathlib.Core.Path.{sym, ◌∙◌}
 use native.Mathlib.Omega.{arith}
 use lib.ListN.{length}
 use Rattle.read_search.proofs.Rows.{sources_row, sources_none, within-from}
-use borrow.Author.Rules.{rules}
 use Rattle.octets.specs.Rows.{in-text}
 use Rattle.read_search.proofs.counts.sources_at.Goals as goal
 

@@ -1,6 +1,5 @@
 -- `with_source`: a source in front of others. Assumes nothing.
 use Rattle.read_search.proofs.Rows.{made}
-use borrow.Author.Rules.{rules}
 use Rattle.read_search.proofs.counts.with_source.Goals as goal
 
 pub returns : goal.returns

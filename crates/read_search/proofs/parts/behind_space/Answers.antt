@@ -1,9 +1,6 @@
 -- `behind_space`: a space, or none. Assumes nothing.
 use mathlib.Core.Path.{sym, ◌∙◌}
-use native.Mathlib.Omega.{arith}
 use Rattle.read_search.proofs.Optional.{space-there, space_missing}
-use borrow.Author.Rules.{rules}
-use Rattle.octets.specs.Rows.{in-text}
 use Rattle.read_search.proofs.parts.behind_space.Goals as goal
 
 pub returns-then-octet_at-eq32 : goal.returns-then-octet_at-eq32

@@ -1,7 +1,6 @@
 -- `behind_word`: the space behind the atom. Assumes nothing.
 use mathlib.Core.Path.{ap, ◌∙◌}
 use Rattle.read_search.specs.Parts.{space_at}
-use borrow.Author.Rules.{rules}
 use Rattle.read_search.proofs.parts.behind_word.Goals as goal
 
 pub returns : goal.returns

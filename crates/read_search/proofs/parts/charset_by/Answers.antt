@@ -1,7 +1,6 @@
 -- `charset_by`: the value between its spaces. Assumes nothing.
 use mathlib.Core.Path.{sym, ◌∙◌}
 use Rattle.read_search.proofs.Optional.{charset_closed, charset-unfit, charset_unspaced, charset_whole}
-use borrow.Author.Rules.{rules}
 use Rattle.read_search.proofs.parts.charset_by.Goals as goal
 
 pub returns-in_default : goal.returns-in_default

@@ -1,7 +1,6 @@
 -- `in_at`: the part, or none where its word does not stand. Assumes nothing.
 use mathlib.Core.Path.{sym, ◌∙◌}
 use Rattle.read_search.proofs.Optional.{in_given, in_left}
-use borrow.Author.Rules.{rules}
 use Rattle.read_search.proofs.parts.in_at.Goals as goal
 
 pub returns-then-word_at : goal.returns-then-word_at

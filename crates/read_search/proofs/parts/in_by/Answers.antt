@@ -1,7 +1,6 @@
 -- `in_by`: the value between its spaces. Assumes nothing.
 use mathlib.Core.Path.{sym, ◌∙◌}
 use Rattle.read_search.proofs.Optional.{in_closed, in-unfit, in_unspaced, in_whole}
-use borrow.Author.Rules.{rules}
 use Rattle.read_search.proofs.parts.in_by.Goals as goal
 
 pub returns-in_default : goal.returns-in_default

@@ -1,7 +1,6 @@
 -- `return_by`: the value between its spaces. Assumes nothing.
 use mathlib.Core.Path.{sym, ◌∙◌}
 use Rattle.read_search.proofs.Optional.{return_closed, return-unfit, return_unspaced, return_whole}
-use borrow.Author.Rules.{rules}
 use Rattle.read_search.proofs.parts.return_by.Goals as goal
 
 pub returns-in_default : goal.returns-in_default

@@ -1,6 +1,5 @@
 -- `is_refused`: its tests in their order. Assumes nothing.
 use Rattle.read_search.proofs.Judging.{refused_none, refused_some}
-use borrow.Author.Rules.{rules}
 use Rattle.read_search.proofs.whole.is_refused.Goals as goal
 
 pub returns-then-sources-eq0 : goal.returns-then-sources-eq0

@@ -1,6 +1,5 @@
 -- `is_too_large`: the sources, then the keys. Assumes nothing.
 use mathlib.Core.Path.{sym, ◌∙◌}
-use borrow.Author.Rules.{rules}
 use Rattle.read_search.proofs.whole.is_too_large.Goals as goal
 
 pub returns-then-too_many_sources : goal.returns-then-too_many_sources

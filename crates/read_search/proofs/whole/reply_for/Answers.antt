@@ -1,7 +1,6 @@
 -- `reply_for`: the lines in their order. Assumes nothing.
 use mathlib.Core.Path.{sym, ◌∙◌}
 use Rattle.read_search.proofs.Judging.{reply-refused, reply_unsupported, reply-charset, reply_large, reply-accepted}
-use borrow.Author.Rules.{rules}
 use Rattle.read_search.proofs.whole.reply_for.Goals as goal
 
 pub returns-then-is_refused : goal.returns-then-is_refused

@@ -1,7 +1,6 @@
 -- `search_at`: the parts in their order, and the keys. Assumes nothing.
 use mathlib.Core.Path.{sym, ◌∙◌}
 use Rattle.read_search.proofs.Searches.{no_in, no_return, no-charset, searched, unsearched}
-use borrow.Author.Rules.{rules}
 use Rattle.read_search.proofs.whole.search_at.Goals as goal
 
 pub returns-in_default : goal.returns-in_default

@@ -2,7 +2,6 @@
 use native.Mathlib.Omega.{arith}
 use Rattle.model.specs.SearchGrammar.{program_at}
 use Rattle.read_search.proofs.Searches.{keys_found, keys_missing}
-use borrow.Author.Rules.{rules}
 use Rattle.read_search.proofs.whole.with_keys.Goals as goal
 
 pub returns-in-Found : goal.returns-in-Found

@@ -2,7 +2,6 @@
 use Rattle.read_tests.proofs.SetLaws.{bound-star, bound-number}
 use native.Mathlib.Omega.{arith}
 use mathlib.Core.Path.{sym, ◌∙◌}
-use borrow.Author.Rules.{rules}
 use Rattle.octets.specs.Rows.{in-text}
 use Rattle.read_tests.proofs.sets.bound_at.Goals as goal
 

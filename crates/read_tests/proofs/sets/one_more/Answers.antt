@@ -1,8 +1,6 @@
 -- `one_more`: there are fewer parts than octets, so that one more does not wrap. Assumes nothing.
 use Rattle.read_tests.specs.Sets.{counted}
-use native.Mathlib.Omega.{arith}
 use mathlib.Core.Path.{sym, ap}
-use borrow.Author.Rules.{rules}
 use Rattle.read_tests.proofs.sets.one_more.Goals as goal
 
 pub returns-in-Is : goal.returns-in-Is

@@ -2,7 +2,6 @@
 use Rattle.read_tests.proofs.SetLaws.{part_none, part_one, part_two, part_half}
 use native.Mathlib.Omega.{arith}
 use mathlib.Core.Path.{sym, ◌∙◌}
-use borrow.Author.Rules.{rules}
 use Rattle.read_tests.proofs.sets.part_at.Goals as goal
 
 pub returns-in-Is-bound_at : goal.returns-in-Is-bound_at

@@ -1,5 +1,4 @@
 -- `store`: to set a cell behind the last one changes nothing, in the definition too. Assumes nothing.
-use borrow.Author.Rules.{rules}
 use mathlib.Core.Path.{sym}
 use lib.Seq.{set_out}
 use Rattle.read_tests.proofs.sets.store.Goals as goal

@@ -1,6 +1,5 @@
 -- `store_two`: a cell and the one behind it, set one after the other, are two cells of a row. Assumes nothing.
 use Rattle.read_tests.proofs.Cells.{stored_two}
-use borrow.Author.Rules.{rules}
 use Rattle.read_tests.proofs.sets.store_two.Goals as goal
 
 pub returns : goal.returns

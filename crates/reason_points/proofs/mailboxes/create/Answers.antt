@@ -1,5 +1,4 @@
 -- `create`: a mailbox is new. Assumes nothing.
-use borrow.Author.Rules.{rules}
 use mathlib.Core.Path.{◌∙◌, ap}
 use mathlib.Core.Bool.{not, true}
 use lib.Dec.{eqb}

@@ -1,8 +1,6 @@
 -- `either_of`: MailboxName of one row or of two. Assumes nothing.
-use borrow.Author.Rules.{rules}
 use mathlib.Core.Path.{◌∙◌, ap₂}
 use mathlib.Core.Bool.{◌||◌}
-use borrow.Author.Tests.{not-true, not-false}
 use Rattle.demands.specs.Reasons.Numbers.{lesser}
 use Rattle.reason_points.specs.Showing.{plain_is, one_row, two-rows}
 use Rattle.reason_points.proofs.mailboxes.either_of.Goals as goal

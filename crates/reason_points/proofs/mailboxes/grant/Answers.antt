@@ -1,5 +1,4 @@
 -- `grant`: the rights of a mailbox change. Assumes nothing.
-use borrow.Author.Rules.{rules}
 use mathlib.Core.Path.{sym, ◌∙◌, ap, ap₂}
 use mathlib.Core.Bool.{Bool, not, false}
 use lib.ListN.{take}

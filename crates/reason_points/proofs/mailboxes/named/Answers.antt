@@ -1,5 +1,4 @@
 -- `named`: a mailbox that appears or goes. Assumes nothing.
-use borrow.Author.Rules.{rules}
 use mathlib.Core.Path.{◌∙◌, ap₂}
 use mathlib.Core.Bool.{Bool}
 use Rattle.model.specs.declared.Mailbox.{Mailbox}

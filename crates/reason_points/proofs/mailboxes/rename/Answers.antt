@@ -1,5 +1,4 @@
 -- `rename`: a group that is about the old name or the new one. Assumes nothing.
-use borrow.Author.Rules.{rules}
 use mathlib.Core.Path.{◌∙◌, ap}
 use mathlib.Core.Bool.{true}
 use Rattle.model.specs.declared.Mailbox.{Mailbox}

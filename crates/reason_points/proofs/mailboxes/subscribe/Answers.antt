@@ -1,5 +1,4 @@
 -- `subscribe`: a subscription, for groups as if the mailbox were subscribed. Assumes nothing.
-use borrow.Author.Rules.{rules}
 use mathlib.Core.Path.{◌∙◌, ap}
 use mathlib.Core.Bool.{Bool}
 use Rattle.model.specs.Memory.{with_attributes}

@@ -1,8 +1,6 @@
 -- `arrive`: a new message. Assumes nothing.
-use borrow.Author.Rules.{rules}
 use mathlib.Core.Path.{sym, ◌∙◌, ap}
 use mathlib.Core.Bool.{Bool, not, false}
-use borrow.Author.Tests.{not-true, not-false}
 use Rattle.model.specs.Groups.{selected_asks, asks_new}
 use Rattle.reason_points.specs.Showing.{is_here, selected_of, elsewhere_of, the_first, the_second}
 use Rattle.reason_points.proofs.messages.arrive.Goals as goal

@@ -1,5 +1,4 @@
 -- `elsewhere`: a message of a mailbox that is not selected. Assumes nothing.
-use borrow.Author.Rules.{rules}
 use mathlib.Core.Path.{◌∙◌}
 use mathlib.Core.Bool.{true, false}
 use Rattle.reason_points.specs.Showing.{plain_is}

@@ -1,8 +1,6 @@
 -- `expunge`: a message is expunged. Assumes nothing.
-use borrow.Author.Rules.{rules}
 use mathlib.Core.Path.{sym, ◌∙◌, ap, ap₂}
 use mathlib.Core.Bool.{Bool, not, ◌&&◌}
-use borrow.Author.Tests.{not-true, not-false}
 use lib.Dec.{ltb}
 use Rattle.model.specs.Groups.{immediate_asks, asks_expunge}
 use Rattle.reason_points.specs.Showing.{is_here, selected_of, elsewhere_of, the_first, the_second}

@@ -1,10 +1,8 @@
 -- `expunge_waits`: whether an expunge waits. Assumes nothing.
-use borrow.Author.Rules.{rules}
 use Rattle.model.specs.Groups.{immediate_asks, asks_expunge}
 use mathlib.Core.Path.{ap}
 use mathlib.Core.Bool.{not}
 use Rattle.reason_points.specs.Showing.{both_no, both_yes}
-use borrow.Author.Tests.{not-true, not-false}
 use Rattle.reason_points.proofs.messages.expunge_waits.Goals as goal
 
 pub returns-then-not-announced : goal.returns-then-not-announced

@@ -1,11 +1,9 @@
 -- `flags_wait`: whether a flag change waits. Assumes nothing.
-use borrow.Author.Rules.{rules}
 use mathlib.Core.Path.{refl, sym, ◌∙◌, ap}
 use mathlib.Core.Bool.{not, ◌&&◌}
 use lib.Dec.{eqb}
 use Rattle.model.specs.Groups.{selected_asks, asks_flags}
 use Rattle.reason_points.specs.Showing.{both_no, both_yes}
-use borrow.Author.Tests.{not-true, not-false}
 use Rattle.reason_points.proofs.messages.flags_wait.Goals as goal
 
 pub returns-then-not-announced : goal.returns-then-not-announced

@@ -1,5 +1,4 @@
 -- `in_selected`: a message of the selected mailbox. Assumes nothing.
-use borrow.Author.Rules.{rules}
 use Rattle.reason_points.proofs.messages.in_selected.Goals as goal
 
 pub returns : goal.returns

@@ -1,8 +1,6 @@
 -- `reflag`: the flags of a message change. Assumes nothing.
-use borrow.Author.Rules.{rules}
 use mathlib.Core.Path.{sym, ◌∙◌, ap, ap₂}
 use mathlib.Core.Bool.{Bool, not, ◌&&◌}
-use borrow.Author.Tests.{not-true, not-false}
 use lib.Dec.{eqb, ltb}
 use Rattle.model.specs.Groups.{selected_asks, asks_flags}
 use Rattle.reason_points.specs.Showing.{is_here, selected_of, elsewhere_of, the_first, the_second}

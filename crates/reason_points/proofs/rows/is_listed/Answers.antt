@@ -1,9 +1,7 @@
 -- `is_listed`: whether a row may be listed and has the name. Assumes nothing.
-use borrow.Author.Rules.{rules}
 use mathlib.Core.Path.{sym, ◌∙◌, ap}
 use native.Mathlib.Omega.{arith}
 use lib.Seq.{length-take-le}
-use borrow.Author.Tests.{not-true, not-false}
 use Rattle.model.specs.Lists.{same}
 use Rattle.model.specs.Names.{Name}
 use Rattle.reason_points.proofs.rows.is_listed.Goals as goal

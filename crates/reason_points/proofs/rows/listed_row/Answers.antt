@@ -1,10 +1,8 @@
 -- `listed_row`: the first row that may be listed and has the name, or another row. Assumes nothing.
 use borrow.Author.Rules.{rules}
 use mathlib.Core.Path.{◌≡◌, refl, sym, ◌∙◌}
-use Prim.Native.Nat.{◌-◌}
 use native.Mathlib.Omega.{arith}
-use lib.ListN.{length, take, drop, get_or}
-use Rattle.model.specs.Lists.{filterb}
+use lib.ListN.{length}
 use Rattle.model.specs.Events.{is_listed}
 use Rattle.table_mailboxes.specs.Walks.{vacant, mapped-length}
 use Rattle.reason_points.specs.Rows.{first_here, first_next, first_past}

@@ -1,13 +1,9 @@
 -- `listed_row`: the first row that may be listed and has the name, or another row. Assumes nothing.
-use borrow.Author.Rules.{rules}
-use mathlib.Core.Path.{◌≡◌, refl, sym, ◌∙◌}
+use mathlib.Core.Path.{◌≡◌}
 use Prim.Native.Nat.{◌-◌}
-use native.Mathlib.Omega.{arith}
-use lib.ListN.{length, take, drop, get_or}
+use lib.ListN.{take, drop, get_or}
 use Rattle.model.specs.Lists.{filterb}
 use Rattle.model.specs.Events.{is_listed}
-use Rattle.table_mailboxes.specs.Walks.{vacant, mapped-length}
-use Rattle.reason_points.specs.Rows.{first_here, first_next, first_past}
 use Rattle.reason_points.proofs.rows.listed_row.Given as goal
 
 abbrev pub invariant-loop-i : goal.invariant-loop-i

@@ -1,5 +1,4 @@
 -- `add`: the new mailbox stands behind the last. Assumes nothing.
-use borrow.Author.Rules.{rules}
 use Rattle.record_mailbox.specs.Creating.{added}
 use Rattle.record_mailbox.proofs.creating.add.Goals as goal
 

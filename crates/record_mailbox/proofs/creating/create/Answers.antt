@@ -1,5 +1,4 @@
 -- `create`: a mailbox is new, or its id or its name is in use, or no row is left. Assumes nothing.
-use borrow.Author.Rules.{rules}
 use mathlib.Core.Path.{sym, ◌∙◌}
 use Rattle.model.specs.Memory.{boxes}
 use Rattle.record_mailbox.specs.Putting.{counted}

@@ -1,5 +1,4 @@
 -- `delete`: a mailbox is no more, or is not known, or is selected. Assumes nothing.
-use borrow.Author.Rules.{rules}
 use mathlib.Core.Path.{sym, ◌∙◌}
 use Rattle.model.specs.Memory.{boxes}
 use Rattle.record_mailbox.specs.Putting.{counted}

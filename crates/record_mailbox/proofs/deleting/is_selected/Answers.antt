@@ -1,5 +1,4 @@
 -- `is_selected`: whether a mailbox is the selected one. Assumes nothing.
-use borrow.Author.Rules.{rules}
 use borrow.Author.Tests.{eq-eqb, ne_eqb}
 use Rattle.record_mailbox.proofs.deleting.is_selected.Goals as goal
 

@@ -1,5 +1,4 @@
 -- `take_out`: a row is taken out, with the messages of its mailbox. Assumes nothing.
-use borrow.Author.Rules.{rules}
 use Rattle.record_mailbox.specs.Deleting.{taken_out}
 use Rattle.record_mailbox.proofs.deleting.take_out.Goals as goal
 

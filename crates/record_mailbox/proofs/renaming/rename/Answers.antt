@@ -1,5 +1,4 @@
 -- `rename`: a mailbox gets another name, or is not known, or another has the name. Assumes nothing.
-use borrow.Author.Rules.{rules}
 use mathlib.Core.Path.{sym, ◌∙◌}
 use Rattle.model.specs.Memory.{boxes}
 use Rattle.record_mailbox.specs.Putting.{counted}

@@ -1,5 +1,4 @@
 -- `grant`: the rights of a mailbox change, or it is not known. Assumes nothing.
-use borrow.Author.Rules.{rules}
 use Rattle.model.specs.Memory.{boxes}
 use Rattle.record_mailbox.specs.Putting.{counted}
 use Rattle.record_mailbox.specs.Rights.{grant_unknown, grant_comes}

@@ -1,5 +1,4 @@
 -- `subscribe`: a mailbox becomes subscribed or unsubscribed, or it is not known. Assumes nothing.
-use borrow.Author.Rules.{rules}
 use Rattle.record_mailbox.specs.Subscriptions.{subscribe_unknown, subscribe_comes}
 use Rattle.record_mailbox.proofs.subscriptions.subscribe.Goals as goal
 

@@ -1,11 +1,9 @@
 -- `record_read::fields_at` meets its contract: what all fields say is what the fields passed say, and the rest. Assumes nothing.
-use borrow.Author.Rules.{rules}
 use native.Mathlib.Omega.{arith}
-use Prim.Native.Nat.{◌-◌, ◌≤◌}
 use mathlib.Core.Path.{◌≡◌}
 use lib.ListN.{length, take}
 use Rattle.record_read.specs.Layouts.{field_for}
-use Rattle.record_read.proofs.Turns.{Passed, passed_none, row_more, row_read}
+use Rattle.record_read.proofs.Turns.{passed_none, row_more, row_read}
 use Rattle.record_read.proofs.bodies.fields_at.Goals as goal
 
 pub loop-i-init : goal.loop-i-init

@@ -1,11 +1,7 @@
 -- `record_read::fields_at` meets its contract: what all fields say is what the fields passed say, and the rest. Assumes nothing.
-use borrow.Author.Rules.{rules}
-use native.Mathlib.Omega.{arith}
 use Prim.Native.Nat.{◌-◌, ◌≤◌}
-use mathlib.Core.Path.{◌≡◌}
-use lib.ListN.{length, take}
-use Rattle.record_read.specs.Layouts.{field_for}
-use Rattle.record_read.proofs.Turns.{Passed, passed_none, row_more, row_read}
+use lib.ListN.{take}
+use Rattle.record_read.proofs.Turns.{Passed}
 use Rattle.record_read.proofs.bodies.fields_at.Given as goal
 
 abbrev pub invariant-loop-i : goal.invariant-loop-i

@@ -1,5 +1,4 @@
 -- `record_read::is_framed` meets its contract: the length field, counted from the body on. Assumes nothing.
-use borrow.Author.Rules.{rules}
 use Rattle.record_read.proofs.Frames.{frame_short, frame_long}
 use Rattle.record_read.proofs.bodies.is_framed.Goals as goal
 

@@ -1,7 +1,5 @@
 -- `record_read::is_whole` meets its contract: one test after the other. Assumes nothing.
-use borrow.Author.Rules.{rules}
 use mathlib.Core.Path.{sym, ◌∙◌}
-use borrow.Author.Tests.{not-true, not-false}
 use Rattle.record_read.proofs.Frames.{whole_unframed, whole_short, whole-tail}
 use Rattle.record_read.proofs.bodies.is_whole.Goals as goal
 

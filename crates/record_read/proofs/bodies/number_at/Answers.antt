@@ -1,5 +1,4 @@
 -- `record_read::number_at` meets its contract: four octets at most, or the two halves of eight. Assumes nothing.
-use borrow.Author.Rules.{rules}
 use Rattle.record_read.proofs.Halves.{read_few, read_eight}
 use Rattle.record_read.proofs.bodies.number_at.Goals as goal
 

@@ -1,5 +1,4 @@
 -- `record_read::tail_ok` meets its contract, for each tail. Assumes nothing.
-use borrow.Author.Rules.{rules}
 use Rattle.record_read.proofs.Frames.{tail-nothing, tail_name, tail-command}
 use Rattle.record_read.proofs.bodies.tail_ok.Goals as goal
 

@@ -1,5 +1,4 @@
 -- `record_read::in_range` meets its contract: each field's range. Assumes nothing.
-use borrow.Author.Rules.{rules}
 use mathlib.Core.Path.{◌∙◌}
 use Rattle.record_read.proofs.Letters.{range_as}
 use Rattle.record_read.proofs.layouts.in_range.Goals as goal

@@ -1,5 +1,4 @@
 -- `record_read::layout_of` meets its contract: each kind's row of the table. Assumes nothing.
-use borrow.Author.Rules.{rules}
 use mathlib.Core.Path.{sym, ap}
 use Rattle.record_read.specs.Layouts.{layout_for}
 use Rattle.record_read.proofs.layouts.layout_of.Goals as goal

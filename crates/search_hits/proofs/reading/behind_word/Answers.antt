@@ -1,5 +1,4 @@
 -- `behind_word`: the verb stands behind the tag and a space; where the line is a search, it is ESEARCH and the search goes on there. Assumes nothing.
-use borrow.Author.Rules.{rules}
 use Rattle.search_hits.specs.Headed.{behind-found, behind_none}
 use Rattle.search_hits.proofs.reading.behind_word.Goals as goal
 

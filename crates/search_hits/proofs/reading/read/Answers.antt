@@ -1,5 +1,4 @@
 -- `read`: sources and keys are read behind the word, where a line that is a search has them; of another line nothing is asked. Assumes nothing.
-use borrow.Author.Rules.{rules}
 use Rattle.search_hits.specs.Finding.{asks_is, asks_none}
 use Rattle.search_hits.proofs.reading.read.Goals as goal
 

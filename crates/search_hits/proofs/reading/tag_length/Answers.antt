@@ -1,5 +1,4 @@
 -- `tag_length`: the reader's length cuts out the tag, and a line without a tag has the length 0. Assumes nothing.
-use borrow.Author.Rules.{rules}
 use Rattle.search_hits.specs.Headed.{tags_by}
 use Rattle.search_hits.proofs.reading.tag_length.Goals as goal
 

@@ -1,5 +1,4 @@
 -- `is_listed`: the name and the right, in this order. Assumes nothing.
-use borrow.Author.Rules.{rules}
 use borrow.Author.Tests.{not-true, not-false}
 use Rattle.model.specs.Laws.{and-true, and_false}
 use Rattle.table_mailboxes.proofs.listed.is_listed.Goals as goal

@@ -1,7 +1,5 @@
 -- `has_rights`: both bits are asked, the second where the first is set. Assumes nothing.
-use borrow.Author.Rules.{rules}
 use mathlib.Core.Path.{sym, ◌∙◌}
-use borrow.Author.Tests.{not-true, not-false}
 use Rattle.table_mailboxes.proofs.row.has_rights.Goals as goal
 
 pub returns-then-not-has : goal.returns-then-not-has

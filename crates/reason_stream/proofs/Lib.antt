@@ -1,0 +1,2 @@
+-- The rules' reason, by the code's tests.
+pub mod Judging

@@ -1,4 +1,4 @@
-// The mailbox table as the host lends it, a slice of rows: laid out by columns or read into an array by one walk each, and written back
+// The mailbox table as the host lends it, a slice of rows: laid out by columns or read into an array by one pass each, and written back
 // by others. What is searched in between is an array or a column, which the borrow checker follows by itself.
 #![tactic(auto)]
 
@@ -13,7 +13,7 @@ ghost use Rattle.lent_rows.specs.Standing.{Lays};
 
 use model::Mailbox;
 
-// ---- the slice: each of these is a walk by hand
+// ---- the slice
 
 // The first 64 rows; where there are fewer, zeros stand behind them.
 pub fn load(rows: &[Mailbox]) -> [Mailbox; 64]

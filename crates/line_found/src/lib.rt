@@ -1,5 +1,5 @@
 // The lines of an ESEARCH: one for each mailbox that it found something in, with MIN, MAX, ALL and COUNT as they were asked for.
-// UIDs come in an array of words, as a slice of structs takes a walk by hand; a single UID is a `Uid`.
+// UIDs come in an array of words; a single UID is a `Uid`.
 #![tactic(auto)]
 
 ghost use Rattle.std.specs.Prelude.{◌≡◌, cond, [], ◌∷◌, ◌++◌, ◌+◌, ◌*◌, ◌≤◌, ◌<◌, eqb, length, take, drop};

@@ -25,10 +25,10 @@ lowest_class (marking u) = 0
 
 -- the rules by which nothing is owed; of several the first in this order is named
 --   quiet: the host asks for no notice (Records, 4)
---   noEvent: no mailbox, message, subscription or right l changes (Written, 6 and 9)
---   rightMissing: l or r is not held (Written, 1 and 19)
+--   no_event: no mailbox, message, subscription or right l changes (Written, 6 and 9)
+--   right_missing: l or r is not held (Written, 1 and 19)
 --   unmet, unasked: no group meets the mailbox; one does, and none that does asks for the event (Matches, 3 and 4; Written, 17)
---   notAnnounced: the client was not told of the message (Written, 10 and 14)
+--   not_announced: the client was not told of the message (Written, 10 and 14)
 pub data Why : Type 0 where
   quiet no_event right_missing unmet unasked not_announced : Why
 

@@ -58,7 +58,7 @@ needs_selected [] = true
 needs_selected (f ∷ fs) = anyb of_selected (f ∷ fs)
 
 -- ---- line 1 (Commands, 13)
--- BAD though the grammar fits; `hasSelected` says whether a mailbox is selected
+-- BAD though the grammar fits; `has_selected` says whether a mailbox is selected
 abbrev pub refused : Bool → Command → Bool
 refused has_selected notify_none = false
 refused has_selected (notify_set status gs) =

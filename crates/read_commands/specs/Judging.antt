@@ -25,7 +25,7 @@ use Rattle.read_commands.specs.declared.Judged.{Judged}
 abbrev pub answer_of : Verb → Reply → Judged
 answer_of v r = record { verb = v; reply = r }
 
--- whose answer it is and how the command is answered, before anything is done; `hasSelected` says whether a mailbox is selected
+-- whose answer it is and how the command is answered, before anything is done; `has_selected` says whether a mailbox is selected
 abbrev pub judged_of : Limits → Bool → Parsed Command → Judged
 judged_of l has_selected x = answer_of (verb_of (verb x)) (reply_of l has_selected x)
 

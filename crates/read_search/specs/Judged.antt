@@ -8,7 +8,7 @@ use Rattle.read_search.specs.declared.Asked.{Asked}
 use Rattle.read_search.specs.declared.SearchRead.{SearchRead}
 use Rattle.read_search.specs.declared.SearchRead.TheVariants.{Is, Bad as Unread}
 
--- `hasSelected` says whether a mailbox is selected
+-- `has_selected` says whether a mailbox is selected
 abbrev pub refused_by : Bool → Sources → Bool
 refused_by has_selected s = s.delayed || (not has_selected && (eqb s.count 0 || s.selected))
 

@@ -1,5 +1,5 @@
 // The messages that an ESEARCH finds: in one mailbox an order of entries, each tested once, and the UIDs of those that match; in several
-// the UIDs of all in one array, a run for each. That array is one of words, as a slice of structs takes a walk by hand; a single UID is a `Uid`.
+// the UIDs of all in one array, a run for each. That array is one of words; a single UID is a `Uid`.
 #![tactic(auto)]
 
 ghost use Rattle.std.specs.Prelude.{◌≡◌, ◌+◌, ◌*◌, ◌≤◌, ◌<◌, length, take};

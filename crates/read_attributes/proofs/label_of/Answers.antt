@@ -1,6 +1,6 @@
 -- `label_of`: the definition asks for the words in the order of the table, so that the place says which word it is. Assumes nothing.
 use mathlib.Core.Path.{ap}
-use mathlib.Core.List.{List, ◌∷◌}
+use mathlib.Core.List.{[], List, ◌∷◌}
 use Rattle.model.specs.Requests.{uid, flags, size, other_attribute}
 use Rattle.model.specs.Attributes.{Label, plain, body, peek, unlabelled, label_of}
 use Rattle.octets.specs.Vocabulary.{found_first, found_last, one_by_one}

@@ -1,5 +1,5 @@
 -- `named_by`: the definition asks for the words in the order of the table, so that the place says which word it is. Assumes nothing.
-use mathlib.Core.List.{List, ◌∷◌}
+use mathlib.Core.List.{[], List, ◌∷◌}
 use Rattle.model.specs.Requests.{Event, message_new, message_expunge, flag_change, annotation_change, mailbox_name, subscription_change, other_event}
 use Rattle.model.specs.NotifyGrammar.{event_of}
 use Rattle.octets.specs.Vocabulary.{found_first, found_last}

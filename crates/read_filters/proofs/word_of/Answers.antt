@@ -1,6 +1,6 @@
 -- `word_of`: the definition asks for the words in the order of the table, so that the place says which word it is. Assumes nothing.
 use mathlib.Core.Path.{ap}
-use mathlib.Core.List.{List, ◌∷◌}
+use mathlib.Core.List.{[], List, ◌∷◌}
 use Rattle.model.specs.Requests.{selected, delayed, inboxes, personal, subscribed}
 use Rattle.model.specs.NotifyGrammar.{Scope, alone, subtree_of, one_level_of, mailboxes_of, unscoped, scope_of}
 use Rattle.octets.specs.Vocabulary.{found_first, found_last}

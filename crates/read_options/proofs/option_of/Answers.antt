@@ -1,6 +1,6 @@
 -- `option_of`: the definition asks for the words in the order of the table, so that the place says which word it is. Assumes nothing.
 use mathlib.Core.Path.{ap}
-use mathlib.Core.List.{List, ◌∷◌}
+use mathlib.Core.List.{[], List, ◌∷◌}
 use Prim.Native.Nat.{ℕ}
 use Rattle.model.specs.Reading.{Parsed, bad, ok}
 use Rattle.model.specs.SearchGrammar.{Return, minimum, maximum, all_of, count}

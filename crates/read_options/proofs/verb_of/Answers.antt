@@ -1,6 +1,6 @@
 -- `verb_of`: the definition asks for the words in the order of the table, so that the place says which word it is. Assumes nothing.
 use mathlib.Core.Path.{ap}
-use mathlib.Core.List.{List, ◌∷◌}
+use mathlib.Core.List.{[], List, ◌∷◌}
 use Rattle.model.specs.Requests.{Verb, notify, esearch, other_verb}
 use Rattle.octets.specs.Vocabulary.{found_first, found_last}
 use Rattle.read_options.specs.Heads.{verb_of}

@@ -1,6 +1,6 @@
 -- `section_word`: the definition asks for the words in the order of the table, so that the place says which word it is. Assumes nothing.
 use mathlib.Core.Path.{ap}
-use mathlib.Core.List.{List, ◌∷◌}
+use mathlib.Core.List.{[], List, ◌∷◌}
 use Rattle.model.specs.Attributes.{SectionWord, whole, fields, mime, sectionless, section_word}
 use Rattle.octets.specs.Vocabulary.{found_first, found_last, one_by_one}
 use Rattle.read_sections.specs.Sections.{word_of}

@@ -1,5 +1,5 @@
 -- `step`: the columns are laid out of the array's rows, whose numbers are within their types, so `decide` speaks of these very rows. Assumes nothing.
-use mathlib.Core.List.{List, ◌∷◌}
+use mathlib.Core.List.{[], List, ◌∷◌}
 use Prim.Native.Nat.{ℕ, zero, suc, ◌<◌}
 use native.Mathlib.Omega.{arith}
 use lib.ListN.{length, get_or}

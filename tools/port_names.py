@@ -1,12 +1,13 @@
 #!/usr/bin/env python3
 """Brings the repository's own definitions and lemmas to the spelling of today's Rattle, after port.py.
 
-usage: python3 tools/port_names.py     at the top, once, on what port.py left
+usage: python3 tools/port_names.py [--all-the-same]     at the top, once, on what port.py left
 
 Words are in snake case: a token in mixed case that begins with a small letter is one of ours, since the library has none left.
 A dash joins two names: behind it stands the name of a definition of `model` or of the library; a plain word is joined by `_`.
 A definition that is a fact is spelled as a type. Functions of src/, exported names, strings, inputs and outputs stay.
-It says which names fall together in one file, and writes nothing then.
+It says which names fall together in one file, and writes nothing then, but under --all-the-same: what it says of LANDED are ten pairs in files of
+proofs/, a definition and the function (or goal) that is called like it, which the language tells apart by their places.
 """
 import collections
 import os

@@ -1,0 +1,4 @@
+pub mod Bare
+pub mod Laws
+pub mod Runs
+pub mod Examples

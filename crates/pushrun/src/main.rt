@@ -3,7 +3,8 @@
 // it writes `! n` where the record is refused and all that the queue holds, and drains the queue.
 #![tactic(auto)]
 
-ghost use Rattle.std.specs.Prelude.{◌≡◌, ◌≤◌, length, IfOk};
+ghost use Rattle.std.specs.Prelude.{◌≡◌, ◌≤◌, List, ℕ, length, take, IfOk, OnOk, OnErr};
+ghost use Rattle.std.specs.Io.KnownBytes.{Appends};
 
 use run_input::RECORD;
 use std::io;
@@ -20,7 +21,9 @@ const SHOWN: usize = 8197;
 // Writes what a record shows, which stands at the front of `out`; the next goes there again.
 fn print_shown<W: Write>(writer: &mut W, s: Standing, out: &[u8]) -> io::Result<Standing>
     requires { s.end ≤ length out.now }
-    ensures { IfOk result (λ t. t.end ≡ 0) }
+    ensures ok { IfOk result (λ t. t.end ≡ 0) }
+    ensures bytes { OnOk result (Appends (W.contents writer.old) (W.contents writer.new) (take s.end out.now)) }
+    ensures err { OnErr result ((n : ℕ) × Appends (W.contents writer.old) (W.contents writer.new) (take n (take s.end out.now))) }
 {
     let end = s.end;
     run_input::print(writer, &out[..end])?;
@@ -45,7 +48,8 @@ fn serve_one<W: Write>(
     out: &mut [u8],
 ) -> io::Result<Standing>
     requires { (s.end ≡ 0) × (length queue.old ≡ 8192) × (8197 ≤ length out.old) }
-    ensures { IfOk result (λ t. t.end ≡ 0) }
+    ensures ok { IfOk result (λ t. t.end ≡ 0) }
+    ensures err { OnErr result ((t : List ℕ) × Appends (W.contents writer.old) (W.contents writer.new) t) }
 {
     let t = step_stream::turn(s, words, queue, octets, out);
     print_shown(writer, t, out)

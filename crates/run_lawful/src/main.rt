@@ -4,7 +4,8 @@
 // them, and the session; rows, groups and names lie as the host keeps them. A name of no octets ends the input.
 #![tactic(auto)]
 
-ghost use Rattle.std.specs.Prelude.{◌≡◌, List, ℕ, ◌≤◌, ◌<◌, length, IfOk};
+ghost use Rattle.std.specs.Prelude.{◌≡◌, List, ℕ, ◌≤◌, ◌<◌, length, take, IfOk, OnOk, OnErr};
+ghost use Rattle.std.specs.Io.KnownBytes.{Appends, WriteAppends};
 ghost use Rattle.model.specs.Lawful.{lawful};
 ghost use Rattle.model.specs.declared.Mailbox.{Mailbox};
 ghost use Rattle.table_messages.specs.Words.{messages};
@@ -14,8 +15,28 @@ use model::{Counts, LentGroup, LentName, Mailbox, Session};
 use std::io;
 use std::io::{Read, Write};
 
-fn print<W: Write>(writer: &mut W, text: &[u8]) -> io::Result<()> {
-    writer.write_all(text)
+// Writes at least one octet, or fails and has written none.
+fn write_once<W: Write>(writer: &mut W, text: &[u8]) -> io::Result<usize>
+    ensures size { IfOk result (λ n. (0 < n) × (n ≤ length text.now)) }
+    ensures bytes { WriteAppends (W.contents writer.old) (W.contents writer.new) result text.now }
+{
+    let n = writer.write(text)?;
+    if n == 0 {
+        return Err(io::Error::from(io::ErrorKind::WriteZero));
+    }
+    Ok(n)
+}
+
+// Writes the text. Where a write fails, the first octets of it may have been written, which `write_all` does not say.
+fn print<W: Write>(writer: &mut W, text: &[u8]) -> io::Result<()>
+    ensures ok { OnOk result (Appends (W.contents writer.old) (W.contents writer.new) text.now) }
+    ensures err { OnErr result ((n : ℕ) × Appends (W.contents writer.old) (W.contents writer.new) (take n text.now)) }
+{
+    let mut done = 0;
+    while done < text.len() {
+        done += write_once(writer, &text[done..])?;
+    }
+    Ok(())
 }
 
 // ---- the input
@@ -228,7 +249,9 @@ fn judge(
 }
 
 // Writes the answer.
-fn print_answer<W: Write>(writer: &mut W, yes: bool) -> io::Result<()> {
+fn print_answer<W: Write>(writer: &mut W, yes: bool) -> io::Result<()>
+    ensures { (t : List ℕ) × Appends (W.contents writer.old) (W.contents writer.new) t }
+{
     if yes {
         print(writer, b": lawful\n")
     } else {
@@ -252,7 +275,8 @@ fn judge_rest<R: Read>(
 
 // The memory behind its name: 1 if it is lawful, else 0.
 fn answer<R: Read, W: Write>(reader: &mut R, writer: &mut W) -> io::Result<u64>
-    ensures { IfOk result (λ n. n ≤ 1) }
+    ensures ok { IfOk result (λ n. n ≤ 1) }
+    ensures err { OnErr result ((t : List ℕ) × Appends (W.contents writer.old) (W.contents writer.new) t) }
 {
     let room = next_length(reader);
     let lent = next_length(reader);
@@ -266,13 +290,17 @@ fn answer<R: Read, W: Write>(reader: &mut R, writer: &mut W) -> io::Result<u64>
 }
 
 // Reads and writes the octets of a name.
-fn copy_name<R: Read, W: Write>(reader: &mut R, writer: &mut W, name: &mut [u8]) -> io::Result<()> {
+fn copy_name<R: Read, W: Write>(reader: &mut R, writer: &mut W, name: &mut [u8]) -> io::Result<()>
+    ensures { (t : List ℕ) × Appends (W.contents writer.old) (W.contents writer.new) t }
+{
     next_octets(reader, name);
     print(writer, name)
 }
 
 // Reads and writes a name of n octets, of at most 64.
-fn print_name<R: Read, W: Write>(reader: &mut R, writer: &mut W, n: usize) -> io::Result<()> {
+fn print_name<R: Read, W: Write>(reader: &mut R, writer: &mut W, n: usize) -> io::Result<()>
+    ensures { (t : List ℕ) × Appends (W.contents writer.old) (W.contents writer.new) t }
+{
     let mut name = [0u8; 64];
     let m = at_most(n, 64);
     copy_name(reader, writer, &mut name[..m])
@@ -280,7 +308,8 @@ fn print_name<R: Read, W: Write>(reader: &mut R, writer: &mut W, n: usize) -> io
 
 // One memory: 2 where there is none, else the answer.
 fn step<R: Read, W: Write>(reader: &mut R, writer: &mut W) -> io::Result<u64>
-    ensures { IfOk result (λ n. n ≤ 2) }
+    ensures ok { IfOk result (λ n. n ≤ 2) }
+    ensures err { OnErr result ((t : List ℕ) × Appends (W.contents writer.old) (W.contents writer.new) t) }
 {
     let n = next_length(reader);
     if n == 0 {

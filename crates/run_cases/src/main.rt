@@ -9,7 +9,8 @@ mod differences;
 mod reading;
 mod turns;
 
-ghost use Rattle.std.specs.Prelude.{◌≤◌, IfOk};
+ghost use Rattle.std.specs.Prelude.{◌≤◌, List, ℕ, IfOk, OnErr};
+ghost use Rattle.std.specs.Io.KnownBytes.{Consumes};
 
 use differences::known_after;
 use reading::{little, little_size};
@@ -43,7 +44,8 @@ fn run_calls<R: Read, W: Write>(
     octets: &mut [u8],
     wanted: &mut [u8],
 ) -> io::Result<u64>
-    ensures { IfOk result (λ n. n ≤ 2) }
+    ensures ok { IfOk result (λ n. n ≤ 2) }
+    ensures reader { (t : List ℕ) × Consumes (R.remaining reader.old) (R.remaining reader.new) t }
 {
     let mut m = step_stream::start();
     let mut verdict: u64 = 0;
@@ -87,13 +89,16 @@ fn next_case<R: Read>(reader: &mut R) -> Case {
 }
 
 // Reads and writes the octets of a name.
-fn copy_name<R: Read, W: Write>(reader: &mut R, writer: &mut W, name: &mut [u8]) -> io::Result<()> {
+fn copy_name<R: Read, W: Write>(reader: &mut R, writer: &mut W, name: &mut [u8]) -> io::Result<()>
+    ensures { (t : List ℕ) × Consumes (R.remaining reader.old) (R.remaining reader.new) t }
+{
     run_input::read_full(reader, name);
     print(writer, name)
 }
 
 fn print_name<R: Read, W: Write>(reader: &mut R, writer: &mut W, n: usize) -> io::Result<()>
     requires { n ≤ 256 }
+    ensures { (t : List ℕ) × Consumes (R.remaining reader.old) (R.remaining reader.new) t }
 {
     let mut name = [0u8; NAME];
     copy_name(reader, writer, &mut name[..n])
@@ -109,7 +114,8 @@ fn run_case<R: Read, W: Write>(
     calls: u64,
 ) -> io::Result<u64>
     requires { (entries ≤ 1040) × (room ≤ 65600) }
-    ensures { IfOk result (λ n. n ≤ 2) }
+    ensures ok { IfOk result (λ n. n ≤ 2) }
+    ensures reader { (t : List ℕ) × Consumes (R.remaining reader.old) (R.remaining reader.new) t }
 {
     let mut words = [0u64; WORDS];
     let mut queue = [0u8; QUEUE];
@@ -136,6 +142,7 @@ fn print_head<R: Read, W: Write>(
     calls: u64,
 ) -> io::Result<()>
     requires { name ≤ 256 }
+    ensures { (t : List ℕ) × Consumes (R.remaining reader.old) (R.remaining reader.new) t }
 {
     print_name(reader, writer, name)?;
     write!(writer, ": {calls} calls, ")
@@ -143,7 +150,8 @@ fn print_head<R: Read, W: Write>(
 
 fn try_case<R: Read, W: Write>(reader: &mut R, writer: &mut W, c: Case) -> io::Result<u64>
     requires { c.name ≤ 256 }
-    ensures { IfOk result (λ n. n ≤ 2) }
+    ensures ok { IfOk result (λ n. n ≤ 2) }
+    ensures err { OnErr result ((t : List ℕ) × Consumes (R.remaining reader.old) (R.remaining reader.new) t) }
 {
     print_head(reader, writer, c.name, c.calls)?;
     if c.messages > 1040 || c.queue > 65600 {

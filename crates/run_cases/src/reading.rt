@@ -1,5 +1,6 @@
 // The numbers of the input: four octets each, the lowest first.
-ghost use Rattle.std.specs.Prelude.{◌<◌};
+ghost use Rattle.std.specs.Prelude.{◌<◌, List, ℕ};
+ghost use Rattle.std.specs.Io.KnownBytes.{Consumes};
 
 use std::io::Read;
 
@@ -35,7 +36,9 @@ pub struct Expected {
 }
 
 // The four numbers of the next call; `whole` says that they were there.
-pub fn next_expected<R: Read>(reader: &mut R) -> Expected {
+pub fn next_expected<R: Read>(reader: &mut R) -> Expected
+    ensures { (t : List ℕ) × Consumes (R.remaining reader.old) (R.remaining reader.new) t }
+{
     let mut o = [0u8; 16];
     let read = run_input::read_full(reader, &mut o);
     Expected {

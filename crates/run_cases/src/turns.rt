@@ -1,4 +1,7 @@
 // One call: it is read, run and compared.
+ghost use Rattle.std.specs.Prelude.{List, ℕ};
+ghost use Rattle.std.specs.Io.KnownBytes.{Consumes};
+
 use crate::differences::{Difference, compared};
 use crate::reading::{Expected, next_expected};
 use model::Answer;
@@ -64,7 +67,9 @@ pub fn run<R: Read>(
     octets: &mut [u8],
     wanted: &mut [u8],
     want: Expected,
-) -> Turn {
+) -> Turn
+    ensures { (t : List ℕ) × Consumes (R.remaining reader.old) (R.remaining reader.new) t }
+{
     let got = run_input::read_full(reader, octets);
     let more = run_input::read_full(reader, wanted);
     if got.size != octets.len() || more.size != wanted.len() {
@@ -88,7 +93,9 @@ pub fn run_held<R: Read>(
     octets: &mut [u8],
     wanted: &mut [u8],
     want: Expected,
-) -> Turn {
+) -> Turn
+    ensures { (t : List ℕ) × Consumes (R.remaining reader.old) (R.remaining reader.new) t }
+{
     let held = want.held;
     if held > wanted.len() {
         return passed(m, Difference::TooLong(held as u64));
@@ -114,7 +121,9 @@ pub fn next_turn<R: Read>(
     queue: &mut [u8],
     octets: &mut [u8],
     wanted: &mut [u8],
-) -> Turn {
+) -> Turn
+    ensures { (t : List ℕ) × Consumes (R.remaining reader.old) (R.remaining reader.new) t }
+{
     let want = next_expected(reader);
     let size = want.size;
     if !want.whole {

@@ -40,3 +40,4 @@ pub mod Reasoned
 pub mod Examples
 pub mod Laws
 pub mod Rendered
+pub mod Iterating

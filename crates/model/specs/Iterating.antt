@@ -1,7 +1,7 @@
 -- The library's words for what a chain of an iterator answers, and `==` on texts, are those of the rules. Assumes nothing.
 -- `xs.iter().any(f)`: `any_from_yields_List test _ _ c.any.result c.any.ensures.ran (YieldsList-from_slice c.args.xs.now cc) (λ x b q k. search (rules, tests)) ∙ anyb_is_any test _`
 use Rattle.std.specs.Prelude.{◌≡◌, refl, List, [], ◌∷◌, Bool, true, false, ◌||◌, ◌&&◌, ℕ, cond, eqb}
-use Rattle.std.proofs.Common.{ap, ◌∙◌}
+use Rattle.std.proofs.Common.{ap}
 use Rattle.std.specs.List.{list_any, list_all}
 use lib.Pointwise.{pointwise}
 use Rattle.model.specs.Lists.{anyb, allb, same}

@@ -2,11 +2,11 @@
 #![tactic(auto)]
 
 // A message's number: its place in the client's view, or its rank by UID in a mailbox that is not selected.
-#[derive(Clone, Copy)]
+#[derive(Clone, Copy, PartialEq, Eq, PartialOrd, Ord)]
 pub struct MessageNumber(pub u64);
 
 // A message's UID in its mailbox.
-#[derive(Clone, Copy)]
+#[derive(Clone, Copy, PartialEq, Eq, PartialOrd, Ord)]
 pub struct Uid(pub u64);
 
 // A row of the mailbox table. It is lent as it lies here: no octet is padding, since the change counter stands in two halves.
@@ -103,7 +103,7 @@ pub struct Counts {
 }
 
 // Why a record is refused, in the order of 01's numbers.
-#[derive(Clone, Copy)]
+#[derive(Clone, Copy, PartialEq, Eq)]
 pub enum Refusal {
     UnlawfulMemory,
     BadRecord,
@@ -116,7 +116,7 @@ pub enum Refusal {
 }
 
 // What a call answers.
-#[derive(Clone, Copy)]
+#[derive(Clone, Copy, PartialEq, Eq)]
 pub enum Answer {
     Done,
     Counted(u64),
@@ -125,7 +125,7 @@ pub enum Answer {
 
 // Why a record was told or not: first a place where none stands, then in the order of request 3's list. The numbers are the refusal's, the class, the
 // group's in its command.
-#[derive(Clone, Copy)]
+#[derive(Clone, Copy, PartialEq, Eq)]
 pub enum Reason {
     NoRecord,
     Refused(u64),
@@ -141,7 +141,7 @@ pub enum Reason {
 }
 
 // How a command is answered, in the order of 01's six lines.
-#[derive(Clone, Copy)]
+#[derive(Clone, Copy, PartialEq, Eq)]
 pub enum Reply {
     Bad,
     BadEvent,

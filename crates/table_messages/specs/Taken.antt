@@ -1,8 +1,8 @@
 -- An entry taken out: those behind it move up, and the freed one holds zeros. Assumes nothing.
-use Rattle.std.specs.Prelude.{◌≡◌, refl, length, get_or, set}
+use Rattle.std.specs.Prelude.{◌≡◌, length, get_or, set}
 use Rattle.std.proofs.Math.Path.{ap}
-use Rattle.std.proofs.Common.{ap₂, sym, ◌∙◌, drop_of_length-le, length-take-le, take_all, drop-cons, get_or-drop, drop-drop}
-use mathlib.Core.List.{List, [], ◌∷◌, ◌++◌, append_assoc, append-nil}
+use Rattle.std.proofs.Common.{ap₂, sym, ◌∙◌, length-take-le, drop-cons}
+use mathlib.Core.List.{List, ◌∷◌, ◌++◌, append_assoc}
 use Prim.Native.Nat.{ℕ, suc, ◌+◌, ◌*◌, ◌-◌, ◌<◌, ◌≤◌}
 use native.Mathlib.Omega.{arith}
 use Rattle.std.proofs.Math.ListN.{take, drop, length-drop}
@@ -11,7 +11,7 @@ use Rattle.std.proofs.Math.Seq.{take-append-add}
 use Rattle.std.specs.List.{copy_within}
 use Rattle.model.specs.Memory.{no_message}
 use Rattle.model.specs.declared.Message.{Message}
-use Rattle.laws.specs.Shift.{without, over, over_read, over-step, length_without}
+use Rattle.laws.specs.Shift.{without, over, length_without}
 use Rattle.table_messages.specs.Words.{messages, messages-length, stored}
 use Rattle.table_messages.specs.Laid.{flat, behind, laid, laid_own, laid_put, flat_append, flat-take, flat-drop}
 
@@ -50,7 +50,7 @@ module _ (ws : List ℕ) (k used : ℕ) (h : k < used) (w : used * 6 ≤ length 
       let e₄ : length (take k es) + m ≡ used - 1 = omega arith in
       let front : take (k * 6) ws ≡ flat (take k es) = ap (take (k * 6)) own ∙ flat-take k es bs (omega arith) in
       let middle : take (m * 6) (drop ((k + 1) * 6) ws) ≡ flat (take m (drop (suc k) es)) =
-          ap₂ (λ (i : ℕ) (l : List ℕ). take (m * 6) (drop (i * 6) l)) e₃ own ∙ (ap (take (m * 6)) (flat-drop (suc k) es bs (omega arith)) ∙ flat-take m (drop (suc k) es) bs (omega arith)) in
+      ap₂ (λ (i : ℕ) (l : List ℕ). take (m * 6) (drop (i * 6) l)) e₃ own ∙ (ap (take (m * 6)) (flat-drop (suc k) es bs (omega arith)) ∙ flat-take m (drop (suc k) es) bs (omega arith)) in
       let back : drop ((used - 1) * 6) ws ≡ flat (drop (used - 1) es) ++ bs = ap (drop ((used - 1) * 6)) own ∙ flat-drop (used - 1) es bs (omega arith) in
       let joined : take (used - 1) (without k es) ≡ take k es ++ take m (drop (suc k) es) = ap (λ (i : ℕ). take i (without k es)) (sym e₄) ∙ take-append-add (take k es) (drop (suc k) es) m in
       rw (e₁, e₂, front, middle, back)

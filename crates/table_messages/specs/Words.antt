@@ -1,6 +1,6 @@
 -- The message table as one list of words, six to an entry: its whole entries. Assumes nothing.
 use Rattle.std.specs.Prelude.{◌≡◌, refl, List, [], ◌∷◌, ℕ, zero, suc, ◌+◌, ◌*◌, ◌/◌, ◌<◌, ◌≤◌, length, map, take, get_or, set}
-use Rattle.std.proofs.Common.{ap, ◌∙◌, arith}
+use Rattle.std.proofs.Common.{ap, ◌∙◌, arith, length-take-le}
 use Rattle.std.specs.Simd.{first_chunks}
 use Rattle.model.specs.declared.Message.{Message}
 use Rattle.model.specs.Memory.{no_message}
@@ -142,6 +142,9 @@ front (suc n) (o ∷ u ∷ f ∷ s ∷ k ∷ c ∷ ws) = ap (λ (l : List Messag
 
 pub messages-take : (n : ℕ) (ws : List ℕ) → messages (take (6 * n) ws) ≡ take n (messages ws)
 messages-take n ws = let e = at_is n in let e' : at n ≡ 6 * n = omega arith in rw (← e') (front n ws)
+
+pub messages-used : (n : ℕ) (ws : List ℕ) → n * 6 ≤ length ws → length (messages (take (6 * n) ws)) ≡ n
+messages-used n ws h = ap length (messages-take n ws) ∙ length-take-le n (messages ws) (messages-length n ws h)
 
 -- there is nothing past the last entry
 pub past : (es : List Message) (i : ℕ) → length es ≤ i → get_or es i no_message ≡ no_message

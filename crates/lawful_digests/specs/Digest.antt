@@ -1,7 +1,7 @@
 -- A digest of a row's 64 octets: their eight words, each mixed in with what there is. Assumes nothing.
-use Rattle.std.specs.Prelude.{◌≡◌, ℕ, zero, suc, ◌+◌, ◌*◌, ◌/◌, ◌%◌, ◌^◌, ◌<◌, List, length, slice_index, slice_set}
-use Rattle.std.proofs.Common.{◌∙◌, add-one, arith, get_or-take, get_or-drop, get_or-set_same, get_or-set_other}
-use Rattle.table_mailboxes.specs.Columns.{block, all_below}
+use Rattle.std.specs.Prelude.{◌≡◌, ℕ, zero, suc, ◌+◌, ◌*◌, ◌/◌, ◌%◌, ◌^◌, ◌<◌, List, slice_index}
+use Rattle.std.proofs.Common.{add-one, arith, get_or-take, get_or-drop}
+use Rattle.table_mailboxes.specs.Columns.{block}
 
 -- eight octets from a place on as one number, the first the least
 abbrev pub word : List ℕ → ℕ → ℕ
@@ -50,10 +50,3 @@ module _ (names : List ℕ) (k : ℕ) where
   pub mixed_next : (i d w r : ℕ) → i < 8 → d ≡ mixed_up (block names k) i → w ≡ word names (64 * k + 8 * i) → r ≡ mixed d w → r ≡ mixed_up (block names k) (i + 1)
   unfolding mixed_up
   mixed_next i d w r h e f g = rw (add-one, g, e, f, word_at i h)
-
--- the digests of the rows, one after the other
-pub digested_next : (names d : List ℕ) (i v : ℕ) → i < length d → v ≡ digest (block names i) → ((k : ℕ) → k < i → slice_index d k ≡ digest (block names k)) → (k : ℕ)
-    → k < i + 1 → slice_index (slice_set d i v) k ≡ digest (block names k)
-digested_next names d i v h e p = all_below (λ (k : ℕ). slice_index (slice_set d i v) k ≡ digest (block names k)) i
-    (λ k q. get_or-set_other d i k v 0 (λ z. (let y : ⊥ = omega arith in y)) ∙ p k q)
-    (get_or-set_same d i v 0 h ∙ e)

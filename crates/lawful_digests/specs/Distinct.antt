@@ -1,13 +1,12 @@
 -- Numbers that all differ, seen while a table of guesses is filled: whoever finds its slot taken is compared with all before it. Assumes nothing.
-use Rattle.std.specs.Prelude.{◌≡◌, ℕ, zero, suc, ◌+◌, ◌*◌, ◌/◌, ◌%◌, ◌<◌, ◌≤◌, Bool, true, false, cond, not, List, [], ◌∷◌, length, get_or, replicate, ◌==◌, ◌≢◌, slice_index, slice_index_or, slice_set, refl}
-use Rattle.std.proofs.Common.{ap, sym, ◌∙◌, arith, get_or-set_same, get_or-set_other, eq-eqb, eqb-true}
-use Rattle.std.proofs.lemmas.Bool.{eqb-false}
+use Rattle.std.specs.Prelude.{◌≡◌, ℕ, zero, suc, ◌*◌, ◌/◌, ◌%◌, ◌<◌, ◌≤◌, Bool, true, false, cond, not, List, [], ◌∷◌, length, get_or, replicate, ◌==◌, ◌≢◌, slice_index, slice_index_or, refl}
+use Rattle.std.proofs.Common.{ap, sym, ◌∙◌, arith, eq-eqb, eqb-true}
 use Rattle.model.specs.Laws.{and_l, and_r, or_r, tf}
 use Rattle.model.specs.Lists.{anyb, apart}
 use Rattle.model.specs.Memory.{no_mailbox, place}
 use Rattle.model.specs.Lawful.{clash}
 use Rattle.model.specs.declared.Mailbox.{Mailbox}
-use Rattle.table_mailboxes.specs.Columns.{all_below, zero_at}
+use Rattle.table_mailboxes.specs.Columns.{zero_at}
 
 -- the slot of a number: its product with a number near 2 ^ 32 by the golden ratio, the upper ten bits of the lower 32
 unfoldable pub slot_of : ℕ → ℕ
@@ -34,31 +33,6 @@ low_wider l n m o h p a s = let z = p o s in omega arith
 -- the slots of the numbers below i are taken; the first number takes none
 abbrev pub Taken : List ℕ → List ℕ → ℕ → Type 0
 Taken d slots i = (j : ℕ) → 1 ≤ j → j < i → slice_index slots (slot_of (slice_index d j)) ≢ 0
-
-pub absent_next : (d : List ℕ) (i x : ℕ) → Absent d i x → (slice_index d i ≢ x) → Absent d (i + 1) x
-absent_next d i x p q = all_below (λ (j : ℕ). slice_index d j ≢ x) i p q
-
-pub slot_free : (d slots : List ℕ) (i x : ℕ) → Taken d slots i → slice_index slots (slot_of x) ≡ 0 → (slice_index d 0 ≢ x) → Absent d i x
-slot_free d slots i x p q r zero h e = r e
-slot_free d slots i x p q r (suc j) h e = p (suc j) (omega arith) h (ap (λ (y : ℕ). slice_index slots (slot_of y)) e ∙ q)
-
--- number i takes its slot
-module _ (slots : List ℕ) (i at : ℕ) (h : at < length slots) where
-  written : (P : ℕ → Type 0) → P i → (s : ℕ) → P (slice_index slots s) → P (slice_index (slice_set slots at i) s)
-  written P p s q = go (s == at) refl
-    where
-      go : (b : Bool) → (s == at) ≡ b → P (slice_index (slice_set slots at i) s)
-      go true r = rw (eqb-true s at r, get_or-set_same slots at i 0 h) p
-      go false r = rw (get_or-set_other slots at s i 0 (eqb-false s at r)) q
-
-  pub taken_next : (d : List ℕ) → 1 ≤ i → at ≡ slot_of (slice_index d i) → Taken d slots i → Taken d (slice_set slots at i) (i + 1)
-  taken_next d k e p j a b = all_below (λ (j : ℕ). 1 ≤ j → slice_index (slice_set slots at i) (slot_of (slice_index d j)) ≢ 0) i
-      (λ j b a. written (λ (y : ℕ). y ≢ 0) (λ z. (let y : ⊥ = omega arith in y)) (slot_of (slice_index d j)) (p j a b))
-      (λ a. rw (← e, get_or-set_same slots at i 0 h) (λ z. (let y : ⊥ = omega arith in y)))
-      j b a
-
-  pub low_next : (n : ℕ) → i < n → Low slots n → Low (slice_set slots at i) n
-  low_next n k p a s = written (λ (y : ℕ). y < n) k s (p a s)
 
 -- rows whose numbers differ, and whose digests do, do not clash
 pub differ-apart : (l : List Mailbox) → ((i j : ℕ) → i < j → j < length l → clash (slice_index_or l i no_mailbox) (slice_index_or l j no_mailbox) ≡ false) → apart clash l ≡ true

@@ -1,22 +1,21 @@
 -- The tests of a session, as the code takes them. Assumes nothing.
-use Rattle.std.specs.Prelude.{◌≡◌, refl, Bool, true, false, not, cond, ◌&&◌, ◌||◌, List, [], ◌∷◌, ◌++◌, map, ℕ, zero, suc, ◌+◌, ◌-◌, ◌<◌, ◌≤◌, eqb, leb, ltb, length, take, drop, get_or}
-use Rattle.std.proofs.Common.{ap, sym, ◌∙◌, add-one, arith, drop_of_length-le, drop-cons, ne_eqb, eqb-true, ltb-true, ltb-false, le-leb}
-use Rattle.std.proofs.Math.Bool.{and_assoc}
-use Rattle.std.proofs.lemmas.Bool.{eqb-false, lt-leb}
-use Rattle.model.specs.Laws.{tf, and_l, and_r, and-true, and_false}
-use Rattle.model.specs.Lists.{anyb, allb, apart, every, same}
+use Rattle.std.specs.Prelude.{◌≡◌, refl, Bool, true, false, not, cond, ◌&&◌, ◌||◌, List, [], ◌∷◌, ◌++◌, map, ℕ, zero, suc, ◌+◌, ◌<◌, ◌≤◌, eqb, leb, length, take, drop, get_or}
+use Rattle.std.specs.List.{count_by, sum_by}
+use Rattle.std.proofs.lemmas.List.Recursion.{is_count_by}
+use Rattle.std.proofs.lemmas.List.Sums.{sum_by-cons}
+use Rattle.std.proofs.Common.{zero-add, ap, sym, ◌∙◌, arith, ne_eqb, le-leb}
+use Rattle.std.proofs.lemmas.Bool.{lt-leb}
+use Rattle.std.proofs.Math.Seq.{take-length}
+use Rattle.model.specs.Laws.{take-drop, tf, and_l, and_r, and-true}
+use Rattle.model.specs.Lists.{anyb, allb, apart, every}
 use Rattle.model.specs.Text.{bit, one}
-use Rattle.model.specs.Names.{valid, fold}
-use Rattle.model.specs.Groups.{selector_of, group_of, groups_of, is_selecting, lent_name}
-use Rattle.model.specs.Lawful.{zeros, events_ok, attributes_ok, range_ok, group_ok, groups_ok, lent_name_count, lent_name_ok, blank_group, blank_name, both_selecting, used_groups, session_ok}
+use Rattle.model.specs.Groups.{selector_of, group_of, groups_of, is_selecting}
+use Rattle.model.specs.Lawful.{groups_ok, lent_name_count, lent_name_ok, blank_group, blank_name, both_selecting, used_groups, session_ok, events_ok, attributes_ok, range_ok, group_ok}
 use Rattle.model.specs.declared.NameRange.{NameRange}
 use Rattle.model.specs.declared.Selector.{Selector}
 use Rattle.model.specs.declared.Group.{Group}
 use Rattle.model.specs.declared.LentGroup.{LentGroup}
-use Rattle.model.specs.declared.LentName.{LentName}
 use Rattle.model.specs.declared.Session.{Session}
-use Rattle.names.specs.Kept.{name_by}
-use Rattle.table_mailboxes.specs.Walks.{front, past}
 
 -- ---- a group
 abbrev pub selector_by : ℕ → ℕ → ℕ → Selector
@@ -62,41 +61,21 @@ group_is first g =
     ap (λ (b : Bool). leb g.selector 6 && (range_ok first g && (b && attributes_ok (group_of g)))) (events_are g)
     ∙ ap (λ (b : Bool). leb g.selector 6 && (range_ok first g && (events_by (leb g.selector 1) g.events && b))) (attributes_are g)
 
-pub blank_is : (a b c d e : Bool) → every (a ∷ b ∷ c ∷ d ∷ e ∷ []) ≡ (a && ((b && c) && (d && e)))
-blank_is false b c d e = refl
-blank_is true false c d e = refl
-blank_is true true false d e = refl
-blank_is true true true false e = refl
-blank_is true true true true e = and-true e
-
--- ---- the groups, from place i on
-module _ (l : List LentGroup) (n i first : ℕ) (d : LentGroup) (w : n ≤ length l) where
-  pub groups_next : i < n → group_ok first (get_or l i d) ≡ true → groups_ok first (drop i (take n l)) ≡ groups_ok (first + (get_or l i d).count) (drop (i + 1) (take n l))
-  groups_next h e = rw (front l n i d h w, e)
-
-  pub groups_here : i < n → group_ok first (get_or l i d) ≡ false → groups_ok first (drop i (take n l)) ≡ false
-  groups_here h e = rw (front l n i d h w, e)
-
-  pub groups_past : n ≤ i → groups_ok first (drop i (take n l)) ≡ true
-  groups_past h = rw (past l n i h w)
-
 -- sums
 abbrev pub selectings : List LentGroup → ℕ
 selectings [] = 0
 selectings (g ∷ l) = one (leb g.selector 1) + selectings l
 
-module _ (l : List LentGroup) (n i s x : ℕ) (d : LentGroup) (w : n ≤ length l) where
-  pub count_next : i < n → lent_name_count (take n l) ≡ s + lent_name_count (drop i (take n l)) → x ≡ (get_or l i d).count → lent_name_count (take n l) ≡ s + x + lent_name_count (drop (i + 1) (take n l))
-  count_next h e q = e ∙ rw (front l n i d h w, ← q) (omega arith)
+pub selectings_are : (l : List LentGroup) → selectings l ≡ count_by (λ (g : LentGroup). leb g.selector 1) l
+selectings_are l = is_count_by selectings (λ (g : LentGroup). leb g.selector 1) refl (λ g l. go (leb g.selector 1) (selectings l)) l
+  where
+    go : (b : Bool) (k : ℕ) → one b + k ≡ cond b (1 + k) k
+    go true k = refl
+    go false k = zero-add k
 
-  pub count_past : n ≤ i → lent_name_count (take n l) ≡ s + lent_name_count (drop i (take n l)) → s ≡ lent_name_count (take n l)
-  count_past h e = sym (e ∙ rw (past l n i h w) (omega arith))
-
-  pub selected_next : i < n → selectings (take n l) ≡ s + selectings (drop i (take n l)) → x ≡ one (leb (get_or l i d).selector 1) → selectings (take n l) ≡ s + x + selectings (drop (i + 1) (take n l))
-  selected_next h e q = e ∙ rw (front l n i d h w, ← q) (omega arith)
-
-  pub selected_past : n ≤ i → selectings (take n l) ≡ s + selectings (drop i (take n l)) → s ≡ selectings (take n l)
-  selected_past h e = sym (e ∙ rw (past l n i h w) (omega arith))
+pub counts_are : (l : List LentGroup) → lent_name_count l ≡ sum_by (λ (g : LentGroup). g.count) l
+counts_are [] = refl
+counts_are (g ∷ l) = ap (λ (k : ℕ). g.count + k) (counts_are l) ∙ sym (sum_by-cons (λ (g : LentGroup). g.count) g l)
 
 -- at most one is a selected one
 none_left : (g : LentGroup) (l : List LentGroup) → leb g.selector 1 ≡ true → anyb (λ (y : Group). both_selecting (group_of g) y) (map group_of l) ≡ leb 1 (selectings l)
@@ -129,65 +108,6 @@ apart-count (g ∷ l) = go (leb g.selector 1) refl (apart-count l)
     go true e ih = rw (none_left g l e, ih) (one_more (selectings l))
     go false e ih = let z : 0 + selectings l ≡ selectings l = omega arith in rw (no_pair g l e, ih, z)
 
--- ---- one test of the first n, and another of those behind: as one walk, passed up to i
-module _ {A : Type 0} (p q : A → Bool) where
-  abbrev pub split : ℕ → List A → Bool
-  split n l = allb p (take n l) && allb q (drop n l)
-
-  module _ (l : List A) (n i : ℕ) where
-    turn : (d : A) → i < length l → split (n - i) (drop i l) ≡ (cond (ltb i n) (p (get_or l i d)) (q (get_or l i d)) && split (n - (i + 1)) (drop (i + 1) l))
-    turn d h = rw (add-one i, drop-cons l i d h) (go (ltb i n) refl)
-      where
-        x : A
-        x = get_or l i d
-
-        t : List A
-        t = drop (suc i) l
-
-        go : (b : Bool) → ltb i n ≡ b → split (n - i) (x ∷ t) ≡ (cond b (p x) (q x) && split (n - suc i) t)
-        go true e =
-            let z = ltb-true i n e in
-            let k : n - i ≡ suc (n - suc i) = omega arith in
-            rw k (and_assoc (p x) (allb p (take (n - suc i) t)) (allb q (drop (n - suc i) t)))
-        go false e =
-            let z = ltb-false i n e in
-            let k : n - i ≡ 0 = omega arith in
-            let k' : n - suc i ≡ 0 = omega arith in
-            rw (k, k')
-
-    pub split_next : (d : A) → i < length l → cond (ltb i n) (p (get_or l i d)) (q (get_or l i d)) ≡ true → split (n - i) (drop i l) ≡ split (n - (i + 1)) (drop (i + 1) l)
-    split_next d h e = turn d h ∙ rw e
-
-    pub split_here : (d : A) → i < length l → cond (ltb i n) (p (get_or l i d)) (q (get_or l i d)) ≡ false → split (n - i) (drop i l) ≡ false
-    split_here d h e = turn d h ∙ rw e
-
-    pub split_past : length l ≤ i → n ≤ i → split (n - i) (drop i l) ≡ true
-    split_past h k = let z : n - i ≡ 0 = omega arith in rw (drop_of_length-le l {i = i} h, z)
-
--- zeros by how many octets are none
-module _ (l : List ℕ) (i s : ℕ) where
-  pub filled_next : i < length l → zeros l ≡ (eqb s 0 && zeros (drop i l)) → zeros l ≡ (eqb (s + one (not (eqb (get_or l i 0) 0))) 0 && zeros (drop (i + 1) l))
-  filled_next h inv = inv ∙ rw (add-one, drop-cons l i 0 h) (go (eqb (get_or l i 0) 0) refl)
-    where
-      go : (b : Bool) → eqb (get_or l i 0) 0 ≡ b → (eqb s 0 && (eqb 0 (get_or l i 0) && zeros (drop (suc i) l))) ≡ (eqb (s + one (not b)) 0 && zeros (drop (suc i) l))
-      go true e = let z : s + 0 ≡ s = omega arith in rw (eqb-true (get_or l i 0) 0 e, z)
-      go false e = rw (ne_eqb 0 (get_or l i 0) (λ z. eqb-false (get_or l i 0) 0 e (sym z)), and_false (eqb s 0), ne_eqb (s + 1) 0 (λ z. (let y : ⊥ = omega arith in y)))
-
--- ---- a name
--- past the end of an array of names, in code
-abbrev pub unnamed : LentName
-unnamed = record { len = 0; octets = [] }
-
-module _ (x : LentName) where
-  pub too_long : 64 < x.len → false ≡ lent_name_ok x
-  too_long h = rw (lt-leb x.len 64 h)
-
-  pub name_none : x.len ≡ 0 → zeros x.octets ≡ lent_name_ok x
-  name_none e = rw e
-
-  pub name-kept : x.len ≤ 64 → (x.len ≡ 0 → ⊥) → name_by x.len x.octets ≡ lent_name_ok x
-  name-kept h k = rw (le-leb x.len 64 h, ne_eqb x.len 0 k) (sym (and_assoc (valid (lent_name x)) (same (fold (lent_name x)) (lent_name x)) (zeros (drop x.len x.octets))))
-
 -- ---- the session's conditions: those before the names, and all
 abbrev pub group_tests : Session → List Bool
 group_tests s =
@@ -215,6 +135,10 @@ module _ (s : Session) (k : ℕ) (e : k ≡ selectings (used_groups s)) where
 
   pub few-selected : k ≤ 1 → apart both_selecting (groups_of s) ≡ true
   few-selected h = apart-count (used_groups s) ∙ rw (← e) (le-leb k 1 h)
+
+-- all behind a place of an array
+pub rest_is : {A : Type 0} (l : List A) (n m : ℕ) → n + m ≡ length l → take m (drop n l) ≡ drop n l
+rest_is l n m e = take-drop n m l ∙ rw (e, take-length l)
 
 -- one that does not hold is enough for a no
 pub no_at : (bs : List Bool) (k : ℕ) → get_or bs k true ≡ false → false ≡ every bs

@@ -3,63 +3,27 @@
 
 ghost use Rattle.std.specs.Prelude.{◌≡◌, ◌&&◌, ◌||◌, cond, not, ◌+◌, ◌≤◌, ◌<◌, eqb, length, take, drop};
 ghost use Rattle.model.specs.Lists.{allb};
-ghost use Rattle.model.specs.Text.{bit, one};
+ghost use Rattle.model.specs.Text.{bit};
 ghost use Rattle.model.specs.Groups.{group_of};
 ghost use Rattle.model.specs.Lawful.{zeros, range_ok, group_ok, groups_ok, lent_name_count, lent_name_ok, blank_group, blank_name, session_ok};
 ghost use Rattle.lawful_session.specs.Tests.{selector_by, events_by, attributes_by, selectings};
 
 use model::{Group, LentGroup, LentName, NameRange, Selector, Session};
 
-// Both, as one value: nothing branches on the first.
-pub fn both(a: bool, b: bool) -> bool
-    ensures { result ≡ (a && b) }
-{
-    if a { b } else { false }
-}
-
-// One or the other, or both.
-pub fn either(a: bool, b: bool) -> bool
-    ensures { result ≡ (a || b) }
-{
-    if a { true } else { b }
-}
-
-fn alike(a: bool, b: bool) -> bool
-    ensures { result ≡ cond a b (not b) }
-{
-    if a { b } else { !b }
-}
-
-fn one_if(b: bool) -> u64
-    ensures { (result ≡ one b) × (result ≤ 1) }
-{
-    if b { 1 } else { 0 }
-}
-
 // ---- a group as its enum
 
 pub fn selector_of(k: u8, first: u8, count: u8) -> Selector
     ensures { result ≡ selector_by k first count }
 {
-    if k == 0 {
-        return Selector::Selected;
+    match k {
+        0 => Selector::Selected,
+        1 => Selector::Delayed,
+        2 => Selector::Inboxes,
+        3 => Selector::Personal,
+        4 => Selector::Subscribed,
+        5 => Selector::Subtree(NameRange { first, count }),
+        _ => Selector::Mailboxes(NameRange { first, count }),
     }
-    if k == 1 {
-        return Selector::Delayed;
-    }
-    if k == 2 {
-        return Selector::Inboxes;
-    }
-    if k == 3 {
-        return Selector::Personal;
-    }
-    if k == 4 {
-        return Selector::Subscribed;
-    }
-    if k == 5 {
-        return Selector::Subtree(NameRange { first, count });
-    }
-    Selector::Mailboxes(NameRange { first, count })
 }
 
 pub fn group_of(g: LentGroup) -> Group
@@ -78,145 +42,102 @@ pub fn group_of(g: LentGroup) -> Group
 fn events_fit(selecting: bool, e: u8) -> bool
     ensures { result ≡ (not selecting || (not (bit 3 e) && not (bit 4 e))) }
 {
-    either(
-        !selecting,
-        both(!table_mailboxes::has(e, 3), !table_mailboxes::has(e, 4)),
-    )
+    !selecting || (!table_mailboxes::has(e, 3) && !table_mailboxes::has(e, 4))
 }
 
+// MessageNew and MessageExpunge stand together, and FlagChange only beside them.
 fn events_ok(selecting: bool, e: u8) -> bool
     ensures { result ≡ events_by selecting e }
 {
     let new = table_mailboxes::has(e, 0);
-    let paired = alike(new, table_mailboxes::has(e, 1));
-    let flags = either(!table_mailboxes::has(e, 2), new);
-    both(e <= 31, both(paired, both(flags, events_fit(selecting, e))))
+    let flags = table_mailboxes::has(e, 2);
+    e <= 31 && (new == table_mailboxes::has(e, 1) && ((!flags || new) && events_fit(selecting, e)))
 }
 
 fn attributes_ok(selecting: bool, e: u8, a: u8) -> bool
     ensures { result ≡ attributes_by selecting e a }
 {
-    both(
-        a <= 7,
-        either(a == 0, both(selecting, table_mailboxes::has(e, 0))),
-    )
+    a <= 7 && (a == 0 || (selecting && table_mailboxes::has(e, 0)))
 }
 
 fn range_ok(first: u64, g: LentGroup) -> bool
     ensures { result ≡ range_ok first g }
 {
     if g.selector < 5 {
-        return both(g.first == 0, g.count == 0);
+        g.first == 0 && g.count == 0
+    } else {
+        u64::from(g.first) == first && 1 <= g.count
     }
-    both(table_mailboxes::wide_octet(g.first) == first, 1 <= g.count)
 }
 
 fn group_ok(first: u64, g: LentGroup) -> bool
     ensures { result ≡ group_ok first g }
 {
     let selecting = g.selector <= 1;
-    let events = events_ok(selecting, g.events);
-    let attributes = attributes_ok(selecting, g.events, g.attributes);
-    both(
-        g.selector <= 6,
-        both(range_ok(first, g), both(events, attributes)),
-    )
+    g.selector <= 6
+        && (range_ok(first, g)
+            && (events_ok(selecting, g.events) && attributes_ok(selecting, g.events, g.attributes)))
 }
 
 fn blank_group(g: LentGroup) -> bool
     ensures { result ≡ blank_group g }
 {
-    let range = both(g.first == 0, g.count == 0);
-    let asked = both(g.events == 0, g.attributes == 0);
-    both(g.selector == 0, both(range, asked))
+    g.selector == 0 && g.first == 0 && g.count == 0 && g.events == 0 && g.attributes == 0
 }
 
 // ---- the groups
 
-fn groups_ok(groups: [LentGroup; 8], n: usize) -> bool
-    requires { n ≤ 8 }
-    ensures { result ≡ groups_ok 0 (take n groups) }
+// The names of each group begin where those of the groups before it end.
+fn groups_ok(groups: &[LentGroup]) -> bool
+    requires { length groups.now ≤ 8 }
+    ensures { result ≡ groups_ok 0 groups.now }
 {
     let mut first: u64 = 0;
-    let mut i: usize = 0;
-    while i < n {
-        let g = groups[i];
-        if !group_ok(first, g) {
+    for g in groups {
+        if !group_ok(first, *g) {
             return false;
         }
-        first += table_mailboxes::wide_octet(g.count);
-        i += 1;
+        first += u64::from(g.count);
     }
     true
 }
 
-// How many names the first n groups have.
-pub fn name_count(groups: [LentGroup; 8], n: usize) -> u64
-    requires { n ≤ 8 }
-    ensures { result ≡ lent_name_count (take n groups) }
+// How many names the groups have.
+pub fn name_count(groups: &[LentGroup]) -> u64
+    requires { length groups.now ≤ 8 }
+    ensures { result ≡ lent_name_count groups.now }
 {
-    let mut sum: u64 = 0;
-    let mut i: usize = 0;
-    while i < n {
-        let g = groups[i];
-        sum += table_mailboxes::wide_octet(g.count);
-        i += 1;
-    }
-    sum
+    groups.iter().map(|g| u64::from(g.count)).sum()
 }
 
-// How many of the first n groups are selected ones.
-fn selected_count(groups: [LentGroup; 8], n: usize) -> u64
-    requires { n ≤ 8 }
-    ensures { result ≡ selectings (take n groups) }
+// How many of the groups are selected ones.
+fn selected_count(groups: &[LentGroup]) -> usize
+    ensures { result ≡ selectings groups.now }
 {
-    let mut sum: u64 = 0;
-    let mut i: usize = 0;
-    while i < n {
-        let g = groups[i];
-        sum += one_if(g.selector <= 1);
-        i += 1;
-    }
-    sum
+    groups.iter().filter(|g| g.selector <= 1).count()
 }
 
-fn blank_groups(groups: [LentGroup; 8], from: usize) -> bool
-    requires { from ≤ 8 }
-    ensures { result ≡ allb blank_group (drop from groups) }
+fn blank_groups(groups: &[LentGroup]) -> bool
+    ensures { result ≡ allb blank_group groups.now }
 {
-    let mut i = from;
-    while i < 8 {
-        let g = groups[i];
-        if !blank_group(g) {
-            return false;
-        }
-        i += 1;
-    }
-    true
+    groups.iter().all(|g| blank_group(*g))
 }
 
 // ---- the names
 
 // Nothing, or a valid name that is folded; zeros stand behind it.
-fn lent_name_ok(x: LentName) -> bool
-    ensures { result ≡ lent_name_ok x }
+fn lent_name_ok(x: &LentName) -> bool
+    ensures { result ≡ lent_name_ok x.now }
 {
     if 64 < x.len {
         return false;
     }
-    let octets = x.octets;
-    let n = x.len as usize;
+    let n = usize::from(x.len);
     if n == 0 {
-        return names::all_zero(&octets);
+        names::all_zero(&x.octets)
+    } else {
+        names::is_kept(&x.octets, n)
     }
-    names::is_kept(&octets, n)
-}
-
-// One for an octet that is not zero.
-fn octet_if(b: bool) -> u8
-    ensures { (result ≡ one b) × (result ≤ 1) }
-{
-    if b { 1 } else { 0 }
 }
 
 // How many of 64 octets are not zero, without a branch: sixteen are seen at once.
@@ -225,77 +146,42 @@ fn filled(octets: &[u8]) -> u8
     ensures { eqb result 0 ≡ zeros octets.now }
 {
     let mut sum: u8 = 0;
-    let mut i: usize = 0;
-    while i < 64 {
-        sum += octet_if(octets[i] != 0);
-        i += 1;
+    for b in octets {
+        sum += u8::from(*b != 0);
     }
     sum
 }
 
-fn blank_name(x: LentName) -> bool
-    ensures { result ≡ blank_name x }
+fn blank_name(x: &LentName) -> bool
+    ensures { result ≡ blank_name x.now }
 {
-    let octets = x.octets;
-    both(x.len == 0, filled(&octets) == 0)
+    x.len == 0 && filled(&x.octets) == 0
 }
 
-// A name that is used is in order, and one that is not is zero.
-fn name_fits(x: LentName, used: bool) -> bool
-    ensures { result ≡ cond used (lent_name_ok x) (blank_name x) }
+// The names in use are in order, and those behind them are zero.
+fn names_fit(used: &[LentName], rest: &[LentName]) -> bool
+    ensures { result ≡ (allb lent_name_ok used.now && allb blank_name rest.now) }
 {
-    if used {
-        return lent_name_ok(x);
-    }
-    blank_name(x)
-}
-
-// The first names, those in use, are in order, and the others are zero. One function for both: each that takes the names copies them.
-fn names_fit(names: [LentName; 16], used: usize) -> bool
-    requires { used ≤ 16 }
-    ensures { result ≡ (allb lent_name_ok (take used names) && allb blank_name (drop used names)) }
-{
-    let mut i: usize = 0;
-    while i < 16 {
-        let x = names[i];
-        if !name_fits(x, i < used) {
-            return false;
-        }
-        i += 1;
-    }
-    true
+    used.iter().all(|x| lent_name_ok(x)) && rest.iter().all(|x| blank_name(x))
 }
 
 // ---- all of it
 
 // Groups and names that an accepted NOTIFY could have made, and nothing behind them.
-pub fn session_ok(s: Session) -> bool
-    ensures { result ≡ session_ok s }
+pub fn session_ok(s: &Session) -> bool
+    ensures { result ≡ session_ok s.now }
 {
-    if 1 < s.notified {
+    if 1 < s.notified || 8 < s.groupcount || (s.groupcount != 0 && s.notified != 1) {
         return false;
     }
-    if 8 < s.groupcount {
+    let n = usize::from(s.groupcount);
+    let groups = &s.groups[..n];
+    if !groups_ok(groups) || 1 < selected_count(groups) {
         return false;
     }
-    if !either(s.groupcount == 0, s.notified == 1) {
+    let many = name_count(groups);
+    if 16 < many || !blank_groups(&s.groups[n..]) {
         return false;
     }
-    let groups = s.groups;
-    let n = s.groupcount as usize;
-    if !groups_ok(groups, n) {
-        return false;
-    }
-    if 1 < selected_count(groups, n) {
-        return false;
-    }
-    let many = name_count(groups, n);
-    if 16 < many {
-        return false;
-    }
-    if !blank_groups(groups, n) {
-        return false;
-    }
-    let names = s.names;
-    names_fit(names, many as usize)
+    names_fit(&s.names[..many as usize], &s.names[many as usize..])
 }

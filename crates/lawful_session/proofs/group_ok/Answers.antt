@@ -1,7 +1,10 @@
 -- `group_ok`: the four tests of a lent group, joined as `group_is` has them. Assumes nothing.
+use Rattle.std.proofs.Common.{rules}
 use Rattle.lawful_session.specs.Tests.{group_is}
 use Rattle.lawful_session.proofs.group_ok.Goals as goal
 
-pub returns : goal.returns
-returns c =
-    rw (group_is c.args.first c.args.g, c.both-3.ensures, c.both-2.ensures, c.both.ensures, c.range_ok.ensures, c.events_ok-events.ensures, c.attributes_ok-attributes.ensures)
+pub returns-then-events_ok : goal.returns-then-events_ok
+returns-then-events_ok c = rw group_is (search rules)
+
+pub returns-else-events_ok : goal.returns-else-events_ok
+returns-else-events_ok c = rw group_is (search rules)

@@ -1,28 +1,19 @@
--- One walk over the names: what is left to test from place i on says what all says. Assumes nothing.
-use mathlib.Core.Path.{◌≡◌, sym, ◌∙◌}
-use Prim.Native.Nat.{◌-◌}
-use native.Mathlib.Omega.{arith}
-use lib.ListN.{length}
+-- The library's words for the chains are the rules'. Assumes nothing.
+use Rattle.std.proofs.Common.{rules, tests, ◌≡◌, ◌∙◌}
+use Rattle.std.proofs.lemmas.Iterator.{YieldsList-from_slice}
+use Rattle.std.proofs.lemmas.Iterator.Search.{all_from_yields_List}
+use Rattle.model.specs.Lists.{allb}
 use Rattle.model.specs.Lawful.{lent_name_ok, blank_name}
-use Rattle.table_mailboxes.specs.Walks.{mapped-length}
-use Rattle.lawful_session.specs.Tests.{unnamed, split_next, split_here, split_past}
-use borrow.Author.Rules.{rules}
+use Rattle.model.specs.Iterating.{allb_is_all}
 use Rattle.lawful_session.proofs.names_fit.Goals as goal
 
-pub loop-i-init : goal.loop-i-init
-loop-i-init c = let z : c.args.used - 0 ≡ c.args.used = omega arith in (search rules, rw z)
+pub returns-then-all : goal.returns-then-all
+returns-then-all c =
+    let used : c.all.result ≡ allb lent_name_ok c.args.used.now = all_from_yields_List lent_name_ok _ _ c.all.result c.all.ensures.ran (YieldsList-from_slice c.args.used.now cc) (λ x b q k. search (rules, tests)) ∙ allb_is_all lent_name_ok c.args.used.now in
+    let rest : c.all-then-all.result ≡ allb blank_name c.args.rest.now = all_from_yields_List blank_name _ _ c.all-then-all.result c.all-then-all.ensures.ran (YieldsList-from_slice c.args.rest.now cc) (λ x b q k. search (rules, tests)) ∙ allb_is_all blank_name c.args.rest.now in
+    search rules
 
-pub returns-then-not-name_fits : goal.returns-then-not-name_fits
-returns-then-not-name_fits c =
-    let long : length c.args.names ≡ 16 = search (rules, mapped-length) in
-    sym (c.loop-i.invariant.1 ∙ split_here lent_name_ok blank_name c.args.names c.args.used c.loop-i.i unnamed (omega arith) (sym c.name_fits.ensures ∙ c.if-not-name_fits.true))
-
-pub loop-i-preserved : goal.loop-i-preserved
-loop-i-preserved c =
-    let long : length c.args.names ≡ 16 = search (rules, mapped-length) in
-    (search rules, c.loop-i.invariant.1 ∙ split_next lent_name_ok blank_name c.args.names c.args.used c.loop-i.i unnamed (omega arith) (sym c.name_fits.ensures ∙ c.if-not-name_fits.false))
-
-pub returns : goal.returns
-returns c =
-    let long : length c.args.names ≡ 16 = search (rules, mapped-length) in
-    sym (c.loop-i.invariant.1 ∙ split_past lent_name_ok blank_name c.args.names c.args.used c.loop-i.i (omega arith) (omega arith))
+pub returns-else-all : goal.returns-else-all
+returns-else-all c =
+    let used : c.all.result ≡ allb lent_name_ok c.args.used.now = all_from_yields_List lent_name_ok _ _ c.all.result c.all.ensures.ran (YieldsList-from_slice c.args.used.now cc) (λ x b q k. search (rules, tests)) ∙ allb_is_all lent_name_ok c.args.used.now in
+    search rules

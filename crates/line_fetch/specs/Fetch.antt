@@ -1,6 +1,6 @@
 -- The FETCH line of a message's flags and counter, as it is written piece by piece. Assumes nothing.
-use Rattle.std.specs.Prelude.{◌≡◌, refl, Bool, true, false, cond, ◌||◌, List, [], ◌∷◌, ◌++◌, ℕ, ◌+◌}
-use Rattle.std.proofs.Common.{sym, ◌∙◌, append_assoc, append-nil}
+use Rattle.std.specs.Prelude.{◌≡◌, refl, Bool, true, false, cond, ◌||◌, List, [], ◌∷◌, ◌++◌, ℕ, ◌/◌, ◌%◌, eqb}
+use Rattle.std.proofs.Common.{ap, arith, sym, ◌∙◌, append_assoc, append-nil}
 use Rattle.model.specs.Text.{octets, decimal, bit}
 use Rattle.model.specs.Lines.{modseq, item_text, render, spaced, space, crlf, flag_names}
 use Rattle.model.specs.View.{flags_line}
@@ -12,11 +12,28 @@ use Rattle.model.specs.declared.Message.{Message}
 abbrev pub piece : Bool → Bool → List ℕ → List ℕ
 piece on began n = cond on (cond began (32 ∷ n) n) []
 
-abbrev pub first_three : Bool → Bool → Bool → List ℕ
-first_three a b c = (piece a false (octets "\\Answered") ++ piece b a (octets "\\Flagged")) ++ piece c (a || b) (octets "\\Deleted")
+pub piece_off : (on began : Bool) (n : List ℕ) → on ≡ false → [] ≡ piece on began n
+piece_off on began n e = rw e
 
-abbrev pub last_two : Bool → Bool → Bool → List ℕ
-last_two began d e = piece d began (octets "\\Seen") ++ piece e (began || d) (octets "\\Draft")
+-- a space, where something stands before
+abbrev pub gap : Bool → List ℕ
+gap began = cond began (32 ∷ []) []
+
+pub gap_off : (began : Bool) → began ≡ false → [] ≡ gap began
+gap_off began e = rw e
+
+pub piece_gap : (on began : Bool) (t : List ℕ) → on ≡ true → gap began ++ t ≡ piece on began t
+piece_gap true true t e = refl
+piece_gap true false t e = refl
+piece_gap false true t e = ap (λ (b : Bool). piece b true t) (sym e)
+piece_gap false false t e = ap (λ (b : Bool). piece b false t) (sym e)
+
+-- five of them
+abbrev pub five_pieces : Bool → Bool → Bool → Bool → Bool → List ℕ
+five_pieces a b c d e =
+    (((piece a false (octets "\\Answered") ++ piece b a (octets "\\Flagged")) ++ piece c (a || b) (octets "\\Deleted"))
+    ++ piece d ((a || b) || c) (octets "\\Seen"))
+    ++ piece e (((a || b) || c) || d) (octets "\\Draft")
 
 abbrev names : Bool → Bool → Bool → Bool → Bool → List (List ℕ)
 names a b c d e =
@@ -26,7 +43,7 @@ names a b c d e =
     ++ (cond d (octets "\\Seen" ∷ []) []
     ++ cond e (octets "\\Draft" ∷ []) [])))
 
-pieces : (a b c d e : Bool) → first_three a b c ++ last_two ((a || b) || c) d e ≡ spaced (names a b c d e)
+pieces : (a b c d e : Bool) → five_pieces a b c d e ≡ spaced (names a b c d e)
 pieces true true true true true = refl
 pieces true true true true false = refl
 pieces true true true false true = refl
@@ -63,9 +80,13 @@ pieces false false false false false = refl
 unfoldable pub flags_text : ℕ → List ℕ
 flags_text f = spaced (flag_names f)
 
-pub flags_pieces : (f : ℕ) → first_three (bit 0 f) (bit 1 f) (bit 2 f) ++ last_two ((bit 0 f || bit 1 f) || bit 2 f) (bit 3 f) (bit 4 f) ≡ flags_text f
+pub flags_pieces : (f : ℕ) → five_pieces (eqb (f % 2) 1) (eqb (f / 2 % 2) 1) (eqb (f / 4 % 2) 1) (eqb (f / 8 % 2) 1) (eqb (f / 16 % 2) 1) ≡ flags_text f
 unfolding flags_text
-flags_pieces f = pieces (bit 0 f) (bit 1 f) (bit 2 f) (bit 3 f) (bit 4 f)
+flags_pieces f =
+    let c : f / 2 / 2 ≡ f / 4 = omega arith in
+    let d : f / 2 / 2 / 2 ≡ f / 8 = omega arith in
+    let e : f / 2 / 2 / 2 / 2 ≡ f / 16 = omega arith in
+    rw (← e, ← d, ← c) (pieces (bit 0 f) (bit 1 f) (bit 2 f) (bit 3 f) (bit 4 f))
 
 -- them as an item
 abbrev pub flag_item : ℕ → List ℕ
@@ -93,13 +114,3 @@ fetch-text i n u f c =
 -- the same of an entry
 pub fetch_line : (n : ℕ) (e : Message) → fetch_text n (uid_of e) e.flags e.counter ≡ render (flags_line n e)
 fetch_line n e = fetch-text e.mailbox n (uid_of e) e.flags e.counter
-
-module _ (on began : Bool) (n : List ℕ) where
-  pub piece_off : on ≡ false → [] ≡ piece on began n
-  piece_off e = rw e
-
-  pub piece_first : on ≡ true → began ≡ false → n ≡ piece on began n
-  piece_first e f = rw (e, f)
-
-  pub piece-more : on ≡ true → began ≡ true → (32 ∷ []) ++ n ≡ piece on began n
-  piece-more e f = rw (e, f)

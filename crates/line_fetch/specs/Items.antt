@@ -1,28 +1,12 @@
 -- The FETCH line of a new message: what was asked, in the order UID, FLAGS, RFC822.SIZE, and its counter (01, What is written, 10; 02, 1). Assumes nothing.
-use Rattle.std.specs.Prelude.{◌≡◌, refl, Bool, true, false, cond, ◌||◌, List, [], ◌∷◌, ◌++◌, ℕ}
-use Rattle.std.proofs.Common.{ap, sym, ◌∙◌, append_assoc, append-nil}
+use Rattle.std.specs.Prelude.{◌≡◌, Bool, true, false, cond, ◌||◌, List, [], ◌∷◌, ◌++◌, ℕ}
+use Rattle.std.proofs.Common.{ap, ◌∙◌, append_assoc, append-nil}
 use Rattle.model.specs.Text.{octets, decimal}
 use Rattle.model.specs.Memory.{uid_of}
 use Rattle.model.specs.Lines.{fetch, Item, uid, flags, size, modseq, item_text, item_texts, spaced, flag_names, render, crlf}
 use Rattle.model.specs.declared.Message.{Message}
 use Rattle.line_fetch.specs.declared.Shows.{Shows}
 use Rattle.line_fetch.specs.Fetch.{piece, flags_text, flag_item}
-
--- an item's text, where it is asked, with a space before it where one stands before
-abbrev pub gap : Bool → List ℕ
-gap began = cond began (32 ∷ []) []
-
-pub gap_off : (began : Bool) → began ≡ false → [] ≡ gap began
-gap_off began e = rw e
-
-pub gap_on : (began : Bool) → began ≡ true → (32 ∷ []) ≡ gap began
-gap_on began e = rw e
-
-pub piece_gap : (on began : Bool) (t : List ℕ) → on ≡ true → gap began ++ t ≡ piece on began t
-piece_gap true true t e = refl
-piece_gap true false t e = refl
-piece_gap false true t e = ap (λ (b : Bool). piece b true t) (sym e)
-piece_gap false false t e = ap (λ (b : Bool). piece b false t) (sym e)
 
 -- two texts
 abbrev pub uid_text : ℕ → List ℕ

@@ -1,127 +1,130 @@
 // FETCH lines: of a message's flags and counter, and of a new message with the items that are asked.
 #![tactic(auto)]
 
-mod flags;
-
 ghost use Rattle.std.specs.Prelude.{true, ◌++◌, ◌+◌, ◌-◌, ◌≤◌, length};
 ghost use Rattle.model.specs.Text.{decimal};
 ghost use Rattle.model.specs.Lines.{modseq, item_text};
-ghost use Rattle.line_put.specs.Put.{Put};
-ghost use Rattle.line_put.specs.Says.{Says};
-ghost use Rattle.line_fetch.specs.Fetch.{piece, flag_item, fetch_text};
-ghost use Rattle.line_fetch.specs.Items.{gap, items_text, new_text};
+ghost use Rattle.line_put.specs.Writes.{Writes};
+ghost use Rattle.line_fetch.specs.Fetch.{gap, piece, flags_text, flag_item, fetch_text};
+ghost use Rattle.line_fetch.specs.Items.{items_text, new_text};
 
-use flags::{either, put_flags};
-use line_put::Said;
+use line_put::{Line, Writer};
 use model::{Message, MessageNumber, Uid};
 
-// ---- items
 // A space, where something stands before.
-fn put_gap(queue: &mut [u8], at: usize, limit: usize, began: bool) -> usize
-    requires { (limit ≤ length queue.old) × (at ≤ 67108864) }
-    ensures { (Put queue.old at limit (gap began) queue.new result) × (result ≤ at + 1) }
+fn put_gap(w: &mut Writer<'_>, began: bool)
+    requires { (w.old.limit ≤ length w.old.queue.now) × (w.old.at ≤ 134217728) }
+    ensures put { Writes w.old (gap began) w.new }
+    ensures upper_bound { w.new.at ≤ w.old.at + 1 }
 {
-    if !began {
-        return at;
+    if began {
+        w.put_byte(b' ');
     }
-    line_put::put_byte(queue, at, limit, 32)
 }
 
-// A word and a number, where they are asked.
-fn put_counted(
-    queue: &mut [u8],
-    at: usize,
-    limit: usize,
-    on: bool,
-    began: bool,
-    word: &[u8],
-    n: u64,
-) -> usize
-    requires { (limit ≤ length queue.old) × (at ≤ 33554432) × (length word.now ≤ 16) }
-    ensures { (Put queue.old at limit (piece on began (word.now ++ decimal n)) queue.new result) × (result ≤ at + 37) }
+// ---- flags
+// A flag's name, where it is set, with a space before it where one stands before.
+fn put_flag(w: &mut Writer<'_>, on: bool, began: bool, name: &[u8])
+    requires { (w.old.limit ≤ length w.old.queue.now) × (w.old.at ≤ 67108864) × (length name.now ≤ 16) }
+    ensures put { Writes w.old (piece on began name.now) w.new }
+    ensures upper_bound { w.new.at ≤ w.old.at + 17 }
 {
-    if !on {
-        return at;
+    if on {
+        put_gap(w, began);
+        w.put(name);
     }
-    let a = put_gap(queue, at, limit, began);
-    let b = line_put::put(queue, a, limit, word);
-    line_put::put_number(queue, b, limit, n)
+}
+
+// The names of the flags that are set, with spaces between.
+fn put_flags(w: &mut Writer<'_>, flags: u64)
+    requires { (w.old.limit ≤ length w.old.queue.now) × (w.old.at ≤ 33554432) }
+    ensures put { Writes w.old (flags_text flags) w.new }
+    ensures upper_bound { w.new.at ≤ w.old.at + 85 }
+{
+    let a = flags % 2 == 1;
+    let b = flags / 2 % 2 == 1;
+    let c = flags / 4 % 2 == 1;
+    let d = flags / 8 % 2 == 1;
+    let e = flags / 16 % 2 == 1;
+    let ab = a || b;
+    let abc = ab || c;
+    put_flag(w, a, false, b"\\Answered");
+    put_flag(w, b, a, b"\\Flagged");
+    put_flag(w, c, ab, b"\\Deleted");
+    put_flag(w, d, abc, b"\\Seen");
+    put_flag(w, e, abc || d, b"\\Draft");
+}
+
+// ---- items
+// A word and a number, where they are asked.
+fn put_counted(w: &mut Writer<'_>, on: bool, began: bool, word: &[u8], n: u64)
+    requires { (w.old.limit ≤ length w.old.queue.now) × (w.old.at ≤ 33554432) × (length word.now ≤ 16) }
+    ensures put { Writes w.old (piece on began (word.now ++ decimal n)) w.new }
+    ensures upper_bound { w.new.at ≤ w.old.at + 37 }
+{
+    if on {
+        put_gap(w, began);
+        w.put(word);
+        w.put_number(n);
+    }
 }
 
 // The flags, where they are asked.
-fn put_flag_item(
-    queue: &mut [u8],
-    at: usize,
-    limit: usize,
-    on: bool,
-    began: bool,
-    flags: u64,
-) -> usize
-    requires { (limit ≤ length queue.old) × (at ≤ 16777300) }
-    ensures { (Put queue.old at limit (piece on began (flag_item flags)) queue.new result) × (result ≤ at + 94) }
+fn put_flag_item(w: &mut Writer<'_>, on: bool, began: bool, flags: u64)
+    requires { (w.old.limit ≤ length w.old.queue.now) × (w.old.at ≤ 16777300) }
+    ensures put { Writes w.old (piece on began (flag_item flags)) w.new }
+    ensures upper_bound { w.new.at ≤ w.old.at + 94 }
 {
-    if !on {
-        return at;
+    if on {
+        put_gap(w, began);
+        w.put(b"FLAGS (");
+        put_flags(w, flags);
+        w.put(b")");
     }
-    let a = put_gap(queue, at, limit, began);
-    let b = line_put::put(queue, a, limit, b"FLAGS (");
-    let c = put_flags(queue, b, limit, flags);
-    line_put::put(queue, c, limit, b")")
 }
 
 // The message's counter, with which all items end.
-fn put_modseq(queue: &mut [u8], at: usize, limit: usize, began: bool, counter: u64) -> usize
-    requires { (limit ≤ length queue.old) × (at ≤ 33554432) }
-    ensures { (Put queue.old at limit (piece true began (item_text (modseq counter))) queue.new result) × (result ≤ at + 30) }
+fn put_modseq(w: &mut Writer<'_>, began: bool, counter: u64)
+    requires { (w.old.limit ≤ length w.old.queue.now) × (w.old.at ≤ 33554432) }
+    ensures put { Writes w.old (piece true began (item_text (modseq counter))) w.new }
+    ensures upper_bound { w.new.at ≤ w.old.at + 30 }
 {
-    let a = put_gap(queue, at, limit, began);
-    let b = line_put::put(queue, a, limit, b"MODSEQ (");
-    let c = line_put::put_number(queue, b, limit, counter);
-    line_put::put(queue, c, limit, b")")
+    put_gap(w, began);
+    w.put(b"MODSEQ (");
+    w.put_number(counter);
+    w.put(b")");
 }
 
 // ---- the line of flags
 // `* n FETCH (UID u FLAGS (..) MODSEQ (c))`
-pub fn put_fetch(
-    queue: &mut [u8],
-    at: usize,
-    limit: usize,
-    n: MessageNumber,
-    uid: Uid,
-    flags: u64,
-    counter: u64,
-) -> usize
-    requires { (limit ≤ length queue.old) × (at ≤ 16777216) }
-    ensures { (Put queue.old at limit (fetch_text n.0 uid.0 flags counter) queue.new result) × (result ≤ at + 200) }
+pub fn put_fetch(w: &mut Writer<'_>, n: MessageNumber, uid: Uid, flags: u64, counter: u64)
+    requires { (w.old.limit ≤ length w.old.queue.now) × (w.old.at ≤ 16777216) }
+    ensures put { Writes w.old (fetch_text n.0 uid.0 flags counter) w.new }
+    ensures upper_bound { w.new.at ≤ w.old.at + 200 }
 {
-    let a = line_put::put(queue, at, limit, b"* ");
-    let b = line_put::put_number(queue, a, limit, n.0);
-    let c = line_put::put(queue, b, limit, b" FETCH (UID ");
-    let d = line_put::put_number(queue, c, limit, uid.0);
-    let e = put_flag_item(queue, d, limit, true, true, flags);
-    let f = put_modseq(queue, e, limit, true, counter);
-    line_put::put(queue, f, limit, b")\r\n")
+    w.put(b"* ");
+    w.put_number(n.0);
+    w.put(b" FETCH (UID ");
+    w.put_number(uid.0);
+    put_flag_item(w, true, true, flags);
+    put_modseq(w, true, counter);
+    w.put(b")\r\n");
 }
 
-// The FETCH line, if it leaves the last 64 octets free, else the overflow line.
-pub fn say_fetch(
-    queue: &mut [u8],
-    at: usize,
-    n: MessageNumber,
-    uid: Uid,
-    flags: u64,
-    counter: u64,
-) -> Said
-    requires { (64 ≤ length queue.old) × (length queue.old ≤ 65536) × (at ≤ length queue.old - 64) }
-    ensures { Says queue.old at (fetch_text n.0 uid.0 flags counter) queue.new result.fits result.end }
-{
-    let limit = queue.len() - 64;
-    let end = put_fetch(queue, at, 0, n, uid, flags, counter);
-    if end <= limit {
-        let e = put_fetch(queue, at, limit, n, uid, flags, counter);
-        return Said { fits: true, end: e };
+// The same as a line that is told whole.
+pub struct Fetch {
+    pub n: MessageNumber,
+    pub uid: Uid,
+    pub flags: u64,
+    pub counter: u64,
+}
+
+impl Line for Fetch {
+    ghost text = { λ l. fetch_text l.n.0 l.uid.0 l.flags l.counter };
+
+    fn put(&self, w: &mut Writer<'_>) {
+        put_fetch(w, self.n, self.uid, self.flags, self.counter);
     }
-    line_put::overflow(queue, at)
 }
 
 // ---- a new message
@@ -135,32 +138,33 @@ pub struct Shows {
 }
 
 // What is asked of a message, in the order UID, FLAGS, RFC822.SIZE, and its counter.
-fn put_items(queue: &mut [u8], at: usize, limit: usize, w: Shows, e: Message) -> usize
-    requires { (limit ≤ length queue.old) × (at ≤ 16777250) }
-    ensures { (Put queue.old at limit (items_text w e) queue.new result) × (result ≤ at + 198) }
+fn put_items(w: &mut Writer<'_>, shows: Shows, e: Message)
+    requires { (w.old.limit ≤ length w.old.queue.now) × (w.old.at ≤ 16777250) }
+    ensures put { Writes w.old (items_text shows e) w.new }
+    ensures upper_bound { w.new.at ≤ w.old.at + 198 }
 {
-    let a = put_counted(queue, at, limit, w.uid, false, b"UID ", e.uid.0);
-    let b = put_flag_item(queue, a, limit, w.flags, w.uid, e.flags);
-    let began = either(w.uid, w.flags);
-    let c = put_counted(queue, b, limit, w.size, began, b"RFC822.SIZE ", e.size);
-    put_modseq(queue, c, limit, either(began, w.size), e.counter)
+    let Shows {
+        uid,
+        flags,
+        size,
+        ..
+    } = shows;
+    put_counted(w, uid, false, b"UID ", e.uid.0);
+    put_flag_item(w, flags, uid, e.flags);
+    let began = uid || flags;
+    put_counted(w, size, began, b"RFC822.SIZE ", e.size);
+    put_modseq(w, began || size, e.counter);
 }
 
 // `* n FETCH (..)` of a new message.
-pub fn put_new(
-    queue: &mut [u8],
-    at: usize,
-    limit: usize,
-    w: Shows,
-    n: MessageNumber,
-    e: Message,
-) -> usize
-    requires { (limit ≤ length queue.old) × (at ≤ 16777216) }
-    ensures { (Put queue.old at limit (new_text w n.0 e) queue.new result) × (result ≤ at + 231) }
+pub fn put_new(w: &mut Writer<'_>, shows: Shows, n: MessageNumber, e: Message)
+    requires { (w.old.limit ≤ length w.old.queue.now) × (w.old.at ≤ 16777216) }
+    ensures put { Writes w.old (new_text shows n.0 e) w.new }
+    ensures upper_bound { w.new.at ≤ w.old.at + 231 }
 {
-    let a = line_put::put(queue, at, limit, b"* ");
-    let b = line_put::put_number(queue, a, limit, n.0);
-    let c = line_put::put(queue, b, limit, b" FETCH (");
-    let d = put_items(queue, c, limit, w, e);
-    line_put::put(queue, d, limit, b")\r\n")
+    w.put(b"* ");
+    w.put_number(n.0);
+    w.put(b" FETCH (");
+    put_items(w, shows, e);
+    w.put(b")\r\n");
 }

@@ -1,16 +1,16 @@
-// The notices about mailboxes: LIST lines, STATUS lines. A line is written, or else the overflow line.
+// The notices about mailboxes: LIST lines, STATUS lines.
 #![tactic(auto)]
 
-ghost use Rattle.std.specs.Prelude.{◌++◌, ◌+◌, ◌*◌, ◌-◌, ◌≤◌, ◌<◌, length};
+ghost use Rattle.std.specs.Prelude.{◌≡◌, ◌++◌, ◌+◌, ◌*◌, ◌-◌, ◌≤◌, ◌<◌, length};
 ghost use Rattle.model.specs.Lists.{when};
 ghost use Rattle.model.specs.Text.{decimal};
 ghost use Rattle.model.specs.Lines.{list, renamed, status, mail_items, flag_items, set_items, mark_text, render, render_all};
-ghost use Rattle.line_put.specs.Put.{Put};
-ghost use Rattle.line_put.specs.Says.{Says};
+ghost use Rattle.line_put.specs.Writes.{Writes};
 ghost use Rattle.line_mailbox.specs.Texts.{mark_of, pair, listed, opening, ending};
 
-use line_put::Said;
+use line_put::{Line, Writer};
 
+// ---- LIST
 // The attribute of a LIST line.
 #[derive(Clone, Copy)]
 pub enum Mark {
@@ -21,218 +21,191 @@ pub enum Mark {
     Subscribed,
 }
 
-fn put_mark(queue: &mut [u8], at: usize, limit: usize, mark: Mark) -> usize
-    requires { (limit ≤ length queue.old) × (at ≤ 1048576) }
-    ensures { (Put queue.old at limit (mark_text (mark_of mark)) queue.new result) × (result ≤ at + 14) }
+// Its words.
+fn words(mark: Mark) -> &'static [u8]
+    ensures text { result.now ≡ mark_text (mark_of mark) }
+    ensures upper_bound { length result.now ≤ 14 }
 {
     match mark {
-        Mark::Plain => line_put::put(queue, at, limit, b"()"),
-        Mark::Noselect => line_put::put(queue, at, limit, b"(\\Noselect)"),
-        Mark::NonExistent => line_put::put(queue, at, limit, b"(\\NonExistent)"),
-        Mark::NoAccess => line_put::put(queue, at, limit, b"(\\NoAccess)"),
-        Mark::Subscribed => line_put::put(queue, at, limit, b"(\\Subscribed)"),
+        Mark::Plain => b"()",
+        Mark::Noselect => b"(\\Noselect)",
+        Mark::NonExistent => b"(\\NonExistent)",
+        Mark::NoAccess => b"(\\NoAccess)",
+        Mark::Subscribed => b"(\\Subscribed)",
     }
 }
 
 // `* LIST (..) "/" "name"`, the part that all LIST lines begin with.
-fn put_listed(queue: &mut [u8], at: usize, limit: usize, mark: Mark, name: &[u8]) -> usize
-    requires { (limit ≤ length queue.old) × (at ≤ 524288) × (length name.now ≤ 64) }
-    ensures { (Put queue.old at limit (listed (mark_of mark) name.now) queue.new result) × (result ≤ at + 156) }
+fn put_listed(w: &mut Writer<'_>, mark: Mark, name: &[u8])
+    requires { (w.old.limit ≤ length w.old.queue.now) × (w.old.at ≤ 524288) × (length name.now ≤ 64) }
+    ensures put { Writes w.old (listed (mark_of mark) name.now) w.new }
+    ensures upper_bound { w.new.at ≤ w.old.at + 156 }
 {
-    let a = line_put::put(queue, at, limit, b"* LIST ");
-    let b = put_mark(queue, a, limit, mark);
-    let c = line_put::put(queue, b, limit, b" \"/\" ");
-    line_put::put_quoted(queue, c, limit, name)
+    w.put(b"* LIST ");
+    w.put(words(mark));
+    w.put(b" \"/\" ");
+    w.put_quoted(name);
 }
 
-pub fn put_list(queue: &mut [u8], at: usize, limit: usize, mark: Mark, name: &[u8]) -> usize
-    requires { (limit ≤ length queue.old) × (at ≤ 262144) × (length name.now ≤ 64) }
-    ensures { (Put queue.old at limit (render (list (mark_of mark) name.now)) queue.new result) × (result ≤ at + 158) }
+pub fn put_list(w: &mut Writer<'_>, mark: Mark, name: &[u8])
+    requires { (w.old.limit ≤ length w.old.queue.now) × (w.old.at ≤ 262144) × (length name.now ≤ 64) }
+    ensures put { Writes w.old (render (list (mark_of mark) name.now)) w.new }
+    ensures upper_bound { w.new.at ≤ w.old.at + 158 }
 {
-    let a = put_listed(queue, at, limit, mark, name);
-    line_put::put(queue, a, limit, b"\r\n")
+    put_listed(w, mark, name);
+    w.put(b"\r\n");
+}
+
+// A LIST line.
+pub struct ListLine<'a> {
+    pub mark: Mark,
+    pub name: &'a [u8],
+    ghost short: { length name.now ≤ 64 },
+}
+
+impl Line for ListLine<'_> {
+    ghost text = { λ l. render (list (mark_of l.mark) l.name.now) };
+
+    fn put(&self, w: &mut Writer<'_>) {
+        put_list(w, self.mark, self.name);
+    }
 }
 
 // A LIST line, if it is wanted.
-fn put_wanted(queue: &mut [u8], at: usize, limit: usize, on: bool, mark: Mark, name: &[u8]) -> usize
-    requires { (limit ≤ length queue.old) × (at ≤ 262144) × (length name.now ≤ 64) }
-    ensures { (Put queue.old at limit (render_all (when on (list (mark_of mark) name.now))) queue.new result) × (result ≤ at + 158) }
+fn put_wanted(w: &mut Writer<'_>, on: bool, line: &ListLine<'_>)
+    requires { (w.old.limit ≤ length w.old.queue.now) × (w.old.at ≤ 262144) }
+    ensures put { Writes w.old (render_all (when on (list (mark_of line.now.mark) line.now.name.now))) w.new }
+    ensures upper_bound { w.new.at ≤ w.old.at + 158 }
 {
-    if !on {
-        return at;
+    if on {
+        put_list(w, line.mark, line.name);
     }
-    put_list(queue, at, limit, mark, name)
 }
 
 // The line of a mailbox and then that of its parent, each if it is wanted.
-fn put_pair(
-    queue: &mut [u8],
-    at: usize,
-    limit: usize,
-    own: bool,
-    mark: Mark,
-    name: &[u8],
-    upper: bool,
-    above: Mark,
-    parent: &[u8],
-) -> usize
-    requires { (limit ≤ length queue.old) × (at ≤ 131072) × (length name.now ≤ 64) × (length parent.now ≤ 64) }
-    ensures { (Put queue.old at limit (render_all (pair own (list (mark_of mark) name.now) upper (list (mark_of above) parent.now))) queue.new result) × (result ≤ at + 316) }
-{
-    let a = put_wanted(queue, at, limit, own, mark, name);
-    put_wanted(queue, a, limit, upper, above, parent)
+pub struct Pair<'a> {
+    pub own: bool,
+    pub line: ListLine<'a>,
+    pub upper: bool,
+    pub parent: ListLine<'a>,
 }
 
-// With the name that it had before.
-pub fn put_renamed(
-    queue: &mut [u8],
-    at: usize,
-    limit: usize,
-    mark: Mark,
-    new: &[u8],
-    old: &[u8],
-) -> usize
-    requires { (limit ≤ length queue.old) × (at ≤ 262144) × (length new.now ≤ 64) × (length old.now ≤ 64) }
-    ensures { (Put queue.old at limit (render (renamed (mark_of mark) new.now old.now)) queue.new result) × (result ≤ at + 303) }
-{
-    let a = put_listed(queue, at, limit, mark, new);
-    let b = line_put::put(queue, a, limit, b" (\"OLDNAME\" (");
-    let c = line_put::put_quoted(queue, b, limit, old);
-    line_put::put(queue, c, limit, b"))\r\n")
+impl Line for Pair<'_> {
+    ghost text = { λ p.
+        render_all
+        (pair p.own (list (mark_of p.line.mark) p.line.name.now) p.upper (list (mark_of p.parent.mark) p.parent.name.now)) };
+
+    fn put(&self, w: &mut Writer<'_>) {
+        put_wanted(w, self.own, &self.line);
+        put_wanted(w, self.upper, &self.parent);
+    }
 }
 
+// The LIST line of a mailbox with the name that it had before.
+pub struct Renamed<'a> {
+    pub mark: Mark,
+    pub new: &'a [u8],
+    pub old: &'a [u8],
+    ghost short: { (length new.now ≤ 64) × (length old.now ≤ 64) },
+}
+
+impl Line for Renamed<'_> {
+    ghost text = { λ r. render (renamed (mark_of r.mark) r.new.now r.old.now) };
+
+    fn put(&self, w: &mut Writer<'_>) {
+        put_listed(w, self.mark, self.new);
+        w.put(b" (\"OLDNAME\" (");
+        w.put_quoted(self.old);
+        w.put(b"))\r\n");
+    }
+}
+
+// ---- STATUS
 // A word and a number.
-fn put_counted(queue: &mut [u8], at: usize, limit: usize, word: &[u8], n: u64) -> usize
-    requires { (limit ≤ length queue.old) × (at ≤ 1048576) × (length word.now ≤ 16) }
-    ensures { (Put queue.old at limit (word.now ++ decimal n) queue.new result) × (result ≤ at + 36) }
+fn put_counted(w: &mut Writer<'_>, word: &[u8], n: u64)
+    requires { (w.old.limit ≤ length w.old.queue.now) × (w.old.at ≤ 1048576) × (length word.now ≤ 16) }
+    ensures put { Writes w.old (word.now ++ decimal n) w.new }
+    ensures upper_bound { w.new.at ≤ w.old.at + 36 }
 {
-    let a = line_put::put(queue, at, limit, word);
-    line_put::put_number(queue, a, limit, n)
+    w.put(word);
+    w.put_number(n);
 }
 
 // `* STATUS "name" (`, the part that all STATUS lines begin with.
-fn put_opening(queue: &mut [u8], at: usize, limit: usize, name: &[u8]) -> usize
-    requires { (limit ≤ length queue.old) × (at ≤ 524288) × (length name.now ≤ 64) }
-    ensures { (Put queue.old at limit (opening name.now) queue.new result) × (result ≤ at + 141) }
+fn put_opening(w: &mut Writer<'_>, name: &[u8])
+    requires { (w.old.limit ≤ length w.old.queue.now) × (w.old.at ≤ 524288) × (length name.now ≤ 64) }
+    ensures put { Writes w.old (opening name.now) w.new }
+    ensures upper_bound { w.new.at ≤ w.old.at + 141 }
 {
-    let a = line_put::put(queue, at, limit, b"* STATUS ");
-    let b = line_put::put_quoted(queue, a, limit, name);
-    line_put::put(queue, b, limit, b" (")
+    w.put(b"* STATUS ");
+    w.put_quoted(name);
+    w.put(b" (");
 }
 
 // The mailbox's counter, with which all STATUS lines end.
-fn put_highest(queue: &mut [u8], at: usize, limit: usize, highest: u64) -> usize
-    requires { (limit ≤ length queue.old) × (at ≤ 1048576) }
-    ensures { (Put queue.old at limit (ending highest) queue.new result) × (result ≤ at + 39) }
+fn put_highest(w: &mut Writer<'_>, highest: u64)
+    requires { (w.old.limit ≤ length w.old.queue.now) × (w.old.at ≤ 1048576) }
+    ensures put { Writes w.old (ending highest) w.new }
+    ensures upper_bound { w.new.at ≤ w.old.at + 39 }
 {
-    let a = put_counted(queue, at, limit, b" HIGHESTMODSEQ ", highest);
-    line_put::put(queue, a, limit, b")\r\n")
+    put_counted(w, b" HIGHESTMODSEQ ", highest);
+    w.put(b")\r\n");
 }
 
 // The STATUS of a mailbox that is not selected, where messages come or go.
-pub fn put_status(
-    queue: &mut [u8],
-    at: usize,
-    limit: usize,
-    name: &[u8],
-    next: u64,
-    messages: u64,
-    highest: u64,
-) -> usize
-    requires { (limit ≤ length queue.old) × (at ≤ 262144) × (length name.now ≤ 64) }
-    ensures { (Put queue.old at limit (render (status name.now (mail_items next messages highest))) queue.new result) × (result ≤ at + 252) }
-{
-    let a = put_opening(queue, at, limit, name);
-    let b = put_counted(queue, a, limit, b"UIDNEXT ", next);
-    let c = put_counted(queue, b, limit, b" MESSAGES ", messages);
-    put_highest(queue, c, limit, highest)
+pub struct Status<'a> {
+    pub name: &'a [u8],
+    pub next: u64,
+    pub messages: u64,
+    pub highest: u64,
+    ghost short: { length name.now ≤ 64 },
+}
+
+impl Line for Status<'_> {
+    ghost text = { λ s. render (status s.name.now (mail_items s.next s.messages s.highest)) };
+
+    fn put(&self, w: &mut Writer<'_>) {
+        put_opening(w, self.name);
+        put_counted(w, b"UIDNEXT ", self.next);
+        put_counted(w, b" MESSAGES ", self.messages);
+        put_highest(w, self.highest);
+    }
 }
 
 // The same, where flags change.
-pub fn put_flag_status(
-    queue: &mut [u8],
-    at: usize,
-    limit: usize,
-    name: &[u8],
-    validity: u64,
-    highest: u64,
-) -> usize
-    requires { (limit ≤ length queue.old) × (at ≤ 262144) × (length name.now ≤ 64) }
-    ensures { (Put queue.old at limit (render (status name.now (flag_items validity highest))) queue.new result) × (result ≤ at + 216) }
-{
-    let a = put_opening(queue, at, limit, name);
-    let b = put_counted(queue, a, limit, b"UIDVALIDITY ", validity);
-    put_highest(queue, b, limit, highest)
+pub struct FlagStatus<'a> {
+    pub name: &'a [u8],
+    pub validity: u64,
+    pub highest: u64,
+    ghost short: { length name.now ≤ 64 },
+}
+
+impl Line for FlagStatus<'_> {
+    ghost text = { λ s. render (status s.name.now (flag_items s.validity s.highest)) };
+
+    fn put(&self, w: &mut Writer<'_>) {
+        put_opening(w, self.name);
+        put_counted(w, b"UIDVALIDITY ", self.validity);
+        put_highest(w, self.highest);
+    }
 }
 
 // The STATUS that answers NOTIFY SET STATUS.
 pub fn put_status_at_set(
-    queue: &mut [u8],
-    at: usize,
-    limit: usize,
+    w: &mut Writer<'_>,
     name: &[u8],
     messages: u64,
     next: u64,
     validity: u64,
     highest: u64,
-) -> usize
-    requires { (limit ≤ length queue.old) × (at ≤ 262144) × (length name.now ≤ 64) }
-    ensures { (Put queue.old at limit (render (status name.now (set_items messages next validity highest))) queue.new result) × (result ≤ at + 300) }
+)
+    requires { (w.old.limit ≤ length w.old.queue.now) × (w.old.at ≤ 262144) × (length name.now ≤ 64) }
+    ensures put { Writes w.old (render (status name.now (set_items messages next validity highest))) w.new }
+    ensures upper_bound { w.new.at ≤ w.old.at + 300 }
 {
-    let a = put_opening(queue, at, limit, name);
-    let b = put_counted(queue, a, limit, b"MESSAGES ", messages);
-    let c = put_counted(queue, b, limit, b" UIDNEXT ", next);
-    let d = put_counted(queue, c, limit, b" UIDVALIDITY ", validity);
-    put_highest(queue, d, limit, highest)
-}
-
-// A LIST line, if it leaves the last 64 octets free, else the overflow line.
-pub fn say_list(queue: &mut [u8], at: usize, mark: Mark, name: &[u8]) -> Said
-    requires { (64 ≤ length queue.old) × (length queue.old ≤ 65536) × (at ≤ length queue.old - 64) × (length name.now ≤ 64) }
-    ensures { Says queue.old at (render (list (mark_of mark) name.now)) queue.new result.fits result.end }
-{
-    let limit = queue.len() - 64;
-    let end = put_list(queue, at, 0, mark, name);
-    if end <= limit {
-        let e = put_list(queue, at, limit, mark, name);
-        return Said { fits: true, end: e };
-    }
-    line_put::overflow(queue, at)
-}
-
-// The same of the lines of a mailbox and of its parent: both of those that are wanted, or the overflow line.
-pub fn say_pair(
-    queue: &mut [u8],
-    at: usize,
-    own: bool,
-    mark: Mark,
-    name: &[u8],
-    upper: bool,
-    above: Mark,
-    parent: &[u8],
-) -> Said
-    requires { (64 ≤ length queue.old) × (length queue.old ≤ 65536) × (at ≤ length queue.old - 64) × (length name.now ≤ 64) × (length parent.now ≤ 64) }
-    ensures { Says queue.old at (render_all (pair own (list (mark_of mark) name.now) upper (list (mark_of above) parent.now))) queue.new result.fits result.end }
-{
-    let limit = queue.len() - 64;
-    let end = put_pair(queue, at, 0, own, mark, name, upper, above, parent);
-    if end <= limit {
-        let e = put_pair(queue, at, limit, own, mark, name, upper, above, parent);
-        return Said { fits: true, end: e };
-    }
-    line_put::overflow(queue, at)
-}
-
-// The same of a rename.
-pub fn say_renamed(queue: &mut [u8], at: usize, mark: Mark, new: &[u8], old: &[u8]) -> Said
-    requires { (64 ≤ length queue.old) × (length queue.old ≤ 65536) × (at ≤ length queue.old - 64) × (length new.now ≤ 64) × (length old.now ≤ 64) }
-    ensures { Says queue.old at (render (renamed (mark_of mark) new.now old.now)) queue.new result.fits result.end }
-{
-    let limit = queue.len() - 64;
-    let end = put_renamed(queue, at, 0, mark, new, old);
-    if end <= limit {
-        let e = put_renamed(queue, at, limit, mark, new, old);
-        return Said { fits: true, end: e };
-    }
-    line_put::overflow(queue, at)
+    put_opening(w, name);
+    put_counted(w, b"MESSAGES ", messages);
+    put_counted(w, b" UIDNEXT ", next);
+    put_counted(w, b" UIDVALIDITY ", validity);
+    put_highest(w, highest);
 }

@@ -21,8 +21,8 @@ pub record Says (q : List ℕ) (at : ℕ) (t : List ℕ) (q' : List ℕ) (fits :
   pub within : end ≤ length q
 
 -- measured with limit 0 first: it fits, and is written
-pub says-fits : (q q₁ q₂ t : List ℕ) (at lim end e : ℕ) → Put q at 0 t q₁ end → Put q₁ at lim t q₂ e → lim ≡ length q - 64 → end ≤ lim → Says q at t q₂ true e
-says-fits q q₁ q₂ t at lim end e a b l h =
+pub says-fits : {q q₁ q₂ t : List ℕ} {at lim end e : ℕ} → Put q at 0 t q₁ end → Put q₁ at lim t q₂ e → lim ≡ length q - 64 → end ≤ lim → Says q at t q₂ true e
+says-fits {q} {q₁} {q₂} {t} {at} {lim} {end} {e} a b l h =
     let n = a.next in
     let k = b.next in
     let r : has_room q at t ≡ true = le-leb (at + length t) (length q - 64) (omega arith) in
@@ -34,17 +34,17 @@ says-fits q q₁ q₂ t at lim end e a b l h =
     }
 
 -- it does not, and the overflow line is written in its place
-pub says_over : (q q₁ q₂ t : List ℕ) (at end e : ℕ) (fits : Bool) → Put q at 0 t q₁ end → (fits ≡ false) × Put q₁ at (length q₁) (render overflow) q₂ e
-    → length q - 64 < end → 64 ≤ length q → at ≤ length q - 64 → Says q at t q₂ fits e
+pub says_over : {q q₁ q₂ t : List ℕ} {at lim end e : ℕ} → Put q at 0 t q₁ end → Put q₁ at lim (render overflow) q₂ e → lim ≡ length q → length q - 64 < end → 64 ≤ length q
+    → at ≤ length q - 64 → Says q at t q₂ false e
 unfolding render
-says_over q q₁ q₂ t at end e fits a b h z w =
+says_over {q} {q₁} {q₂} {t} {at} {lim} {end} {e} a b l h z w =
     let n = a.next in
     let s = a.same in
-    let k : e ≡ at + 37 = b.1.next in
+    let k : e ≡ at + 37 = b.next in
     let r : has_room q at t ≡ false = lt-leb (at + length t) (length q - 64) (omega arith) in
     record {
-      room = b.0 ∙ sym r;
-      is = b.1.done (omega arith) ∙ (ap (λ (x : List ℕ). written x at (render overflow)) (a.kept (omega arith)) ∙ rw r);
-      ends = b.1.next ∙ rw r;
+      room = sym r;
+      is = b.done (omega arith) ∙ (ap (λ (x : List ℕ). written x at (render overflow)) (a.kept (omega arith)) ∙ rw r);
+      ends = b.next ∙ rw r;
       within = omega arith;
     }

@@ -1,95 +1,97 @@
-// Writers into a queue, up to a limit. Each answers where its text ends. It writes only where that is within the limit.
+// Writers into a queue, up to a limit. Each moves the place on to where its text ends. It writes only where that is within the limit.
 #![tactic(auto)]
 
-ghost use Rattle.std.specs.Prelude.{◌≡◌, [], ◌∷◌, false, cond, ◌+◌, ◌*◌, ◌-◌, ◌≤◌, ◌<◌, length};
-ghost use Rattle.line_put.specs.Wrote.{Wrote};
+ghost use Rattle.std.specs.Prelude.{◌≡◌, [], ◌∷◌, List, ℕ, cond, ◌+◌, ◌*◌, ◌-◌, ◌≤◌, ◌<◌, length};
 ghost use Rattle.line_put.specs.Put.{Put};
+ghost use Rattle.line_put.specs.Writes.{Writes};
+ghost use Rattle.line_put.specs.Says.{Says};
 ghost use Rattle.model.specs.Memory.{silenced};
 ghost use Rattle.model.specs.Lines.{overflow, render};
 ghost use Rattle.model.specs.Text.{decimal, escape_octet, quoted};
 
 use model::{LentGroup, LentName, Session};
 
-fn copy(queue: &mut [u8], at: usize, text: &[u8]) -> usize
-    requires { at + length text.now ≤ length queue.old }
-    ensures { Wrote queue.old at text.now queue.new result }
-{
-    let mut i = 0;
-    let mut o = at;
-    while i < text.len() {
-        queue[o] = text[i];
-        o += 1;
-        i += 1;
-    }
-    o
+// Writes into a queue, from a place on and up to a limit. Past the limit it only counts.
+#[derive(Drop)]
+pub struct Writer<'a> {
+    pub queue: &'a mut [u8],
+    pub at: usize,
+    pub limit: usize,
 }
 
-pub fn put(queue: &mut [u8], at: usize, limit: usize, text: &[u8]) -> usize
-    requires { (limit ≤ length queue.old) × (at ≤ 1099511627776) × (length text.now ≤ 1048576) }
-    ensures { Put queue.old at limit text.now queue.new result }
-{
-    let end = at + text.len();
-    if limit < end {
-        return end;
+impl Writer<'_> {
+    pub fn put(&mut self, text: &[u8])
+        requires { (self.old.limit ≤ length self.old.queue.now) × (self.old.at ≤ 1099511627776) × (length text.now ≤ 1048576) }
+        ensures { Writes self.old text.now self.new }
+    {
+        let end = self.at + text.len();
+        let fits = end <= self.limit;
+        if fits {
+            self.queue[self.at..end].copy_from_slice(text);
+        }
+        self.at = end;
     }
-    copy(queue, at, text)
-}
 
-pub fn put_byte(queue: &mut [u8], at: usize, limit: usize, b: u8) -> usize
-    requires { (limit ≤ length queue.old) × (at ≤ 1099511627776) }
-    ensures { Put queue.old at limit (b ∷ []) queue.new result }
-{
-    if limit <= at {
-        return at + 1;
+    pub fn put_byte(&mut self, b: u8)
+        requires { (self.old.limit ≤ length self.old.queue.now) × (self.old.at ≤ 1099511627776) }
+        ensures { Writes self.old (b ∷ []) self.new }
+    {
+        if self.at < self.limit {
+            self.queue[self.at] = b;
+        }
+        self.at += 1;
     }
-    queue[at] = b;
-    at + 1
-}
 
-pub fn put_number(queue: &mut [u8], at: usize, limit: usize, n: u64) -> usize
-    requires { (limit ≤ length queue.old) × (at ≤ 549755813888) }
-    ensures put { Put queue.old at limit (decimal n) queue.new result }
-    ensures upper_bound { result ≤ at + 20 }
-{
-    if n < 10 {
-        return put_byte(queue, at, limit, 48 + n as u8);
+    pub fn put_number(&mut self, n: u64)
+        requires { (self.old.limit ≤ length self.old.queue.now) × (self.old.at ≤ 549755813888) }
+        ensures put { Writes self.old (decimal n) self.new }
+        ensures upper_bound { self.new.at ≤ self.old.at + 20 }
+    {
+        if 10 <= n {
+            self.put_number(n / 10);
+        }
+        self.put_byte(b'0' + (n % 10) as u8);
     }
-    let o = put_number(queue, at, limit, n / 10);
-    put_byte(queue, o, limit, 48 + (n % 10) as u8)
-}
 
-// A byte of a quoted string.
-fn put_escaped(queue: &mut [u8], at: usize, limit: usize, b: u8) -> usize
-    requires { (limit ≤ length queue.old) × (at ≤ 549755813888) }
-    ensures { (Put queue.old at limit (escape_octet b) queue.new result) × (result ≤ at + 2) }
-{
-    if b == 34 {
-        let o = put_byte(queue, at, limit, 92);
-        return put_byte(queue, o, limit, b);
+    // A byte of a quoted string.
+    fn put_escaped(&mut self, b: u8)
+        requires { (self.old.limit ≤ length self.old.queue.now) × (self.old.at ≤ 549755813888) }
+        ensures { (Writes self.old (escape_octet b) self.new) × (self.new.at ≤ self.old.at + 2) }
+    {
+        match b {
+            b'"' | b'\\' => {
+                self.put_byte(b'\\');
+                self.put_byte(b);
+            }
+            _ => self.put_byte(b),
+        }
     }
-    if b == 92 {
-        let o = put_byte(queue, at, limit, 92);
-        return put_byte(queue, o, limit, b);
-    }
-    put_byte(queue, at, limit, b)
-}
 
-pub fn put_quoted(queue: &mut [u8], at: usize, limit: usize, text: &[u8]) -> usize
-    requires { (limit ≤ length queue.old) × (at ≤ 274877906944) × (length text.now ≤ 1048576) }
-    ensures put { Put queue.old at limit (quoted text.now) queue.new result }
-    ensures upper_bound { result ≤ at + 2 * length text.now + 2 }
-{
-    let mut o = put_byte(queue, at, limit, 34);
-    let mut i = 0;
-    while i < text.len() {
-        o = put_escaped(queue, o, limit, text[i]);
-        i += 1;
+    pub fn put_quoted(&mut self, text: &[u8])
+        requires { (self.old.limit ≤ length self.old.queue.now) × (self.old.at ≤ 274877906944) × (length text.now ≤ 1048576) }
+        ensures put { Writes self.old (quoted text.now) self.new }
+        ensures upper_bound { self.new.at ≤ self.old.at + 2 * length text.now + 2 }
+    {
+        self.put_byte(b'"');
+        for b in text {
+            self.put_escaped(*b);
+        }
+        self.put_byte(b'"');
     }
-    put_byte(queue, o, limit, 34)
 }
 
 // ---- a line or the overflow line
+// A line, or several, told whole or not at all.
+pub trait Line {
+    ghost text: { Self → List ℕ };
+
+    fn put(&self, w: &mut Writer<'_>)
+        requires { (w.old.limit ≤ length w.old.queue.now) × (w.old.at ≤ 65536) }
+        ensures { Writes w.old (text self.now) w.new };
+}
+
 // Whether a line was written, and where the queue ends then.
+// Kept: the queue's end is told in both cases, so that a Result would say it twice.
 #[derive(Clone, Copy)]
 pub struct Said {
     pub fits: bool,
@@ -97,12 +99,39 @@ pub struct Said {
 }
 
 // The overflow line, where another does not fit: the last 64 octets are kept for it.
-pub fn overflow(queue: &mut [u8], at: usize) -> Said
+struct Overflow;
+
+impl Line for Overflow {
+    ghost text = { λ _. render overflow };
+
+    fn put(&self, w: &mut Writer<'_>) {
+        w.put(b"* OK [NOTIFICATIONOVERFLOW] stopped\r\n");
+    }
+}
+
+// A line from a place on, up to a limit: where it ends.
+fn write<L: Line>(queue: &mut [u8], at: usize, limit: usize, line: &L) -> usize
+    requires { (limit ≤ length queue.old) × (at ≤ 65536) }
+    ensures { Put queue.old at limit (L.text line.now) queue.new result }
+{
+    let mut w = Writer { queue, at, limit };
+    line.put(&mut w);
+    w.at
+}
+
+// A line, if it leaves the last 64 octets free, else the overflow line.
+pub fn say<L: Line>(queue: &mut [u8], at: usize, line: &L) -> Said
     requires { (64 ≤ length queue.old) × (length queue.old ≤ 65536) × (at ≤ length queue.old - 64) }
-    ensures { (result.fits ≡ false) × (Put queue.old at (length queue.old) (render overflow) queue.new result.end) }
+    ensures { Says queue.old at (L.text line.now) queue.new result.fits result.end }
 {
     let full = queue.len();
-    let end = put(queue, at, full, b"* OK [NOTIFICATIONOVERFLOW] stopped\r\n");
+    let limit = full - 64;
+    let end = write(queue, at, 0, line);
+    if end <= limit {
+        let end = write(queue, at, limit, line);
+        return Said { fits: true, end };
+    }
+    let end = write(queue, at, full, &Overflow);
     Said { fits: false, end }
 }
 
@@ -117,17 +146,16 @@ pub fn silence(s: Session) -> Session
         events: 0,
         attributes: 0,
     };
-    let octets = [0u8; 64];
-    let name = LentName { len: 0, octets };
-    let groups = [group; 8];
-    let names = [name; 16];
+    let name = LentName {
+        len: 0,
+        octets: [0; 64],
+    };
     Session {
-        selected: s.selected,
         notified: 1,
         groupcount: 0,
-        told: s.told,
-        groups,
-        names,
+        groups: [group; 8],
+        names: [name; 16],
+        ..s
     }
 }
 
@@ -142,12 +170,8 @@ pub struct Kept {
 pub fn hear(s: Session, said: Said) -> Kept
     ensures { (result.session ≡ cond said.fits s (silenced s)) × (result.filled ≡ said.end) }
 {
-    let filled = said.end as u64;
-    if said.fits {
-        return Kept { session: s, filled };
-    }
     Kept {
-        session: silence(s),
-        filled,
+        session: if said.fits { s } else { silence(s) },
+        filled: said.end as u64,
     }
 }

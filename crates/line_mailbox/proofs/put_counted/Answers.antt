@@ -1,8 +1,6 @@
--- `put_counted`: a label and a number behind it. Assumes nothing.
-use native.Mathlib.Omega.{arith}
-use Rattle.line_put.specs.Put.{◌then◌}
+-- `put_counted`: a word and the number behind it. Assumes nothing.
+use Rattle.line_put.specs.Writes.{◌then◌}
 use Rattle.line_mailbox.proofs.put_counted.Goals as goal
 
-pub returns : goal.returns
-returns c =
-    (◌then◌ c.put-a.ensures c.put_number.ensures.put, omega (arith, c.put-a.ensures.next, c.put_number.ensures.upper_bound))
+pub returns-clause-put : goal.returns-clause-put
+returns-clause-put c = ◌then◌ c.put.ensures c.put_number.ensures.put

@@ -1,10 +1,8 @@
--- `line_mailbox::put_highest` meets its contract: the counter, then the line's end. Assumes nothing.
-use native.Mathlib.Omega.{arith}
-use Rattle.line_put.specs.Put.{◌then◌}
+-- `put_highest`: the counter, then the end of the line. Assumes nothing.
+use Rattle.line_put.specs.Writes.{◌then◌}
 use Rattle.line_mailbox.specs.Texts.{ending}
 use Rattle.line_mailbox.proofs.put_highest.Goals as goal
 
-pub returns : goal.returns
+pub returns-clause-put : goal.returns-clause-put
 unfolding ending
-returns c =
-    (◌then◌ c.put_counted-a.ensures.0 c.put.ensures, omega (arith, c.put_counted-a.ensures.1, c.put.ensures.next))
+returns-clause-put c = ◌then◌ c.put_counted.ensures.put c.put.ensures

@@ -1,10 +1,8 @@
--- `put_listed`: mark, separator and name, one behind the other. Assumes nothing.
-use native.Mathlib.Omega.{arith}
-use Rattle.line_put.specs.Put.{◌then◌}
+-- `put_listed`: word, mark, separator and name. Assumes nothing.
+use Rattle.line_put.specs.Writes.{◌then◌}
 use Rattle.line_mailbox.specs.Texts.{listed}
 use Rattle.line_mailbox.proofs.put_listed.Goals as goal
 
-pub returns : goal.returns
+pub returns-clause-put : goal.returns-clause-put
 unfolding listed
-returns c =
-    (◌then◌ (◌then◌ (◌then◌ c.put-a.ensures c.put_mark-b.ensures.0) c.put-c.ensures) c.put_quoted.ensures.put, omega (arith, c.requires, c.put-a.ensures.next, c.put_mark-b.ensures.1, c.put-c.ensures.next, c.put_quoted.ensures.upper_bound))
+returns-clause-put c = ◌then◌ (◌then◌ (◌then◌ c.put.ensures (rw c.words.ensures.text at c.put-2.ensures)) c.put-3.ensures) c.put_quoted.ensures.put

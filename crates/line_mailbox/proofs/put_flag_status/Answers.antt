@@ -1,9 +1,0 @@
--- `line_mailbox::put_flag_status` meets its contract: its pieces are those of the line. Assumes nothing.
-use native.Mathlib.Omega.{arith}
-use Rattle.line_put.specs.Put.{◌then◌, put_as}
-use Rattle.line_mailbox.specs.Texts.{flag-text}
-use Rattle.line_mailbox.proofs.put_flag_status.Goals as goal
-
-pub returns : goal.returns
-returns c =
-    (put_as (◌then◌ (◌then◌ c.put_opening-a.ensures.0 c.put_counted-b.ensures.0) c.put_highest.ensures.0) (flag-text c.args.name.now c.args.validity c.args.highest), omega (arith, c.put_opening-a.ensures.1, c.put_counted-b.ensures.1, c.put_highest.ensures.1))

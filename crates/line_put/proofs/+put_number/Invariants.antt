@@ -1,5 +1,0 @@
--- `put_number`: the digits before the last, then the last: division by ten falls. Assumes nothing.
-use Rattle.line_put.proofs.+put_number.Given as goal
-
-abbrev pub decreases-put_number : goal.decreases-put_number
-decreases-put_number l = l.n

@@ -1,0 +1,11 @@
+-- `say`: measured with limit 0, then written, or else the overflow line. Assumes nothing.
+use native.Mathlib.Omega.{arith}
+use Rattle.line_put.specs.Says.{says-fits, says_over}
+use mathlib.Core.Path.{refl}
+use Rattle.line_put.proofs.say.Goals as goal
+
+pub returns-then-end-limit : goal.returns-then-end-limit
+returns-then-end-limit g c = says-fits c.write-end.ensures c.write-end-then-end-limit.ensures refl (omega arith)
+
+pub returns : goal.returns
+returns g c = says_over c.write-end.ensures c.write-end-2.ensures refl (omega arith) (omega arith) (omega arith)

@@ -25,17 +25,3 @@ pub enum Class {
     Quoted,
     Label,
 }
-
-// What a reader answers: the position behind what it read, or that it does not stand there.
-#[derive(Clone, Copy)]
-pub enum Next {
-    At(usize),
-    Bad,
-}
-
-// A number that was read and the position behind it, or that none stands there.
-#[derive(Clone, Copy)]
-pub enum Number {
-    Is(u64, usize),
-    Bad,
-}

@@ -12,75 +12,74 @@ use Rattle.model.specs.Laws.{same_lengths}
 use Rattle.model.specs.Octets.{digit}
 use Rattle.model.specs.Reading.{run_length, end_of, piece, digits_at, month_at, bare_date_at, date_at}
 use Rattle.octets.specs.Found.{next_of}
-use Rattle.octets.specs.declared.Next.{Next}
-use Rattle.octets.specs.declared.Next.TheVariants.{At, Bad}
+use Rattle.std.specs.Prelude.{Option, Some, None}
 use Rattle.octets.proofs.Chains.{then-bad, then_ok, after_none, after_some}
 
 -- so many digits
 module _ (least most : ℕ) (s : List ℕ) (at q : ℕ) (e : q ≡ end_of digit s at) where
-  pub digits_few : q - at < least → Bad ≡ next_of (digits_at least most s at)
+  pub digits_few : q - at < least → None ≡ next_of (digits_at least most s at)
   digits_few h = let m : run_length digit (drop at s) < least = omega arith in rw (lt-leb _ _ m)
 
-  pub digits_many : least ≤ q - at → most < q - at → Bad ≡ next_of (digits_at least most s at)
+  pub digits_many : least ≤ q - at → most < q - at → None ≡ next_of (digits_at least most s at)
   digits_many h l =
       let m : least ≤ run_length digit (drop at s) = omega arith in
       let n : most < run_length digit (drop at s) = omega arith in
       rw (le-leb _ _ m, lt-leb _ _ n)
 
-  pub digits_are : least ≤ q - at → q - at ≤ most → At q ≡ next_of (digits_at least most s at)
+  pub digits_are : least ≤ q - at → q - at ≤ most → Some q ≡ next_of (digits_at least most s at)
   digits_are h l =
       let m : least ≤ run_length digit (drop at s) = omega arith in
       let n : run_length digit (drop at s) ≤ most = omega arith in
-      rw (le-leb _ _ m, le-leb _ _ n) (ap At e)
+      rw (le-leb _ _ m, le-leb _ _ n) (ap Some e)
 
 -- a shorter text is no word of three letters, and so no month
 module _ (w : List ℕ) (h : length w < 3) (x y z : ℕ) where
   short : same (map upper w) (x ∷ y ∷ z ∷ []) ≡ false
   short = same_lengths (map upper w) (x ∷ y ∷ z ∷ []) (λ e. omega (arith, length-map w upper))
 
-pub month_short : (s : List ℕ) (at : ℕ) → length s < at + 3 → Bad ≡ next_of (month_at s at)
+pub month_short : (s : List ℕ) (at : ℕ) → length s < at + 3 → None ≡ next_of (month_at s at)
 month_short s at h = simp (short (piece s at (at + 3)) (simp (length-take, length-drop) (omega arith)))
 
 -- a date, part by part
 module _ (s : List ℕ) (at : ℕ) where
-  pub date_no_day : Bad ≡ next_of (digits_at 1 2 s at) → Bad ≡ next_of (bare_date_at s at)
+  pub date_no_day : None ≡ next_of (digits_at 1 2 s at) → None ≡ next_of (bare_date_at s at)
   date_no_day e = then-bad (digits_at 1 2 s at) _ e
 
-  module _ (q : ℕ) (day : At q ≡ next_of (digits_at 1 2 s at)) where
-    pub date_no_dash : (get_or s q 0 ≡ 45 → ⊥) → Bad ≡ next_of (bare_date_at s at)
-    date_no_dash n = then_ok (digits_at 1 2 s at) _ q Bad day (λ a. after_none s q "-" _ n)
+  module _ (q : ℕ) (day : Some q ≡ next_of (digits_at 1 2 s at)) where
+    pub date_no_dash : (get_or s q 0 ≡ 45 → ⊥) → None ≡ next_of (bare_date_at s at)
+    date_no_dash n = then_ok (digits_at 1 2 s at) _ q None day (λ a. after_none s q "-" _ n)
 
     module _ (dash : get_or s q 0 ≡ 45) where
-      pub date_no_month : Bad ≡ next_of (month_at s (q + 1)) → Bad ≡ next_of (bare_date_at s at)
-      date_no_month e = then_ok (digits_at 1 2 s at) _ q Bad day (λ a. after_some s q "-" _ Bad dash (then-bad (month_at s (q + 1)) _ e))
+      pub date_no_month : None ≡ next_of (month_at s (q + 1)) → None ≡ next_of (bare_date_at s at)
+      date_no_month e = then_ok (digits_at 1 2 s at) _ q None day (λ a. after_some s q "-" _ None dash (then-bad (month_at s (q + 1)) _ e))
 
-      module _ (r : ℕ) (month : At r ≡ next_of (month_at s (q + 1))) where
-        pub date_no-second : (get_or s r 0 ≡ 45 → ⊥) → Bad ≡ next_of (bare_date_at s at)
+      module _ (r : ℕ) (month : Some r ≡ next_of (month_at s (q + 1))) where
+        pub date_no-second : (get_or s r 0 ≡ 45 → ⊥) → None ≡ next_of (bare_date_at s at)
         date_no-second n =
-            then_ok (digits_at 1 2 s at) _ q Bad day λ a. after_some s q "-" _ Bad dash
-            (then_ok (month_at s (q + 1)) _ r Bad month λ b. after_none s r "-" _ n)
+            then_ok (digits_at 1 2 s at) _ q None day λ a. after_some s q "-" _ None dash
+            (then_ok (month_at s (q + 1)) _ r None month λ b. after_none s r "-" _ n)
 
-        pub date_year : (x : Next) → get_or s r 0 ≡ 45 → x ≡ next_of (digits_at 4 4 s (r + 1)) → x ≡ next_of (bare_date_at s at)
+        pub date_year : (x : Option ℕ) → get_or s r 0 ≡ 45 → x ≡ next_of (digits_at 4 4 s (r + 1)) → x ≡ next_of (bare_date_at s at)
         date_year x e y =
             then_ok (digits_at 1 2 s at) _ q x day λ a. after_some s q "-" _ x dash
             (then_ok (month_at s (q + 1)) _ r x month λ b. after_some s r "-" _ x e y)
 
-  pub date_bare : (x : Next) → (get_or s at 0 ≡ 34 → ⊥) → x ≡ next_of (bare_date_at s at) → x ≡ next_of (date_at s at)
+  pub date_bare : (x : Option ℕ) → (get_or s at 0 ≡ 34 → ⊥) → x ≡ next_of (bare_date_at s at) → x ≡ next_of (date_at s at)
   unfolding date_at
   date_bare x n e = rw (ne_eqb (get_or s at 0) 34 n) e
 
   module _ (quote : get_or s at 0 ≡ 34) where
-    pub date_no_date : Bad ≡ next_of (bare_date_at s (at + 1)) → Bad ≡ next_of (date_at s at)
+    pub date_no_date : None ≡ next_of (bare_date_at s (at + 1)) → None ≡ next_of (date_at s at)
     unfolding date_at
     date_no_date e = rw (eq-eqb (get_or s at 0) 34 quote) (then-bad (bare_date_at s (at + 1)) _ e)
 
-    module _ (q : ℕ) (date : At q ≡ next_of (bare_date_at s (at + 1))) where
-      pub date_no_quote : (get_or s q 0 ≡ 34 → ⊥) → Bad ≡ next_of (date_at s at)
+    module _ (q : ℕ) (date : Some q ≡ next_of (bare_date_at s (at + 1))) where
+      pub date_no_quote : (get_or s q 0 ≡ 34 → ⊥) → None ≡ next_of (date_at s at)
       unfolding date_at
-      date_no_quote n = rw (eq-eqb (get_or s at 0) 34 quote) (then_ok (bare_date_at s (at + 1)) _ q Bad date (λ a. after_none s q "\"" _ n))
+      date_no_quote n = rw (eq-eqb (get_or s at 0) 34 quote) (then_ok (bare_date_at s (at + 1)) _ q None date (λ a. after_none s q "\"" _ n))
 
-      pub date-quoted : get_or s q 0 ≡ 34 → At (q + 1) ≡ next_of (date_at s at)
+      pub date-quoted : get_or s q 0 ≡ 34 → Some (q + 1) ≡ next_of (date_at s at)
       unfolding date_at
       date-quoted e =
           rw (eq-eqb (get_or s at 0) 34 quote)
-          (then_ok (bare_date_at s (at + 1)) _ q (At (q + 1)) date (λ a. after_some s q "\"" _ (At (q + 1)) e refl))
+          (then_ok (bare_date_at s (at + 1)) _ q (Some (q + 1)) date (λ a. after_some s q "\"" _ (Some (q + 1)) e refl))

@@ -8,7 +8,7 @@ use borrow.Author.Tests.{lt-ltb, le-ltb, le-leb, lt-leb}
 use Rattle.model.specs.Octets.{digit}
 use Rattle.model.specs.Reading.{piece, end_of, value_from, number_at}
 use Rattle.octets.specs.Numerals.{number_read}
-use Rattle.octets.specs.declared.Number.TheVariants.{Is, Bad}
+use Rattle.std.specs.Prelude.{Some, None}
 use Rattle.octets.proofs.Pieces.{piece_over, piece-cons}
 
 -- more digits make no number less
@@ -28,14 +28,14 @@ module _ (s : List ℕ) (i end v : ℕ) where
 
 -- the answer, by the end of the digits
 module _ (s : List ℕ) (at end : ℕ) (e : end ≡ end_of digit s at) where
-  pub number_none : end ≤ at → Bad ≡ number_read (number_at s at)
+  pub number_none : end ≤ at → None ≡ number_read (number_at s at)
   unfolding number_at
   number_none h = rw (← e, le-ltb _ _ h)
 
-  pub number_is : (v : ℕ) → at < end → value_from 0 (piece s at end) ≡ v → v ≤ 4294967295 → Is v end ≡ number_read (number_at s at)
+  pub number_is : (v : ℕ) → at < end → value_from 0 (piece s at end) ≡ v → v ≤ 4294967295 → Some (v, end) ≡ number_read (number_at s at)
   unfolding number_at
   number_is v h w l = rw (← e, lt-ltb _ _ h, w, le-leb _ _ l)
 
-  pub number_large : (v : ℕ) (ds : List ℕ) → at < end → value_from 0 (piece s at end) ≡ value_from v ds → 4294967295 < v → Bad ≡ number_read (number_at s at)
+  pub number_large : (v : ℕ) (ds : List ℕ) → at < end → value_from 0 (piece s at end) ≡ value_from v ds → 4294967295 < v → None ≡ number_read (number_at s at)
   unfolding number_at
   number_large v ds h w l = let m : 4294967295 < value_from v ds = omega (arith, value_least v ds) in rw (← e, lt-ltb _ _ h, w, lt-leb _ _ m)

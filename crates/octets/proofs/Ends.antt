@@ -2,7 +2,7 @@
 use mathlib.Core.Path.{◌≡◌}
 use mathlib.Core.List.{List}
 use mathlib.Core.Bool.{Bool, true, false}
-use Prim.Native.Nat.{ℕ, ◌+◌, ◌-◌, ◌≤◌, ◌<◌}
+use Prim.Native.Nat.{ℕ, ◌+◌, ◌≤◌, ◌<◌}
 use native.Mathlib.Numerals.{add-one}
 use native.Mathlib.Omega.{arith}
 use lib.ListN.{length, get_or, drop_of_length-le}
@@ -10,7 +10,7 @@ use lib.Seq.{drop-cons}
 use borrow.Author.Tests.{lt-ltb, le-ltb}
 use Rattle.model.specs.Reading.{run_length, end_of, run_at}
 use Rattle.octets.specs.Found.{next_of}
-use Rattle.octets.specs.declared.Next.TheVariants.{At, Bad}
+use Rattle.std.specs.Prelude.{Some, None}
 
 module _ (class : ℕ → Bool) (s : List ℕ) (p : ℕ) where
   -- behind the text
@@ -30,8 +30,8 @@ module _ (class : ℕ → Bool) (s : List ℕ) (p : ℕ) where
 
 -- the answer of `run_at`, by the end of the run
 module _ (class : ℕ → Bool) (s : List ℕ) (p q : ℕ) (e : q ≡ end_of class s p) where
-  pub run-found : p < q → At q ≡ next_of (run_at class s p)
+  pub run-found : p < q → Some q ≡ next_of (run_at class s p)
   run-found h = rw (← e, lt-ltb _ _ h)
 
-  pub run_none : q ≤ p → Bad ≡ next_of (run_at class s p)
+  pub run_none : q ≤ p → None ≡ next_of (run_at class s p)
   run_none h = rw (← e, le-ltb _ _ h)

@@ -2,7 +2,7 @@
 use mathlib.Core.Path.{◌≡◌, refl, sym, ap, ◌∙◌}
 use mathlib.Core.List.{List, [], ◌∷◌, ◌++◌, append_assoc, append-nil}
 use mathlib.Core.Bool.{Bool, true, false, cond}
-use Prim.Native.Nat.{ℕ, ◌+◌, ◌-◌, ◌≤◌, ◌<◌}
+use Prim.Native.Nat.{ℕ, ◌+◌, ◌≤◌, ◌<◌}
 use native.Mathlib.Omega.{arith}
 use lib.Dec.{eqb, ltb}
 use lib.ListN.{length, get_or, drop, set, length-append}
@@ -12,7 +12,8 @@ use Rattle.model.specs.Reading.{Parsed, bad, ok, and_then, Quoting, closes, esca
 use Rattle.octets.specs.Found.{next_of}
 use Rattle.octets.specs.Quotes.{step_of, kept}
 use Rattle.octets.specs.Values.{value_of, fill}
-use Rattle.octets.specs.declared.Next.TheVariants.{At, Bad}
+use Rattle.std.specs.Prelude.{None}
+use Rattle.std.specs.Option.{is_some}
 use Rattle.octets.proofs.Pieces.{piece_over}
 use Rattle.octets.proofs.Strings.{quote_at, quote-goes, quote_fails, quote_begins, quote_none}
 
@@ -69,19 +70,17 @@ run_value class s at q e = rw (← e) (go (ltb at q) refl)
     go true h = refl
     go false h = sym (piece_over s at q (ltb-false at q h))
 
-pub never : (p : ℕ) → At p ≡ Bad → ⊥
-never p e = let z : ◌≡◌ {A = ℕ} 0 1 = cc in omega arith
-
-pub bad_value : (x : Parsed (List ℕ)) → Bad ≡ next_of x → value_of x ≡ []
-bad_value bad e = refl
-bad_value (ok p v) e = absurd (never p (sym e))
+-- nothing was read, and so no value
+pub no_value : (x : Parsed (List ℕ)) → is_some (next_of x) ≡ false → value_of x ≡ []
+no_value bad e = refl
+no_value (ok p v) e = cc
 
 -- what each step gives to the value of a string that is read to its end
-value-cons : (b : ℕ) (x : Parsed (List ℕ)) → (next_of (and_then x (λ q t. ok q (b ∷ t))) ≡ Bad → ⊥) → value_of (and_then x (λ q t. ok q (b ∷ t))) ≡ b ∷ value_of x
+value-cons : (b : ℕ) (x : Parsed (List ℕ)) → (next_of (and_then x (λ q t. ok q (b ∷ t))) ≡ None → ⊥) → value_of (and_then x (λ q t. ok q (b ∷ t))) ≡ b ∷ value_of x
 value-cons b bad e = absurd (e refl)
 value-cons b (ok p v) e = refl
 
-value-goes : (q : Quoting) (b p : ℕ) (rest : Bool → Parsed (List ℕ)) → (step_of q ≡ 0 → ⊥) → (next_of (unquote_by q b p rest) ≡ Bad → ⊥) → value_of (unquote_by q b p rest) ≡ kept (step_of q) b ++ value_of (rest (eqb (step_of q) 3))
+value-goes : (q : Quoting) (b p : ℕ) (rest : Bool → Parsed (List ℕ)) → (step_of q ≡ 0 → ⊥) → (next_of (unquote_by q b p rest) ≡ None → ⊥) → value_of (unquote_by q b p rest) ≡ kept (step_of q) b ++ value_of (rest (eqb (step_of q) 3))
 value-goes closes b p rest n e = absurd (n refl)
 value-goes escapes b p rest n e = refl
 value-goes belongs b p rest n e = value-cons b (rest false) e
@@ -97,10 +96,10 @@ module _ (s : List ℕ) (p : ℕ) (e : Bool) (h : p < length s) (k : ℕ) (is : 
   pub string_closes : k ≡ 0 → value_of (unquote (drop p s) e p) ≡ []
   string_closes z = ap value_of (quote_at s p e h) ∙ value_closes (quoting e (get_or s p 0)) _ _ _ (sym is ∙ z)
 
-  pub string-goes : (k ≡ 0 → ⊥) → (next_of (unquote (drop p s) e p) ≡ Bad → ⊥) → value_of (unquote (drop p s) e p) ≡ kept k (get_or s p 0) ++ value_of (unquote (drop (p + 1) s) (eqb k 3) (p + 1))
+  pub string-goes : (k ≡ 0 → ⊥) → (next_of (unquote (drop p s) e p) ≡ None → ⊥) → value_of (unquote (drop p s) e p) ≡ kept k (get_or s p 0) ++ value_of (unquote (drop (p + 1) s) (eqb k 3) (p + 1))
   string-goes n m = rw is (ap value_of (quote_at s p e h) ∙ value-goes (quoting e (get_or s p 0)) _ _ _ (λ z. n (is ∙ z)) (λ z. m (ap next_of (quote_at s p e h) ∙ z)))
 
-  pub string-still : (k ≡ 0 → ⊥) → (next_of (unquote (drop p s) e p) ≡ Bad → ⊥) → next_of (unquote (drop (p + 1) s) (eqb k 3) (p + 1)) ≡ Bad → ⊥
+  pub string-still : (k ≡ 0 → ⊥) → (next_of (unquote (drop p s) e p) ≡ None → ⊥) → next_of (unquote (drop (p + 1) s) (eqb k 3) (p + 1)) ≡ None → ⊥
   string-still n m z = m (quote-goes s p e h k is n (λ y. m (quote_fails s p e h k is y)) ∙ z)
 
 pub kept_short : (k b : ℕ) → length (kept k b) ≤ 1
@@ -111,7 +110,7 @@ kept_short k b = go (eqb k 2)
     go false = omega arith
 
 -- a quoted string that is read begins with a quote
-module _ (s : List ℕ) (at : ℕ) (ok : next_of (quoted_at s at) ≡ Bad → ⊥) where
+module _ (s : List ℕ) (at : ℕ) (ok : next_of (quoted_at s at) ≡ None → ⊥) where
   pub string_begins : quoted_at s at ≡ unquote (drop (at + 1) s) false (at + 1)
   string_begins = go (eqb (get_or s at 0) 34) refl
     where

@@ -2,7 +2,7 @@
 use mathlib.Core.Path.{◌≡◌, refl, sym, ap, ◌∙◌}
 use mathlib.Core.List.{List, [], ◌∷◌}
 use mathlib.Core.Bool.{Bool, false}
-use Prim.Native.Nat.{ℕ, zero, suc, ◌+◌, ◌-◌, ◌≤◌, ◌<◌, zero-le, suc-le-suc}
+use Prim.Native.Nat.{ℕ, zero, suc, ◌+◌, ◌≤◌, ◌<◌, zero-le, suc-le-suc}
 use native.Mathlib.Numerals.{add-one}
 use native.Mathlib.Omega.{arith}
 use lib.Dec.{eqb}
@@ -12,7 +12,7 @@ use borrow.Author.Tests.{eq-eqb, ne_eqb}
 use Rattle.model.specs.Reading.{Parsed, bad, ok, and_then, Quoting, closes, escapes, belongs, fails, quoting, unquote_by, unquote, quoted_at, run_at, text_at}
 use Rattle.octets.specs.Found.{next_of}
 use Rattle.octets.specs.Quotes.{step_of}
-use Rattle.octets.specs.declared.Next.TheVariants.{At, Bad}
+use Rattle.std.specs.Prelude.{Some, None}
 
 -- an octet that is not 0 stands in the text
 pub octet_in : (s : List ℕ) (p : ℕ) → 0 < get_or s p 0 → p < length s
@@ -26,13 +26,13 @@ next-cons b bad = refl
 next-cons b (ok p v) = refl
 
 -- what each step does
-step_closes : (q : Quoting) (b p : ℕ) (rest : Bool → Parsed (List ℕ)) → step_of q ≡ 0 → next_of (unquote_by q b p rest) ≡ At p
+step_closes : (q : Quoting) (b p : ℕ) (rest : Bool → Parsed (List ℕ)) → step_of q ≡ 0 → next_of (unquote_by q b p rest) ≡ Some p
 step_closes closes b p rest e = refl
 step_closes escapes b p rest e = absurd (omega arith)
 step_closes belongs b p rest e = absurd (omega arith)
 step_closes fails b p rest e = absurd (omega arith)
 
-step_fails : (q : Quoting) (b p : ℕ) (rest : Bool → Parsed (List ℕ)) → step_of q ≡ 1 → next_of (unquote_by q b p rest) ≡ Bad
+step_fails : (q : Quoting) (b p : ℕ) (rest : Bool → Parsed (List ℕ)) → step_of q ≡ 1 → next_of (unquote_by q b p rest) ≡ None
 step_fails closes b p rest e = absurd (omega arith)
 step_fails escapes b p rest e = absurd (omega arith)
 step_fails belongs b p rest e = absurd (omega arith)
@@ -46,7 +46,7 @@ step-goes fails b p rest n m = absurd (m refl)
 
 -- the beginning
 module _ (s : List ℕ) (at : ℕ) where
-  pub quote_none : (get_or s at 0 ≡ 34 → ⊥) → Bad ≡ next_of (quoted_at s at)
+  pub quote_none : (get_or s at 0 ≡ 34 → ⊥) → None ≡ next_of (quoted_at s at)
   quote_none n = rw (ne_eqb _ _ n)
 
   pub quote_begins : get_or s at 0 ≡ 34 → quoted_at s at ≡ unquote (drop (at + 1) s) false (at + 1)
@@ -63,10 +63,10 @@ module _ (s : List ℕ) (p : ℕ) (e : Bool) where
   quote_at h = rw (drop-cons s p 0 h, add-one p)
 
   module _ (h : p < length s) (k : ℕ) (is : k ≡ step_of (quoting e (get_or s p 0))) where
-    pub quote_closes : k ≡ 0 → next_of (unquote (drop p s) e p) ≡ At (p + 1)
+    pub quote_closes : k ≡ 0 → next_of (unquote (drop p s) e p) ≡ Some (p + 1)
     quote_closes z = ap next_of (quote_at h) ∙ step_closes (quoting e (get_or s p 0)) _ _ _ (sym is ∙ z)
 
-    pub quote_fails : k ≡ 1 → next_of (unquote (drop p s) e p) ≡ Bad
+    pub quote_fails : k ≡ 1 → next_of (unquote (drop p s) e p) ≡ None
     quote_fails z = ap next_of (quote_at h) ∙ step_fails (quoting e (get_or s p 0)) _ _ _ (sym is ∙ z)
 
     pub quote-goes : (k ≡ 0 → ⊥) → (k ≡ 1 → ⊥) → next_of (unquote (drop p s) e p) ≡ next_of (unquote (drop (p + 1) s) (eqb k 3) (p + 1))

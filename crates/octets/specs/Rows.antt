@@ -1,12 +1,11 @@
 -- Laws about texts and rows of things in them, for every reader: one step of the definitions of `model` at a time. Assumes nothing.
-use Rattle.std.specs.Prelude.{◌≡◌, Bool, true, false, List, [], ◌∷◌, length, get_or, ltb}
+use Rattle.std.specs.Prelude.{◌≡◌, Bool, true, false, Some, None, List, [], ◌∷◌, length, get_or, ltb}
 use Rattle.std.proofs.Math.Path.{refl}
 use Prim.Native.Nat.{ℕ, zero, suc, ◌+◌, ◌-◌, ◌≤◌, ◌<◌}
 use Rattle.std.proofs.Common.{not-suc-le-zero, sub-one, arith, eq-eqb, ne_eqb, ltb-true, ltb-false}
 use Rattle.std.proofs.Math.ListN.{get_or-eq_default}
 use Rattle.model.specs.Reading.{Parsed, bad, ok, and_then, Next as RowNext, another, over, neither, row_by, row_at, closing, next_at}
 use Rattle.octets.specs.Found.{next_of}
-use Rattle.octets.specs.declared.Next.TheVariants.{At, Bad}
 
 -- an octet that is not 0 stands in the text
 pub in-text : (s : List ℕ) (p : ℕ) {b : ℕ} → get_or s p 0 ≡ b → 0 < b → p < length s
@@ -20,11 +19,11 @@ in-text s p {b} e l = go (ltb p (length s)) refl
     go false h = absurd (past (ltb-false p (length s) h))
 
 -- ---- what was read, from the code's answer
-pub next-found : {A : Type 0} {q : ℕ} (x : Parsed A) → At q ≡ next_of x → (a : A) × (x ≡ ok q a)
+pub next-found : {A : Type 0} {q : ℕ} (x : Parsed A) → Some q ≡ next_of x → (a : A) × (x ≡ ok q a)
 next-found bad e = absurd (let z : ◌≡◌ {A = ℕ} 0 1 = cc in omega arith)
 next-found (ok p a) e = (a, (cc))
 
-pub next-lost : {A : Type 0} (x : Parsed A) → Bad ≡ next_of x → x ≡ bad
+pub next-lost : {A : Type 0} (x : Parsed A) → None ≡ next_of x → x ≡ bad
 next-lost bad e = refl
 next-lost (ok p a) e = absurd (let z : ◌≡◌ {A = ℕ} 0 1 = cc in omega arith)
 

@@ -4,9 +4,9 @@ ghost use Rattle.model.specs.Reading.{number_at, positive_at};
 ghost use Rattle.octets.specs.Widths.{Weighs};
 ghost use Rattle.octets.specs.Numerals.{number_read, Counts};
 
+use super::Class;
 use super::classes::octet_at;
 use super::runs::run_end;
-use super::{Class, Number};
 
 fn wide(b: u8) -> u64
     ensures { (result ≡ b) × (result < 256) }
@@ -22,31 +22,31 @@ fn digit_value(b: u8) -> u64
 }
 
 // Digits, zeros in front too, of a number of at most 32 bits.
-pub fn number_at(text: &[u8], at: usize) -> Number
+pub fn number_at(text: &[u8], at: usize) -> Option<(u64, usize)>
     ensures { Counts text.now at (number_read (number_at text.now at)) result }
 {
     let end = run_end(text, at, Class::Digit);
     if end <= at {
-        return Number::Bad;
+        return None;
     }
     let mut v: u64 = 0;
     let mut i = at;
     while i < end {
         v = v * 10 + digit_value(text[i]);
         if 4294967295 < v {
-            return Number::Bad;
+            return None;
         }
         i += 1;
     }
-    Number::Is(v, end)
+    Some((v, end))
 }
 
 // The same, but it begins with no zero.
-pub fn positive_at(text: &[u8], at: usize) -> Number
+pub fn positive_at(text: &[u8], at: usize) -> Option<(u64, usize)>
     ensures { Counts text.now at (number_read (positive_at text.now at)) result }
 {
     if octet_at(text, at) == b'0' {
-        return Number::Bad;
+        return None;
     }
     number_at(text, at)
 }

@@ -3,8 +3,8 @@ ghost use Rattle.model.specs.Reading.{run_at};
 ghost use Rattle.octets.specs.Classes.{in_class, Ends};
 ghost use Rattle.octets.specs.Found.{next_of, Reads};
 
+use super::Class;
 use super::classes::{CLASSES, in_table};
-use super::{Class, Next};
 
 // Where the run of a class that begins at a position ends.
 pub fn run_end(text: &[u8], at: usize, c: Class) -> usize
@@ -23,9 +23,9 @@ pub fn run_end(text: &[u8], at: usize, c: Class) -> usize
 }
 
 // One octet or more of a class.
-pub fn run_at(text: &[u8], at: usize, c: Class) -> Next
+pub fn run_at(text: &[u8], at: usize, c: Class) -> Option<usize>
     ensures { Reads text.now at (next_of (run_at (in_class c) text.now at)) result }
 {
     let end = run_end(text, at, c);
-    if at < end { Next::At(end) } else { Next::Bad }
+    if at < end { Some(end) } else { None }
 }

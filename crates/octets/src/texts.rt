@@ -7,9 +7,9 @@ ghost use Rattle.octets.specs.Found.{next_of, Reads};
 ghost use Rattle.octets.specs.Quotes.{step_of, kept};
 ghost use Rattle.octets.specs.Values.{value_of, Filled};
 
+use super::Class;
 use super::classes::{in_class, octet_at};
 use super::runs::{run_at, run_end};
-use super::{Class, Next};
 
 // What an octet between quotes does: 0 closes, 1 may not stand there, 2 belongs to the string, 3 escapes the next.
 fn quote_step(escaped: bool, b: u8) -> u8
@@ -37,30 +37,30 @@ fn quote_step(escaped: bool, b: u8) -> u8
 }
 
 // A quoted string.
-pub fn quoted_at(text: &[u8], at: usize) -> Next
+pub fn quoted_at(text: &[u8], at: usize) -> Option<usize>
     ensures { Reads text.now at (next_of (quoted_at text.now at)) result }
 {
     if octet_at(text, at) != b'"' {
-        return Next::Bad;
+        return None;
     }
     let mut p = at + 1;
     let mut escaped = false;
     while p < text.len() {
         let step = quote_step(escaped, text[p]);
         if step == 0 {
-            return Next::At(p + 1);
+            return Some(p + 1);
         }
         if step == 1 {
-            return Next::Bad;
+            return None;
         }
         escaped = step == 3;
         p += 1;
     }
-    Next::Bad
+    None
 }
 
 // A quoted string, or else a run of a class.
-pub fn text_at(text: &[u8], at: usize, c: Class) -> Next
+pub fn text_at(text: &[u8], at: usize, c: Class) -> Option<usize>
     ensures { Reads text.now at (next_of (text_at (in_class c) text.now at)) result }
 {
     if octet_at(text, at) == b'"' {
@@ -111,9 +111,9 @@ fn copy_piece(text: &[u8], from: usize, upto: usize, out: &mut [u8]) -> usize
 fn copy_quoted(text: &[u8], at: usize, out: &mut [u8]) -> usize
     ensures { Filled text.now (value_of (quoted_at text.now at)) out.old out.new result }
 {
-    let Next::At(_) = quoted_at(text, at) else {
+    if quoted_at(text, at).is_none() {
         return 0;
-    };
+    }
     let mut p = at + 1;
     let mut escaped = false;
     let mut n = 0;

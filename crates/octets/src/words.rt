@@ -32,38 +32,25 @@ pub fn is_word(text: &[u8], from: usize, upto: usize, word: &[u8]) -> bool
     names::same_word(part(text, from, upto), word)
 }
 
-// Which word of a table a word is, counted from 1 on, or 0. The words' lengths stand apart: words of other lengths are passed by quickly.
-fn place_of(word: &[u8], lengths: &[u8], words: &[u8]) -> usize
-    ensures { result ≡ place_of word.now (words_of lengths.now words.now) }
+// Which of these words a word is.
+fn place_of(word: &[u8], words: &[&[u8]]) -> Option<usize>
+    ensures { result ≡ place_of word.now (words_of words.now) }
 {
-    let mut i = 0;
-    let mut at = 0;
-    while i < lengths.len() {
-        let upto = at + lengths[i] as usize;
-        if words.len() < upto {
-            return 0;
-        }
-        i += 1;
-        if names::same_word(word, &words[at..upto]) {
-            return i;
-        }
-        at = upto + 1;
-    }
-    0
+    words.iter().position(|w| names::same_word(word, w))
 }
 
-// Which word of a table the octets from one position up to another are.
-pub fn word_place(text: &[u8], from: usize, upto: usize, lengths: &[u8], words: &[u8]) -> usize
-    ensures { result ≡ place_of (piece text.now from upto) (words_of lengths.now words.now) }
+// Which of these words the octets from one position up to another are.
+pub fn word_place(text: &[u8], from: usize, upto: usize, words: &[&[u8]]) -> Option<usize>
+    ensures { result ≡ place_of (piece text.now from upto) (words_of words.now) }
 {
-    place_of(part(text, from, upto), lengths, words)
+    place_of(part(text, from, upto), words)
 }
 
 // Whether they are one of its words.
-pub fn is_one_of(text: &[u8], from: usize, upto: usize, lengths: &[u8], words: &[u8]) -> bool
-    ensures { result ≡ anyb (same_word (piece text.now from upto)) (words_of lengths.now words.now) }
+pub fn is_one_of(text: &[u8], from: usize, upto: usize, words: &[&[u8]]) -> bool
+    ensures { result ≡ anyb (same_word (piece text.now from upto)) (words_of words.now) }
 {
-    word_place(text, from, upto, lengths, words) != 0
+    word_place(text, from, upto, words).is_some()
 }
 
 // Whether the atom at a position is a word.

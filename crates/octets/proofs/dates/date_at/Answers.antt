@@ -6,11 +6,11 @@ use Rattle.octets.proofs.Strings.{octet_in}
 use Rattle.octets.proofs.Days.{date_bare, date_no_date, date_no_quote, date-quoted}
 use Rattle.octets.proofs.dates.date_at.Goals as goal
 
-pub returns-in_default : goal.returns-in_default
-returns-in_default c =
-    record {
+pub returns-in_err-q : goal.returns-in_err-q
+returns-in_err-q c =
+    rw c.from_residual.ensures record {
       exact = date_no_date c.args.text.now c.args.at (sym c.octet_at.ensures ∙ c.if-octet_at-eq34.true)
-          (sym c.in_default.is ∙ c.bare_date_at.ensures.exact);
+          c.in_err-q.ensures.exact;
       within = tt;
     }
 
@@ -18,19 +18,18 @@ pub returns-then-octet_at-ne34 : goal.returns-then-octet_at-ne34
 returns-then-octet_at-ne34 c =
     record {
       exact = date_no_quote c.args.text.now c.args.at (sym c.octet_at.ensures ∙ c.if-octet_at-eq34.true) _
-          (sym c.in-At.is ∙ c.bare_date_at.ensures.exact) (λ e. c.if-octet_at-ne34.true (c.octet_at-then-octet_at-eq34.ensures ∙ e));
+          c.in_ok-q.ensures.exact (λ e. c.if-octet_at-ne34.true (c.octet_at-then-octet_at-eq34.ensures ∙ e));
       within = tt;
     }
 
 pub returns-then-octet_at-eq34 : goal.returns-then-octet_at-eq34
 returns-then-octet_at-eq34 c =
-    let f = rw c.in-At.is at c.bare_date_at.ensures.within in
+    let f = c.in_ok-q.ensures.within in
     let open-quote = sym c.octet_at.ensures ∙ c.if-octet_at-eq34.true in
-    let date = sym c.in-At.is ∙ c.bare_date_at.ensures.exact in
-    let e : get_or c.args.text.now c.in-At.q 0 ≡ 34 = sym c.octet_at-then-octet_at-eq34.ensures ∙ c.if-octet_at-ne34.false in
+    let e : get_or c.args.text.now c.in_ok-q.q 0 ≡ 34 = sym c.octet_at-then-octet_at-eq34.ensures ∙ c.if-octet_at-ne34.false in
     record {
-      exact = date-quoted c.args.text.now c.args.at open-quote _ date e;
-      within = (omega arith, omega (arith, octet_in c.args.text.now c.in-At.q (omega arith)));
+      exact = date-quoted c.args.text.now c.args.at open-quote _ c.in_ok-q.ensures.exact e;
+      within = (omega arith, omega (arith, octet_in c.args.text.now c.in_ok-q.q (omega arith)));
     }
 
 pub returns : goal.returns

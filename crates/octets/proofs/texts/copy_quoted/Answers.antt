@@ -5,21 +5,21 @@ use lib.ListN.{get_or}
 use Rattle.model.specs.Reading.{quoted_at}
 use Rattle.octets.specs.Found.{next_of}
 use Rattle.octets.specs.Values.{value_of}
-use Rattle.octets.specs.declared.Next.TheVariants.{Bad}
+use Rattle.std.specs.Prelude.{None}
+use Rattle.std.proofs.lemmas.Bool.{false≢true}
 use Rattle.octets.proofs.Strings.{quote_past}
 use borrow.Author.Rules.{rules}
-use Rattle.octets.proofs.Filling.{copied_start, copied-kept, copied_long, copied_is, bad_value, never, string_closes, string-goes, string-still, fill_none, kept_short, string_begins}
+use Rattle.octets.proofs.Filling.{copied_start, copied-kept, copied_long, copied_is, no_value, string_closes, string-goes, string-still, fill_none, kept_short, string_begins}
 use Rattle.octets.proofs.texts.copy_quoted.Goals as goal
 
-pub returns-in_default : goal.returns-in_default
-returns-in_default c =
-    let e = bad_value (quoted_at c.args.text.now c.args.at)
-    (sym c.in_default.is ∙ c.quoted_at.ensures.exact) in
+pub returns-then-is_none : goal.returns-then-is_none
+returns-then-is_none c =
+    let e = no_value (quoted_at c.args.text.now c.args.at) (rw c.quoted_at.ensures.exact at c.if-is_none.ensures) in
     record { long = rw e; is = rw e (sym (fill_none c.args.out.now)); within = omega arith }
 
 pub loop-p-init : goal.loop-p-init
 loop-p-init c =
-    let ok : next_of (quoted_at c.args.text.now c.args.at) ≡ Bad → ⊥ = λ z. never _ (sym c.in-At.is ∙ c.quoted_at.ensures.exact ∙ z) in
+    let ok : next_of (quoted_at c.args.text.now c.args.at) ≡ None → ⊥ = λ z. false≢true (rw (c.quoted_at.ensures.exact, z) at c.if-is_none.ensures) in
     let b = string_begins c.args.text.now c.args.at ok in
     (omega arith, omega arith, refl, λ z. ok (ap next_of b ∙ z), copied_start _ _ _ (ap value_of b))
 

@@ -1,27 +1,16 @@
--- `octets::words::place_of` meets its contract: the place from the start is the place from here. Assumes nothing.
-use mathlib.Core.Path.{refl, sym, ◌∙◌}
-use mathlib.Core.Bool.{true, false}
-use native.Mathlib.Omega.{arith}
-use Rattle.octets.specs.Vocabulary.{place_of}
-use Rattle.octets.proofs.Pieces.{table_over, table-cut, table_word}
+-- `place_of`: what the chain answers is the first place among the words. Assumes nothing.
+use mathlib.Core.Path.{◌∙◌}
+use borrow.Author.Rules.{rules}
+use borrow.Author.Tests.{tests}
+use Rattle.std.proofs.lemmas.Iterator.{YieldsList-from_slice}
+use Rattle.std.proofs.lemmas.Iterator.Search.{position_from_yields_List}
+use Rattle.std.proofs.lemmas.Iterator.Adapters.{position_from-zero}
+use Rattle.model.specs.Text.{same_word}
+use Rattle.octets.proofs.Pieces.{place_referred}
 use Rattle.octets.proofs.words.place_of.Goals as goal
-
-pub loop-i-init : goal.loop-i-init
-unfolding place_of
-loop-i-init c = (omega arith, omega arith, refl)
-
-pub returns-then-words-upto : goal.returns-then-words-upto
-returns-then-words-upto c =
-    sym (c.loop-i.invariant.2 ∙ table-cut c.args.word.now c.args.lengths.now c.args.words.now c.loop-i.i c.loop-i.at (omega arith) c.if-words-upto.true)
-
-pub returns-then-same_word : goal.returns-then-same_word
-returns-then-same_word c =
-    sym (c.loop-i.invariant.2 ∙ table_word c.args.word.now c.args.lengths.now c.args.words.now c.loop-i.i c.loop-i.at (omega arith) (omega arith) true c.same_word.ensures c.if-same_word.true)
-
-pub loop-i-preserved : goal.loop-i-preserved
-loop-i-preserved c =
-    (omega arith, omega arith, c.loop-i.invariant.2 ∙ table_word c.args.word.now c.args.lengths.now c.args.words.now c.loop-i.i c.loop-i.at (omega arith) (omega arith) false c.same_word.ensures c.if-same_word.false)
 
 pub returns : goal.returns
 returns c =
-    sym (c.loop-i.invariant.2 ∙ table_over c.args.word.now c.args.lengths.now c.args.words.now c.loop-i.i c.loop-i.at (omega arith))
+    position_from_yields_List (λ t. same_word c.args.word.now t.now) _ _ c.position.result c.position.ensures.ran (YieldsList-from_slice c.args.words.now cc) (λ x b q k. search (rules, tests))
+    ∙ position_from-zero _ c.args.words.now
+    ∙ place_referred c.args.word.now 0 c.args.words.now

@@ -14,12 +14,12 @@ use Rattle.order_messages.specs.Chosen.{chosen}
 abbrev pub uids_of : List ℕ → List Uid
 uids_of l = map (λ (u : ℕ). record { 0 = u }) l
 
--- the keys are those that the first cells hold
-abbrev pub Held : List ℕ → ℕ → Keys → Type 0
-Held cells used ks = (take used cells ≡ codes ks) × Propers ks
+-- the keys are those that the cells hold
+abbrev pub Held : List ℕ → Keys → Type 0
+Held cells ks = (cells ≡ codes ks) × Propers ks
 
-abbrev pub Hits : List ℕ → ℕ → Probe → Bool → Type 0
-Hits cells used p r = (ks : Keys) → Held cells used ks → r ≡ (not (expunged p.message) && holds_all ks (candidate p))
+abbrev pub Hits : List ℕ → Probe → Bool → Type 0
+Hits cells p r = (ks : Keys) → Held cells ks → r ≡ (not (expunged p.message) && holds_all ks (candidate p))
 
 -- x is put at r, where it is wanted
 pub record Pushed (l : List ℕ) (r x : ℕ) (on : Bool) (l' : List ℕ) (r' : ℕ) : Type 0 where
@@ -28,10 +28,10 @@ pub record Pushed (l : List ℕ) (r x : ℕ) (on : Bool) (l' : List ℕ) (r' : �
   pub long : length l' ≡ length l
   pub most : r' ≤ r + 1
 
-pub record Finds (es : List Message) (order : List ℕ) (n : ℕ) (cells : List ℕ) (used : ℕ) (uids uids' : List ℕ) (r : ℕ) : Type 0 where
+pub record Finds (es : List Message) (order : List ℕ) (n : ℕ) (cells : List ℕ) (uids uids' : List ℕ) (r : ℕ) : Type 0 where
   pub few : r ≤ n
   pub long : length uids' ≡ length uids
-  pub exact : (ks : Keys) → Held cells used ks → uids_of (take r uids') ≡ matches ks (chosen es order n)
+  pub exact : (ks : Keys) → Held cells ks → uids_of (take r uids') ≡ matches ks (chosen es order n)
 
 pub record Keeps (es : List Message) (order : List ℕ) (n told : ℕ) (view view' : List ℕ) (r : ℕ) : Type 0 where
   pub few : r ≤ n

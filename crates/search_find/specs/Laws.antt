@@ -1,7 +1,7 @@
 -- A list of what was found grows by one, or not: what is left to look at says the rest. Assumes nothing.
 use Rattle.std.specs.Prelude.{◌≡◌, Bool, true, false, not, ◌&&◌, ℕ, zero, suc, ◌+◌, ◌-◌, ◌<◌, ◌≤◌, ltb, length, take, get_or, set}
 use Rattle.std.proofs.Math.Path.{refl, ap, ap₂, sym}
-use Rattle.std.proofs.Common.{◌∙◌, add-one, length-set, take-suc-set, get_or-set_same}
+use Rattle.std.proofs.Common.{◌∙◌, add-one, length-set, take-suc-set, get_or-set_same, take_all}
 use Rattle.std.proofs.Math.Bool.{cond}
 use mathlib.Core.List.{List, [], ◌∷◌, ◌++◌, map, append_assoc, append-nil}
 use native.Mathlib.Omega.{arith}
@@ -37,12 +37,12 @@ grown a u true rest = ap (λ (l : List Uid). l ++ rest) (uids-append a (u.0 ∷ 
 grown a u false rest = refl
 
 -- ---- a message
-module _ (cells : List ℕ) (used : ℕ) (p : Probe) where
-  pub hit_not : expunged p.message ≡ true → Hits cells used p false
+module _ (cells : List ℕ) (p : Probe) where
+  pub hit_not : expunged p.message ≡ true → Hits cells p false
   hit_not e ks h = ap (λ (t : Bool). not t && holds_all ks (candidate p)) (sym e)
 
-  pub hit_by_lem : expunged p.message ≡ false → (r : Bool) → TestsAll cells used p r → Hits cells used p r
-  hit_by_lem e r t ks h = t ks h.0 h.1 ∙ ap (λ (t : Bool). not t && holds_all ks (candidate p)) (sym e)
+  pub hit_by_lem : expunged p.message ≡ false → (r : Bool) → TestsAll cells (length cells) p r → Hits cells p r
+  hit_by_lem e r t ks h = t ks (take_all (length cells) cells (omega arith) ∙ h.0) h.1 ∙ ap (λ (t : Bool). not t && holds_all ks (candidate p)) (sym e)
 
 -- ---- an order
 chosen_top : (es : List Message) (order : List ℕ) (k : ℕ) (e : Message) → 0 < k → e ≡ get_or es (get_or order (k - 1) 0) no_message → chosen es order k ≡ e ∷ chosen es order (k - 1)
@@ -65,29 +65,29 @@ last_is es order zero h = absurd (h refl)
 last_is es order (suc n) h = last-suc es order n (record { 0 = 0 })
 
 -- ---- the search: k are still to be looked at, r were found
-pub record Sought (es : List Message) (order : List ℕ) (n : ℕ) (cells : List ℕ) (used : ℕ) (last : Uid) (uids₀ uids : List ℕ) (k r : ℕ) : Type 0 where
+pub record Sought (es : List Message) (order : List ℕ) (n : ℕ) (cells : List ℕ) (last : Uid) (uids₀ uids : List ℕ) (k r : ℕ) : Type 0 where
   pub few : r + k ≤ n
   pub long : length uids ≡ length uids₀
-  pub exact : (ks : Keys) → Held cells used ks → uids_of (take r uids) ++ matching ks (record { 0 = n }) last (n - k + 1) (chosen es order k) ≡ matching ks (record { 0 = n }) last 1 (chosen es order n)
+  pub exact : (ks : Keys) → Held cells ks → uids_of (take r uids) ++ matching ks (record { 0 = n }) last (n - k + 1) (chosen es order k) ≡ matching ks (record { 0 = n }) last 1 (chosen es order n)
 
-module _ (es : List Message) (order : List ℕ) (n : ℕ) (cells : List ℕ) (used : ℕ) where
-  pub find_none : n ≡ 0 → (uids : List ℕ) → Finds es order n cells used uids uids 0
+module _ (es : List Message) (order : List ℕ) (n : ℕ) (cells : List ℕ) where
+  pub find_none : n ≡ 0 → (uids : List ℕ) → Finds es order n cells uids uids 0
   unfolding chosen matching
   find_none e uids = record { few = omega arith; long = refl; exact = λ ks h. ap (λ (m : ℕ). matches ks (chosen es order m)) (sym e) }
 
   module _ (last : Uid) (uids₀ : List ℕ) where
-    pub sought_start : Sought es order n cells used last uids₀ uids₀ n 0
+    pub sought_start : Sought es order n cells last uids₀ uids₀ n 0
     sought_start = record {
       few = omega arith;
       long = refl;
       exact = λ ks h. ap (λ (m : ℕ). matching ks (record { 0 = n }) last m (chosen es order n)) (let z : n - n + 1 ≡ 1 = omega arith in z);
     }
 
-    module _ (uids : List ℕ) (k r : ℕ) (s : Sought es order n cells used last uids₀ uids k r) where
+    module _ (uids : List ℕ) (k r : ℕ) (s : Sought es order n cells last uids₀ uids k r) where
       module _ (h : 0 < k) (e : Message) (q : e ≡ get_or es (get_or order (k - 1) 0) no_message) (on : Bool)
-          (t : Hits cells used (record { message = e; number = record { 0 = n - (k - 1) }; lastnumber = record { 0 = n }; lastuid = last }) on)
+          (t : Hits cells (record { message = e; number = record { 0 = n - (k - 1) }; lastnumber = record { 0 = n }; lastuid = last }) on)
           (w : r < length uids) (uids' : List ℕ) (r' : ℕ) (p : Pushed uids r e.uid.0 on uids' r') where
-        front : (ks : Keys) → Held cells used ks
+        front : (ks : Keys) → Held cells ks
             → matching ks (record { 0 = n }) last (n - k + 1) (chosen es order k) ≡ cond on (e.uid ∷ matching ks (record { 0 = n }) last (n - (k - 1) + 1) (chosen es order (k - 1))) (matching ks (record { 0 = n }) last (n - (k - 1) + 1) (chosen es order (k - 1)))
         unfolding matching
         front ks g =
@@ -95,7 +95,7 @@ module _ (es : List Message) (order : List ℕ) (n : ℕ) (cells : List ℕ) (us
             ap₂ (λ (j : ℕ) (l : List Message). matching ks (record { 0 = n }) last j l) (let z : n - k + 1 ≡ n - (k - 1) = omega arith in z) (chosen_top es order k e h q)
             ∙ ap (λ (b : Bool). cond b (e.uid ∷ matching ks (record { 0 = n }) last (n - (k - 1) + 1) (chosen es order (k - 1))) (matching ks (record { 0 = n }) last (n - (k - 1) + 1) (chosen es order (k - 1)))) (sym (t ks g))
 
-        pub sought_next : Sought es order n cells used last uids₀ uids' (k - 1) r'
+        pub sought_next : Sought es order n cells last uids₀ uids' (k - 1) r'
         sought_next =
             let m = p.most in
             let f = s.few in
@@ -109,7 +109,7 @@ module _ (es : List Message) (order : List ℕ) (n : ℕ) (cells : List ℕ) (us
                   ∙ s.exact ks g));
             }
 
-      pub sought_end : k ≤ 0 → (n ≡ 0 → ⊥) → last ≡ (get_or es (get_or order 0 0) no_message).uid → Finds es order n cells used uids₀ uids r
+      pub sought_end : k ≤ 0 → (n ≡ 0 → ⊥) → last ≡ (get_or es (get_or order 0 0) no_message).uid → Finds es order n cells uids₀ uids r
       unfolding chosen matching
       sought_end h some q =
           let f = s.few in

@@ -1,6 +1,6 @@
 -- What is found in several mailboxes: the UIDs of all in one array, a run for each place of an order of rows. Assumes nothing.
 use Rattle.std.specs.Prelude.{◌≡◌, refl, Bool, true, false, not, cond, ◌&&◌, List, [], ◌∷◌, ◌++◌, ℕ, zero, suc, ◌+◌, ◌-◌, ◌%◌, ◌<◌, ◌≤◌, eqb, leb, ltb, length, take, drop, get_or, set}
-use Rattle.std.proofs.Common.{ap, ap₂, sym, ◌∙◌, arith, leb-true, leb-false, eqb-true, length-take-le, take-take, drop_at, get_or-set_same, get_or-set_other}
+use Rattle.std.proofs.Common.{ap, ap₂, sym, ◌∙◌, arith, leb-true, leb-false, eqb-true, length-take-le, take-take, get_or-take, drop_at, get_or-set_same, get_or-set_other}
 use Rattle.std.proofs.Math.Seq.{take-nil}
 use Rattle.std.proofs.lemmas.List.{take-append-le}
 use Rattle.model.specs.Memory.{Memory, mails, messages_of, uid_of}
@@ -12,7 +12,8 @@ use Rattle.model.specs.declared.Message.{Message}
 use Rattle.model.specs.declared.Uid.{Uid}
 use Rattle.match_sources.specs.Picking.{selected_by}
 use Rattle.search_find.specs.Finds.{uids_of, Held}
-use Rattle.search_find.specs.Searched.{Searched, told, filter_short}
+use Rattle.model.specs.Laws.{filter-length}
+use Rattle.search_find.specs.Searched.{Searched, told}
 
 -- ---- one mailbox, by its id
 -- of the selected one what the client was told of, of another all
@@ -28,23 +29,23 @@ sought_is m x = go (not (eqb x.id 0)) (eqb x.id m.session.selected) refl
     go true false e = refl
     go true true e = ap (λ (i : ℕ). told m.session.told (messages_of i (mails m))) (eqb-true x.id m.session.selected e)
 
-pub record RowSearched (es : List Message) (id s below : ℕ) (cells : List ℕ) (filled : ℕ) (uids' : List ℕ) (r : ℕ) : Type 0 where
+pub record RowSearched (es : List Message) (id s below : ℕ) (cells : List ℕ) (uids' : List ℕ) (r : ℕ) : Type 0 where
   pub few : r ≤ length (messages_of id es)
-  pub exact : (ks : Keys) → Held cells filled ks → uids_of (take r uids') ≡ matches ks (sought es s below id)
+  pub exact : (ks : Keys) → Held cells ks → uids_of (take r uids') ≡ matches ks (sought es s below id)
 
-module _ (es : List Message) (used id s below : ℕ) (cells : List ℕ) (filled : ℕ) (uids' : List ℕ) (r : ℕ) (b : Bool) (e : b ≡ selected_by s id) where
-  pub row-viewed : b ≡ true → Searched used (told below (messages_of id es)) cells filled uids' r → RowSearched es id s below cells filled uids' r
+module _ (es : List Message) (used id s below : ℕ) (cells : List ℕ) (uids' : List ℕ) (r : ℕ) (b : Bool) (e : b ≡ selected_by s id) where
+  pub row-viewed : b ≡ true → Searched used (told below (messages_of id es)) cells uids' r → RowSearched es id s below cells uids' r
   row-viewed f x =
       let h = x.short in
-      let g = filter_short (λ (d : Message). ltb (uid_of d) below) (messages_of id es) in
+      let g = filter-length (λ (d : Message). ltb (uid_of d) below) (messages_of id es) in
       record { few = omega arith; exact = λ ks k. x.exact ks k ∙ ap (λ (t : Bool). matches ks (cond t (told below (messages_of id es)) (messages_of id es))) (sym f ∙ e) }
 
-  pub row_boxed : b ≡ false → Searched used (messages_of id es) cells filled uids' r → RowSearched es id s below cells filled uids' r
+  pub row_boxed : b ≡ false → Searched used (messages_of id es) cells uids' r → RowSearched es id s below cells uids' r
   row_boxed f x = record { few = x.short; exact = λ ks k. x.exact ks k ∙ ap (λ (t : Bool). matches ks (cond t (told below (messages_of id es)) (messages_of id es))) (sym f ∙ e) }
 
 -- what lies behind does not matter
-pub row_longer : (es : List Message) (id s below : ℕ) (cells : List ℕ) (filled : ℕ) (t : List ℕ) (r : ℕ) → RowSearched es id s below cells filled t r → r ≤ length t → (rest : List ℕ) → RowSearched es id s below cells filled (t ++ rest) r
-row_longer es id s below cells filled t r x h rest = record { few = x.few; exact = λ ks k. ap uids_of (take-append-le r t rest h) ∙ x.exact ks k }
+pub row_longer : (es : List Message) (id s below : ℕ) (cells : List ℕ) (t : List ℕ) (r : ℕ) → RowSearched es id s below cells t r → r ≤ length t → (rest : List ℕ) → RowSearched es id s below cells (t ++ rest) r
+row_longer es id s below cells t r x h rest = record { few = x.few; exact = λ ks k. ap uids_of (take-append-le r t rest h) ∙ x.exact ks k }
 
 -- ---- an order of rows
 -- the id at place i; a place is a row by its last six bits
@@ -69,7 +70,7 @@ run_at uids starts counts j = uids_of (take (get_or counts j 0) (drop (get_or st
 abbrev pub Bounded : List ℕ → List ℕ → ℕ → ℕ → Type 0
 Bounded starts counts i n = (j : ℕ) → i ≤ j → j < n → (get_or starts j 0 + get_or counts j 0 ≤ 2048) × (get_or counts j 0 ≤ 1024)
 
-module _ (es : List Message) (ids order : List ℕ) (n s below : ℕ) (cells : List ℕ) (filled : ℕ) where
+module _ (es : List Message) (ids order : List ℕ) (n s below : ℕ) (cells : List ℕ) where
   -- they hold what the keys find, from place i on, and end before `total`
   abbrev pub Holding : Keys → List ℕ → List ℕ → List ℕ → ℕ → ℕ → Type 0
   Holding ks uids starts counts i total = (j : ℕ) → i ≤ j → j < n → (get_or starts j 0 + get_or counts j 0 ≤ total) × (run_at uids starts counts j ≡ matches ks (sought es s below (id_at ids order j)))
@@ -78,12 +79,12 @@ module _ (es : List Message) (ids order : List ℕ) (n s below : ℕ) (cells : L
   pub record Finding (uids starts counts : List ℕ) (i total : ℕ) : Type 0 where
     pub bounded : Bounded starts counts i n
     pub few : total ≤ 2048
-    pub exact : (ks : Keys) → Held cells filled ks → sizes es ids order n ≤ 1024 → (total + sizes es ids order i ≤ 1024) × Holding ks uids starts counts i total
+    pub exact : (ks : Keys) → Held cells ks → sizes es ids order n ≤ 1024 → (total + sizes es ids order i ≤ 1024) × Holding ks uids starts counts i total
 
   -- all was found
   pub record Found (uids starts counts : List ℕ) : Type 0 where
     pub bounded : Bounded starts counts 0 n
-    pub exact : (ks : Keys) → Held cells filled ks → sizes es ids order n ≤ 1024 → (j : ℕ) → j < n → run_at uids starts counts j ≡ matches ks (sought es s below (id_at ids order j))
+    pub exact : (ks : Keys) → Held cells ks → sizes es ids order n ≤ 1024 → (j : ℕ) → j < n → run_at uids starts counts j ≡ matches ks (sought es s below (id_at ids order j))
 
   pub finding_start : (uids starts counts : List ℕ) → Finding uids starts counts n 0
   finding_start uids starts counts = record {
@@ -97,6 +98,23 @@ module _ (es : List Message) (ids order : List ℕ) (n s below : ℕ) (cells : L
     bounded = λ j h k. f.bounded j (omega arith) k;
     exact = λ ks h w j k. ((f.exact ks h w).1 j (omega arith) k).1;
   }
+
+-- ---- an order that is cut off where it is no longer in use
+sizes_cut : (es : List Message) (ids order : List ℕ) (n k : ℕ) → n ≤ k → sizes es ids (take k order) n ≡ sizes es ids order n
+unfolding sizes
+sizes_cut es ids order zero k h = refl
+sizes_cut es ids order (suc n) k h = ap₂ (λ (j m : ℕ). length (messages_of (get_or ids (j % 64) 0) es) + m) (get_or-take k order n 0 h) (sizes_cut es ids order n k (omega arith))
+
+pub found_rows : (es : List Message) (ids order : List ℕ) (n s below : ℕ) (cells uids starts counts : List ℕ) → n ≤ length order
+    → Found es ids (take n order) (length (take n order)) s below cells uids starts counts → Found es ids order n s below cells uids starts counts
+found_rows es ids order n s below cells uids starts counts h f =
+    let l = length-take-le n order h in
+    record {
+      bounded = λ j a b. f.bounded j a (omega arith);
+      exact = λ ks held w j k.
+          f.exact ks held (let z = sizes_cut es ids order n n (omega arith) in rw (l, z) w) j (omega arith)
+          ∙ ap (λ (i : ℕ). matches ks (sought es s below (get_or ids (i % 64) 0))) (get_or-take n order j 0 k);
+    }
 
 -- ---- a part of a list that was extended behind it
 run : (f c : ℕ) (l : List ℕ) → take c (drop f l) ≡ drop f (take (f + c) l)
@@ -115,10 +133,10 @@ part-new : (l t : List ℕ) (from c : ℕ) → from ≤ length l → take c (dro
 part-new l t from c w = ap (take c) (drop_at (take from l) t from (length-take-le from l w))
 
 -- ---- one place more
-module _ (es : List Message) (ids order : List ℕ) (n s below : ℕ) (cells : List ℕ) (filled : ℕ) (uids starts counts : List ℕ) (i total : ℕ)
-    (f : Finding es ids order n s below cells filled uids starts counts i total) (h : 0 < i) (w : i ≤ n) (ws : n ≤ length starts) (wc : n ≤ length counts)
+module _ (es : List Message) (ids order : List ℕ) (n s below : ℕ) (cells : List ℕ) (uids starts counts : List ℕ) (i total : ℕ)
+    (f : Finding es ids order n s below cells uids starts counts i total) (h : 0 < i) (w : i ≤ n) (ws : n ≤ length starts) (wc : n ≤ length counts)
     (from : ℕ) (low : from ≤ 1024) (room : from ≤ length uids) (same : total ≤ 1024 → from ≡ total)
-    (t : List ℕ) (r : ℕ) (few : r ≤ 1024) (x : RowSearched es (id_at ids order (i - 1)) s below cells filled t r) where
+    (t : List ℕ) (r : ℕ) (few : r ≤ 1024) (x : RowSearched es (id_at ids order (i - 1)) s below cells t r) where
   abbrev starts' : List ℕ
   starts' = set starts (i - 1) from
 
@@ -154,7 +172,7 @@ module _ (es : List Message) (ids order : List ℕ) (n s below : ℕ) (cells : L
           let c : get_or counts' j 0 ≡ r = ap (λ (k : ℕ). get_or counts' k 0) z ∙ count_here in
           (omega arith, omega arith)
 
-  module _ (ks : Keys) (held : Held cells filled ks) (fit : sizes es ids order n ≤ 1024) where
+  module _ (ks : Keys) (held : Held cells ks) (fit : sizes es ids order n ≤ 1024) where
     sum_next : from + r + sizes es ids order (i - 1) ≤ 1024
     sum_next =
         let a = (f.exact ks held fit).0 in
@@ -163,7 +181,7 @@ module _ (es : List Message) (ids order : List ℕ) (n s below : ℕ) (cells : L
         let d = same (omega arith) in
         omega arith
 
-    holding_next : Holding es ids order n s below cells filled ks (take from uids ++ t) starts' counts' (i - 1) (from + r)
+    holding_next : Holding es ids order n s below cells ks (take from uids ++ t) starts' counts' (i - 1) (from + r)
     holding_next j k l = go (leb i j) refl
       where
         d : from ≡ total
@@ -185,5 +203,5 @@ module _ (es : List Message) (ids order : List ℕ) (n s below : ℕ) (cells : L
             let c : get_or counts' j 0 ≡ r = ap (λ (k : ℕ). get_or counts' k 0) z ∙ count_here in
             (omega arith, ap₂ (λ (u v : ℕ). uids_of (take v (drop u (take from uids ++ t)))) a c ∙ (ap uids_of (part-new uids t from r room) ∙ (x.exact ks held ∙ ap (λ (k : ℕ). matches ks (sought es s below (id_at ids order k))) (sym z))))
 
-  pub finding_next : Finding es ids order n s below cells filled (take from uids ++ t) starts' counts' (i - 1) (from + r)
+  pub finding_next : Finding es ids order n s below cells (take from uids ++ t) starts' counts' (i - 1) (from + r)
   finding_next = record { bounded = bounded_next; few = omega arith; exact = λ ks held fit. (sum_next ks held fit, holding_next ks held fit) }

@@ -2,103 +2,78 @@
 // the UIDs of all in one array, a run for each. That array is one of words; a single UID is a `Uid`.
 #![tactic(auto)]
 
-ghost use Rattle.std.specs.Prelude.{◌≡◌, ◌+◌, ◌*◌, ◌≤◌, ◌<◌, length, take};
+ghost use Rattle.std.specs.Prelude.{◌≡◌, ◌≤◌, length};
 ghost use Rattle.model.specs.Memory.{messages_of};
 ghost use Rattle.table_messages.specs.Words.{messages};
 ghost use Rattle.order_messages.specs.Links.{Linked};
-ghost use Rattle.search_find.specs.Finds.{Pushed, Hits, Finds, Keeps};
+ghost use Rattle.search_find.specs.Finds.{Hits, Finds, Keeps};
 ghost use Rattle.search_find.specs.Searched.{Searched, told};
 ghost use Rattle.search_find.specs.Runs.{RowSearched, Found};
 
 use match_keys::Probe;
 use model::{MessageNumber, Uid};
 use order_messages::links::{by_uid, link};
+use table_messages::{entry, is_expunged};
+
+// What is searched for: the keys, in cells; and the selected mailbox, of which the client was told below a UID.
+#[derive(Clone, Copy)]
+pub struct Wanted<'a> {
+    pub cells: &'a [u64],
+    pub selected: u64,
+    pub below: Uid,
+}
+
+// Room for an order of entries, and for those of them that are in the view.
+pub struct Scratch {
+    pub order: [usize; 1024],
+    pub view: [usize; 1024],
+}
 
 // A message that is not expunged, and of which all the keys hold.
-fn is_hit(cells: &[u64], used: usize, p: Probe) -> bool
-    requires { used ≤ length cells.now }
-    ensures { Hits cells.now used p result }
+fn is_hit(cells: &[u64], p: Probe) -> bool
+    ensures { Hits cells.now p result }
 {
-    let states = p.message.states;
-    if states % 2 == 1 {
-        return false;
-    }
-    match_keys::all_hold(cells, used, p)
+    !is_expunged(&p.message) && match_keys::all_hold(cells, cells.len(), p)
 }
 
-// One UID more, where it is wanted.
-fn push(list: &mut [u64], r: usize, x: Uid, on: bool) -> usize
-    requires { r < length list.old }
-    ensures { Pushed list.old r x.0 on list.new result }
+// The UIDs of those that match in an order, rising.
+pub fn find(words: &[u64], order: &[usize], cells: &[u64], uids: &mut [u64]) -> usize
+    requires { length order.now ≤ length uids.old }
+    ensures { Finds (messages words.now) order.now (length order.now) cells.now uids.old uids.new result }
 {
-    if on {
-        list[r] = x.0;
-        return r + 1;
-    }
-    r
-}
-
-// One place more, where it is wanted.
-fn push_place(list: &mut [usize], r: usize, x: usize, on: bool) -> usize
-    requires { r < length list.old }
-    ensures { Pushed list.old r x on list.new result }
-{
-    if on {
-        list[r] = x;
-        return r + 1;
-    }
-    r
-}
-
-// The UIDs of those that match among the first n of an order, rising.
-pub fn find(
-    words: &[u64],
-    order: &[usize],
-    n: usize,
-    cells: &[u64],
-    used: usize,
-    uids: &mut [u64],
-) -> usize
-    requires { (n ≤ length order.now) × (n ≤ length uids.old) × (used ≤ length cells.now) }
-    ensures { Finds (messages words.now) order.now n cells.now used uids.old uids.new result }
-{
+    let n = order.len();
     if n == 0 {
         return 0;
     }
-    let bottom = order[0];
-    let top = table_messages::entry(words, bottom);
-    let last = top.uid;
-    let mut k = n;
+    let lastuid = entry(words, order[0]).uid;
     let mut r = 0;
-    while 0 < k {
-        k -= 1;
-        let i = order[k];
-        let e = table_messages::entry(words, i);
+    for k in (0..n).rev() {
+        let message = entry(words, order[k]);
         let p = Probe {
-            message: e,
+            message,
             number: MessageNumber((n - k) as u64),
             lastnumber: MessageNumber(n as u64),
-            lastuid: last,
+            lastuid,
         };
-        let on = is_hit(cells, used, p);
-        r = push(uids, r, e.uid, on);
+        if is_hit(cells, p) {
+            uids[r] = message.uid.0;
+            r += 1;
+        }
     }
     r
 }
 
 // Of an order those that the client was told of: the view.
-pub fn told_of(words: &[u64], order: &[usize], n: usize, told: Uid, view: &mut [usize]) -> usize
-    requires { (n ≤ length order.now) × (n ≤ length view.old) }
-    ensures { Keeps (messages words.now) order.now n told.0 view.old view.new result }
+pub fn told_of(words: &[u64], order: &[usize], told: Uid, view: &mut [usize]) -> usize
+    requires { length order.now ≤ length view.old }
+    ensures { Keeps (messages words.now) order.now (length order.now) told.0 view.old view.new result }
 {
-    let mut i = 0;
     let mut r = 0;
-    while i < n {
-        let place = order[i];
-        let e = table_messages::entry(words, place);
-        let on = e.uid.0 < told.0;
-        r = push_place(view, r, place, on);
-        i += 1;
+    for place in order {
+        if entry(words, *place).uid < told {
+            view[r] = *place;
+            r += 1;
+        }
     }
     r
 }
@@ -106,124 +81,98 @@ pub fn told_of(words: &[u64], order: &[usize], n: usize, told: Uid, view: &mut [
 // A mailbox that is not selected: all its entries.
 pub fn search_box(
     words: &[u64],
-    used: usize,
     id: u64,
     heads: &[usize; 256],
     next: &[usize],
     cells: &[u64],
-    filled: usize,
     order: &mut [usize],
     uids: &mut [u64],
 ) -> usize
-    requires { ((used * 6 ≤ length words.now) × (used ≤ length order.old)) × ((used ≤ length uids.old) × (filled ≤ length cells.now)) × ((used ≤ length next.now) × Linked (messages words.now) used heads.now next.now) }
-    ensures { Searched used (messages_of id (take used (messages words.now))) cells.now filled uids.new result }
+    requires { (length (messages words.now) ≤ length order.old) × (length (messages words.now) ≤ length uids.old) × (length (messages words.now) ≤ length next.now) × Linked (messages words.now) (length (messages words.now)) heads.now next.now }
+    ensures { Searched (length (messages words.now)) (messages_of id (messages words.now)) cells.now uids.new result }
 {
-    let n = by_uid(words, used, id, heads, next, order);
-    find(words, order, n, cells, filled, uids)
+    let n = by_uid(words, id, heads, next, order);
+    find(words, &order[..n], cells, uids)
 }
 
 // The selected mailbox: those entries that the client was told of.
 pub fn search_view(
     words: &[u64],
-    used: usize,
     id: u64,
     heads: &[usize; 256],
     next: &[usize],
     below: Uid,
     cells: &[u64],
-    filled: usize,
-    order: &mut [usize],
-    view: &mut [usize],
+    scratch: &mut Scratch,
     uids: &mut [u64],
 ) -> usize
-    requires { ((used * 6 ≤ length words.now) × ((used ≤ length order.old) × (used ≤ length view.old))) × ((used ≤ length uids.old) × (filled ≤ length cells.now)) × ((used ≤ length next.now) × Linked (messages words.now) used heads.now next.now) }
-    ensures { Searched used (told below.0 (messages_of id (take used (messages words.now)))) cells.now filled uids.new result }
+    requires { (length (messages words.now) ≤ 1024) × (length (messages words.now) ≤ length uids.old) × (length (messages words.now) ≤ length next.now) × Linked (messages words.now) (length (messages words.now)) heads.now next.now }
+    ensures { Searched (length (messages words.now)) (told below.0 (messages_of id (messages words.now))) cells.now uids.new result }
 {
-    let n = by_uid(words, used, id, heads, next, order);
-    let v = told_of(words, order, n, below, view);
-    find(words, view, v, cells, filled, uids)
+    let n = by_uid(words, id, heads, next, &mut scratch.order);
+    let v = told_of(words, &scratch.order[..n], below, &mut scratch.view);
+    find(words, &scratch.view[..v], cells, uids)
 }
 
 // A mailbox by its id: the selected one by the client's view, any other by all its entries.
 fn search_row(
     words: &[u64],
-    used: usize,
     id: u64,
     heads: &[usize; 256],
     next: &[usize],
-    selected: u64,
-    below: Uid,
-    cells: &[u64],
-    filled: usize,
-    order: &mut [usize],
-    view: &mut [usize],
+    wanted: Wanted<'_>,
+    scratch: &mut Scratch,
     uids: &mut [u64],
 ) -> usize
-    requires { ((used * 6 ≤ length words.now) × ((used ≤ length order.old) × (used ≤ length view.old))) × ((used ≤ length uids.old) × (filled ≤ length cells.now)) × ((used ≤ length next.now) × Linked (messages words.now) used heads.now next.now) }
-    ensures { (RowSearched (take used (messages words.now)) id selected below.0 cells.now filled uids.new result) × (result ≤ used) }
+    requires { (length (messages words.now) ≤ 1024) × (length (messages words.now) ≤ length uids.old) × (length (messages words.now) ≤ length next.now) × Linked (messages words.now) (length (messages words.now)) heads.now next.now }
+    ensures { (RowSearched (messages words.now) id wanted.entry.selected wanted.entry.below.0 wanted.entry.cells.now uids.new result) × (result ≤ length (messages words.now)) }
 {
-    if match_sources::is_selected(id, selected) {
+    if match_sources::is_selected(id, wanted.selected) {
         return search_view(
-            words, used, id, heads, next, below, cells, filled, order, view, uids,
+            words,
+            id,
+            heads,
+            next,
+            wanted.below,
+            wanted.cells,
+            scratch,
+            uids,
         );
     }
-    search_box(words, used, id, heads, next, cells, filled, order, uids)
-}
-
-// A place with room for 1,024 behind it.
-fn within(total: usize) -> usize
-    ensures { (result ≤ 1024) × (total ≤ 1024 → result ≡ total) }
-{
-    if 1024 < total {
-        return 1024;
-    }
-    total
+    search_box(
+        words,
+        id,
+        heads,
+        next,
+        wanted.cells,
+        &mut scratch.order,
+        uids,
+    )
 }
 
 // What is found in the mailboxes of an order of rows, the top one first: the UIDs one after the other, and for each place where its run
-// begins and how many UIDs it has.
+// begins and how many UIDs it has. A run begins where there is room for 1,024 behind it.
 pub fn find_runs(
     words: &[u64],
-    used: usize,
-    selected: u64,
-    below: Uid,
+    wanted: Wanted<'_>,
     ids: &[u64; 64],
     rows: &[usize],
-    n: usize,
-    cells: &[u64],
-    filled: usize,
-    order: &mut [usize],
-    view: &mut [usize],
+    scratch: &mut Scratch,
     uids: &mut [u64],
     starts: &mut [usize],
     counts: &mut [usize],
 )
-    requires { ((used * 6 ≤ length words.now) × ((used ≤ 1024) × (filled ≤ length cells.now))) × ((used ≤ length order.old) × (used ≤ length view.old) × (2048 ≤ length uids.old)) × ((n ≤ length rows.now) × (n ≤ length starts.old) × (n ≤ length counts.old)) × (n ≤ 64) }
-    ensures { Found (take used (messages words.now)) ids.now rows.now n selected below.0 cells.now filled uids.new starts.new counts.new }
+    requires { (length (messages words.now) ≤ 1024) × (2048 ≤ length uids.old) × (length rows.now ≤ length starts.old) × (length rows.now ≤ length counts.old) × (length rows.now ≤ 64) }
+    ensures { Found (messages words.now) ids.now rows.now (length rows.now) wanted.entry.selected wanted.entry.below.0 wanted.entry.cells.now uids.new starts.new counts.new }
 {
     let mut heads = [0usize; 256];
     let mut next = [0usize; 1024];
-    link(words, used, &mut heads, &mut next);
-    let mut i = n;
+    link(words, &mut heads, &mut next);
     let mut total = 0;
-    while 0 < i {
-        i -= 1;
+    for i in (0..rows.len()).rev() {
         let id = ids[rows[i] % 64];
-        let from = within(total);
-        let r = search_row(
-            words,
-            used,
-            id,
-            &heads,
-            &next,
-            selected,
-            below,
-            cells,
-            filled,
-            order,
-            view,
-            &mut uids[from..],
-        );
+        let from = total.min(1024);
+        let r = search_row(words, id, &heads, &next, wanted, scratch, &mut uids[from..]);
         starts[i] = from;
         counts[i] = r;
         total = from + r;

@@ -1,16 +1,11 @@
 -- The first entry that passes a test. Assumes nothing.
-use Rattle.std.specs.Prelude.{◌≡◌, Bool, not, ◌&&◌, ◌||◌, eqb, drop, get_or}
-use Rattle.std.proofs.Math.Path.{refl, ap}
-use Rattle.std.proofs.Common.{sym, ◌∙◌, zero-add, add-one, drop-cons}
-use Rattle.std.proofs.Math.Bool.{true, false, cond}
-use mathlib.Core.List.{List, [], ◌∷◌}
-use Prim.Native.Nat.{ℕ, suc, ◌+◌, ◌%◌, ◌<◌, ◌≤◌}
-use native.Mathlib.Omega.{arith}
-use Rattle.std.proofs.Math.Dec.{ltb}
-use Rattle.std.proofs.Math.ListN.{length}
-use borrow.Author.Tests.{lt-ltb, le-ltb, ltb-true, ltb-false, eq-eqb, ne_eqb}
+use Rattle.std.specs.Prelude.{◌≡◌, refl, Bool, true, false, not, cond, ◌&&◌, ◌||◌, List, [], ◌∷◌, ℕ, suc, ◌+◌, ◌<◌, ◌≤◌, ltb, length, map, get_or, position, Some, None}
+use Rattle.std.specs.List.{position_or_len}
+use Rattle.std.proofs.Common.{ap, sym, ◌∙◌, arith, lt-ltb, le-ltb, ltb-true, ltb-false}
+use Rattle.std.proofs.lemmas.List.{map-id, length-map}
+use Rattle.std.proofs.lemmas.List.Recursion.{is_position_or_len}
 use Rattle.model.specs.Lists.{anyb}
-use Rattle.model.specs.Memory.{no_message, uid_of, is_message, expunged}
+use Rattle.model.specs.Memory.{no_message, is_message, expunged}
 use Rattle.model.specs.declared.Message.{Message}
 
 -- message u of mailbox i, and it is not expunged
@@ -57,33 +52,36 @@ module _ (p : Message → Bool) where
       go true q ih h = q
       go false q ih h = ih (omega arith)
 
-  -- ---- the search, passed up to i
-  pub first_start : (l : List Message) → first p l ≡ 0 + first p (drop 0 l)
-  first_start l = sym (zero-add (first p l))
-
-  pub first_next : (l : List Message) (i : ℕ) → i < length l → p (get_or l i no_message) ≡ false → first p l ≡ i + first p (drop i l) → first p l ≡ (i + 1) + first p (drop (i + 1) l)
+  -- ---- the place as an option, as code answers it
+  place-of : {B : Type 0} (f : B → Message) (xs : List B) → first p (map f xs) ≡ position_or_len (λ x. p (f x)) xs
   unfolding first
-  first_next l i h q e =
-      let a : first p (drop i l) ≡ suc (first p (drop (suc i) l)) = ap (first p) (drop-cons l i no_message h) ∙ ap (λ (b : Bool). cond b 0 (suc (first p (drop (suc i) l)))) q in
-      let b : first p (drop (suc i) l) ≡ first p (drop (i + 1) l) = ap (λ (n : ℕ). first p (drop n l)) (sym (add-one i)) in
-      omega arith
+  place-of f xs = is_position_or_len (λ l. first p (map f l)) (λ x. p (f x)) refl (λ x l. go (p (f x)) (first p (map f l))) xs
+    where
+      go : (b : Bool) (n : ℕ) → cond b 0 (suc n) ≡ cond b 0 (1 + n)
+      go true n = refl
+      go false n = omega arith
 
-  pub first_here : (l : List Message) (i : ℕ) → i < length l → p (get_or l i no_message) ≡ true → first p l ≡ i + first p (drop i l) → i ≡ first p l
-  unfolding first
-  first_here l i h q e =
-      let a : first p (drop i l) ≡ 0 = ap (first p) (drop-cons l i no_message h) ∙ ap (λ (b : Bool). cond b 0 (suc (first p (drop (suc i) l)))) q in
-      omega arith
+  first_is : (l : List Message) → first p l ≡ position_or_len p l
+  first_is l = ap (first p) (sym (map-id l)) ∙ place-of (λ e. e) l
 
-  pub first_none : (l : List Message) (i : ℕ) → length l ≤ i → i ≤ length l → first p l ≡ i + first p (drop i l) → i ≡ first p l
-  first_none l i h k e = let a = first_most l in omega arith
+  -- of entries that are read one by one
+  pub found_among : {B : Type 0} (f : B → Message) (xs : List B) → position (λ x. p (f x)) xs ≡ position p (map f xs)
+  found_among f xs = rw (← place-of f xs, ← first_is (map f xs), length-map xs f) refl
 
--- one entry, as the code tests it
-module _ (i u : ℕ) (e x : Message) (p : e ≡ x) where
-  pub other_box : (e.mailbox ≡ i → ⊥) → false ≡ stands i u x
-  other_box h = rw (← p, ne_eqb e.mailbox i h)
+  -- it is the first, where there is one
+  pub found_is : (l : List Message) → position p l ≡ cond (ltb (first p l) (length l)) (Some (first p l)) None
+  found_is l = rw (← first_is l) refl
 
-  pub other-uid : e.mailbox ≡ i → (uid_of e ≡ u → ⊥) → false ≡ stands i u x
-  other-uid h k = rw (← p, eq-eqb e.mailbox i h, ne_eqb (uid_of e) u k)
+  pub found_one : (l : List Message) (k : ℕ) → position p l ≡ Some k → (k ≡ first p l) × (k < length l)
+  found_one l k e = go (ltb (first p l) (length l)) refl (sym (found_is l) ∙ e)
+    where
+      go : (b : Bool) → ltb (first p l) (length l) ≡ b → cond b (Some (first p l)) None ≡ Some k → (k ≡ first p l) × (k < length l)
+      go true h q = let z : first p l ≡ k = cc in let t = ltb-true (first p l) (length l) h in (sym z, omega arith)
+      go false h q = cc
 
-  pub that_one : e.mailbox ≡ i → uid_of e ≡ u → not (eqb (e.states % 2) 1) ≡ stands i u x
-  that_one h k = rw (← p, eq-eqb e.mailbox i h, eq-eqb (uid_of e) u k)
+  pub found_none : (l : List Message) → position p l ≡ None → first p l ≡ length l
+  found_none l e = go (ltb (first p l) (length l)) refl (sym (found_is l) ∙ e)
+    where
+      go : (b : Bool) → ltb (first p l) (length l) ≡ b → cond b (Some (first p l)) None ≡ None → first p l ≡ length l
+      go true h q = cc
+      go false h q = let z = first_most l in let t = ltb-false (first p l) (length l) h in omega arith

@@ -1,16 +1,17 @@
 -- An entry taken out: those behind it move up, and the freed one holds zeros. Assumes nothing.
-use Rattle.std.specs.Prelude.{◌≡◌, refl, length, get_or, set}
+use Rattle.std.specs.Prelude.{◌≡◌, length, get_or, set}
 use Rattle.std.proofs.Math.Path.{ap}
-use Rattle.std.proofs.Common.{ap₂, sym, ◌∙◌, drop_of_length-le, length-take-le, take_all, drop-cons, get_or-drop, drop-drop}
-use mathlib.Core.List.{List, [], ◌∷◌, ◌++◌, append_assoc, append-nil}
+use Rattle.std.proofs.Common.{ap₂, sym, ◌∙◌, length-take-le, drop-cons}
+use mathlib.Core.List.{List, ◌∷◌, ◌++◌, append_assoc}
 use Prim.Native.Nat.{ℕ, suc, ◌+◌, ◌*◌, ◌-◌, ◌<◌, ◌≤◌}
 use native.Mathlib.Omega.{arith}
 use Rattle.std.proofs.Math.ListN.{take, drop, length-drop}
 use Rattle.std.proofs.lemmas.List.{set_at}
 use Rattle.std.proofs.Math.Seq.{take-append-add}
+use Rattle.std.specs.List.{copy_within}
 use Rattle.model.specs.Memory.{no_message}
 use Rattle.model.specs.declared.Message.{Message}
-use Rattle.laws.specs.Shift.{without, over, over_read, over-step, length_without}
+use Rattle.laws.specs.Shift.{without, over, length_without}
 use Rattle.table_messages.specs.Words.{messages, messages-length, stored}
 use Rattle.table_messages.specs.Laid.{flat, behind, laid, laid_own, laid_put, flat_append, flat-take, flat-drop}
 
@@ -31,77 +32,37 @@ shift_end k n j l h w e =
     ∙ (set_at (take j (without k l)) (get_or l j no_message) (drop (suc j) l) no_message j (length-take-le j (without k l) hw)
     ∙ rw (a, ← b))
 
--- ---- words that move down by six places
-pub down_start : (l : List ℕ) → l ≡ over (drop 6 l) l 0
-unfolding over
-down_start l = refl
+-- ---- words that move up by six places are entries that move up by one
+module _ (ws : List ℕ) (k used : ℕ) (h : k < used) (w : used * 6 ≤ length ws) where
+  moved : copy_within ws ((k + 1) * 6) (used * 6) (k * 6) ≡ laid ws (over (without k (messages ws)) (messages ws) (used - 1))
+  unfolding laid over
+  moved =
+      let es = messages ws in
+      let bs = behind ws in
+      let own : ws ≡ flat es ++ bs = laid_own ws in
+      let n = messages-length used ws w in
+      let d = length-drop (suc k) es in
+      let t = length-take-le k es (omega arith) in
+      let m : ℕ = used - 1 - k in
+      let e₁ : used * 6 - (k + 1) * 6 ≡ m * 6 = omega arith in
+      let e₂ : k * 6 + m * 6 ≡ (used - 1) * 6 = omega arith in
+      let e₃ : k + 1 ≡ suc k = omega arith in
+      let e₄ : length (take k es) + m ≡ used - 1 = omega arith in
+      let front : take (k * 6) ws ≡ flat (take k es) = ap (take (k * 6)) own ∙ flat-take k es bs (omega arith) in
+      let middle : take (m * 6) (drop ((k + 1) * 6) ws) ≡ flat (take m (drop (suc k) es)) =
+      ap₂ (λ (i : ℕ) (l : List ℕ). take (m * 6) (drop (i * 6) l)) e₃ own ∙ (ap (take (m * 6)) (flat-drop (suc k) es bs (omega arith)) ∙ flat-take m (drop (suc k) es) bs (omega arith)) in
+      let back : drop ((used - 1) * 6) ws ≡ flat (drop (used - 1) es) ++ bs = ap (drop ((used - 1) * 6)) own ∙ flat-drop (used - 1) es bs (omega arith) in
+      let joined : take (used - 1) (without k es) ≡ take k es ++ take m (drop (suc k) es) = ap (λ (i : ℕ). take i (without k es)) (sym e₄) ∙ take-append-add (take k es) (drop (suc k) es) m in
+      rw (e₁, e₂, front, middle, back)
+      (append_assoc (flat (take k es)) (flat (take m (drop (suc k) es))) (flat (drop (used - 1) es) ++ bs)
+      ∙ (ap (λ (l : List ℕ). flat (take k es) ++ l) (flat_append (take m (drop (suc k) es)) (drop (used - 1) es) bs)
+      ∙ (flat_append (take k es) (take m (drop (suc k) es) ++ drop (used - 1) es) bs
+      ∙ ap (λ (l : List Message). flat l ++ bs) (sym (append_assoc (take k es) (take m (drop (suc k) es)) (drop (used - 1) es)) ∙ ap (λ (l : List Message). l ++ drop (used - 1) es) (sym joined)))))
 
-pub down_next : (l : List ℕ) (i : ℕ) → i + 6 < length l → set (over (drop 6 l) l i) i (get_or (over (drop 6 l) l i) (i + 6) 0) ≡ over (drop 6 l) l (i + 1)
-down_next l i h =
-    let d = length-drop 6 l in
-    let e : i + 6 ≡ 6 + i = omega arith in
-    let r : get_or (over (drop 6 l) l i) (i + 6) 0 ≡ get_or (drop 6 l) i 0 = over_read (drop 6 l) l i 6 0 (omega arith) ∙ (ap (λ (n : ℕ). get_or l n 0) e ∙ sym (get_or-drop 6 l i 0)) in
-    ap (set (over (drop 6 l) l i) i) r ∙ over-step (drop 6 l) l i 0 (omega arith) (omega arith)
-
--- they are entries that move up by one
-down-entries : (es : List Message) (ws : List ℕ) (n : ℕ) → n < length es → over (drop 6 (flat es ++ ws)) (flat es ++ ws) (6 * n) ≡ flat (over (drop 1 es) es n) ++ ws
-unfolding over
-down-entries es ws n h =
-    let d = length-drop 1 es in
-    let e : 6 * n ≡ n * 6 = omega arith in
-    rw e
-    (ap₂ (λ (a b : List ℕ). a ++ b)
-    (ap (take (n * 6)) (flat-drop 1 es ws (omega arith)) ∙ flat-take n (drop 1 es) ws (omega arith))
-    (flat-drop n es ws (omega arith))
-    ∙ flat_append (take n (drop 1 es)) (drop n es) ws)
-
--- from entry k on
-from_entry : (k n : ℕ) (l : List Message) → k ≤ length l → take k l ++ over (drop 1 (drop k l)) (drop k l) n ≡ over (without k l) l (k + n)
-unfolding over
-from_entry k n l h =
-    let t = length-take-le k l h in
-    let s : k + 1 ≡ suc k = omega arith in
-    let a : take (k + n) (without k l) ≡ take k l ++ take n (drop (suc k) l) = ap (λ (i : ℕ). take (i + n) (without k l)) (sym t) ∙ take-append-add (take k l) (drop (suc k) l) n in
-    ap₂ (λ (x y : List Message). take k l ++ (take n x ++ y)) (drop-drop 1 k l ∙ ap (λ (i : ℕ). drop i l) s) (drop-drop n k l)
-    ∙ (sym (append_assoc (take k l) (take n (drop (suc k) l)) (drop (k + n) l))
-    ∙ ap (λ (x : List Message). x ++ drop (k + n) l) (sym a))
-
--- ---- what is lent from place p on is all the rest
-rest_lent : (p : ℕ) (l : List ℕ) → take (length l - p) (drop p l) ≡ drop p l
-rest_lent p l = let d = length-drop p l in take_all (length l - p) (drop p l) (omega arith)
-
-none-behind : (p : ℕ) (l : List ℕ) → drop (length l - p) (drop p l) ≡ []
-none-behind p l = let d = length-drop p l in drop_of_length-le (drop p l) {i = length l - p} (omega arith)
-
--- ---- the code: vs before it, rest the words lent from entry k on, and then the last entry put
-module _ (k used : ℕ) (vs rest : List ℕ) where
-  abbrev part : List ℕ
-  part = take (length vs - k * 6) (drop (k * 6) vs)
-
-  abbrev joined : List ℕ
-  joined = take (k * 6) vs ++ (rest ++ drop (length vs - k * 6) (drop (k * 6) vs))
-
-  moved : k < used → used ≤ length (messages vs) → rest ≡ over (drop 6 part) part (6 * (used - 1 - k)) → joined ≡ laid vs (over (without k (messages vs)) (messages vs) (used - 1))
-  unfolding laid
-  moved h w e =
-      let es = messages vs in
-      let n : ℕ = used - 1 - k in
-      let own : vs ≡ flat es ++ behind vs = laid_own vs in
-      let d = length-drop k es in
-      let front : take (k * 6) vs ≡ flat (take k es) = ap (take (k * 6)) own ∙ flat-take k es (behind vs) (omega arith) in
-      let back : drop (k * 6) vs ≡ flat (drop k es) ++ behind vs = ap (drop (k * 6)) own ∙ flat-drop k es (behind vs) (omega arith) in
-      let m : rest ≡ flat (over (drop 1 (drop k es)) (drop k es) n) ++ behind vs = e ∙
-      (ap (λ (l : List ℕ). over (drop 6 l) l (6 * n)) (rest_lent (k * 6) vs ∙ back) ∙ down-entries (drop k es) (behind vs) n (omega arith)) in
-      let z : k + n ≡ used - 1 = omega arith in
-      ap (λ (l : List ℕ). take (k * 6) vs ++ (rest ++ l)) (none-behind (k * 6) vs)
-      ∙ (ap₂ (λ (a b : List ℕ). a ++ b) front (append-nil rest ∙ m)
-      ∙ (flat_append (take k es) (over (drop 1 (drop k es)) (drop k es) n) (behind vs)
-      ∙ ap (λ (l : List Message). flat l ++ behind vs) (from_entry k n es (omega arith) ∙ ap (over (without k es) es) z)))
-
-  pub taken : (e : Message) → k < used → used * 6 ≤ length vs → rest ≡ over (drop 6 part) part (6 * (used - 1 - k)) → e ≡ no_message → (used - 1 + 1) * 6 ≤ length joined
-      → stored joined (used - 1) e ≡ laid vs (shut k used (messages vs))
-  taken e h w p q b =
-      let es = messages vs in
-      let n = messages-length used vs w in
-      laid_put vs joined (over (without k es) es (used - 1)) (used - 1) e (moved h n p) b
-      ∙ ap (laid vs) (ap (set (over (without k es) es (used - 1)) (used - 1)) q ∙ shift_end k used (used - 1) es h n (omega arith))
+  -- the code: the words moved up, and then the last entry put
+  pub taken : (ws' : List ℕ) (e : Message) → ws' ≡ copy_within ws ((k + 1) * 6) (used * 6) (k * 6) → length ws' ≡ length ws → e ≡ no_message → stored ws' (used - 1) e ≡ laid ws (shut k used (messages ws))
+  taken ws' e q l z =
+      let es = messages ws in
+      let n = messages-length used ws w in
+      laid_put ws ws' (over (without k es) es (used - 1)) (used - 1) e (q ∙ moved) (omega arith)
+      ∙ ap (laid ws) (ap (set (over (without k es) es (used - 1)) (used - 1)) z ∙ shift_end k used (used - 1) es h n (omega arith))

@@ -1,6 +1,7 @@
 -- The message table as one list of words, six to an entry: its whole entries. Assumes nothing.
-use Rattle.std.specs.Prelude.{◌≡◌, refl, List, [], ◌∷◌, ℕ, zero, suc, ◌+◌, ◌*◌, ◌/◌, ◌<◌, ◌≤◌, length, get_or, set}
-use Rattle.std.proofs.Common.{ap, arith}
+use Rattle.std.specs.Prelude.{◌≡◌, refl, List, [], ◌∷◌, ℕ, zero, suc, ◌+◌, ◌*◌, ◌/◌, ◌<◌, ◌≤◌, length, map, take, get_or, set}
+use Rattle.std.proofs.Common.{ap, ◌∙◌, arith, length-take-le}
+use Rattle.std.specs.Simd.{first_chunks}
 use Rattle.model.specs.declared.Message.{Message}
 use Rattle.model.specs.Memory.{no_message}
 
@@ -16,6 +17,10 @@ messages (o ∷ u ∷ f ∷ []) = []
 messages (o ∷ u ∷ f ∷ s ∷ []) = []
 messages (o ∷ u ∷ f ∷ s ∷ k ∷ []) = []
 messages (o ∷ u ∷ f ∷ s ∷ k ∷ n ∷ ws) = row o u f s k n ∷ messages ws
+
+-- the entry of six words
+abbrev pub of_row : List ℕ → Message
+of_row r = row (get_or r 0 0) (get_or r 1 0) (get_or r 2 0) (get_or r 3 0) (get_or r 4 0) (get_or r 5 0)
 
 -- the words of entry i start here
 abbrev pub at : ℕ → ℕ
@@ -109,6 +114,37 @@ messages-count (o ∷ u ∷ f ∷ []) = refl
 messages-count (o ∷ u ∷ f ∷ s ∷ []) = refl
 messages-count (o ∷ u ∷ f ∷ s ∷ k ∷ []) = refl
 messages-count (o ∷ u ∷ f ∷ s ∷ k ∷ n ∷ ws) = let r = messages-count ws in omega arith
+
+-- the words cut into sixes, as code goes along them
+pub messages-rows : (ws : List ℕ) → map of_row (first_chunks 6 (length ws / 6) ws) ≡ messages ws
+unfolding messages
+messages-rows [] = refl
+messages-rows (o ∷ []) = refl
+messages-rows (o ∷ u ∷ []) = refl
+messages-rows (o ∷ u ∷ f ∷ []) = refl
+messages-rows (o ∷ u ∷ f ∷ s ∷ []) = refl
+messages-rows (o ∷ u ∷ f ∷ s ∷ k ∷ []) = refl
+messages-rows (o ∷ u ∷ f ∷ s ∷ k ∷ n ∷ ws) =
+    let e : length (o ∷ u ∷ f ∷ s ∷ k ∷ n ∷ ws) / 6 ≡ suc (length ws / 6) = omega arith in
+    ap (λ (j : ℕ). map of_row (first_chunks 6 j (o ∷ u ∷ f ∷ s ∷ k ∷ n ∷ ws))) e ∙ ap (λ (l : List Message). row o u f s k n ∷ l) (messages-rows ws)
+
+-- the first n entries are those of the first 6 n words
+front : (n : ℕ) (ws : List ℕ) → messages (take (at n) ws) ≡ take n (messages ws)
+unfolding messages
+front zero ws = refl
+front (suc n) [] = refl
+front (suc n) (o ∷ []) = refl
+front (suc n) (o ∷ u ∷ []) = refl
+front (suc n) (o ∷ u ∷ f ∷ []) = refl
+front (suc n) (o ∷ u ∷ f ∷ s ∷ []) = refl
+front (suc n) (o ∷ u ∷ f ∷ s ∷ k ∷ []) = refl
+front (suc n) (o ∷ u ∷ f ∷ s ∷ k ∷ c ∷ ws) = ap (λ (l : List Message). row o u f s k c ∷ l) (front n ws)
+
+pub messages-take : (n : ℕ) (ws : List ℕ) → messages (take (6 * n) ws) ≡ take n (messages ws)
+messages-take n ws = let e = at_is n in let e' : at n ≡ 6 * n = omega arith in rw (← e') (front n ws)
+
+pub messages-used : (n : ℕ) (ws : List ℕ) → n * 6 ≤ length ws → length (messages (take (6 * n) ws)) ≡ n
+messages-used n ws h = ap length (messages-take n ws) ∙ length-take-le n (messages ws) (messages-length n ws h)
 
 -- there is nothing past the last entry
 pub past : (es : List Message) (i : ℕ) → length es ≤ i → get_or es i no_message ≡ no_message

@@ -1,14 +1,14 @@
 // One pass over the message table: which entries go, what those that stay become, and where they move to.
 #![tactic(auto)]
 
-ghost use Rattle.std.specs.Prelude.{◌≡◌, cond, ◌&&◌, ◌++◌, ◌+◌, ◌*◌, ◌-◌, ◌≤◌, eqb, ltb, length, take, drop, replicate};
-ghost use Rattle.model.specs.Memory.{no_message, marked, with_states, refill};
+ghost use Rattle.std.specs.Prelude.{◌≡◌, ◌&&◌, ◌++◌, ◌+◌, ◌*◌, ◌-◌, ◌≤◌, eqb, ltb, length, take, drop, replicate};
+ghost use Rattle.model.specs.Memory.{no_message, refill};
 ghost use Rattle.table_messages.specs.Words.{messages};
 ghost use Rattle.table_messages.specs.Laid.{laid};
 ghost use Rattle.table_sweep.specs.Swept.{goes, calm, idle, kept, Moves};
 
 use model::{Message, Uid};
-use table_messages::{changed, get, nothing, put};
+use table_messages::{get, is_expunged, is_marked, nothing, put};
 
 // What a pass is for: a selection, where the expunged go and nothing waits; lines that were told of a mailbox, the expunged
 // below one UID and the marked below another; a mailbox that is deleted, with all its messages.
@@ -19,20 +19,11 @@ pub enum Sweep {
     Deleted(u64),
 }
 
-fn both(a: bool, b: bool) -> bool
-    ensures { result ≡ (a && b) }
-{
-    if a {
-        return b;
-    }
-    false
-}
-
 // Whether it is of the mailbox and below a UID.
 fn is_below(e: Message, mailbox: u64, bound: Uid) -> bool
     ensures { result ≡ (eqb e.mailbox mailbox && ltb e.uid.0 bound.0) }
 {
-    both(e.mailbox == mailbox, e.uid.0 < bound.0)
+    e.mailbox == mailbox && e.uid < bound
 }
 
 // Whether an entry goes.
@@ -40,35 +31,22 @@ fn is_gone(e: Message, sweep: Sweep) -> bool
     ensures { result ≡ goes sweep e }
 {
     match sweep {
-        Sweep::Rested => e.states % 2 == 1,
-        Sweep::Told(mailbox, gone, _) => {
-            let low = is_below(e, mailbox, gone);
-            both(e.states % 2 == 1, low)
-        }
+        Sweep::Rested => is_expunged(&e),
+        Sweep::Told(mailbox, gone, _) => is_expunged(&e) && is_below(e, mailbox, gone),
         Sweep::Deleted(mailbox) => e.mailbox == mailbox,
     }
 }
 
-// An entry whose FETCH was written waits no more.
-fn shown_one(e: Message, mailbox: u64, shown: Uid) -> Message
-    ensures { result ≡ cond (marked e && (eqb e.mailbox mailbox && ltb e.uid.0 shown.0)) (with_states e 0) e }
-{
-    let low = is_below(e, mailbox, shown);
-    if both(e.states / 2 % 2 == 1, low) {
-        return changed(e, e.flags, 0, e.counter);
-    }
-    e
-}
-
-// What an entry that stays becomes.
+// What an entry that stays becomes. One whose FETCH was written waits no more.
 fn calmed(e: Message, sweep: Sweep) -> Message
     ensures { result ≡ calm sweep e }
 {
-    match sweep {
-        Sweep::Rested => changed(e, e.flags, 0, e.counter),
-        Sweep::Told(mailbox, _, shown) => shown_one(e, mailbox, shown),
-        Sweep::Deleted(_) => e,
-    }
+    let rests = match sweep {
+        Sweep::Rested => true,
+        Sweep::Told(mailbox, _, shown) => is_marked(&e) && is_below(e, mailbox, shown),
+        Sweep::Deleted(_) => false,
+    };
+    if rests { Message { states: 0, ..e } } else { e }
 }
 
 // Entry i goes, or moves up to o; one that stays as it is where it is is not written.
@@ -81,7 +59,7 @@ fn move_one(words: &mut [u64], i: usize, o: usize, sweep: Sweep) -> usize
         return o;
     }
     let c = calmed(e, sweep);
-    if both(o == i, c.states == e.states) {
+    if o == i && c.states == e.states {
         return o + 1;
     }
     put(words, o, c);
@@ -94,10 +72,8 @@ fn compact(words: &mut [u64], used: usize, sweep: Sweep) -> usize
     ensures { (words.new ≡ laid words.old (kept sweep (take used (messages words.old)) ++ drop result (messages words.old))) × (result ≡ length (kept sweep (take used (messages words.old)))) × (result ≤ used) }
 {
     let mut o = 0;
-    let mut i = 0;
-    while i < used {
+    for i in 0..used {
         o = move_one(words, i, o, sweep);
-        i += 1;
     }
     o
 }
@@ -106,11 +82,7 @@ fn compact(words: &mut [u64], used: usize, sweep: Sweep) -> usize
 fn is_idle(sweep: Sweep) -> bool
     ensures { result ≡ idle sweep }
 {
-    match sweep {
-        Sweep::Rested => false,
-        Sweep::Told(_, gone, shown) => both(gone.0 == 0, shown.0 == 0),
-        Sweep::Deleted(_) => false,
-    }
+    matches!(sweep, Sweep::Told(_, Uid(0), Uid(0)))
 }
 
 // Entries become nothing.
@@ -118,10 +90,8 @@ fn wipe(words: &mut [u64], from: usize, upto: usize)
     requires { (from ≤ upto) × (upto * 6 ≤ length words.old) }
     ensures { words.new ≡ laid words.old (take from (messages words.old) ++ (replicate (upto - from) no_message ++ drop upto (messages words.old))) }
 {
-    let mut j = from;
-    while j < upto {
+    for j in from..upto {
         put(words, j, nothing());
-        j += 1;
     }
 }
 

@@ -1,21 +1,16 @@
--- `place_of`: the loop keeps how many of the first i entries stand before the message; its place is one more. Assumes nothing.
-use mathlib.Core.Path.{refl}
-use native.Mathlib.Omega.{arith}
-use Rattle.table_messages.specs.Words.{messages, messages-length}
-use Rattle.table_messages.specs.Counted.{before, count_next, place_end}
-use borrow.Author.Rules.{rules}
+-- `place_of`: one more than those that stand before the message. Assumes nothing.
+use Rattle.std.proofs.Common.{rules, tests, ◌+◌, ◌∙◌, ap, length}
+use Rattle.std.specs.List.{filter}
+use Rattle.std.proofs.lemmas.Iterator.{YieldsList-from_slice, YieldsList-from_map}
+use Rattle.std.proofs.lemmas.Iterator.Consumers.{YieldsList-at, YieldsList-from_filter, count_from_yields_List}
+use Rattle.table_messages.specs.Words.{messages, of_row}
+use Rattle.table_messages.specs.Counted.{before, count_as}
 use Rattle.table_messages.proofs.place_of.Goals as goal
-
-pub loop-i-init : goal.loop-i-init
-loop-i-init c = (search rules, search rules, refl)
-
-pub loop-i-preserved : goal.loop-i-preserved
-loop-i-preserved c = (
-  search rules,
-  omega (arith, c.before_one-n.ensures.1, c.loop-i.invariant.1),
-  let k = messages-length c.args.used c.args.words.now c.requires in count_next (before c.args.mailbox c.args.told.0 c.args.uid.0) (messages c.args.words.now) c.loop-i.i c.loop-i.n c.before_one-n.result (omega arith) c.loop-i.invariant.2 c.before_one-n.ensures.0,
-)
 
 pub returns : goal.returns
 returns c =
-    place_end (before c.args.mailbox c.args.told.0 c.args.uid.0) (messages c.args.words.now) c.loop-i.i c.args.used c.loop-i.n (omega arith) c.loop-i.invariant.2
+    let p = before c.args.mailbox c.args.told.0 c.args.uid.0 in
+    ap (λ n. 1 + n) (count_from_yields_List c.filter.result c.count-n.result c.count-n.ensures.ran
+    (YieldsList-from_filter _ p (YieldsList-at c.filter.ensures.source (YieldsList-from_map _ of_row (YieldsList-at c.map.ensures.source (YieldsList-from_slice c.rows.result.now cc)) c.map.ensures.closure (λ x r q k. search (rules, tests))))
+    c.filter.ensures.closure (λ x b q k. search (rules, tests)))
+    ∙ (ap (λ l. length (filter p l)) c.rows.ensures ∙ count_as p (messages c.args.words.now)))

@@ -1,9 +1,8 @@
--- `remove`: the words behind entry k move down, and the last entry is wiped. Assumes nothing.
-use mathlib.Core.Path.{◌∙◌}
-use native.Mathlib.Omega.{arith}
+-- `remove`: the words behind entry k move up, and the last entry is wiped. Assumes nothing.
+use Rattle.std.proofs.Common.{◌∙◌, arith}
 use Rattle.table_messages.specs.Taken.{taken}
 use Rattle.table_messages.proofs.remove.Goals as goal
 
 pub returns : goal.returns
 returns c =
-    c.put.ensures ∙ taken c.args.k c.args.used c.args.words.now c.move_up.new.words c.nothing.result (omega arith) (omega arith) c.move_up.ensures c.nothing.ensures (omega arith)
+    c.put.ensures ∙ taken c.args.words.now c.args.k c.args.used (omega arith) (omega arith) c.copy_within.new.self c.nothing.result c.copy_within.ensures.after c.copy_within.ensures.len c.nothing.ensures

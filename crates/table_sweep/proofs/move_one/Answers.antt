@@ -1,9 +1,6 @@
 -- `move_one`: an entry goes, or stands where it is as it is, or is put where it moves to. Assumes nothing.
 use mathlib.Core.Path.{sym, ◌∙◌}
 use native.Mathlib.Omega.{arith}
-use lib.Dec.{eqb}
-use borrow.Author.Tests.{eqb-true}
-use Rattle.model.specs.Laws.{and_l, and_r}
 use Rattle.table_sweep.specs.Swept.{passing-go, passing-rest, passing_stay}
 use Rattle.table_sweep.proofs.move_one.Goals as goal
 
@@ -11,12 +8,11 @@ pub returns-then-is_gone : goal.returns-then-is_gone
 returns-then-is_gone c =
     record { moved = λ vs h p. passing-go c.args.sweep vs c.args.words.now c.args.i c.args.o p h c.get-e.result c.get-e.ensures (sym c.is_gone.ensures ∙ c.if-is_gone.true) }
 
-pub returns-then-both : goal.returns-then-both
-returns-then-both c =
-    let t = sym c.both.ensures ∙ c.if-both.true in
+pub returns-then-c-e : goal.returns-then-c-e
+returns-then-c-e c =
     record {
       moved = λ vs h p. passing-rest c.args.sweep vs c.args.words.now c.args.i c.args.o p h c.get-e.result c.get-e.ensures c.calmed-c.result c.calmed-c.ensures (sym c.is_gone.ensures ∙ c.if-is_gone.false)
-          (eqb-true c.args.o c.args.i (and_l (eqb c.args.o c.args.i) _ t)) (eqb-true c.calmed-c.result.states c.get-e.result.states (and_r (eqb c.args.o c.args.i) _ t)) (omega (arith, c.requires.0, c.requires.1));
+          c.if-o-i.true c.if-c-e.true (omega (arith, c.requires.0, c.requires.1));
     }
 
 pub returns : goal.returns

@@ -1,7 +1,6 @@
 -- A mailbox's fields, test by test, by its columns. Assumes nothing.
 use Rattle.std.specs.Prelude.{◌≡◌, refl, Bool, true, false, ◌&&◌, List, [], ◌∷◌, ℕ, ◌+◌, ◌-◌, ◌*◌, ◌/◌, ◌%◌, ◌<◌, ◌≤◌, leb, length, take, drop, get_or}
-use Rattle.std.proofs.Common.{ap, sym, ◌∙◌, arith, le-leb, leb-true}
-use Rattle.std.proofs.lemmas.Bool.{lt-leb}
+use Rattle.std.proofs.Common.{ap, sym, ◌∙◌, arith, leb-true}
 use Rattle.model.specs.Laws.{and_r}
 use Rattle.model.specs.Lists.{every, same}
 use Rattle.model.specs.Names.{valid, fold}
@@ -9,6 +8,8 @@ use Rattle.model.specs.Memory.{no_mailbox, name_of, counter_of}
 use Rattle.model.specs.Lawful.{counter_ok, zeros, mailbox_ok}
 use Rattle.model.specs.declared.Mailbox.{Mailbox}
 use Rattle.table_mailboxes.specs.Columns.{Laid, block}
+use Rattle.table_mailboxes.specs.declared.Columns.{Columns}
+use Rattle.table_mailboxes.specs.Whole.{LaidIn}
 -- a row's name is tested as a session's is: by the one definition
 pub use Rattle.names.specs.Kept.{name_by}
 
@@ -24,6 +25,9 @@ row_at ids attributes lens validities nexts counters names k = record {
   counterhigh = get_or counters k 0 / 4294967296;
   name = block names k;
 }
+
+abbrev pub row_in : Columns → ℕ → Mailbox
+row_in c k = row_at c.ids c.attributes c.lens c.validities c.nexts c.counters c.names k
 
 -- ---- all of a mailbox's tests
 abbrev pub numbers_by : ℕ → ℕ → ℕ → ℕ → ℕ → ℕ → Bool
@@ -59,29 +63,13 @@ module _ (ids attributes lens validities nexts counters names : List ℕ) (k : �
   pub row_at_lem : (l : List Mailbox) → Laid l ids attributes lens validities nexts counters names → k < length l → mailbox_ok (row_at ids attributes lens validities nexts counters names k) ≡ mailbox_ok (get_or l k no_mailbox)
   row_at_lem l w h = row_by_lem ∙ (rw (w.id k h, w.attribute k h, w.len k h, w.validity k h, w.next k h, w.counter k h, w.name k h) (sym (mailbox-ok (get_or l k no_mailbox))))
 
--- rung by rung
+pub row_in_lem : (c : Columns) (k : ℕ) (l : List Mailbox) → LaidIn l c → k < length l → mailbox_ok (row_in c k) ≡ mailbox_ok (get_or l k no_mailbox)
+row_in_lem c k l w h = row_at_lem c.ids c.attributes c.lens c.validities c.nexts c.counters c.names k l w.1 h
+
+pub row_in_by : (c : Columns) (k : ℕ) → mailbox_ok (row_in c k) ≡ (numbers_by (get_or c.ids k 0) (get_or c.attributes k 0) (get_or c.lens k 0) (get_or c.validities k 0) (get_or c.nexts k 0) (get_or c.counters k 0) && name_by (get_or c.lens k 0) (block c.names k))
+row_in_by c k = row_by_lem c.ids c.attributes c.lens c.validities c.nexts c.counters c.names k
+
 module _ (id a n v u c : ℕ) where
-  pub no_id : id < 1 → false ≡ numbers_by id a n v u c
-  no_id h = rw (lt-leb 1 id h)
-
-  pub no_attributes : 1 ≤ id → 63 < a → false ≡ numbers_by id a n v u c
-  no_attributes p h = rw (le-leb 1 id p, lt-leb a 63 h)
-
-  pub no_validity : 1 ≤ id → a ≤ 63 → v < 1 → false ≡ numbers_by id a n v u c
-  no_validity p q h = rw (le-leb 1 id p, le-leb a 63 q, lt-leb 1 v h)
-
-  pub no_next : 1 ≤ id → a ≤ 63 → 1 ≤ v → u < 1 → false ≡ numbers_by id a n v u c
-  no_next p q r h = rw (le-leb 1 id p, le-leb a 63 q, le-leb 1 v r, lt-leb 1 u h)
-
-  pub no_counter : 1 ≤ id → a ≤ 63 → 1 ≤ v → 1 ≤ u → c < 1 → false ≡ numbers_by id a n v u c
-  no_counter p q r t h = rw (le-leb 1 id p, le-leb a 63 q, le-leb 1 v r, le-leb 1 u t, lt-leb 1 c h)
-
-  pub high_counter : 1 ≤ id → a ≤ 63 → 1 ≤ v → 1 ≤ u → 1 ≤ c → 9223372036854775807 < c → false ≡ numbers_by id a n v u c
-  high_counter p q r t s h = rw (le-leb 1 id p, le-leb a 63 q, le-leb 1 v r, le-leb 1 u t, le-leb 1 c s, lt-leb c 9223372036854775807 h)
-
-  pub last-number : 1 ≤ id → a ≤ 63 → 1 ≤ v → 1 ≤ u → 1 ≤ c → c ≤ 9223372036854775807 → leb n 64 ≡ numbers_by id a n v u c
-  last-number p q r t s h = rw (le-leb 1 id p, le-leb a 63 q, le-leb 1 v r, le-leb 1 u t, le-leb 1 c s, le-leb c 9223372036854775807 h)
-
   pub long_enough : numbers_by id a n v u c ≡ true → n ≤ 64
   long_enough h =
       let p = and_r (leb 1 id) _ h in

@@ -9,10 +9,7 @@ pub fn name_ok(names: &[u8; 4096], k: usize, len: u8) -> bool
     requires { (k < 64) × (len ≤ 64) }
     ensures { result ≡ name_by len (block names.now k) }
 {
-    let all = &names[..];
-    let from = 64 * k;
-    let stop = from + 64;
-    names::is_kept(&all[from..stop], len as usize)
+    names::is_kept(&names[64 * k..64 * k + 64], usize::from(len))
 }
 
 // ---- a name's octets by neighbours, without a branch: sixteen are tested at once
@@ -21,17 +18,14 @@ pub fn name_ok(names: &[u8; 4096], k: usize, len: u8) -> bool
 fn is_placed(a: u8, b: u8) -> bool
     ensures { result ≡ placed a b }
 {
-    let zeros = lawful_session::both(a == 0, b == 0);
-    let empty = lawful_session::both(a == b'/', b == b'/');
-    let printable = lawful_session::both(0x20 <= a, a <= 0x7e);
-    lawful_session::either(zeros, lawful_session::both(!empty, printable))
+    ((a == 0) & (b == 0)) | (!((a == b'/') & (b == b'/')) & ((0x20 <= a) & (a <= 0x7e)))
 }
 
 // One where a may not stand before b.
 fn misplaced(a: u8, b: u8) -> u8
     ensures { (result ≡ misplaced a b) × (result ≤ 1) }
 {
-    if is_placed(a, b) { 0 } else { 1 }
+    u8::from(!is_placed(a, b))
 }
 
 // How many of the n octets from a place on are misplaced.
@@ -40,10 +34,8 @@ fn misplaced_from(octets: &[u8], at: usize, n: usize) -> u8
     ensures { result ≡ misplaced_up octets.now at n }
 {
     let mut sum: u8 = 0;
-    let mut i: usize = 0;
-    while i < n {
+    for i in 0..n {
         sum += misplaced(octets[at + i], octets[at + i + 1]);
-        i += 1;
     }
     sum
 }
@@ -53,27 +45,12 @@ fn ends_ok(octets: &[u8], from: usize, len: u8) -> bool
     requires { from + 64 ≤ length octets.now }
     ensures { result ≡ true → Ended octets.now from len }
 {
-    if len < 1 {
+    if len < 1 || 63 < len || len == 5 || octets[from] == b'/' {
         return false;
     }
-    if 63 < len {
-        return false;
-    }
-    if len == 5 {
-        return false;
-    }
-    if octets[from] == b'/' {
-        return false;
-    }
-    let end = from + len as usize;
+    let end = from + usize::from(len);
     let last = octets[end - 1];
-    if last == 0 {
-        return false;
-    }
-    if last == b'/' {
-        return false;
-    }
-    octets[end] == 0
+    last != 0 && last != b'/' && octets[end] == 0
 }
 
 // None of the row's first 48 octets is misplaced, and zeros follow: two words, instead of octet by octet.
@@ -81,13 +58,9 @@ fn short_seen(octets: &[u8], from: usize) -> bool
     requires { from + 64 ≤ length octets.now }
     ensures { result ≡ true → Placed octets.now from 63 }
 {
-    if misplaced_from(octets, from, 48) != 0 {
-        return false;
-    }
-    if lawful_digests::word(octets, from + 48) != 0 {
-        return false;
-    }
-    lawful_digests::word(octets, from + 56) == 0
+    misplaced_from(octets, from, 48) == 0
+        && (lawful_digests::word(octets, from + 48) == 0
+            && lawful_digests::word(octets, from + 56) == 0)
 }
 
 // The name of row k is seen to be in order: none of the row's octets is misplaced. A no says nothing.
@@ -101,7 +74,8 @@ pub fn name_seen(names: &[u8; 4096], k: usize, len: u8) -> bool
         return false;
     }
     if 47 < len {
-        return misplaced_from(all, from, 63) == 0;
+        misplaced_from(all, from, 63) == 0
+    } else {
+        short_seen(all, from)
     }
-    short_seen(all, from)
 }

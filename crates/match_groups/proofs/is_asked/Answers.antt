@@ -1,15 +1,14 @@
--- `is_asked`: whether a group asks for event k of the mailbox with this name and these attributes. Assumes nothing.
-use mathlib.Core.Path.{◌∙◌, ap}
-use mathlib.Core.Bool.{not, ◌&&◌}
-use Prim.Native.Nat.{ℕ}
-use Rattle.model.specs.Groups.{groups_of, meets}
-use Rattle.demands.specs.Reasons.Numbers.{number_any}
-use Rattle.match_groups.specs.Asking.{asks_bit}
-use Rattle.model.specs.declared.Group.{Group}
-use lib.Dec.{eqb}
+-- A group of the session passes. Assumes nothing.
+use Rattle.std.proofs.Common.{rules, tests, ◌∙◌}
+use Rattle.std.proofs.lemmas.Iterator.{YieldsList-from_slice}
+use Rattle.std.proofs.lemmas.Iterator.Search.{any_from_yields_List}
+use Rattle.model.specs.declared.LentGroup.{LentGroup}
+use Rattle.model.specs.Groups.{group_of}
+use Rattle.model.specs.Lawful.{used_groups}
+use Rattle.match_groups.specs.Asking.{asks_in, any_groups}
 use Rattle.match_groups.proofs.is_asked.Goals as goal
 
 pub returns : goal.returns
 returns c =
-    ap (λ (n : ℕ). not (eqb n 0)) c.asking.ensures ∙ number_any (λ (g : Group). meets c.args.s c.args.name.now c.args.a g.selector && asks_bit c.args.k g)
-    (groups_of c.args.s)
+    any_from_yields_List (λ (g : LentGroup). asks_in c.args.s.now c.args.name.now c.args.a c.args.k (group_of g)) _ _ c.any.result c.any.ensures.ran (YieldsList-from_slice (used_groups c.args.s.now) cc) (λ x b q k. search (rules, tests))
+    ∙ any_groups c.args.s.now (asks_in c.args.s.now c.args.name.now c.args.a c.args.k)

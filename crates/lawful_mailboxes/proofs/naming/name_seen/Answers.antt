@@ -1,16 +1,11 @@
 -- The row's octets are placed: all of them are counted, or the first 48, before zeros.
-use mathlib.Core.Path.{◌≡◌, refl, sym, ◌∙◌}
-use mathlib.Core.Bool.{false}
+use mathlib.Core.Path.{◌≡◌, sym, ◌∙◌}
 use Prim.Native.Nat.{◌*◌}
 use lib.ListN.{length}
 use borrow.Author.Tests.{eqb-true}
-use Rattle.model.specs.Laws.{tf}
 use Rattle.lawful_mailboxes.specs.Neighbours.{all_placed, name_placed}
 use borrow.Author.Rules.{rules}
 use Rattle.lawful_mailboxes.proofs.naming.name_seen.Goals as goal
-
-pub returns-then-not-ends_ok : goal.returns-then-not-ends_ok
-returns-then-not-ends_ok c = λ z. tf false z refl
 
 pub returns-then-len-gt47 : goal.returns-then-len-gt47
 returns-then-len-gt47 c =
@@ -18,8 +13,8 @@ returns-then-len-gt47 c =
     let ended = c.ends_ok.ensures c.if-not-ends_ok.false in
     λ z. name_placed c.args.names.now c.args.k c.args.len long c.requires ended (all_placed c.args.names.now (64 * c.args.k) 63 (sym c.misplaced_from.ensures ∙ eqb-true _ _ z))
 
-pub returns : goal.returns
-returns c =
+pub returns-else-len-gt47 : goal.returns-else-len-gt47
+returns-else-len-gt47 c =
     let long : length c.args.names.now ≡ 4096 = search rules in
     let ended = c.ends_ok.ensures c.if-not-ends_ok.false in
     λ z. name_placed c.args.names.now c.args.k c.args.len long c.requires ended (c.short_seen.ensures z)

@@ -1,29 +1,14 @@
--- `is_matched`: whether a group of the session matches a mailbox. Assumes nothing.
-use mathlib.Core.Path.{◌≡◌, refl, sym, ◌∙◌, ap}
-use native.Mathlib.Omega.{arith}
-use lib.ListN.{length}
-use Rattle.table_mailboxes.specs.Walks.{any_here, any_next, any_past, mapped-length}
-use Rattle.match_groups.specs.Asking.{vacant_group, matched_by, matched_as, any_groups}
-use borrow.Author.Rules.{rules}
+-- A group of the session passes. Assumes nothing.
+use Rattle.std.proofs.Common.{rules, tests, ◌∙◌}
+use Rattle.std.proofs.lemmas.Iterator.{YieldsList-from_slice}
+use Rattle.std.proofs.lemmas.Iterator.Search.{any_from_yields_List}
+use Rattle.model.specs.declared.LentGroup.{LentGroup}
+use Rattle.model.specs.Groups.{group_of}
+use Rattle.model.specs.Lawful.{used_groups}
+use Rattle.match_groups.specs.Asking.{matched_by, any_groups}
 use Rattle.match_groups.proofs.matched.is_matched.Goals as goal
 
-pub loop-i-init : goal.loop-i-init
-loop-i-init c = refl
-
-pub returns-then-matches : goal.returns-then-matches
-returns-then-matches c =
-    let long : length c.args.s.groups ≡ 8 = search (rules, mapped-length) in
-    let here = ap (matched_by c.args.s c.args.name.now c.args.a c.args.here) (sym c.group_of-g.ensures) ∙ (sym c.matches.ensures ∙ c.if-matches.true) in
-    sym (any_groups c.args.s c.groups-n.result (c.groups-n.ensures.1 c.args.s.groups long) (matched_by c.args.s c.args.name.now c.args.a c.args.here)
-    ∙ (c.loop-i.invariant ∙ any_here (matched_as c.args.s c.args.name.now c.args.a c.args.here) c.args.s.groups c.groups-n.result c.loop-i.i (omega arith) vacant_group (omega arith) here))
-
-pub loop-i-preserved : goal.loop-i-preserved
-loop-i-preserved c =
-    let long : length c.args.s.groups ≡ 8 = search (rules, mapped-length) in
-    let on = ap (matched_by c.args.s c.args.name.now c.args.a c.args.here) (sym c.group_of-g.ensures) ∙ (sym c.matches.ensures ∙ c.if-matches.false) in
-    c.loop-i.invariant ∙ any_next (matched_as c.args.s c.args.name.now c.args.a c.args.here) c.args.s.groups c.groups-n.result c.loop-i.i (omega arith) vacant_group (omega arith) on
-
 pub returns : goal.returns
-returns c = let long : length c.args.s.groups ≡ 8 = search (rules, mapped-length) in
-    sym (any_groups c.args.s c.groups-n.result (c.groups-n.ensures.1 c.args.s.groups long) (matched_by c.args.s c.args.name.now c.args.a c.args.here)
-    ∙ (c.loop-i.invariant ∙ any_past (matched_as c.args.s c.args.name.now c.args.a c.args.here) c.args.s.groups c.groups-n.result c.loop-i.i (omega arith) (omega arith)))
+returns c =
+    any_from_yields_List (λ (g : LentGroup). matched_by c.args.s.now c.args.name.now c.args.a c.args.here (group_of g)) _ _ c.any.result c.any.ensures.ran (YieldsList-from_slice (used_groups c.args.s.now) cc) (λ x b q k. search (rules, tests))
+    ∙ any_groups c.args.s.now (matched_by c.args.s.now c.args.name.now c.args.a c.args.here)

@@ -1,9 +1,0 @@
--- `takes_personal`: selectable and personal. Assumes nothing.
-use mathlib.Core.Path.{sym, ◌∙◌}
-use Rattle.match_groups.proofs.takes_personal.Goals as goal
-
-pub returns-then-not-has : goal.returns-then-not-has
-returns-then-not-has c = rw (sym c.has.ensures ∙ c.if-not-has.true)
-
-pub returns : goal.returns
-returns c = rw (sym c.has.ensures ∙ c.if-not-has.false) c.has-2.ensures

@@ -1,5 +1,5 @@
 // FETCH lines: of a message's flags and counter, and of a new message with the items that are asked.
-#![tactic(auto)]
+#![tactic(auto, using(line_put::specs::Writes::writes_nothing))]
 
 ghost use Rattle.std.specs.Prelude.{true, ◌++◌, ◌+◌, ◌-◌, ◌≤◌, length};
 ghost use Rattle.model.specs.Text.{decimal};

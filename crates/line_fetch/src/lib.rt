@@ -112,6 +112,7 @@ pub fn put_fetch(w: &mut Writer<'_>, n: MessageNumber, uid: Uid, flags: u64, cou
 }
 
 // The same as a line that is told whole.
+#[derive(Clone, Copy)]
 pub struct Fetch {
     pub n: MessageNumber,
     pub uid: Uid,

@@ -48,6 +48,7 @@ pub fn put_exists(w: &mut Writer<'_>, has: u64, new: u64)
 }
 
 // The EXPUNGE line as one that is told whole.
+#[derive(Clone, Copy)]
 pub struct Expunge {
     pub n: MessageNumber,
 }
@@ -84,6 +85,7 @@ pub fn put_owed(w: &mut Writer<'_>, words: &[u64], order: &[usize], told: Uid)
 }
 
 // What announces all that is new: EXISTS, and a FETCH of each where one is asked.
+#[derive(Clone, Copy)]
 pub struct News<'a> {
     pub words: &'a [u64],
     pub order: &'a [usize],

@@ -14,9 +14,6 @@ reply_by first n most = cond (is_accepted first && not (leb n most)) TooLarge fi
 
 -- rung by rung
 module _ (first : Reply) (n most : ℕ) where
-  pub reply-other : is_accepted first ≡ false → first ≡ reply_by first n most
-  reply-other e = rw e
-
   pub reply-small : is_accepted first ≡ true → n ≤ most → first ≡ reply_by first n most
   reply-small e h = rw (e, le-leb n most h)
 

@@ -12,15 +12,9 @@ use Rattle.model.specs.declared.Message.{Message}
 abbrev pub piece : Bool → Bool → List ℕ → List ℕ
 piece on began n = cond on (cond began (32 ∷ n) n) []
 
-pub piece_off : (on began : Bool) (n : List ℕ) → on ≡ false → [] ≡ piece on began n
-piece_off on began n e = rw e
-
 -- a space, where something stands before
 abbrev pub gap : Bool → List ℕ
 gap began = cond began (32 ∷ []) []
-
-pub gap_off : (began : Bool) → began ≡ false → [] ≡ gap began
-gap_off began e = rw e
 
 pub piece_gap : (on began : Bool) (t : List ℕ) → on ≡ true → gap began ++ t ≡ piece on began t
 piece_gap true true t e = refl

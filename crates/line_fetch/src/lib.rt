@@ -1,5 +1,5 @@
 // FETCH lines: of a message's flags and counter, and of a new message with the items that are asked.
-#![tactic(auto)]
+#![tactic(auto, using(line_put::specs::Writes::writes_nothing))]
 
 ghost use Rattle.std.specs.Prelude.{true, ◌++◌, ◌+◌, ◌-◌, ◌≤◌, length};
 ghost use Rattle.model.specs.Text.{decimal};
@@ -112,6 +112,7 @@ pub fn put_fetch(w: &mut Writer<'_>, n: MessageNumber, uid: Uid, flags: u64, cou
 }
 
 // The same as a line that is told whole.
+#[derive(Clone, Copy)]
 pub struct Fetch {
     pub n: MessageNumber,
     pub uid: Uid,

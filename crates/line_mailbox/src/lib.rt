@@ -57,6 +57,7 @@ pub fn put_list(w: &mut Writer<'_>, mark: Mark, name: &[u8])
 }
 
 // A LIST line.
+#[derive(Clone, Copy)]
 pub struct ListLine<'a> {
     pub mark: Mark,
     pub name: &'a [u8],
@@ -83,6 +84,7 @@ fn put_wanted(w: &mut Writer<'_>, on: bool, line: &ListLine<'_>)
 }
 
 // The line of a mailbox and then that of its parent, each if it is wanted.
+#[derive(Clone, Copy)]
 pub struct Pair<'a> {
     pub own: bool,
     pub line: ListLine<'a>,
@@ -102,6 +104,7 @@ impl Line for Pair<'_> {
 }
 
 // The LIST line of a mailbox with the name that it had before.
+#[derive(Clone, Copy)]
 pub struct Renamed<'a> {
     pub mark: Mark,
     pub new: &'a [u8],
@@ -153,6 +156,7 @@ fn put_highest(w: &mut Writer<'_>, highest: u64)
 }
 
 // The STATUS of a mailbox that is not selected, where messages come or go.
+#[derive(Clone, Copy)]
 pub struct Status<'a> {
     pub name: &'a [u8],
     pub next: u64,
@@ -173,6 +177,7 @@ impl Line for Status<'_> {
 }
 
 // The same, where flags change.
+#[derive(Clone, Copy)]
 pub struct FlagStatus<'a> {
     pub name: &'a [u8],
     pub validity: u64,

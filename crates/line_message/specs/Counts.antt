@@ -1,6 +1,6 @@
 -- The lines that count: `* n EXISTS` and `* n EXPUNGE`. Assumes nothing.
 use Rattle.std.specs.Prelude.{◌≡◌, refl, cond, List, [], ◌∷◌, ◌++◌, ℕ, ◌+◌, eqb, length}
-use Rattle.std.proofs.Common.{sym, ◌∙◌, append_assoc, append-nil, arith, eq-eqb, ne_eqb}
+use Rattle.std.proofs.Common.{sym, ◌∙◌, append_assoc, append-nil, arith, ne_eqb}
 use Rattle.model.specs.Text.{octets, decimal}
 use Rattle.model.specs.Lines.{exists, expunge, render, render_all, crlf}
 use Rattle.model.specs.View.{exists_line}
@@ -31,9 +31,6 @@ exists-text n = regroup (octets "* ") (decimal n) (octets " EXISTS") crlf
 -- EXISTS, where n messages are new to the client, which has k others
 abbrev pub exists_text : ℕ → ℕ → List ℕ
 exists_text k n = cond (eqb n 0) [] (count_text (k + n) exists_word)
-
-pub exists_none : (k n : ℕ) → n ≡ 0 → [] ≡ exists_text k n
-exists_none k n e = rw (eq-eqb n 0 e)
 
 pub exists_some : (k n : ℕ) → (n ≡ 0 → ⊥) → count_text (k + n) exists_word ≡ exists_text k n
 exists_some k n e = rw (ne_eqb n 0 e)

@@ -1,7 +1,7 @@
 -- The lines about a mailbox's messages, one after the other along its entries by UID: EXPUNGE, FETCH of a mark, FETCH of a new message. Assumes nothing.
-use Rattle.std.specs.Prelude.{◌≡◌, Bool, true, false, cond, ◌&&◌, ℕ, ◌+◌, ◌-◌, ◌<◌, ◌≤◌, ◌/◌, ◌%◌, ltb, length, get_or}
+use Rattle.std.specs.Prelude.{◌≡◌, Bool, true, false, cond, ◌&&◌, ℕ, ◌+◌, ◌-◌, ◌<◌, ◌≤◌, ltb, length, get_or}
 use Rattle.std.proofs.Math.Path.{refl, ap, ap₂, sym}
-use Rattle.std.proofs.Common.{◌∙◌, arith, lt-ltb, le-ltb, eq-eqb, ne_eqb}
+use Rattle.std.proofs.Common.{◌∙◌, arith}
 use Rattle.std.proofs.Math.Bool.{not}
 use mathlib.Core.List.{List, [], ◌∷◌, ◌++◌}
 use Rattle.model.specs.Lists.{filterb, keep}
@@ -10,10 +10,10 @@ use Rattle.model.specs.Lines.{Item, modseq, expunge, fetch, render, render_all}
 use Rattle.model.specs.View.{expunge_lines, marked_lines, new_lines, flags_line, shown_items}
 use Rattle.model.specs.declared.Message.{Message}
 use Rattle.model.specs.declared.Session.{Session}
-use Rattle.line_put.specs.Put.{Put, put_as, put_none, Goes, goes_on}
+use Rattle.line_put.specs.declared.Writer.{Writer}
+use Rattle.line_put.specs.Writes.{Writes, writes_none, Goes, goes_on}
 use Rattle.order_messages.specs.Chosen.{chosen}
 use Rattle.order_messages.specs.Counts.{stays, chosen_top}
-use Rattle.line_message.specs.declared.Went.{Went}
 use Rattle.line_fetch.specs.declared.Shows.{Shows}
 use Rattle.line_message.specs.declared.Part.{Part}
 use Rattle.line_message.specs.declared.Part.TheVariants.{Expunged, Marked, New}
@@ -36,72 +36,7 @@ unfoldable pub part_text : Part → ℕ → ℕ → List Message → List ℕ
 part_text part told n [] = []
 part_text part told n (e ∷ l) = text_of part told n e ++ part_text part told (next_of part told n e) l
 
--- a text was put, and the next place is this
-pub record Puts (q : List ℕ) (at lim : ℕ) (t : List ℕ) (n : ℕ) (q' : List ℕ) (r : Went) : Type 0 where
-  pub put : Put q at lim t q' r.end
-  pub short : r.end ≤ at + 231
-  pub next : r.next.0 ≡ n
-
-module _ (q : List ℕ) (at lim : ℕ) where
-  pub puts_none : (r : Went) (t : List ℕ) (n : ℕ) → lim ≤ length q → r.end ≡ at → t ≡ [] → r.next.0 ≡ n → Puts q at lim t n q r
-  puts_none r t n w a e f = record { put = rw (a, e) (put_none q at lim w); short = omega arith; next = f }
-
-  pub puts_some : (q' : List ℕ) (r : Went) (t u : List ℕ) (n : ℕ) → Put q at lim t q' r.end → r.end ≤ at + 231 → t ≡ u → r.next.0 ≡ n → Puts q at lim u n q' r
-  puts_some q' r t u n p b e f = record { put = put_as p e; short = b; next = f }
-
--- ---- one entry, as the code tests it
 module _ (told n : ℕ) (e : Message) where
-  pub off-gone : told ≤ uid_of e → text_of Expunged told n e ≡ []
-  off-gone h = rw (le-ltb (uid_of e) told h)
-
-  pub off-gone_next : told ≤ uid_of e → n ≡ next_of Expunged told n e
-  off-gone_next h = rw (le-ltb (uid_of e) told h)
-
-  pub is-gone : uid_of e < told → e.states % 2 ≡ 1 → count_text n expunge_word ≡ text_of Expunged told n e
-  is-gone h k = rw (lt-ltb (uid_of e) told h, eq-eqb (e.states % 2) 1 k)
-
-  pub is-gone_next : uid_of e < told → e.states % 2 ≡ 1 → n ≡ next_of Expunged told n e
-  is-gone_next h k = rw (lt-ltb (uid_of e) told h, eq-eqb (e.states % 2) 1 k)
-
-  pub is_live : uid_of e < told → (e.states % 2 ≡ 1 → ⊥) → text_of Expunged told n e ≡ []
-  is_live h k = rw (lt-ltb (uid_of e) told h, ne_eqb (e.states % 2) 1 k)
-
-  pub is_live_next : uid_of e < told → (e.states % 2 ≡ 1 → ⊥) → n + 1 ≡ next_of Expunged told n e
-  is_live_next h k = rw (lt-ltb (uid_of e) told h, ne_eqb (e.states % 2) 1 k)
-
-  pub off-marked : told ≤ uid_of e → text_of Marked told n e ≡ []
-  off-marked h = rw (le-ltb (uid_of e) told h)
-
-  pub off-marked_next : told ≤ uid_of e → n ≡ next_of Marked told n e
-  off-marked_next h = rw (le-ltb (uid_of e) told h)
-
-  pub gone-marked : uid_of e < told → e.states % 2 ≡ 1 → text_of Marked told n e ≡ []
-  gone-marked h k = rw (lt-ltb (uid_of e) told h, eq-eqb (e.states % 2) 1 k)
-
-  pub gone-marked_next : uid_of e < told → e.states % 2 ≡ 1 → n ≡ next_of Marked told n e
-  gone-marked_next h k = rw (lt-ltb (uid_of e) told h, eq-eqb (e.states % 2) 1 k)
-
-  pub live-marked_next : uid_of e < told → (e.states % 2 ≡ 1 → ⊥) → n + 1 ≡ next_of Marked told n e
-  live-marked_next h k = rw (lt-ltb (uid_of e) told h, ne_eqb (e.states % 2) 1 k)
-
-  pub is-marked : uid_of e < told → (e.states % 2 ≡ 1 → ⊥) → e.states / 2 % 2 ≡ 1 → fetch_text n (uid_of e) e.flags e.counter ≡ text_of Marked told n e
-  is-marked h k m = rw (lt-ltb (uid_of e) told h, ne_eqb (e.states % 2) 1 k, eq-eqb (e.states / 2 % 2) 1 m)
-
-  pub not-marked : uid_of e < told → (e.states % 2 ≡ 1 → ⊥) → (e.states / 2 % 2 ≡ 1 → ⊥) → text_of Marked told n e ≡ []
-  not-marked h k m = rw (lt-ltb (uid_of e) told h, ne_eqb (e.states % 2) 1 k, ne_eqb (e.states / 2 % 2) 1 m)
-
-  pub not_new : (w : Shows) → uid_of e < told → text_of (New w) told n e ≡ []
-  not_new w h = rw (lt-ltb (uid_of e) told h)
-
-  pub not-new_next : (w : Shows) → uid_of e < told → n ≡ next_of (New w) told n e
-  not-new_next w h = rw (lt-ltb (uid_of e) told h)
-
-  pub is-new : (w : Shows) → told ≤ uid_of e → new_text w n e ≡ text_of (New w) told n e
-  is-new w h = rw (le-ltb (uid_of e) told h)
-
-  pub is-new_next : (w : Shows) → told ≤ uid_of e → n + 1 ≡ next_of (New w) told n e
-  is-new_next w h = rw (le-ltb (uid_of e) told h)
-
   -- the next place is at most one further
   pub next_most : (part : Part) → next_of part told n e ≤ n + 1
   next_most Expunged = most (stays told true e)
@@ -121,20 +56,20 @@ module _ (told n : ℕ) (e : Message) where
       most false = omega arith
 
 -- ---- the loop
-module _ (part : Part) (told : ℕ) (es : List Message) (order q : List ℕ) (at lim : ℕ) (all : List ℕ) where
-  pub part_next_lem : (q' : List ℕ) (o j n : ℕ) (e : Message) (q₁ : List ℕ) (o₁ n₁ : ℕ) → 0 < j → Goes q at lim all q' o (part_text part told n (chosen es order j))
-      → e ≡ get_or es (get_or order (j - 1) 0) no_message → Put q' o lim (text_of part told n e) q₁ o₁ → n₁ ≡ next_of part told n e
-      → Goes q at lim all q₁ o₁ (part_text part told n₁ (chosen es order (j - 1)))
+module _ (part : Part) (told : ℕ) (es : List Message) (order : List ℕ) {w w' : Writer} {all : List ℕ} where
+  pub part_next_lem : (j n : ℕ) {w₁ : Writer} (n₁ : ℕ) (e : Message) → 0 < j → Goes w all w' (part_text part told n (chosen es order j))
+      → e ≡ get_or es (get_or order (j - 1) 0) no_message → Writes w' (text_of part told n e) w₁ → n₁ ≡ next_of part told n e
+      → Goes w all w₁ (part_text part told n₁ (chosen es order (j - 1)))
   unfolding part_text
-  part_next_lem q' o j n e q₁ o₁ n₁ h g x p y =
+  part_next_lem j n n₁ e h g x p y =
       let top : part_text part told n (chosen es order j) ≡ text_of part told n e ++ part_text part told n₁ (chosen es order (j - 1)) =
       ap (part_text part told n) (chosen_top es order j h)
       ∙ ap₂ (λ (d : Message) (k : ℕ). text_of part told n d ++ part_text part told k (chosen es order (j - 1))) (sym x) (ap (next_of part told n) (sym x) ∙ sym y) in
       goes_on (rw top at g) p
 
-  pub part_end : (q' : List ℕ) (o j n : ℕ) → lim ≤ length q' → j ≡ 0 → Goes q at lim all q' o (part_text part told n (chosen es order j)) → Put q at lim all q' o
+  pub part_end : (n : ℕ) → w'.limit ≤ length w'.queue.now → Goes w all w' (part_text part told n (chosen es order 0)) → Writes w all w'
   unfolding part_text chosen
-  part_end q' o j n w e g = g q' o (put_as (put_none q' o lim w) (sym (ap (λ (k : ℕ). part_text part told n (chosen es order k)) e)))
+  part_end n h g = g w' (writes_none w' h)
 
 -- ---- in the rules' words
 module _ (told : ℕ) where

@@ -1,6 +1,6 @@
 -- What a writer did: the text t is put from its place on, up to its limit, and the place is behind it. Assumes nothing.
 use Rattle.std.specs.Prelude.{◌≡◌, List, [], ◌++◌, ℕ, ◌≤◌, length}
-use Rattle.std.proofs.Common.{◌∙◌, refl, subst}
+use Rattle.std.proofs.Common.{◌∙◌, refl, sym, subst}
 use Rattle.line_put.specs.declared.Writer.{Writer}
 use Rattle.line_put.specs.Put.{Put, put_none, ◌then◌ as followed}
 
@@ -20,3 +20,14 @@ pub ◌then◌ : {w w' w'' : Writer} {t u : List ℕ} → Writes w t w' → Writ
 -- the same text, said another way
 pub writes_as : {w w' : Writer} {t u : List ℕ} → Writes w t w' → t ≡ u → Writes w u w'
 writes_as {w} {w'} {t} {u} a e = subst (λ (s : List ℕ). Writes w s w') e a
+
+-- a text that is empty
+pub writes_nothing : {w : Writer} {t : List ℕ} → t ≡ [] → w.limit ≤ length w.queue.now → Writes w t w
+writes_nothing {w} {t} e h = writes_as (writes_none w h) (sym e)
+
+-- all that is to be written from w on; w' is what it came to, and the rest is left
+abbrev pub Goes : Writer → List ℕ → Writer → List ℕ → Type 0
+Goes w all w' rest = (w'' : Writer) → Writes w' rest w'' → Writes w all w''
+
+pub goes_on : {w w' w₁ : Writer} {all t rest : List ℕ} → Goes w all w' (t ++ rest) → Writes w' t w₁ → Goes w all w₁ rest
+goes_on g p w'' z = g w'' (◌then◌ p z)

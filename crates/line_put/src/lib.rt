@@ -110,7 +110,7 @@ impl Line for Overflow {
 }
 
 // A line from a place on, up to a limit: where it ends.
-fn write<L: Line>(queue: &mut [u8], at: usize, limit: usize, line: &L) -> usize
+pub fn write<L: Line>(queue: &mut [u8], at: usize, limit: usize, line: &L) -> usize
     requires { (limit ≤ length queue.old) × (at ≤ 65536) }
     ensures { Put queue.old at limit (L.text line.now) queue.new result }
 {

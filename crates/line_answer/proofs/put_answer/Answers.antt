@@ -1,13 +1,7 @@
--- `put_answer`: the tagged line, or the line of `*`. Assumes nothing.
-use native.Mathlib.Omega.{arith}
-use Rattle.line_put.specs.Put.{◌then◌, put_as}
-use Rattle.read_commands.specs.Judging.{word_of}
+-- `put_answer`: the tag, a space, the words and the end of the line. Assumes nothing.
+use Rattle.line_put.specs.Writes.{◌then◌, writes_as}
 use Rattle.line_answer.specs.Tagged.{answer-text}
 use Rattle.line_answer.proofs.put_answer.Goals as goal
 
-pub returns : goal.returns
-returns c =
-    let text = ◌then◌ (◌then◌ (◌then◌ c.put-a.ensures c.put-b.ensures) c.put_words-c.ensures.0) c.put.ensures in (
-      put_as text (answer-text c.args.tag.now (word_of c.args.verb) c.args.reply),
-      omega (arith, c.requires, c.put-a.ensures.next, c.put-b.ensures.next, c.put_words-c.ensures.1, c.put.ensures.next),
-    )
+pub returns-clause-put : goal.returns-clause-put
+returns-clause-put c = writes_as (◌then◌ (◌then◌ (◌then◌ c.put.ensures c.put-2.ensures) (rw c.words.ensures.text at c.put-3.ensures)) c.put-4.ensures) (answer-text c.args.tag.now _ c.args.reply)

@@ -9,8 +9,7 @@ use mathlib.Core.Path.{refl}
 use Rattle.line_answer.proofs.say_reply.Goals as goal
 
 pub returns-then-end-limit : goal.returns-then-end-limit
-returns-then-end-limit c =
-    whole-fits c.put_reply-end.ensures.0 c.put_reply-e.ensures.0 (omega arith) (omega arith)
+returns-then-end-limit c = whole-fits c.write-end.ensures c.write-end-then-end-limit.ensures (omega arith) (omega arith)
 
 pub returns : goal.returns
-returns c = whole_not c.put_reply-end.ensures.0 (render_some (answer (tag_of c.args.text.now) (word_of c.args.verb) c.args.reply)) refl (omega arith)
+returns c = whole_not c.write-end.ensures (render_some (answer (tag_of c.args.text.now) (word_of c.args.verb) c.args.reply)) refl (omega arith)

@@ -1,10 +1,8 @@
 -- `put_count`: three texts one behind the other. Assumes nothing.
-use native.Mathlib.Omega.{arith}
-use Rattle.line_put.specs.Put.{◌then◌}
+use Rattle.line_put.specs.Writes.{◌then◌}
 use Rattle.line_message.specs.Counts.{count_text}
 use Rattle.line_message.proofs.put_count.Goals as goal
 
-pub returns : goal.returns
+pub returns-clause-put : goal.returns-clause-put
 unfolding count_text
-returns c =
-    (◌then◌ (◌then◌ c.put-a.ensures c.put_number-b.ensures.put) c.put.ensures, omega (arith, c.put-a.ensures.next, c.put_number-b.ensures.upper_bound, c.put.ensures.next))
+returns-clause-put c = ◌then◌ (◌then◌ c.put.ensures c.put_number.ensures.put) c.put-2.ensures

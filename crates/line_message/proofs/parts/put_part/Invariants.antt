@@ -1,18 +1,17 @@
--- `put_part`: the loop keeps that the lines of the places above j are written, and the place of the next message. Assumes nothing.
-use mathlib.Core.Path.{◌≡◌}
+-- `put_part`: the lines of the places above j are written, and the place of the next message is kept. Assumes nothing.
 use Prim.Native.Nat.{◌≤◌, ◌+◌, ◌*◌}
 use lib.ListN.{length}
-use Rattle.line_put.specs.Put.{Goes}
+use Rattle.line_put.specs.Writes.{Goes}
 use Rattle.table_messages.specs.Words.{messages}
 use Rattle.order_messages.specs.Chosen.{chosen}
 use Rattle.line_message.specs.Parts.{part_text}
 use Rattle.line_message.proofs.parts.put_part.Given as goal
 
 abbrev pub invariant-loop-j : goal.invariant-loop-j
-invariant-loop-j l = (l.j ≤ l.count) × (length l.queue ≡ length l.initial.queue)
-    × (l.end + 231 * l.j ≤ l.at + 231 * l.count) × (l.next.0 + l.j ≤ l.initial.next.0 + l.count)
-    × Goes l.initial.queue l.at l.limit (part_text l.part l.told.0 l.initial.next.0 (chosen (messages l.words) l.order l.count)) l.queue l.end
-    (part_text l.part l.told.0 l.next.0 (chosen (messages l.words) l.order l.j))
-
-abbrev pub decreases-loop-j : goal.decreases-loop-j
-decreases-loop-j l = l.j
+invariant-loop-j l = record {
+  limit : l.w.limit ≤ length l.w.queue.now;
+  upper_bound : l.w.at + 231 * l.j ≤ l.initial.w.at + 231 * length l.order;
+  places : l.next.0 + l.j ≤ l.initial.next.0 + length l.order;
+  put : Goes l.initial.w (part_text l.part l.told.0 l.initial.next.0 (chosen (messages l.words) l.order (length l.order))) l.w
+      (part_text l.part l.told.0 l.next.0 (chosen (messages l.words) l.order l.j));
+}

@@ -108,10 +108,10 @@ impl Joined for Attributes {
 
     fn join(self, rest: Attributes) -> Attributes {
         Attributes {
-            uid: self.uid || rest.uid,
-            flags: self.flags || rest.flags,
-            size: self.size || rest.size,
-            other: self.other || rest.other,
+            uid: self.uid | rest.uid,
+            flags: self.flags | rest.flags,
+            size: self.size | rest.size,
+            other: self.other | rest.other,
         }
     }
 }

@@ -1,5 +1,5 @@
 -- What every kind of record needs to say that it comes to what the rules say. Assumes nothing.
-use Rattle.std.specs.Prelude.{◌≡◌, refl, Bool, true, false, List, ℕ, ◌<◌, ◌≤◌, ltb, length, get_or}
+use Rattle.std.specs.Prelude.{◌≡◌, refl, Bool, true, false, List, ℕ, ◌<◌, ◌≤◌, ltb, length, get_or, Err}
 use Rattle.std.proofs.Common.{ap, sym, ◌∙◌, leb-true}
 use Rattle.model.specs.Records.{is_record, record_of}
 use Rattle.model.specs.Memory.{Memory, boxes, no_mailbox, place, known}
@@ -15,8 +15,7 @@ use Rattle.demands.specs.Lasting.Law.{Law}
 use Rattle.table_messages.specs.Laid.{laid, laid_own}
 use Rattle.table_mailboxes.specs.Walks.{row_at_lem}
 use Rattle.table_mailboxes.specs.Rows.{boxes_long}
-use Rattle.record_outcome.specs.Coming.{Lends, Placed, Comes, refusal, ladder}
-use Rattle.record_outcome.specs.declared.Outcome.{Outcome as Came}
+use Rattle.record_outcome.specs.Coming.{Lends, Placed, Comes, Came, ladder}
 
 -- ---- a call, rung by rung
 module _ (m : Memory) (o : List ℕ) where
@@ -34,14 +33,14 @@ module _ (m : Memory) (o : List ℕ) where
 
 -- ---- a refusal
 module _ (m : Memory) (ws : List ℕ) (k : Counts) (s : Session) (q : List ℕ) (lent : Lends m ws k s q) where
-  pub comes-refused : (why : Refusal) (o : Outcome) (r : Came) → refuse m why ≡ o → r ≡ refusal why k s → Comes m o r ws ws q
+  pub comes-refused : (why : Refusal) (o : Outcome) (r : Came) → refuse m why ≡ o → r ≡ Err why → Comes m o r ws ws q
   comes-refused why o r e f =
       rw (← e) (rw f (record {
         answer = refl;
         rows = refl;
         words = laid_own ws ∙ ap (laid ws) (sym lent.entries);
-        counts = sym lent.counts;
-        session = sym lent.session;
+        counts = refl;
+        session = refl;
         queue = sym lent.queue;
       }))
 

@@ -1,8 +1,8 @@
-// What a record comes to: its answer, the row that it changes, the counts and the session after it.
+// What a record comes to: a refusal, or the change of the mailbox table, what is counted, and the counts and the session after it.
 #![tactic(auto)]
 
 ghost use Rattle.std.specs.Prelude.{◌≡◌};
-ghost use Rattle.record_outcome.specs.Coming.{refusal, quiet, putting};
+ghost use Rattle.record_outcome.specs.Coming.{calm, putting, answer_of};
 
 use model::{Answer, Counts, Mailbox, Refusal, Session};
 
@@ -10,52 +10,58 @@ use model::{Answer, Counts, Mailbox, Refusal, Session};
 #[derive(Clone, Copy)]
 pub enum Change {
     Nothing,
-    Put,
-    Taken,
+    Put { at: usize, row: Mailbox },
+    Taken { at: usize },
 }
 
-// What a record comes to, besides the words of the message table and the octets of the queue. `row` is put at `at`, or taken out there.
+// What a record comes to that is not refused, besides the words of the message table and the octets of the queue. `counted` has the lines that
+// are still owed, for a record that asks.
 #[derive(Clone, Copy)]
 pub struct Outcome {
-    pub answer: Answer,
+    pub counted: Option<u64>,
     pub change: Change,
-    pub at: usize,
-    pub row: Mailbox,
     pub counts: Counts,
     pub session: Session,
 }
 
-// An answer, and no row changes.
-pub fn unmoved(answer: Answer, counts: Counts, s: Session) -> Outcome
-    ensures { result ≡ quiet answer counts s }
-{
-    Outcome {
-        answer,
-        change: Change::Nothing,
-        at: 0,
-        row: table_mailboxes::vacant(),
-        counts,
-        session: s,
+impl Outcome {
+    // No row changes.
+    pub fn unmoved(counted: Option<u64>, counts: Counts, session: Session) -> Outcome
+        ensures { result ≡ calm counted counts session }
+    {
+        Outcome {
+            counted,
+            change: Change::Nothing,
+            counts,
+            session,
+        }
+    }
+
+    // A row is put.
+    pub fn put(at: usize, row: Mailbox, counts: Counts, session: Session) -> Outcome
+        ensures { result ≡ putting at row counts session }
+    {
+        Outcome {
+            counted: None,
+            change: Change::Put { at, row },
+            counts,
+            session,
+        }
     }
 }
 
-// A record is refused, and nothing changes.
-pub fn refused(why: Refusal, counts: Counts, s: Session) -> Outcome
-    ensures { result ≡ refusal why counts s }
+// The answer to a record.
+pub fn answer_of(came: &Result<Outcome, Refusal>) -> Answer
+    ensures { result ≡ answer_of came.now }
 {
-    unmoved(Answer::Refused(why), counts, s)
-}
-
-// A record is done, and a row is put.
-pub fn put(at: usize, row: Mailbox, counts: Counts, s: Session) -> Outcome
-    ensures { result ≡ putting at row counts s }
-{
-    Outcome {
-        answer: Answer::Done,
-        change: Change::Put,
-        at,
-        row,
-        counts,
-        session: s,
+    match came {
+        Ok(
+            Outcome {
+                counted: Some(n),
+                ..
+            },
+        ) => Answer::Counted(*n),
+        Ok(_) => Answer::Done,
+        Err(why) => Answer::Refused(*why),
     }
 }

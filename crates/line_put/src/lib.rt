@@ -1,10 +1,11 @@
 // Writers into a queue, up to a limit. Each moves the place on to where its text ends. It writes only where that is within the limit.
 #![tactic(auto)]
 
-ghost use Rattle.std.specs.Prelude.{◌≡◌, [], ◌∷◌, List, ℕ, cond, ◌+◌, ◌*◌, ◌-◌, ◌≤◌, ◌<◌, length};
+ghost use Rattle.std.specs.Prelude.{◌≡◌, [], ◌∷◌, List, ℕ, cond, true, ◌+◌, ◌*◌, ◌-◌, ◌≤◌, ◌<◌, length};
 ghost use Rattle.line_put.specs.Put.{Put};
 ghost use Rattle.line_put.specs.Writes.{Writes};
 ghost use Rattle.line_put.specs.Says.{Says};
+ghost use Rattle.line_put.specs.Heard.{heard, Hears};
 ghost use Rattle.model.specs.Memory.{silenced};
 ghost use Rattle.model.specs.Lines.{overflow, render};
 ghost use Rattle.model.specs.Text.{decimal, escape_octet, quoted};
@@ -173,5 +174,20 @@ pub fn hear(s: Session, said: Said) -> Kept
     Kept {
         session: if said.fits { s } else { silence(s) },
         filled: said.end as u64,
+    }
+}
+
+// A line, if somebody is told of it.
+pub fn tell<L: Line>(queue: &mut [u8], s: &Session, filled: usize, on: bool, line: &L) -> Kept
+    requires { (64 ≤ length queue.old) × (length queue.old ≤ 65536) × (filled ≤ 65536) × (on ≡ true → filled ≤ length queue.old - 64) }
+    ensures { Hears (heard queue.old s.now filled on (L.text line.now)) queue.new result.session result.filled }
+{
+    if on {
+        hear(*s, say(queue, filled, line))
+    } else {
+        Kept {
+            session: *s,
+            filled: filled as u64,
+        }
     }
 }

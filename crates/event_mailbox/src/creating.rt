@@ -10,16 +10,16 @@ use crate::Changed;
 use model::{Mailbox, Session};
 
 // The row of a new mailbox; INBOX in any case is INBOX.
-pub fn new_box(id: u16, a: u8, validity: u32, counter: u64, name: &[u8]) -> Mailbox
-    ensures { result ≡ new_box id a validity counter (argument name.now) }
+pub fn new_box(id: u16, attributes: u8, uidvalidity: u32, counter: u64, name: &[u8]) -> Mailbox
+    ensures { result ≡ new_box id attributes uidvalidity counter (argument name.now) }
 {
     let kept = names::stored(name);
     let octets = kept.octets;
     Mailbox {
         id,
-        attributes: a,
+        attributes,
         namelen: kept.len,
-        uidvalidity: validity,
+        uidvalidity,
         uidnext: 1,
         counterlow: table_mailboxes::low_half(counter),
         counterhigh: table_mailboxes::high_half(counter),
@@ -30,21 +30,20 @@ pub fn new_box(id: u16, a: u8, validity: u32, counter: u64, name: &[u8]) -> Mail
 // Row x is new, and y stands for its parent.
 pub fn create(
     queue: &mut [u8],
-    s: Session,
+    s: &Session,
     filled: usize,
     x: Mailbox,
-    y: Mailbox,
+    y: &Mailbox,
     quiet: u8,
 ) -> Changed
-    requires { Room (length queue.old) filled s }
-    ensures { Leaves (create_after queue.old s filled y x quiet) result.row queue.new result.session result.filled }
+    requires { Room (length queue.old) filled s.now }
+    ensures { Leaves (create_after queue.old s.now filled y.now x quiet) result.row queue.new result.session result.filled }
 {
-    let mark = crate::mark_of(x);
-    let kept = crate::tell_change(queue, s, filled, mark, x, y, quiet);
-    let session = kept.session;
+    let mark = crate::mark_of(&x);
+    let kept = crate::tell_change(queue, s, filled, mark, &x, y, quiet);
     Changed {
         row: x,
-        session,
+        session: kept.session,
         filled: kept.filled,
     }
 }

@@ -11,14 +11,14 @@ use model::{Mailbox, Session};
 // What is said of row x before it goes, and of its parent, for which y stands: asked and allowed as a create is.
 pub fn delete(
     queue: &mut [u8],
-    s: Session,
+    s: &Session,
     filled: usize,
-    x: Mailbox,
-    y: Mailbox,
+    x: &Mailbox,
+    y: &Mailbox,
     quiet: u8,
 ) -> Kept
-    requires { Room (length queue.old) filled s }
-    ensures { Hears (delete_heard queue.old s filled y x quiet) queue.new result.session result.filled }
+    requires { Room (length queue.old) filled s.now }
+    ensures { Hears (delete_heard queue.old s.now filled y.now x.now quiet) queue.new result.session result.filled }
 {
     crate::tell_change(queue, s, filled, Mark::NonExistent, x, y, quiet)
 }

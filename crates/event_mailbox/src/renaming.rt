@@ -10,109 +10,55 @@ ghost use Rattle.laws.specs.Room.{Room};
 ghost use Rattle.event_mailbox.specs.Renaming.{rename_told, rename_after};
 
 use crate::Changed;
-use line_mailbox::Mark;
-use line_put::{Kept, Said};
+use line_mailbox::Renamed;
 use model::{Mailbox, Session};
-
-// The LIST line of row y that was x, or the overflow line.
-fn say_rows(queue: &mut [u8], at: usize, mark: Mark, y: Mailbox, x: Mailbox) -> Said
-    requires { (64 ≤ length queue.old) × (length queue.old ≤ 65536) × (at ≤ length queue.old - 64) }
-    ensures { Says queue.old at (render (renamed (mark_of mark) (name_of y) (name_of x))) queue.new result.fits result.end }
-{
-    let new = y.name;
-    let old = x.name;
-    let m = table_mailboxes::row::name_end(y);
-    let n = table_mailboxes::row::name_end(x);
-    line_mailbox::say_renamed(queue, at, mark, &new[..m], &old[..n])
-}
-
-// The same, if somebody is told.
-fn tell_rows(
-    queue: &mut [u8],
-    s: Session,
-    filled: usize,
-    on: bool,
-    mark: Mark,
-    y: Mailbox,
-    x: Mailbox,
-) -> Kept
-    requires { (64 ≤ length queue.old) × (length queue.old ≤ 65536) × (filled ≤ 65536) × (on ≡ true → filled ≤ length queue.old - 64) }
-    ensures { Hears (heard queue.old s filled on (render (renamed (mark_of mark) (name_of y) (name_of x)))) queue.new result.session result.filled }
-{
-    if !on {
-        return Kept {
-            session: s,
-            filled: filled as u64,
-        };
-    }
-    let said = say_rows(queue, filled, mark, y, x);
-    let end = said.end as u64;
-    if said.fits {
-        return Kept {
-            session: s,
-            filled: end,
-        };
-    }
-    Kept {
-        session: line_put::silence(s),
-        filled: end,
-    }
-}
+use table_mailboxes::row;
 
 // The row with a name; INBOX in any case is INBOX.
-pub fn with_name(x: Mailbox, name: &[u8]) -> Mailbox
-    ensures { result ≡ with_name x (argument name.now) }
+pub fn with_name(x: &Mailbox, name: &[u8]) -> Mailbox
+    ensures { result ≡ with_name x.now (argument name.now) }
 {
     let kept = names::stored(name);
     let octets = kept.octets;
     Mailbox {
-        id: x.id,
-        attributes: x.attributes,
         namelen: kept.len,
-        uidvalidity: x.uidvalidity,
-        uidnext: x.uidnext,
-        counterlow: x.counterlow,
-        counterhigh: x.counterhigh,
         name: octets,
+        ..*x
     }
 }
 
 // Whether somebody is told that row x becomes y: asked by the old name or by the new one.
-fn rename_told(s: Session, x: Mailbox, y: Mailbox, quiet: u8) -> bool
-    ensures { result ≡ rename_told s x y quiet }
+fn rename_told(s: &Session, x: &Mailbox, y: &Mailbox, quiet: u8) -> bool
+    ensures { result ≡ rename_told s.now x.now y.now quiet }
 {
-    if quiet != 0 {
-        return false;
-    }
-    if !table_mailboxes::row::has_rights(x.attributes) {
-        return false;
-    }
-    if match_groups::is_asked_of(s, x, 3) {
-        return true;
-    }
-    match_groups::is_asked_of(s, y, 3)
+    quiet == 0
+        && row::has_rights(x.attributes)
+        && (match_groups::is_asked_of(s, x, 3) || match_groups::is_asked_of(s, y, 3))
 }
 
 // Row x gets a name.
 pub fn rename(
     queue: &mut [u8],
-    s: Session,
+    s: &Session,
     filled: usize,
-    x: Mailbox,
+    x: &Mailbox,
     name: &[u8],
     quiet: u8,
 ) -> Changed
-    requires { Room (length queue.old) filled s }
-    ensures { Leaves (rename_after queue.old s filled x (argument name.now) quiet) result.row queue.new result.session result.filled }
+    requires { Room (length queue.old) filled s.now }
+    ensures { Leaves (rename_after queue.old s.now filled x.now (argument name.now) quiet) result.row queue.new result.session result.filled }
 {
     let y = with_name(x, name);
-    let on = rename_told(s, x, y, quiet);
-    let mark = crate::mark_of(x);
-    let kept = tell_rows(queue, s, filled, on, mark, y, x);
-    let session = kept.session;
+    let on = rename_told(s, x, &y, quiet);
+    let line = Renamed {
+        mark: crate::mark_of(x),
+        new: row::name(&y),
+        old: row::name(x),
+    };
+    let kept = line_put::tell(queue, s, filled, on, &line);
     Changed {
         row: y,
-        session,
+        session: kept.session,
         filled: kept.filled,
     }
 }

@@ -9,6 +9,7 @@ ghost use Rattle.event_mailbox.specs.Rights.{grant_row, grant_mark, grant_after}
 use crate::Changed;
 use line_mailbox::Mark;
 use model::{Mailbox, Session};
+use table_mailboxes::has;
 
 // The row with these rights.
 pub fn with_rights(x: Mailbox, rights: u8) -> Mailbox
@@ -22,48 +23,43 @@ pub fn with_rights(x: Mailbox, rights: u8) -> Mailbox
 fn grant_row(x: Mailbox, z: Mailbox) -> Mailbox
     ensures { result ≡ grant_row x z }
 {
-    if table_mailboxes::has(x.attributes, 4) {
-        if table_mailboxes::has(z.attributes, 4) {
-            return crate::with_attributes(x, 0);
-        }
-        return x;
+    match (has(x.attributes, 4), has(z.attributes, 4)) {
+        (true, false) => x,
+        (false, true) => z,
+        _ => crate::with_attributes(x, 0),
     }
-    if table_mailboxes::has(z.attributes, 4) {
-        return z;
-    }
-    crate::with_attributes(x, 0)
 }
 
 // How the mailbox is listed then.
-fn grant_mark(x: Mailbox, z: Mailbox) -> Mark
-    ensures { mark_of result ≡ grant_mark x z }
+fn grant_mark(x: &Mailbox, z: &Mailbox) -> Mark
+    ensures { mark_of result ≡ grant_mark x.now z.now }
 {
-    if table_mailboxes::has(x.attributes, 4) {
-        return Mark::NonExistent;
+    if has(x.attributes, 4) {
+        Mark::NonExistent
+    } else {
+        crate::mark_of(z)
     }
-    crate::mark_of(z)
 }
 
 // The rights of row x change, and y stands for its parent.
 pub fn grant(
     queue: &mut [u8],
-    s: Session,
+    s: &Session,
     filled: usize,
     x: Mailbox,
-    y: Mailbox,
+    y: &Mailbox,
     rights: u8,
 ) -> Changed
-    requires { Room (length queue.old) filled s × (rights ≤ 48) }
-    ensures { Leaves (grant_after queue.old s filled y x rights) result.row queue.new result.session result.filled }
+    requires { Room (length queue.old) filled s.now × (rights ≤ 48) }
+    ensures { Leaves (grant_after queue.old s.now filled y.now x rights) result.row queue.new result.session result.filled }
 {
     let z = with_rights(x, rights);
     let counting = grant_row(x, z);
-    let mark = grant_mark(x, z);
-    let kept = crate::tell_change(queue, s, filled, mark, counting, y, 0);
-    let session = kept.session;
+    let mark = grant_mark(&x, &z);
+    let kept = crate::tell_change(queue, s, filled, mark, &counting, y, 0);
     Changed {
         row: z,
-        session,
+        session: kept.session,
         filled: kept.filled,
     }
 }

@@ -7,8 +7,9 @@ ghost use Rattle.laws.specs.Room.{Room};
 ghost use Rattle.event_mailbox.specs.Subscriptions.{differs, subscribe_told, subscribe_mark, subscribe_after};
 
 use crate::Changed;
-use line_mailbox::Mark;
+use line_mailbox::{ListLine, Mark};
 use model::{Mailbox, Session};
+use table_mailboxes::{has, row};
 
 // Attributes with bit 3 as b says.
 pub fn with_subscribed(a: u8, b: u8) -> u8
@@ -22,27 +23,18 @@ pub fn with_subscribed(a: u8, b: u8) -> u8
 pub fn does_differ(a: u8, b: u8) -> bool
     ensures { result ≡ differs a b }
 {
-    if table_mailboxes::has(a, 3) {
-        return b == 0;
-    }
-    b == 1
+    if has(a, 3) { b == 0 } else { b == 1 }
 }
 
 // Whether somebody is told.
-fn subscribe_told(s: Session, x: Mailbox, b: u8, quiet: u8) -> bool
-    ensures { result ≡ subscribe_told s x b quiet }
+fn subscribe_told(s: &Session, x: &Mailbox, b: u8, quiet: u8) -> bool
+    ensures { result ≡ subscribe_told s.now x.now b quiet }
 {
-    if quiet != 0 {
-        return false;
-    }
-    if !does_differ(x.attributes, b) {
-        return false;
-    }
-    if !table_mailboxes::row::has_rights(x.attributes) {
-        return false;
-    }
-    let y = crate::with_attributes(x, with_subscribed(x.attributes, 1));
-    match_groups::is_asked_of(s, y, 4)
+    let attributes = with_subscribed(x.attributes, 1);
+    quiet == 0
+        && does_differ(x.attributes, b)
+        && row::has_rights(x.attributes)
+        && match_groups::is_asked(s, row::name(x), attributes, 4)
 }
 
 // How the mailbox is listed.
@@ -50,31 +42,33 @@ fn subscribe_mark(b: u8) -> Mark
     ensures { mark_of result ≡ subscribe_mark b }
 {
     if b == 1 {
-        return Mark::Subscribed;
+        Mark::Subscribed
+    } else {
+        Mark::Plain
     }
-    Mark::Plain
 }
 
 // Row x becomes subscribed or unsubscribed.
 pub fn subscribe(
     queue: &mut [u8],
-    s: Session,
+    s: &Session,
     filled: usize,
-    x: Mailbox,
+    x: &Mailbox,
     b: u8,
     quiet: u8,
 ) -> Changed
-    requires { Room (length queue.old) filled s × (b ≤ 1) }
-    ensures { Leaves (subscribe_after queue.old s filled x b quiet) result.row queue.new result.session result.filled }
+    requires { Room (length queue.old) filled s.now × (b ≤ 1) }
+    ensures { Leaves (subscribe_after queue.old s.now filled x.now b quiet) result.row queue.new result.session result.filled }
 {
-    let y = crate::with_attributes(x, with_subscribed(x.attributes, b));
     let on = subscribe_told(s, x, b, quiet);
-    let mark = subscribe_mark(b);
-    let kept = crate::tell_row(queue, s, filled, on, mark, x);
-    let session = kept.session;
+    let line = ListLine {
+        mark: subscribe_mark(b),
+        name: row::name(x),
+    };
+    let kept = line_put::tell(queue, s, filled, on, &line);
     Changed {
-        row: y,
-        session,
+        row: crate::with_attributes(*x, with_subscribed(x.attributes, b)),
+        session: kept.session,
         filled: kept.filled,
     }
 }

@@ -1,5 +1,5 @@
 // What is read and written of the rows by columns.
-ghost use Rattle.std.specs.Prelude.{◌≡◌, List, ◌≤◌, ◌<◌, length, take, IfSome};
+ghost use Rattle.std.specs.Prelude.{◌≡◌, List, ℕ, ◌≤◌, ◌<◌, eqb, length, take, IfSome, position};
 ghost use Rattle.model.specs.Lists.{anyb, same};
 ghost use Rattle.model.specs.declared.Mailbox.{Mailbox};
 ghost use Rattle.table_mailboxes.specs.Columns.{Column, Names, name_at};
@@ -63,6 +63,7 @@ impl Columns {
     pub fn find(&self, id: u64) -> Option<usize>
         ensures column { (l : List Mailbox) → length l ≡ self.now.n → Column (λ (x : Mailbox). x.id) l self.now.ids → result ≡ place_in id l }
         ensures within { IfSome result (λ k. k < self.now.n) }
+        ensures first { result ≡ position (λ (y : ℕ). eqb y id) (take self.now.n self.now.ids) }
     {
         self.ids[..self.n].iter().position(|x| *x == id)
     }

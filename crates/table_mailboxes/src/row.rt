@@ -15,7 +15,8 @@ pub fn name_end(x: Mailbox) -> usize
 
 // A row's name.
 pub fn name(x: &Mailbox) -> &[u8]
-    ensures { result.now ≡ name_of x.now }
+    ensures name { result.now ≡ name_of x.now }
+    ensures short { length result.now ≤ 64 }
 {
     &x.name[..crate::clip(x.namelen)]
 }

@@ -12,5 +12,5 @@ pub returns : goal.returns
 returns c =
     λ l h p q r. stands-found c.args.s.now l (name_of c.args.x.now) c.found.result
     (c.found.ensures l h p q r
-    ∙ (ap (λ (k : LentName). row_of k.len k.octets (listed_row (take k.len k.octets) l).attributes) (c.parent_of.ensures ∙ ap (λ (n : Name). kept_name (parent_of n)) c.name.ensures)
+    ∙ (ap (λ (k : LentName). row_of k.len k.octets (listed_row (take k.len k.octets) l).attributes) (c.parent_of.ensures ∙ ap (λ (n : Name). kept_name (parent_of n)) c.name.ensures.name)
     ∙ named_row (parent_of (name_of c.args.x.now)) l))

@@ -14,7 +14,8 @@ use Rattle.model.specs.declared.Session.{Session}
 use Rattle.model.specs.Text.{bit}
 use Rattle.model.specs.Rendered.{render-append}
 use Rattle.table_mailboxes.specs.Columns.{Column, Names, name_at, name_at_lem}
-use Rattle.line_put.specs.Put.{Put, put_none, put_as, ◌then◌}
+use Rattle.line_put.specs.declared.Writer.{Writer}
+use Rattle.line_put.specs.Writes.{Writes, writes_nothing, Goes, goes_on}
 use Rattle.order_mailboxes.specs.Named.{chosen, row_at, Below}
 use Rattle.table_mailboxes.specs.Columns.{noted}
 
@@ -111,22 +112,18 @@ module _ (f : Mailbox → List Line) (l : List Mailbox) (attributes lens validit
       ∙ sym (render-append (f (row_at l (get_or at n 0))) (concat_map f (chosen l at n)))
 
 -- what is still to be written, when i places are left
-abbrev pub Goes : List ℕ → ℕ → ℕ → List ℕ → List ℕ → ℕ → List ℕ → Type 0
-Goes q at lim all q' o rest = (q'' : List ℕ) (r : ℕ) → Put q' o lim rest q'' r → Put q at lim all q'' r
-
-module _ (attributes lens validities nexts counters names order counts asks q : List ℕ) (at lim : ℕ) (all q' : List ℕ) (o : ℕ) where
+module _ (attributes lens validities nexts counters names order counts asks : List ℕ) {w w' : Writer} {all : List ℕ} where
   pub goes_next :
-      (i : ℕ) (q₁ : List ℕ) (o₁ : ℕ) → 0 < i
-      → Goes q at lim all q' o (texts attributes lens validities nexts counters names order counts asks i)
-      → Put q' o lim (place_text attributes lens validities nexts counters names order counts asks (get_or order (i - 1) 0)) q₁ o₁
-      → Goes q at lim all q₁ o₁ (texts attributes lens validities nexts counters names order counts asks (i - 1))
-  goes_next i q₁ o₁ h g p q'' r z =
+      (i : ℕ) {w₁ : Writer} → 0 < i
+      → Goes w all w' (texts attributes lens validities nexts counters names order counts asks i)
+      → Writes w' (place_text attributes lens validities nexts counters names order counts asks (get_or order (i - 1) 0)) w₁
+      → Goes w all w₁ (texts attributes lens validities nexts counters names order counts asks (i - 1))
+  goes_next i h g p =
       let e : i - 1 + 1 ≡ i = omega arith in
-      g q'' r (put_as (◌then◌ p z) (sym (texts-more attributes lens validities nexts counters names order counts asks (i - 1))
-      ∙ ap (texts attributes lens validities nexts counters names order counts asks) e))
+      goes_on (rw (← e, texts-more attributes lens validities nexts counters names order counts asks (i - 1)) at g) p
 
-  pub goes_end : lim ≤ length q' → Goes q at lim all q' o (texts attributes lens validities nexts counters names order counts asks 0) → Put q at lim all q' o
-  goes_end w g = g q' o (put_as (put_none q' o lim w) (sym (texts_none attributes lens validities nexts counters names order counts asks)))
+  pub goes_end : w'.limit ≤ length w'.queue.now → Goes w all w' (texts attributes lens validities nexts counters names order counts asks 0) → Writes w all w'
+  goes_end h g = g w' (writes_nothing (texts_none attributes lens validities nexts counters names order counts asks) h)
 
 -- the listing of the rules
 pub listing-is :
@@ -134,14 +131,3 @@ pub listing-is :
     → chosen (boxes m) order r ≡ sorted by_name (filterb (λ (x : Mailbox). may_list x && concerns m s x) (boxes m))
     → render_all (concat_map (listing_line m s wanted) (chosen (boxes m) order r)) ≡ render_all (listing m s wanted)
 listing-is m s wanted order r c = ap (λ (l : List Mailbox). render_all (concat_map (listing_line m s wanted) l)) c
-
--- the three ways of a row's line, as code takes them
-module _ (a : ℕ) (n : List ℕ) (next validity highest messages : ℕ) (r b : Bool) (e : r ≡ bit 5 a) where
-  pub line_barred : r ≡ false → render (list no_access n) ≡ line_by a n next validity highest messages b
-  line_barred f = rw (← e, f)
-
-  pub line_none : r ≡ true → b ≡ false → [] ≡ line_by a n next validity highest messages b
-  line_none f g = rw (← e, f, g)
-
-  pub line-status : r ≡ true → b ≡ true → render (status n (set_items messages next validity highest)) ≡ line_by a n next validity highest messages b
-  line-status f g = rw (← e, f, g)

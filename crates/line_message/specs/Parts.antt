@@ -1,7 +1,7 @@
 -- The lines about a mailbox's messages, one after the other along its entries by UID: EXPUNGE, FETCH of a mark, FETCH of a new message. Assumes nothing.
-use Rattle.std.specs.Prelude.{◌≡◌, Bool, true, false, cond, ◌&&◌, ℕ, ◌+◌, ◌-◌, ◌<◌, ◌≤◌, ltb, length, get_or}
+use Rattle.std.specs.Prelude.{◌≡◌, Bool, true, false, cond, ◌&&◌, ℕ, ◌+◌, ◌-◌, ◌<◌, ◌≤◌, ◌/◌, ◌%◌, ltb, length, get_or}
 use Rattle.std.proofs.Math.Path.{refl, ap, ap₂, sym}
-use Rattle.std.proofs.Common.{◌∙◌, arith}
+use Rattle.std.proofs.Common.{◌∙◌, arith, lt-ltb, le-ltb, eq-eqb, ne_eqb}
 use Rattle.std.proofs.Math.Bool.{not}
 use mathlib.Core.List.{List, [], ◌∷◌, ◌++◌}
 use Rattle.model.specs.Lists.{filterb, keep}
@@ -36,7 +36,31 @@ unfoldable pub part_text : Part → ℕ → ℕ → List Message → List ℕ
 part_text part told n [] = []
 part_text part told n (e ∷ l) = text_of part told n e ++ part_text part told (next_of part told n e) l
 
+-- ---- one entry, as the code tests it
 module _ (told n : ℕ) (e : Message) where
+  pub off-gone : told ≤ uid_of e → text_of Expunged told n e ≡ []
+  off-gone h = rw (le-ltb (uid_of e) told h)
+
+  pub off-marked : told ≤ uid_of e → text_of Marked told n e ≡ []
+  off-marked h = rw (le-ltb (uid_of e) told h)
+
+  pub gone-marked : e.states % 2 ≡ 1 → text_of Marked told n e ≡ []
+  gone-marked k = go (ltb (uid_of e) told)
+    where
+      go : (b : Bool) → cond ((b && not (expunged e)) && marked e) (fetch_text n (uid_of e) e.flags e.counter) [] ≡ []
+      go true = rw (eq-eqb (e.states % 2) 1 k)
+      go false = refl
+
+  pub is-marked : uid_of e < told → (e.states % 2 ≡ 1 → ⊥) → e.states / 2 % 2 ≡ 1 → fetch_text n (uid_of e) e.flags e.counter ≡ text_of Marked told n e
+  is-marked h k m = rw (lt-ltb (uid_of e) told h, ne_eqb (e.states % 2) 1 k, eq-eqb (e.states / 2 % 2) 1 m)
+
+  pub not-marked : (e.states / 2 % 2 ≡ 1 → ⊥) → text_of Marked told n e ≡ []
+  not-marked m = go (stays told true e)
+    where
+      go : (b : Bool) → cond (b && marked e) (fetch_text n (uid_of e) e.flags e.counter) [] ≡ []
+      go true = rw (ne_eqb (e.states / 2 % 2) 1 m)
+      go false = refl
+
   -- the next place is at most one further
   pub next_most : (part : Part) → next_of part told n e ≤ n + 1
   next_most Expunged = most (stays told true e)

@@ -1,15 +1,13 @@
--- `put_lines`: the loop keeps that the lines of the places above i are written. Assumes nothing.
-use mathlib.Core.Path.{◌≡◌}
+-- `put_lines`: the lines of the places above i are written. Assumes nothing.
 use Prim.Native.Nat.{◌≤◌, ◌+◌, ◌*◌}
 use lib.ListN.{length}
-use Rattle.line_listing.specs.Telling.{texts, Goes}
+use Rattle.line_put.specs.Writes.{Goes}
+use Rattle.line_listing.specs.Telling.{texts}
 use Rattle.line_listing.proofs.put_lines.Given as goal
 
 abbrev pub invariant-loop-i : goal.invariant-loop-i
-invariant-loop-i l = (l.i ≤ l.n)
-    × (length l.queue ≡ length l.initial.queue)
-    × (l.end + 300 * l.i ≤ l.at + 300 * l.n)
-    × Goes l.initial.queue l.at l.limit (texts l.attributes l.lens l.validities l.nexts l.counters l.names l.order l.counts l.asks l.n) l.queue l.end (texts l.attributes l.lens l.validities l.nexts l.counters l.names l.order l.counts l.asks l.i)
-
-abbrev pub decreases-loop-i : goal.decreases-loop-i
-decreases-loop-i l = l.i
+invariant-loop-i l = record {
+  limit : l.w.limit ≤ length l.w.queue.now;
+  upper_bound : l.w.at + 300 * l.i ≤ l.initial.w.at + 300 * l.n;
+  put : Goes l.initial.w (texts l.attributes l.lens l.validities l.nexts l.counters l.names l.order l.counts l.asks l.n) l.w (texts l.attributes l.lens l.validities l.nexts l.counters l.names l.order l.counts l.asks l.i);
+}

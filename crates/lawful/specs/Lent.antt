@@ -1,10 +1,10 @@
 -- The lent memory put together, and its conditions as the code takes them. Assumes nothing.
 use Rattle.std.specs.Prelude.{◌≡◌, refl, Bool, true, false, cond, ◌&&◌, ◌||◌, List, [], ◌∷◌, ℕ, ◌*◌, ◌-◌, ◌/◌, ◌<◌, ◌≤◌, eqb, leb, length, take, get_or}
-use Rattle.std.proofs.Common.{ap, sym, ◌∙◌, arith, length-take-le, take-take, eq-eqb, ne_eqb, le-leb, leb-true, lt-ltb, le-ltb}
+use Rattle.std.proofs.Common.{ap, sym, ◌∙◌, arith, length-take-le, take-take, eq-eqb, ne_eqb, le-leb, leb-true}
 use Rattle.std.proofs.lemmas.Bool.{lt-leb}
 use Rattle.model.specs.Laws.{each}
 use Rattle.model.specs.Lists.{allb, apart, every}
-use Rattle.model.specs.Memory.{Memory, known, the_mailbox, place, uid_of, no_mailbox, counter_of}
+use Rattle.model.specs.Memory.{Memory, known, the_mailbox, place, no_mailbox}
 use Rattle.table_mailboxes.specs.Walks.{unknown_whole, known_whole}
 use Rattle.model.specs.Lawful.{mailbox_ok, message_ok, clash, twin, owned, state_ok, view_ok, session_ok, sizes_ok, contents_ok, lawful}
 use Rattle.model.specs.declared.Mailbox.{Mailbox}

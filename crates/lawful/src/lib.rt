@@ -118,7 +118,13 @@ pub fn is_lawful(
     ensures { (t rows : List Mailbox) (q : List ℕ) → Lent t rows lent → LaidIn (take counts.mailboxes rows) cols.now → length q ≡ room → result ≡ lawful (memory t (messages words.now) counts s.now q) }
 {
     let entries = words.len() / 6;
-    if !sizes_ok(room as u64, lent as u64, entries as u64, counts, s.groupcount) {
+    if !sizes_ok(
+        room as u64,
+        lent as u64,
+        entries as u64,
+        counts,
+        s.groupcount,
+    ) {
         return false;
     }
     contents_ok(cols, &words[..6 * (counts.messages as usize)], s)

@@ -26,5 +26,5 @@ returns-then-rows_ok c =
     let ok = sym (c.rows_ok.ensures l w) ∙ c.if-rows_ok.true in
     let view : view_by l c.args.s.now.selected c.args.s.now.told ≡ true = rw (← c.from.ensures, ← c.from-2.ensures) (sym (c.view_ok.ensures l w.0 (owners w.1)) ∙ c.if-view_ok.true) in
     let tables : c.tables_ok.result ≡ every (tables_ok l (messages c.args.words.now) c.args.s.now.selected c.args.s.now.told) =
-        rw (← c.from.ensures, ← c.from-2.ensures) (c.tables_ok.ensures l w.0 (owners w.1) w.1.counter (called w.1) ok) in
+    rw (← c.from.ensures, ← c.from-2.ensures) (c.tables_ok.ensures l w.0 (owners w.1) w.1.counter (called w.1) ok) in
     tables ∙ tables_decide l (messages c.args.words.now) c.args.s.now ok (sym c.session_ok.ensures ∙ c.if-session_ok.true) view

@@ -1,7 +1,7 @@
 -- The sizes first; where they are right, the rows in use are those that came by columns, and the contents decide.
-use Rattle.std.proofs.Common.{sym, ◌∙◌, ◌/◌, arith, length}
+use Rattle.std.proofs.Common.{sym, ◌∙◌}
 use Rattle.table_messages.specs.Words.{messages-take}
-use Rattle.lawful.specs.Lent.{entries_used, enough-words, wrong_sizes, contents_decide}
+use Rattle.lawful.specs.Lent.{wrong_sizes, contents_decide}
 use Rattle.lawful.proofs.is_lawful.Goals as goal
 
 pub returns-then-not-sizes_ok : goal.returns-then-not-sizes_ok

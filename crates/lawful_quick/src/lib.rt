@@ -48,6 +48,7 @@ fn run(
     ensures { Ran words.now end cols.now.ids cols.now.counters g.now.slots view.selected view.told.0 from last.old result last.new }
 {
     let mut p = from;
+    // Kept: the place where a run stops is part of its answer, which a `for` would count beside.
     while p.at < end {
         let b = p.at;
         let k = usize::from(g.slots[slot(words[b])]);

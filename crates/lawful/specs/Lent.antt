@@ -1,10 +1,9 @@
 -- The lent memory put together, and its conditions as the code takes them. Assumes nothing.
 use Rattle.std.specs.Prelude.{◌≡◌, refl, Bool, true, false, cond, ◌&&◌, ◌||◌, List, [], ◌∷◌, ℕ, ◌*◌, ◌-◌, ◌/◌, ◌<◌, ◌≤◌, eqb, leb, length, take, get_or}
-use Rattle.std.proofs.Common.{ap, sym, ◌∙◌, arith, length-take-le, take-take, eq-eqb, ne_eqb, le-leb, leb-true, lt-ltb, le-ltb}
-use Rattle.std.proofs.lemmas.Bool.{lt-leb}
+use Rattle.std.proofs.Common.{ap, sym, ◌∙◌, arith, length-take-le, take-take, eq-eqb, ne_eqb, leb-true}
 use Rattle.model.specs.Laws.{each}
 use Rattle.model.specs.Lists.{allb, apart, every}
-use Rattle.model.specs.Memory.{Memory, known, the_mailbox, place, uid_of, no_mailbox, counter_of}
+use Rattle.model.specs.Memory.{Memory, known, the_mailbox, place, no_mailbox}
 use Rattle.table_mailboxes.specs.Walks.{unknown_whole, known_whole}
 use Rattle.model.specs.Lawful.{mailbox_ok, message_ok, clash, twin, owned, state_ok, view_ok, session_ok, sizes_ok, contents_ok, lawful}
 use Rattle.model.specs.declared.Mailbox.{Mailbox}
@@ -44,27 +43,6 @@ sizes_by q lent entries k groups =
     ∷ leb entries 1024
     ∷ leb k.messages entries
     ∷ []
-
--- the queue's length, rung by rung
-module _ (q : ℕ) where
-  pub too_small : q < 1024 → (leb 1024 q && leb q 65536) ≡ false
-  too_small h = rw (lt-leb 1024 q h)
-
-  pub too_large : 1024 ≤ q → 65536 < q → (leb 1024 q && leb q 65536) ≡ false
-  too_large h k = rw (le-leb 1024 q h, lt-leb q 65536 k)
-
-  pub right-size : 1024 ≤ q → q ≤ 65536 → (leb 1024 q && leb q 65536) ≡ true
-  right-size h k = rw (le-leb 1024 q h, le-leb q 65536 k)
-
-module _ (q f groups : ℕ) where
-  pub too-full : q < f → false ≡ filled_by q f groups
-  too-full h = rw (lt-leb f q h)
-
-  pub none-stands : f ≤ q → groups ≡ 0 → true ≡ filled_by q f groups
-  none-stands h e = rw (le-leb f q h, eq-eqb groups 0 e)
-
-  pub one-stands : f ≤ q → (groups ≡ 0 → ⊥) → leb f (q - 64) ≡ filled_by q f groups
-  one-stands h e = rw (le-leb f q h, ne_eqb groups 0 e)
 
 -- what the sizes promise
 module _ (q lent entries : ℕ) (k : Counts) (groups : ℕ) (e : every (sizes_by q lent entries k groups) ≡ true) where

@@ -10,6 +10,7 @@ ghost use Rattle.lawful_digests.specs.Digest.{word, mixed, folded, digest};
 // ---- tables of guesses
 
 // The rows of numbers that differ: by the slot of each number the last row that took it, and by each row the one that had its slot before it.
+#[derive(Drop)]
 pub struct SlotTable {
     pub slots: [u8; 1024],
     pub chain: [u8; 64],

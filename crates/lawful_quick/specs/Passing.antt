@@ -8,7 +8,8 @@ use Rattle.model.specs.Memory.{no_mailbox, no_message, uid_of, place, known, the
 use Rattle.model.specs.Lawful.{counter_ok, clash, mailbox_ok, message_ok, twin, owned}
 use Rattle.demands.specs.Lasting.Rows.{all_snoc, all_imp, all_both, any_none, apart_snoc}
 use Rattle.table_mailboxes.specs.Columns.{Column}
-use Rattle.table_messages.specs.Words.{row, messages, messages_get, messages-length}
+use Rattle.table_messages.specs.Words.{row, messages, messages_get, messages-length, messages-count}
+use Rattle.std.proofs.Math.Seq.{take-length}
 use Rattle.table_messages.specs.Joined.{join_l, join_r}
 use Rattle.model.specs.declared.Mailbox.{Mailbox}
 use Rattle.model.specs.declared.Message.{Message}
@@ -214,6 +215,10 @@ module _ (l : List Mailbox) (ids nexts counters : List ℕ) (w : Owners l ids ne
           states = g.states;
           twins = g.twins;
         }
+
+-- the entries of all the words
+pub all_used : (ws : List ℕ) (n : ℕ) → n ≡ length ws / 6 → take n (messages ws) ≡ messages ws
+all_used ws n e = rw (e, ← messages-count ws) (take-length (messages ws))
 
 -- a pass with one entry more
 pub passed_next : (ws ids nexts counters : List ℕ) (l : List Mailbox) → Owners l ids nexts → Column counter_of l counters → apart clash l ≡ true

@@ -14,6 +14,7 @@ ghost use Rattle.lawful.specs.Lent.{Lent, memory};
 use model::{Counts, LentGroup, LentName, Mailbox, Session};
 use std::io;
 use std::io::{Read, Write};
+use table_mailboxes::Columns;
 
 // Writes at least one octet, or fails and has written none.
 fn write_once<W: Write>(writer: &mut W, text: &[u8]) -> io::Result<usize>
@@ -46,26 +47,11 @@ fn next_octets<R: Read>(reader: &mut R, octets: &mut [u8]) {
     let _ = reader.read_exact(octets);
 }
 
-// A number of four octets, the lowest first.
-fn little(a: u8, b: u8, c: u8, d: u8) -> u64
-    ensures { result < 4294967296 }
-{
-    let high = table_mailboxes::wide_octet(c) + 256 * table_mailboxes::wide_octet(d);
-    table_mailboxes::wide_octet(a) + 256 * table_mailboxes::wide_octet(b) + 65536 * high
-}
-
 // The next number.
 fn next_number<R: Read>(reader: &mut R) -> u64 {
     let mut o = [0u8; 8];
     next_octets(reader, &mut o);
-    little(o[0], o[1], o[2], o[3]) + 4294967296 * little(o[4], o[5], o[6], o[7])
-}
-
-// A length, or the most that it may be.
-fn at_most(n: usize, most: usize) -> usize
-    ensures { result ≤ most }
-{
-    if n <= most { n } else { most }
+    u64::from_le_bytes(o)
 }
 
 // The next number as a length.
@@ -81,27 +67,22 @@ fn next_row<R: Read>(reader: &mut R) -> Mailbox {
     next_octets(reader, &mut o);
     next_octets(reader, &mut name);
     Mailbox {
-        id: (little(o[0], o[1], 0, 0) % 65536) as u16,
+        id: u16::from_le_bytes([o[0], o[1]]),
         attributes: o[2],
         namelen: o[3],
-        uidvalidity: little(o[4], o[5], o[6], o[7]) as u32,
-        uidnext: little(o[8], o[9], o[10], o[11]) as u32,
-        counterlow: little(o[12], o[13], o[14], o[15]) as u32,
-        counterhigh: little(o[16], o[17], o[18], o[19]) as u32,
+        uidvalidity: u32::from_le_bytes([o[4], o[5], o[6], o[7]]),
+        uidnext: u32::from_le_bytes([o[8], o[9], o[10], o[11]]),
+        counterlow: u32::from_le_bytes([o[12], o[13], o[14], o[15]]),
+        counterhigh: u32::from_le_bytes([o[16], o[17], o[18], o[19]]),
         name,
     }
 }
 
 // The next n rows, at the front of 64.
 fn next_rows<R: Read>(reader: &mut R, n: usize) -> [Mailbox; 64] {
-    let none = table_mailboxes::vacant();
-    let mut table = [none; 64];
-    let read = at_most(n, 64);
-    let mut i: usize = 0;
-    while i < read {
-        let x = next_row(reader);
-        table[i] = x;
-        i += 1;
+    let mut table = [table_mailboxes::vacant(); 64];
+    for x in &mut table[..n.min(64)] {
+        *x = next_row(reader);
     }
     table
 }
@@ -129,11 +110,8 @@ fn next_groups<R: Read>(reader: &mut R) -> [LentGroup; 8] {
         attributes: 0,
     };
     let mut groups = [none; 8];
-    let mut i: usize = 0;
-    while i < 8 {
-        let g = next_group(reader);
-        groups[i] = g;
-        i += 1;
+    for g in &mut groups {
+        *g = next_group(reader);
     }
     groups
 }
@@ -152,14 +130,13 @@ fn next_name<R: Read>(reader: &mut R) -> LentName {
 
 // The next sixteen names.
 fn next_names<R: Read>(reader: &mut R) -> [LentName; 16] {
-    let octets = [0u8; 64];
-    let none = LentName { len: 0, octets };
+    let none = LentName {
+        len: 0,
+        octets: [0; 64],
+    };
     let mut names = [none; 16];
-    let mut i: usize = 0;
-    while i < 16 {
-        let x = next_name(reader);
-        names[i] = x;
-        i += 1;
+    for x in &mut names {
+        *x = next_name(reader);
     }
     names
 }
@@ -171,10 +148,10 @@ fn next_session<R: Read>(reader: &mut R) -> Session {
     let groups = next_groups(reader);
     let names = next_names(reader);
     Session {
-        selected: (little(o[0], o[1], 0, 0) % 65536) as u16,
+        selected: u16::from_le_bytes([o[0], o[1]]),
         notified: o[2],
         groupcount: o[3],
-        told: little(o[4], o[5], o[6], o[7]) as u32,
+        told: u32::from_le_bytes([o[4], o[5], o[6], o[7]]),
         groups,
         names,
     }
@@ -182,10 +159,8 @@ fn next_session<R: Read>(reader: &mut R) -> Session {
 
 // The next words fill the slice.
 fn fill<R: Read>(reader: &mut R, words: &mut [u64]) {
-    let mut i = 0;
-    while i < words.len() {
-        words[i] = next_number(reader);
-        i += 1;
+    for w in words {
+        *w = next_number(reader);
     }
 }
 
@@ -205,47 +180,18 @@ fn next_counts<R: Read>(reader: &mut R) -> Counts {
 
 // Whether the memory is lawful, of whose mailbox table `lent` rows are lent and those that can be read are in `table`.
 fn judge(
-    table: [Mailbox; 64],
+    table: &[Mailbox; 64],
     lent: usize,
     words: &[u64],
     counts: Counts,
-    s: Session,
+    s: &Session,
     room: usize,
 ) -> bool
-    ensures { (t : List Mailbox) (q : List ℕ) → Lent t table lent → length q ≡ room → result ≡ lawful (memory t (messages words.now) counts s q) }
+    ensures { (t : List Mailbox) (q : List ℕ) → Lent t table.now lent → length q ≡ room → result ≡ lawful (memory t (messages words.now) counts s.now q) }
 {
-    let mut ids = [0u64; 64];
-    let mut attributes = [0u8; 64];
-    let mut lens = [0u8; 64];
-    let mut validities = [0u64; 64];
-    let mut nexts = [0u64; 64];
-    let mut counters = [0u64; 64];
-    let mut names = [0u8; 4096];
-    table_mailboxes::lay(
-        table,
-        counts.mailboxes,
-        &mut ids,
-        &mut attributes,
-        &mut lens,
-        &mut validities,
-        &mut nexts,
-        &mut counters,
-        &mut names,
-    );
-    lawful::is_lawful(
-        &ids,
-        &attributes,
-        &lens,
-        &validities,
-        &nexts,
-        &counters,
-        &names,
-        lent,
-        words,
-        counts,
-        s,
-        room,
-    )
+    let mut cols = Columns::empty();
+    cols.lay(table, counts.mailboxes);
+    lawful::is_lawful(&cols, lent, words, counts, s, room)
 }
 
 // Writes the answer.
@@ -263,30 +209,29 @@ fn print_answer<W: Write>(writer: &mut W, yes: bool) -> io::Result<()>
 fn judge_rest<R: Read>(
     reader: &mut R,
     words: &mut [u64],
-    table: [Mailbox; 64],
+    table: &[Mailbox; 64],
     lent: usize,
     counts: Counts,
     room: usize,
 ) -> bool {
     fill(reader, words);
     let s = next_session(reader);
-    judge(table, lent, words, counts, s, room)
+    judge(table, lent, words, counts, &s, room)
 }
 
-// The memory behind its name: 1 if it is lawful, else 0.
-fn answer<R: Read, W: Write>(reader: &mut R, writer: &mut W) -> io::Result<u64>
-    ensures ok { IfOk result (λ n. n ≤ 1) }
-    ensures err { OnErr result ((t : List ℕ) × Appends (W.contents writer.old) (W.contents writer.new) t) }
+// The memory behind its name: whether it is lawful.
+fn answer<R: Read, W: Write>(reader: &mut R, writer: &mut W) -> io::Result<bool>
+    ensures { OnErr result ((t : List ℕ) × Appends (W.contents writer.old) (W.contents writer.new) t) }
 {
     let room = next_length(reader);
     let lent = next_length(reader);
     let table = next_rows(reader, lent);
     let counts = next_counts(reader);
     let mut words = [0u64; 6240];
-    let n = at_most(next_length(reader), 6240);
-    let yes = judge_rest(reader, &mut words[..n], table, lent, counts, room);
+    let n = next_length(reader).min(6240);
+    let yes = judge_rest(reader, &mut words[..n], &table, lent, counts, room);
     print_answer(writer, yes)?;
-    if yes { Ok(1) } else { Ok(0) }
+    Ok(yes)
 }
 
 // Reads and writes the octets of a name.
@@ -302,21 +247,20 @@ fn print_name<R: Read, W: Write>(reader: &mut R, writer: &mut W, n: usize) -> io
     ensures { (t : List ℕ) × Appends (W.contents writer.old) (W.contents writer.new) t }
 {
     let mut name = [0u8; 64];
-    let m = at_most(n, 64);
-    copy_name(reader, writer, &mut name[..m])
+    copy_name(reader, writer, &mut name[..n.min(64)])
 }
 
-// One memory: 2 where there is none, else the answer.
-fn step<R: Read, W: Write>(reader: &mut R, writer: &mut W) -> io::Result<u64>
-    ensures ok { IfOk result (λ n. n ≤ 2) }
-    ensures err { OnErr result ((t : List ℕ) × Appends (W.contents writer.old) (W.contents writer.new) t) }
+// One memory, where there is one more: whether it is lawful.
+fn step<R: Read, W: Write>(reader: &mut R, writer: &mut W) -> io::Result<Option<bool>>
+    ensures { OnErr result ((t : List ℕ) × Appends (W.contents writer.old) (W.contents writer.new) t) }
 {
     let n = next_length(reader);
     if n == 0 {
-        return Ok(2);
+        return Ok(None);
     }
     print_name(reader, writer, n)?;
-    answer(reader, writer)
+    let yes = answer(reader, writer)?;
+    Ok(Some(yes))
 }
 
 // How many memories there were, and how many of them are lawful.
@@ -331,11 +275,10 @@ fn main(rt: HostRuntime) -> io::Result<()> {
     let mut cases: u64 = 0;
     let mut yes: u64 = 0;
     while cases < 100000 {
-        let r = step(&mut reader, &mut writer)?;
-        if r == 2 {
+        let Some(lawful) = step(&mut reader, &mut writer)? else {
             break;
-        }
-        yes += r;
+        };
+        yes += u64::from(lawful);
         cases += 1;
     }
     print_total(&mut writer, cases, yes)

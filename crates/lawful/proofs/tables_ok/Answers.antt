@@ -1,24 +1,22 @@
 -- The rows first, then the messages.
-use mathlib.Core.Path.{◌≡◌, sym, ◌∙◌}
-use mathlib.Core.Bool.{true}
-use lib.ListN.{take}
-use Rattle.model.specs.Lists.{apart, allb}
-use Rattle.model.specs.Lawful.{clash, twin}
+use Rattle.std.proofs.Common.{◌≡◌, sym, ◌∙◌, true, false}
+use Rattle.model.specs.Lists.{apart}
+use Rattle.model.specs.Lawful.{clash}
 use Rattle.table_messages.specs.Words.{messages}
-use Rattle.table_mailboxes.specs.Walks.{first_no}
-use Rattle.lawful_quick.specs.Passing.{entry_ok, slow_order}
+use Rattle.lawful_quick.specs.Passing.{slow_order}
 use Rattle.lawful.proofs.tables_ok.Goals as goal
 
-pub returns-then-not-rows_differ : goal.returns-then-not-rows_differ
-returns-then-not-rows_differ c =
-    let es = take c.args.used (messages c.args.words.now) in
+pub returns-then-rows_differ : goal.returns-then-rows_differ
+returns-then-rows_differ c =
     λ l h w x v ok.
-    rw (slow_order l es c.args.selected c.args.told.0)
-    (first_no (apart clash l) (allb (entry_ok l c.args.selected c.args.told.0) es) (apart twin es) (sym (c.rows_differ.ensures.0 l h v ok) ∙ c.if-not-rows_differ.true))
+    let yes : apart clash l ≡ true = sym (c.rows_differ.ensures.0 l h v ok) ∙ c.if-rows_differ.true in
+    rw (slow_order l (messages c.args.words.now) c.args.view.selected c.args.view.told.0, yes) (c.messages_ok.ensures l h w x ok yes)
 
-pub returns : goal.returns
-returns c =
-    let es = take c.args.used (messages c.args.words.now) in
+pub returns-else-rows_differ : goal.returns-else-rows_differ
+returns-else-rows_differ c =
     λ l h w x v ok.
-    let yes : apart clash l ≡ true = sym (c.rows_differ.ensures.0 l h v ok) ∙ c.if-not-rows_differ.false in
-    rw (slow_order l es c.args.selected c.args.told.0, yes) (c.messages_ok.ensures l h w x ok yes)
+    let no : apart clash l ≡ false = sym (c.rows_differ.ensures.0 l h v ok) ∙ c.if-rows_differ.false in
+    rw (slow_order l (messages c.args.words.now) c.args.view.selected c.args.view.told.0, no, c.if-rows_differ.false)
+
+pub rows_differ-requires : goal.rows_differ-requires
+rows_differ-requires c = c.new-g.ensures c.args.cols.now.n

@@ -1,14 +1,9 @@
 -- The last UID of each row bounds those of its mailbox so far, behind each run and the entry between two; in the end it is below the UIDNEXT.
-use Rattle.std.proofs.Common.{◌≡◌, ◌/◌, false, length, take, refl, arith, length-set, rules, ltb-true}
-use Rattle.model.specs.Laws.{tf}
+use Rattle.std.proofs.Common.{◌≡◌, ◌/◌, length, arith, length-set, rules, ltb-true}
 use Rattle.table_messages.specs.Words.{messages}
 use Rattle.lawful_digests.specs.Distinct.{low_wider}
-use Rattle.lawful_quick.specs.Passing.{Below, good_none, going_start, passed_next, gone}
+use Rattle.lawful_quick.specs.Passing.{Below, good_none, going_start, passed_next, gone, all_used}
 use Rattle.lawful_quick.proofs.all_fit.Goals as goal
-
-pub returns-then-n-lt1 : goal.returns-then-n-lt1
-returns-then-n-lt1 c =
-    λ l h w v ok a z. let e : c.args.used ≡ 0 = omega (arith, ltb-true c.args.used 1 z) in rw e (good_none l c.args.selected c.args.told.0)
 
 pub run-p-requires : goal.run-p-requires
 run-p-requires c = (
@@ -17,7 +12,7 @@ run-p-requires c = (
   search rules,
   omega arith,
   search rules,
-  low_wider c.args.slots.now c.args.n 64 (omega arith) c.requires.1 c.requires.2,
+  low_wider c.args.g.now.slots c.args.cols.now.n 64 (omega arith) (let few = c.args.cols.now.few in omega arith) c.requires.0,
 )
 
 pub loop-p-init : goal.loop-p-init
@@ -26,35 +21,8 @@ loop-p-init c = (
   c.run-p.ensures.inside,
   c.run-p.ensures.whole,
   c.run-p.ensures.long,
-  λ l q w v a. c.run-p.ensures.kept l c.args.nexts.now w v a (omega arith) (rw q c.requires.2) (going_start l _ _ _ _ _),
+  λ l q w v a. c.run-p.ensures.kept l c.args.cols.now.nexts w v a (omega arith) (rw q c.requires.0) (going_start l _ _ _ _ _),
 )
-
-pub bounds-words-at : goal.bounds-words-at
-bounds-words-at c = omega arith
-
-pub bounds-last-k : goal.bounds-last-k
-bounds-last-k c = omega arith
-
-pub bounds-ids-k : goal.bounds-ids-k
-bounds-ids-k c = omega arith
-
-pub bounds-counters-k : goal.bounds-counters-k
-bounds-counters-k c = omega arith
-
-pub returns-then-not-entry_fits : goal.returns-then-not-entry_fits
-returns-then-not-entry_fits c = λ l h w v ok a z. tf false z refl
-
-pub bounds-words-at-in-loop-p : goal.bounds-words-at-in-loop-p
-bounds-words-at-in-loop-p c = omega arith
-
-pub bounds-last-k-in-loop-p : goal.bounds-last-k-in-loop-p
-bounds-last-k-in-loop-p c = omega arith
-
-pub bounds-words-at-in-loop-p-2 : goal.bounds-words-at-in-loop-p-2
-bounds-words-at-in-loop-p-2 c = omega arith
-
-pub bounds-words-at-in-loop-p-3 : goal.bounds-words-at-in-loop-p-3
-bounds-words-at-in-loop-p-3 c = omega arith
 
 pub run-p-requires-in-loop-p : goal.run-p-requires-in-loop-p
 run-p-requires-in-loop-p c = (
@@ -63,7 +31,7 @@ run-p-requires-in-loop-p c = (
   omega arith,
   omega arith,
   simp length-set c.loop-p.invariant.3,
-  low_wider c.args.slots.now c.args.n 64 (omega arith) c.requires.1 c.requires.2,
+  low_wider c.args.g.now.slots c.args.cols.now.n 64 (omega arith) (let few = c.args.cols.now.few in omega arith) c.requires.0,
 )
 
 pub loop-p-smaller : goal.loop-p-smaller
@@ -77,20 +45,19 @@ loop-p-preserved c =
       c.run-p-in-loop-p.ensures.whole,
       c.run-p-in-loop-p.ensures.long,
       λ l q w v a.
-          c.run-p-in-loop-p.ensures.kept l c.args.nexts.now w v a (omega arith) (rw q c.requires.2)
-          (passed_next c.args.words.now c.args.ids.now c.args.nexts.now c.args.counters.now l w v a c.args.selected c.args.told.0 c.loop-p.p c.loop-p.last c.owner-k.result c.loop-p.invariant.2 (omega arith) (omega arith) (omega arith) fits (c.loop-p.invariant.4 l q w v a)),
+          c.run-p-in-loop-p.ensures.kept l c.args.cols.now.nexts w v a (omega arith) (rw q c.requires.0)
+          (passed_next c.args.words.now c.args.cols.now.ids c.args.cols.now.nexts c.args.cols.now.counters l w v a c.args.view.selected c.args.view.told.0 c.loop-p.p c.loop-p.last c.owner-k.result c.loop-p.invariant.2 (omega arith) (omega arith) (omega arith) fits (c.loop-p.invariant.4 l q w v a)),
     )
 
-pub returns-then-p-gt31 : goal.returns-then-p-gt31
-returns-then-p-gt31 c = λ l h w v ok a z. tf false z refl
-
-pub returns-then-p-gt4294967295 : goal.returns-then-p-gt4294967295
-returns-then-p-gt4294967295 c = λ l h w v ok a z. tf false z refl
+pub returns-then-cols-lt1 : goal.returns-then-cols-lt1
+returns-then-cols-lt1 c = λ l h w v ok a z.
+    let e : 0 ≡ length c.args.words.now / 6 = omega (arith, ltb-true (length c.args.words.now) 6 z) in
+    rw (← all_used c.args.words.now 0 e) (good_none l c.args.view.selected c.args.view.told.0)
 
 pub returns : goal.returns
 returns c =
     λ l h w v ok a z.
-    let below : Below c.loop-p.last c.args.nexts.now (length l) = rw h (c.below.ensures z) in
-    let e : c.loop-p.p.at / 6 ≡ c.args.used = omega arith in
-    gone l c.args.ids.now c.args.nexts.now c.args.counters.now w v a c.args.selected c.args.told.0 c.loop-p.last below ok
-    (take c.args.used (messages c.args.words.now)) c.loop-p.p.flags c.loop-p.p.size c.if-p-gt31.false c.if-p-gt4294967295.false (rw e at (c.loop-p.invariant.4 l h w v a))
+    let below : Below c.loop-p.last c.args.cols.now.nexts (length l) = rw h (c.below.ensures z) in
+    let e : c.loop-p.p.at / 6 ≡ length c.args.words.now / 6 = omega arith in
+    gone l c.args.cols.now.ids c.args.cols.now.nexts c.args.cols.now.counters w v a c.args.view.selected c.args.view.told.0 c.loop-p.last below ok
+    (messages c.args.words.now) c.loop-p.p.flags c.loop-p.p.size c.if-p-gt31.false c.if-p-gt4294967295.false (rw (all_used c.args.words.now (c.loop-p.p.at / 6) e) at (c.loop-p.invariant.4 l h w v a))

@@ -3,9 +3,8 @@ use Rattle.std.proofs.Common.{◌-◌}
 use Rattle.lawful_quick.specs.Passing.{Ran}
 use Rattle.lawful_quick.proofs.run.Given as goal
 
-abbrev pub invariant-loop-b : goal.invariant-loop-b
-invariant-loop-b l = Ran l.words l.end l.ids l.counters l.slots l.selected l.told.0 (record { at = l.initial.b; flags = l.initial.flags; size = l.initial.size }) l.initial.last (record { at = l.b; flags = l.flags; size = l.size })
-    l.last
+abbrev pub invariant-loop-p : goal.invariant-loop-p
+invariant-loop-p l = Ran l.words l.end l.cols.ids l.cols.counters l.g.slots l.view.selected l.view.told.0 l.initial.p l.initial.last l.p l.last
 
-abbrev pub decreases-loop-b : goal.decreases-loop-b
-decreases-loop-b l = l.end - l.b
+abbrev pub decreases-loop-p : goal.decreases-loop-p
+decreases-loop-p l = l.end - l.p.at

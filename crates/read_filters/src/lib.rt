@@ -118,6 +118,7 @@ fn filter_by(text: &[u8], at: usize, word: Word) -> Option<(Filter, usize)>
 }
 
 // Whom a group of NOTIFY or a source of ESEARCH is about, and the position behind it.
+#[tactic(auto, unfolding(model::specs::NotifyGrammar::filter_at))]
 pub fn filter_at(text: &[u8], at: usize) -> Option<(Filter, usize)>
     ensures { ReadsFilter text.now at (read_filter (filter_at text.now at)) result }
 {
@@ -169,6 +170,7 @@ fn keep_by(text: &[u8], at: usize, word: Word, kept: Kept) -> Option<(Kept, usiz
 }
 
 // Keeps the names of a filter behind those that are kept, and gives the position behind it.
+#[tactic(auto, unfolding(model::specs::NotifyGrammar::filter_at))]
 pub fn keep_filter(text: &[u8], at: usize, kept: Kept) -> Option<(Kept, usize)>
     requires { kept.count ≤ at }
     ensures { Keeps text.now at (kept_filter kept (filter_at text.now at)) result }

@@ -76,16 +76,16 @@ fn word_of(text: &[u8], from: usize, upto: usize) -> Option<Word>
             b"mailboxes",
         ],
     )?;
-    match place {
-        0 => Some(Word::Alone(Scope::Selected)),
-        1 => Some(Word::Alone(Scope::Delayed)),
-        2 => Some(Word::Alone(Scope::Inboxes)),
-        3 => Some(Word::Alone(Scope::Personal)),
-        4 => Some(Word::Alone(Scope::Subscribed)),
-        5 => Some(Word::Named(Scope::Subtree)),
-        6 => Some(Word::Named(Scope::SubtreeOne)),
-        _ => Some(Word::Named(Scope::Mailboxes)),
-    }
+    Some(match place {
+        0 => Word::Alone(Scope::Selected),
+        1 => Word::Alone(Scope::Delayed),
+        2 => Word::Alone(Scope::Inboxes),
+        3 => Word::Alone(Scope::Personal),
+        4 => Word::Alone(Scope::Subscribed),
+        5 => Word::Named(Scope::Subtree),
+        6 => Word::Named(Scope::SubtreeOne),
+        _ => Word::Named(Scope::Mailboxes),
+    })
 }
 
 // A filter that was read: whom it is about, and how many names it has.

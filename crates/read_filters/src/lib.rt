@@ -3,7 +3,7 @@
 
 mod mailboxes;
 
-ghost use Rattle.std.specs.Prelude.{◌≡◌, ◌≤◌, length};
+ghost use Rattle.std.specs.Prelude.{◌≡◌, ◌≤◌, length, set};
 ghost use Rattle.model.specs.Reading.{piece};
 ghost use Rattle.model.specs.NotifyGrammar.{scope_of, filter_at};
 ghost use Rattle.read_filters.specs.Scopes.{Numbered, Grouped, word_for, read_filter, ReadsNamed, ReadsBy, ReadsFilter};
@@ -144,6 +144,15 @@ pub fn keep_nothing() -> Kept
     Kept {
         count: 0,
         names: [none; 16],
+    }
+}
+
+// Sets one of some places, if there is such a place.
+pub fn put_at<T: Copy>(places: &mut [T], at: u64, item: T)
+    ensures { places.new ≡ set places.old at item }
+{
+    if at < places.len() as u64 {
+        places[at as usize] = item;
     }
 }
 

@@ -11,7 +11,7 @@ use super::one_group::{lent_at, low};
 use super::{Groups, Notify, Tally, Watch};
 use model::{LentGroup, Session};
 use octets::Class;
-use read_filters::Kept;
+use read_filters::{Kept, put_at};
 
 // One group more is kept, if there is a place for it.
 fn keep_group(watch: Watch, group: LentGroup) -> Watch
@@ -19,9 +19,7 @@ fn keep_group(watch: Watch, group: LentGroup) -> Watch
     ensures { result ≡ with_group watch group }
 {
     let mut groups = watch.groups;
-    if watch.count < 8 {
-        groups[watch.count as usize] = group;
-    }
+    put_at(&mut groups, watch.count, group);
     Watch {
         count: watch.count + 1,
         groups,

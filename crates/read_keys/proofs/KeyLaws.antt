@@ -1,7 +1,7 @@
 -- Keys by their parts, over plain values: one lemma for each case of the grammar. Assumes nothing.
 use mathlib.Core.Path.{◌≡◌, refl, sym, ap, ◌∙◌}
 use Rattle.model.specs.Reading.{}
-use mathlib.Core.Bool.{Bool, true, false, cond, ◌||◌, or-false}
+use mathlib.Core.Bool.{Bool, true, false, cond, or-false}
 use mathlib.Core.List.{List, ◌∷◌, ◌++◌, append-nil}
 use Prim.Native.Nat.{ℕ, zero, suc, ◌+◌, ◌-◌, ◌<◌, max}
 use native.Mathlib.Numerals.{sub-one}
@@ -11,9 +11,9 @@ use lib.Dec.{eqb}
 use lib.ListN.{length, get_or, length-append}
 use lib.Seq.{sets}
 use borrow.Author.Tests.{eq-eqb, ne_eqb}
-use Rattle.std.specs.Prelude.{Option, Some, None}
+use Rattle.std.specs.Prelude.{Some, None}
 use Rattle.model.specs.Requests.{Test, Key, non, either, group, Keys, end, more}
-use Rattle.model.specs.Limits.{parts_of, key_count, keys_count, key_depth, keys_depth, some_test, some_tests}
+use Rattle.model.specs.Limits.{parts_of, key_count, key_depth, some_test}
 use Rattle.model.specs.Replies.{unsupported_test}
 use Rattle.model.specs.Reading.{Parsed, bad, ok, and_then, after_by, after, stands, Next, another, over, neither, Ending as Way, closing, line_end, over_at, next_at}
 use Rattle.model.specs.SearchGrammar.{Start as Shape, single, negation, alternation, opening, wrong, start_at, key_by, keys_by, key_at, keys_at}
@@ -24,7 +24,7 @@ use Rattle.read_tests.specs.Begin.{Begun}
 use Rattle.read_tests.specs.declared.Start.{Start}
 use Rattle.read_tests.specs.declared.Start.TheVariants.{One, Negation, Alternation, Opening}
 use Rattle.read_tests.proofs.Cells.{sets_head}
-use Rattle.read_keys.specs.Table.{code, codes, parts_most, parts_mosts}
+use Rattle.read_keys.specs.Table.{code, codes, parts_most}
 use Rattle.read_keys.specs.Keys.{over_of, join, Closed, key_found, found_keys, WroteKey, WroteKeys}
 use Rattle.read_keys.specs.declared.Keys.{Keys as Read}
 

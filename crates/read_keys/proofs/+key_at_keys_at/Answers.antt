@@ -1,7 +1,6 @@
 -- `key_at` and `keys_at`: each case is one of the grammar, by its law in KeyLaws. Assumes nothing.
-use lib.ListN.{length}
 use mathlib.Core.Path.{sym, ◌∙◌}
-use Prim.Native.Nat.{◌+◌, ◌-◌}
+use Prim.Native.Nat.{◌-◌}
 use native.Mathlib.Omega.{arith}
 use Rattle.read_keys.specs.Keys.{ending_of}
 use Rattle.read_keys.proofs.KeyLaws.{key-wrong, key-single, non_none, key-non, group_none, key-group, either_none, either_one, either_half, either_two}
@@ -15,7 +14,7 @@ key_at-returns-in_err-next t c =
 pub key_at-returns-in-One : goal.key_at-returns-in-One
 key_at-returns-in-One t c =
     let w = rw c.in-One.is at c.in_ok-next.ensures.within in
-    record { within = record { after = omega arith; inside = omega arith; few = omega arith; flat = omega arith; from = omega arith; short = omega arith }; exact = λ m h. key-single c.args.text.now c.args.at m (omega arith) c.in_ok-next.field-0 c.args.cells.now c.begin.new.cells c.args.n c.in_ok-next.ensures.exact c.in-One.is }
+    record { within = omega arith; exact = λ m h. key-single c.args.text.now c.args.at m (omega arith) c.in_ok-next.field-0 c.args.cells.now c.begin.new.cells c.args.n c.in_ok-next.ensures.exact c.in-One.is }
 
 pub key_at-returns-in_err-key-in-Negation : goal.key_at-returns-in_err-key-in-Negation
 key_at-returns-in_err-key-in-Negation t c =
@@ -30,7 +29,7 @@ key_at-returns-in_ok-key-in-Negation t c =
     let w = rw c.in-Negation.is at c.in_ok-next.ensures.within in
     let v = c.in_ok-key-in-Negation.ensures.within in
     record {
-      within = rw c.closed.ensures.answer record { after = omega arith; inside = omega arith; few = omega arith; flat = omega arith; from = omega arith; short = omega arith };
+      within = rw c.closed.ensures.answer (omega arith);
       exact =
           λ m h.
           key-non c.args.text.now c.args.at m (omega arith) c.in_ok-next.field-0 c.args.cells.now c.begin.new.cells c.args.n c.in_ok-next.ensures.exact c.key_at.new.cells c.in-Negation.is
@@ -50,7 +49,7 @@ key_at-returns-in_ok-keys-in-Opening t c =
     let w = rw c.in-Opening.is at c.in_ok-next.ensures.within in
     let v = c.in_ok-keys-in-Opening.ensures.within in
     record {
-      within = rw c.closed-in-Opening.ensures.answer record { after = omega arith; inside = omega arith; few = omega arith; flat = omega arith; from = omega arith; short = omega arith };
+      within = rw c.closed-in-Opening.ensures.answer (omega arith);
       exact =
           λ m h.
           key-group c.args.text.now c.args.at m (omega arith) c.in_ok-next.field-0 c.args.cells.now c.begin.new.cells c.args.n c.in_ok-next.ensures.exact c.keys_at.new.cells c.in-Opening.is
@@ -99,7 +98,7 @@ key_at-returns-in_ok-second-in-Alternation t c =
     let u = c.in_ok-q-in-Alternation.ensures.within in
     let x = c.in_ok-second-in-Alternation.ensures.within in
     record {
-      within = rw (c.closed-in-Alternation.ensures.answer, c.joined.ensures) record { after = omega arith; inside = omega arith; few = omega arith; flat = omega arith; from = omega arith; short = omega arith };
+      within = rw (c.closed-in-Alternation.ensures.answer, c.joined.ensures) (omega arith);
       exact =
           λ m h.
           either_two c.args.text.now c.args.at m (omega arith) c.in_ok-next.field-0 c.args.cells.now c.begin.new.cells c.args.n c.in_ok-next.ensures.exact c.key_at-in-Alternation.new.cells c.in-Alternation.is
@@ -125,7 +124,7 @@ keys_at-returns-then-octet_at-eq32 t c =
     let v = c.in_ok-first.ensures.within in
     let w = c.in_ok-rest.ensures.within in
     record {
-      within = rw c.joined.ensures record { after = omega arith; inside = omega arith; few = omega arith; flat = omega arith; from = omega arith; short = omega arith };
+      within = rw c.joined.ensures (omega arith);
       exact =
           λ m h.
           keys-more (ending_of c.args.e) c.args.text.now c.args.at m (omega arith) c.args.cells.now c.key_at.new.cells c.args.n c.in_ok-first.first (c.in_ok-first.ensures.exact (m - 1) (omega arith)) (sym c.octet_at.ensures ∙ c.if-octet_at-eq32.true) c.keys_at.new.cells c.in_ok-rest.rest c.joined.result (c.in_ok-rest.ensures.exact (m - 1) (omega arith)) c.joined.ensures;
@@ -141,6 +140,6 @@ keys_at-returns t c =
     let v = c.in_ok-first.ensures.within in
     let w = c.in_ok-next.ensures.within in
     record {
-      within = record { after = omega arith; inside = omega arith; few = omega arith; flat = omega arith; from = omega arith; short = omega arith };
+      within = omega arith;
       exact = λ m h. keys_over (ending_of c.args.e) c.args.text.now c.args.at m (omega arith) c.args.cells.now c.key_at.new.cells c.args.n c.in_ok-first.first (c.in_ok-first.ensures.exact (m - 1) (omega arith)) (λ e. c.if-octet_at-eq32.false (c.octet_at.ensures ∙ e)) c.in_ok-next.ensures.exact;
     }

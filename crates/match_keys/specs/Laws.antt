@@ -1,11 +1,12 @@
 -- What a cell says of the set, the test or the key that is coded there. Assumes nothing.
 use Rattle.std.specs.Prelude.{◌≡◌, Bool, true, false, cond, ◌&&◌, ◌||◌, ℕ, zero, suc, ◌+◌, ◌-◌, ◌*◌, ◌/◌, ◌%◌, ◌^◌, ◌≤◌, ◌<◌, min, max, eqb, leb, ltb, get_or}
 use Rattle.std.proofs.Math.Path.{refl, ap, sym}
-use Rattle.std.proofs.Common.{ap₂, subst, ◌∙◌, add-one, div-one, le-leb, leb-true, leb-false, eq-eqb, eqb-true, ne_eqb, le-ltb, ltb-false, length-drop, take-append-drop, drop-cons, drop-drop, length-take-le}
+use Rattle.std.proofs.Common.{ap₂, subst, ◌∙◌, add-one, div-one, eq-eqb, ne_eqb, le-ltb, ltb-false, length-drop, drop-cons, drop-drop}
 use Rattle.std.proofs.Math.Bool.{not}
+use mathlib.Core.Bool.{beq}
 use mathlib.Core.List.{List, [], ◌∷◌, ◌++◌, append_assoc, append-nil}
 use native.Mathlib.Omega.{arith}
-use Rattle.std.proofs.Math.Nat.{min-le_left, min-le_right, le-max_left, le-max_right, le-min, max-le, div-div-eq-div-mul, pow-succ', pow-le-pow_right}
+use Rattle.std.proofs.Math.Nat.{div-div-eq-div-mul, pow-succ', pow-le-pow_right}
 use Rattle.std.proofs.lemmas.Bool.{lt-leb, not-true, not-false}
 use Rattle.std.proofs.Math.ListN.{length, drop, length-append}
 use Rattle.std.proofs.Math.Seq.{drop-append_seam}
@@ -14,17 +15,12 @@ use Rattle.model.specs.Requests.{Bound, number, star, Part, Test, all, unsupport
 use Rattle.model.specs.Searching.{Candidate, agrees, bound_of, in_part, in_set, passes, holds, holds_all}
 use Rattle.read_tests.specs.Table.{bound_number, part_cells, flag_number, test_code}
 use Rattle.read_keys.specs.Table.{code, codes}
-use Rattle.match_keys.specs.Tests.{candidate, facts_of, ProperBound, ProperParts, Proper, Propers, bound_by, part_holds, Counted, counted_width, simple_of, width_of, holds_some, folded, TestsSet, TestsTest, TestsKey, TestsKeysOn, TestsAll, Behind, LastNest, Answers}
+use Rattle.match_keys.specs.Tests.{candidate, facts_of, ProperBound, ProperParts, Proper, Propers, bound_by, part_holds, Counted, counted_width, simple_of, width_of, holds_some, folded, TestsSet, TestsTest, TestsKey, TestsKeysOn, TestsAll, Behind, Answers}
 use Rattle.match_keys.specs.declared.Probe.{Probe}
 use Rattle.match_keys.specs.declared.Facts.{Facts}
 use Rattle.match_keys.specs.declared.Outcome.{Outcome}
 
 -- ---- cells
-pub past_end : (l : List ℕ) (i : ℕ) → length l ≤ i → 0 ≡ get_or l i 0
-past_end [] i h = refl
-past_end (x ∷ l) zero h = absurd (let z : ⊥ = omega arith in z)
-past_end (x ∷ l) (suc i) h = past_end l i (omega arith)
-
 module _ (cells : List ℕ) (at : ℕ) where
   one_at : (x : ℕ) (ys : List ℕ) → drop at cells ≡ x ∷ ys → (get_or cells at 0 ≡ x) × (drop (at + 1) cells ≡ ys)
   one_at x ys e =
@@ -53,31 +49,6 @@ bound_same last star h = refl
 
 part_same : (last n : ℕ) (p : Part) → ProperBound p.from → ProperBound p.upto → part_holds (bound_number p.from) (bound_number p.upto) last n ≡ in_part last n p
 part_same last n p h k = ap₂ (λ (a b : ℕ). leb (min a b) n && leb n (max a b)) (bound_same last p.from h) (bound_same last p.upto k)
-
--- a number against two bounds in either order
-abbrev within : ℕ → ℕ → ℕ → Bool
-within a b n = leb (min a b) n && leb n (max a b)
-
-module _ (x y last n a b : ℕ) (e : a ≡ bound_by last x) (f : b ≡ bound_by last y) where
-  of_bounds : (r : Bool) → r ≡ within a b n → r ≡ part_holds x y last n
-  of_bounds r h = h ∙ ap₂ (λ (a b : ℕ). leb (min a b) n && leb n (max a b)) e f
-
-  pub part-above : a < n → leb n b ≡ part_holds x y last n
-  part-above h = of_bounds (leb n b) (upper (leb n b) refl ∙ ap (λ (t : Bool). t && leb n (max a b)) (sym (le-leb (min a b) n (omega (arith, min-le_left a b)))))
-    where
-      upper : (t : Bool) → leb n b ≡ t → leb n b ≡ leb n (max a b)
-      upper true t = t ∙ sym (le-leb n (max a b) (omega (arith, le-max_right a b, leb-true n b t)))
-      upper false t = t ∙ sym (lt-leb n (max a b) (let l = leb-false n b t in let m : max a b ≤ n - 1 = max-le (omega arith) (omega arith) in omega arith))
-
-  pub part_below : n < a → leb b n ≡ part_holds x y last n
-  part_below h = of_bounds (leb b n) (lower (leb b n) refl ∙ ap (λ (t : Bool). leb (min a b) n && t) (sym (le-leb n (max a b) (omega (arith, le-max_left a b)))))
-    where
-      lower : (t : Bool) → leb b n ≡ t → leb b n ≡ leb (min a b) n && true
-      lower true t = t ∙ ap (λ (t : Bool). t && true) (sym (le-leb (min a b) n (omega (arith, min-le_right a b, leb-true b n t))))
-      lower false t = t ∙ ap (λ (t : Bool). t && true) (sym (lt-leb (min a b) n (let l = leb-false b n t in let m : suc n ≤ min a b = le-min (omega arith) (omega arith) in omega arith)))
-
-  pub part_on : n ≤ a → a ≤ n → true ≡ part_holds x y last n
-  part_on h k = of_bounds true (ap₂ ◌&&◌ (sym (le-leb (min a b) n (omega (arith, min-le_left a b)))) (sym (le-leb n (max a b) (omega (arith, le-max_left a b)))))
 
 -- the parts that are left, from cell i on
 pub record SetLeft (cells : List ℕ) (i stop last n : ℕ) (whole : Bool) : Type 0 where
@@ -134,6 +105,20 @@ module _ (cells : List ℕ) (at stop last n : ℕ) where
     set_end ps rest e f g = let l = go ps rest e f g in over (in_set last n ps) l.parts l.stops l.same
 
 -- ---- tests
+-- what holds is as it is asked for
+pub as_asked : (on b : Bool) → beq on b ≡ agrees on b
+as_asked true true = refl
+as_asked true false = refl
+as_asked false true = refl
+as_asked false false = refl
+
+-- the other of what is asked for
+pub other : (on b : Bool) → not (beq on b) ≡ agrees on (not b)
+other true true = refl
+other true false = refl
+other false true = refl
+other false false = refl
+
 pub bit_shifted : (k n : ℕ) → eqb (n / 2 ^ k % 2) 1 ≡ bit k n
 bit_shifted zero n = ap (λ (m : ℕ). eqb (m % 2) 1) (div-one n)
 bit_shifted (suc k) n = ap (λ (m : ℕ). eqb (m % 2) 1) (ap (λ (d : ℕ). n / d) (pow-succ' 2 k) ∙ sym (div-div-eq-div-mul n 2 (2 ^ k))) ∙ bit_shifted k (n / 2)
@@ -246,14 +231,6 @@ module _ (cells : List ℕ) (at stop kind x left : ℕ) (q : kind ≡ get_or cel
 
     pub behind-part : w < left → Behind cells at stop (at + w)
     behind-part h = record { after = omega arith; inside = omega arith; exact = λ k rest e f. let z = s ∙ width_is k rest e f in omega arith }
-
--- ---- the last key, if it holds keys
-module _ (cells : List ℕ) (at stop : ℕ) where
-  pub nest_not : LastNest cells at stop false
-  nest_not e = absurd (let z : ◌≡◌ {A = ℕ} 0 1 = cc in let y : ⊥ = omega arith in y)
-
-  pub nest_by : (kind after : ℕ) → kind ≡ get_or cells at 0 → 8 ≤ kind → Behind cells at stop after → LastNest cells at stop (eqb after stop)
-  nest_by kind after q h b e = (omega arith, subst (λ (r : ℕ). Behind cells at stop r) (eqb-true after stop e) b)
 
 -- ---- keys
 and-true : (b : Bool) → b && true ≡ b
@@ -491,5 +468,5 @@ module _ (cells : List ℕ) (at stop : ℕ) (first : Bool) (facts : Facts) where
       pub going_end : (r : Bool) → r ≡ agrees on (not any) → TestsKeysOn cells at stop first facts r
       going_end r v p w ks rest e f g = let l = go p w ks rest e f g in v ∙ last p (folded first ks (candidate p)) l.keys l.stops l.same
 
-pub all_is : (cells : List ℕ) (used : ℕ) (p : Probe) (r : Bool) → used ≤ length cells → TestsKeysOn cells 0 used false (facts_of p) r → TestsAll cells used p r
-all_is cells used p r w t ks e g = t p refl ks (drop used cells) (sym (take-append-drop used cells) ∙ ap (λ (l : List ℕ). l ++ drop used cells) e) (let h : used ≡ length (codes ks) = sym (length-take-le used cells w) ∙ ap length e in omega arith) g
+pub all_is : (cells : List ℕ) (p : Probe) (r : Bool) → TestsKeysOn cells 0 (length cells) false (facts_of p) r → TestsAll cells p r
+all_is cells p r t ks e g = t p refl ks [] (e ∙ sym (append-nil (codes ks))) (let l = ap length e in omega arith) g

@@ -1,5 +1,5 @@
 -- Keys in cells, and what the tests of a message against them say. Assumes nothing: these are definitions.
-use Rattle.std.specs.Prelude.{◌≡◌, Bool, true, false, cond, ◌&&◌, ◌||◌, List, [], ◌∷◌, ◌++◌, ℕ, ◌+◌, ◌*◌, ◌≤◌, ◌<◌, min, max, eqb, leb, ltb, length, take, drop, get_or}
+use Rattle.std.specs.Prelude.{◌≡◌, Bool, true, false, cond, ◌&&◌, ◌||◌, List, [], ◌∷◌, ◌++◌, ℕ, ◌+◌, ◌*◌, ◌≤◌, ◌<◌, min, max, eqb, leb, ltb, length, drop, get_or}
 use Rattle.model.specs.Text.{bit}
 use Rattle.model.specs.Requests.{Bound, number, star, Part, Test, Key, test, non, either, group, Keys, end, more}
 use Rattle.model.specs.Limits.{parts_of}
@@ -90,8 +90,8 @@ TestsKeys cells at stop any p r = (ks : Keys) (rest : List ℕ) → drop at cell
 abbrev pub TestsKeysOn : List ℕ → ℕ → ℕ → Bool → Facts → Bool → Type 0
 TestsKeysOn cells at stop any facts r = (p : Probe) → facts ≡ facts_of p → TestsKeys cells at stop any p r
 
-abbrev pub TestsAll : List ℕ → ℕ → Probe → Bool → Type 0
-TestsAll cells used p r = (ks : Keys) → take used cells ≡ codes ks → Propers ks → r ≡ holds_all ks (candidate p)
+abbrev pub TestsAll : List ℕ → Probe → Bool → Type 0
+TestsAll cells p r = (ks : Keys) → cells ≡ codes ks → Propers ks → r ≡ holds_all ks (candidate p)
 
 pub record Behind (cells : List ℕ) (at stop r : ℕ) : Type 0 where
   pub after : at < r

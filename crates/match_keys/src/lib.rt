@@ -3,10 +3,10 @@
 
 ghost use Rattle.std.specs.Prelude.{◌≡◌, not, ◌+◌, ◌≤◌, ◌<◌, length, get_or};
 ghost use Rattle.model.specs.Text.{bit};
-ghost use Rattle.model.specs.Searching.{agrees};
 ghost use Rattle.match_keys.specs.Tests.{facts_of, bound_by, part_holds, Counted, counted_width, LastNest, Behind, Answers, TestsSet, TestsKeysOn, TestsAll};
 
 use model::{Message, MessageNumber, Uid};
+use read_tests::kinds;
 
 // A message, its number, and the last number and UID, which `*` stands for.
 #[derive(Clone, Copy)]
@@ -39,27 +39,20 @@ struct Outcome {
 fn cell(cells: &[u64], i: usize) -> u64
     ensures { result ≡ get_or cells.now i 0 }
 {
-    if i < cells.len() {
-        return cells[i];
-    }
-    0
+    cells.get(i).copied().unwrap_or(0)
 }
 
 // What keys ask of a probe.
 fn facts_of(p: Probe) -> Facts
     ensures { result ≡ facts_of p }
 {
-    let uid = p.message.uid;
-    let lastuid = p.lastuid;
-    let number = p.number;
-    let lastnumber = p.lastnumber;
     Facts {
         flags: p.message.flags,
         size: p.message.size,
-        uid,
-        lastuid,
-        number,
-        lastnumber,
+        uid: p.message.uid,
+        lastuid: p.lastuid,
+        number: p.number,
+        lastnumber: p.lastnumber,
     }
 }
 
@@ -68,10 +61,7 @@ fn facts_of(p: Probe) -> Facts
 fn bound(last: u64, x: u64) -> u64
     ensures { result ≡ bound_by last x }
 {
-    if x == 0 {
-        return last;
-    }
-    x
+    if x == 0 { last } else { x }
 }
 
 // The bounds of a part stand in either order.
@@ -80,13 +70,7 @@ fn in_part(from: u64, upto: u64, last: u64, n: u64) -> bool
 {
     let a = bound(last, from);
     let b = bound(last, upto);
-    if a < n {
-        return n <= b;
-    }
-    if n < a {
-        return b <= n;
-    }
-    true
+    a.min(b) <= n && n <= a.max(b)
 }
 
 // A number is of the set whose parts are the cells from `at` up to `stop`.
@@ -114,12 +98,12 @@ fn width(kind: u64, x: u64, left: u64) -> u64
     ensures { (result ≡ counted_width kind x left) × (1 ≤ result) }
 {
     if left <= x {
-        return left;
+        left
+    } else if kind < kinds::UNSUPPORTED {
+        2 + 2 * x
+    } else {
+        2 + x
     }
-    if kind < 7 {
-        return 2 + 2 * x;
-    }
-    2 + x
 }
 
 // The cell behind such a key.
@@ -142,28 +126,7 @@ fn behind(cells: &[u64], at: usize, stop: usize) -> usize
 fn bit_of(k: u64, n: u64) -> bool
     ensures { result ≡ bit k n }
 {
-    if 63 < k {
-        return false;
-    }
-    (n >> k) % 2 == 1
-}
-
-fn negated(a: bool) -> bool
-    ensures { result ≡ not a }
-{
-    if a {
-        return false;
-    }
-    true
-}
-
-fn agree(on: bool, b: bool) -> bool
-    ensures { result ≡ agrees on b }
-{
-    if on {
-        return b;
-    }
-    negated(b)
+    k < 64 && (n >> k) % 2 == 1
 }
 
 // The set at `at`, for a number and what `*` stands for.
@@ -182,36 +145,28 @@ fn test_at(cells: &[u64], at: usize, stop: usize, facts: Facts) -> Outcome
     ensures { Answers cells.now at stop facts result }
 {
     let kind = cell(cells, at);
-    if kind == 5 {
-        return set_at(cells, at, stop, facts.lastuid.0, facts.uid.0);
-    }
-    if kind == 6 {
-        return set_at(cells, at, stop, facts.lastnumber.0, facts.number.0);
-    }
-    let x = cell(cells, at + 1);
-    if kind == 2 {
-        let on = cell(cells, at + 2) == 1;
-        let holds = agree(on, bit_of(x, facts.flags));
-        return Outcome {
-            holds,
-            after: at + 3,
-        };
-    }
-    if kind == 3 {
-        return Outcome {
-            holds: x < facts.size,
+    match kind {
+        kinds::UIDS => set_at(cells, at, stop, facts.lastuid.0, facts.uid.0),
+        kinds::NUMBERS => set_at(cells, at, stop, facts.lastnumber.0, facts.number.0),
+        kinds::FLAG => {
+            let on = cell(cells, at + 2) == 1;
+            Outcome {
+                holds: on == bit_of(cell(cells, at + 1), facts.flags),
+                after: at + 3,
+            }
+        }
+        kinds::LARGER => Outcome {
+            holds: cell(cells, at + 1) < facts.size,
             after: at + 2,
-        };
-    }
-    if kind == 4 {
-        return Outcome {
-            holds: facts.size < x,
+        },
+        kinds::SMALLER => Outcome {
+            holds: facts.size < cell(cells, at + 1),
             after: at + 2,
-        };
-    }
-    Outcome {
-        holds: kind == 1,
-        after: at + 1,
+        },
+        _ => Outcome {
+            holds: kind == kinds::ALL,
+            after: at + 1,
+        },
     }
 }
 
@@ -222,10 +177,7 @@ fn last_nest(cells: &[u64], at: usize, stop: usize) -> bool
     requires { (at < stop) × (stop ≤ length cells.now) }
     ensures { LastNest cells.now at stop result }
 {
-    if cell(cells, at) < 8 {
-        return false;
-    }
-    behind(cells, at, stop) == stop
+    kinds::NOT <= cell(cells, at) && behind(cells, at, stop) == stop
 }
 
 // The key at `at`; `not`, `or` and lists hold keys.
@@ -235,12 +187,12 @@ fn key_at(cells: &[u64], at: usize, stop: usize, facts: Facts) -> Outcome
     ensures { Answers cells.now at stop facts result }
 {
     let kind = cell(cells, at);
-    if kind < 8 {
+    if kind < kinds::NOT {
         return test_at(cells, at, stop, facts);
     }
     let after = behind(cells, at, stop);
-    let r = keys_hold(cells, at + 2, after, kind == 9, facts);
-    let holds = agree(kind != 8, r);
+    let r = keys_hold(cells, at + 2, after, kind == kinds::OR, facts);
+    let holds = (kind != kinds::NOT) == r;
     Outcome { holds, after }
 }
 
@@ -257,25 +209,23 @@ fn keys_hold(cells: &[u64], at: usize, stop: usize, any: bool, facts: Facts) -> 
     while i < stop {
         if last_nest(cells, i, stop) {
             let kind = cell(cells, i);
-            on = agree(kind != 8, on);
-            some = kind == 9;
+            on = (kind != kinds::NOT) == on;
+            some = kind == kinds::OR;
             i += 2;
         } else {
             let k = key_at(cells, i, stop, facts);
-            if agree(some, k.holds) {
-                return agree(on, some);
+            if some == k.holds {
+                return on == some;
             }
             i = k.after;
         }
     }
-    agree(on, negated(some))
+    on != some
 }
 
-// All the keys in the first `used` cells hold.
-pub fn all_hold(cells: &[u64], used: usize, p: Probe) -> bool
-    requires { used ≤ length cells.now }
-    ensures { TestsAll cells.now used p result }
+// All the keys in these cells hold.
+pub fn all_hold(cells: &[u64], p: Probe) -> bool
+    ensures { TestsAll cells.now p result }
 {
-    let facts = facts_of(p);
-    keys_hold(cells, 0, used, false, facts)
+    keys_hold(cells, 0, cells.len(), false, facts_of(p))
 }

@@ -3,6 +3,4 @@ use Rattle.match_keys.specs.Laws.{all_is}
 use Rattle.match_keys.proofs.all_hold.Goals as goal
 
 pub returns : goal.returns
-returns c =
-    all_is c.args.cells.now c.args.used c.args.p c.keys_hold.result c.requires
-    (rw c.facts_of-facts.ensures at c.keys_hold.ensures)
+returns c = all_is c.args.cells.now c.args.p c.keys_hold.result (rw c.facts_of.ensures at c.keys_hold.ensures)

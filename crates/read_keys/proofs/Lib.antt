@@ -1,3 +1,3 @@
 -- Lemmas on plain values, for the proofs of this crate and of its callers.
-mod KeyLaws
+pub mod KeyLaws
 pub mod Most

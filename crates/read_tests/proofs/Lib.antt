@@ -1,4 +1,4 @@
 -- Lemmas on plain values, for the proofs of this crate and of its callers.
 pub mod Cells
-mod SetLaws
-mod Shapes
+pub mod SetLaws
+pub mod Shapes

@@ -1,32 +1,17 @@
 // How a key begins: a key that holds no key, read into a flat table of numbers; or which container it opens.
 #![tactic(auto)]
 
+pub mod kinds;
 mod sets;
 
-ghost use Rattle.std.specs.Prelude.{◌≡◌, ◌+◌, ◌-◌, ◌*◌, ◌≤◌, ◌<◌, length};
-ghost use Rattle.model.specs.SearchGrammar.{single};
-ghost use Rattle.model.specs.Requests.{all, flagged};
-ghost use Rattle.read_tests.specs.Table.{flag_number};
-ghost use Rattle.read_tests.specs.Begin.{Room, Begun, PutSize, unsupported_by, PutsSet, BeginsBy, Begins};
+ghost use Rattle.std.specs.Prelude.{◌≡◌, Some, ◌+◌, ◌-◌, ◌*◌, ◌≤◌, ◌<◌, length};
+ghost use Rattle.std.proofs.lemmas.List.Edits.{sets};
+ghost use Rattle.read_tests.specs.Begin.{Room, PutsSize, PutsSet, BeginsBy, Begins};
 
-use octets::{Class, Next, Number};
+use octets::{Class, behind_space};
 use read_words::{Word, argument_at, key_word, size_behind};
-pub use sets::store_two;
-use sets::{set_at, store};
-
-// A part of a set.
-#[derive(Clone, Copy)]
-pub enum PartRead {
-    Is { from: u64, upto: u64, next: usize },
-    Bad,
-}
-
-// A set: how many parts it has, and the position behind it.
-#[derive(Clone, Copy)]
-pub enum SetRead {
-    Is(u64, usize),
-    Bad,
-}
+use sets::set_at;
+pub use sets::store;
 
 // A key that holds no key, read whole and written; or the position of what a key holds.
 #[derive(Clone, Copy)]
@@ -40,155 +25,88 @@ pub enum Start {
     Negation(usize),
     Alternation(usize),
     Opening(usize),
-    Wrong,
 }
 
-fn put_all(cells: &mut [u64], n: usize, next: usize) -> Start
-    requires { n < 549755813888 }
-    ensures { Begun result cells.old cells.new n (single next all) }
+// A key that is no set, by its cells and the position behind it.
+fn put(cells: &mut [u64], n: usize, code: &[u64], next: usize, unsupported: bool) -> Start
+    requires { (n < 549755813888) × (length code.now ≤ 4) }
+    ensures { (result ≡ Start.One next (n + length code.now) unsupported 0) × (cells.new ≡ sets cells.old n code.now) }
 {
-    store(cells, n, 1);
+    store(cells, n, code);
     Start::One {
         next,
-        used: n + 1,
-        unsupported: false,
+        used: n + code.len(),
+        unsupported,
         parts: 0,
     }
 }
 
-// 1 for a flag that is set.
-fn flag_number(on: bool) -> u64
-    ensures { result ≡ flag_number on }
-{
-    if on { 1 } else { 0 }
-}
-
-fn put_flag(cells: &mut [u64], n: usize, next: usize, bit: u64, on: bool) -> Start
+// A kind and the number behind a space.
+fn put_size(text: &[u8], at: usize, cells: &mut [u64], n: usize, kind: u64) -> Option<Start>
     requires { n < 549755813888 }
-    ensures { Begun result cells.old cells.new n (single next (flagged bit on)) }
+    ensures { PutsSize kind text.now at cells.old cells.new n result }
 {
-    store(cells, n, 2);
-    let v = flag_number(on);
-    store_two(cells, n + 1, bit, v);
-    Start::One {
-        next,
-        used: n + 3,
-        unsupported: false,
-        parts: 0,
-    }
-}
-
-fn put_size(cells: &mut [u64], n: usize, kind: u64, x: Number) -> Start
-    requires { n < 549755813888 }
-    ensures { PutSize kind result cells.old cells.new n x }
-{
-    match x {
-        Number::Is(v, next) => {
-            store_two(cells, n, kind, v);
-            Start::One {
-                next,
-                used: n + 2,
-                unsupported: false,
-                parts: 0,
-            }
-        }
-        Number::Bad => Start::Wrong,
-    }
-}
-
-fn put_unsupported(cells: &mut [u64], n: usize, x: Next) -> Start
-    requires { n < 549755813888 }
-    ensures { Begun result cells.old cells.new n (unsupported_by x) }
-{
-    match x {
-        Next::At(next) => {
-            store(cells, n, 7);
-            Start::One {
-                next,
-                used: n + 1,
-                unsupported: true,
-                parts: 0,
-            }
-        }
-        Next::Bad => Start::Wrong,
-    }
+    let (size, next) = size_behind(text, at)?;
+    Some(put(cells, n, &[kind, size], next, false))
 }
 
 // A set, behind two cells that say which kind it is and how many parts it has.
-fn put_set(text: &[u8], at: usize, cells: &mut [u64], n: usize, kind: u64) -> Start
+fn put_set(text: &[u8], at: usize, cells: &mut [u64], n: usize, kind: u64) -> Option<Start>
     requires { Room text.now at n }
     ensures { PutsSet kind text.now at cells.old cells.new n result }
 {
-    match set_at(text, at, cells, n + 2) {
-        SetRead::Is(parts, next) => {
-            store_two(cells, n, kind, parts);
-            Start::One {
-                next,
-                used: n + 2 + 2 * (parts as usize),
-                unsupported: false,
-                parts,
-            }
-        }
-        SetRead::Bad => Start::Wrong,
-    }
+    let (parts, next) = set_at(text, at, cells, n + 2)?;
+    store(cells, n, &[kind, parts]);
+    Some(Start::One {
+        next,
+        used: n + 2 + 2 * (parts as usize),
+        unsupported: false,
+        parts,
+    })
 }
 
 // A key by its word; `at` is the position behind the word.
-fn begin_by(text: &[u8], at: usize, word: Word, cells: &mut [u64], n: usize) -> Start
+fn begin_by(text: &[u8], at: usize, word: Word, cells: &mut [u64], n: usize) -> Option<Start>
     requires { Room text.now at n × at ≤ length text.now }
     ensures { BeginsBy text.now at word cells.old cells.new n result }
 {
     match word {
-        Word::All => put_all(cells, n, at),
-        Word::Flag { bit, on } => put_flag(cells, n, at, bit, on),
-        Word::Above => put_size(cells, n, 3, size_behind(text, at)),
-        Word::Below => put_size(cells, n, 4, size_behind(text, at)),
-        Word::Uids => {
-            if octets::octet_at(text, at) == b' ' {
-                put_set(text, at + 1, cells, n, 5)
-            } else {
-                Start::Wrong
-            }
-        }
-        Word::Unsupported(a) => put_unsupported(cells, n, argument_at(text, at, a)),
-        Word::Negated => {
-            if octets::octet_at(text, at) == b' ' {
-                Start::Negation(at + 1)
-            } else {
-                Start::Wrong
-            }
-        }
-        Word::Alternatives => {
-            if octets::octet_at(text, at) == b' ' {
-                Start::Alternation(at + 1)
-            } else {
-                Start::Wrong
-            }
-        }
-        Word::Strange => Start::Wrong,
+        Word::All => Some(put(cells, n, &[kinds::ALL], at, false)),
+        Word::Flag { bit, on } => Some(put(
+            cells,
+            n,
+            &[kinds::FLAG, bit, u64::from(on)],
+            at,
+            false,
+        )),
+        Word::Above => put_size(text, at, cells, n, kinds::LARGER),
+        Word::Below => put_size(text, at, cells, n, kinds::SMALLER),
+        Word::Uids => put_set(text, behind_space(text, at)?, cells, n, kinds::UIDS),
+        Word::Unsupported(a) => Some(put(
+            cells,
+            n,
+            &[kinds::UNSUPPORTED],
+            argument_at(text, at, a)?,
+            true,
+        )),
+        Word::Negated => Some(Start::Negation(behind_space(text, at)?)),
+        Word::Alternatives => Some(Start::Alternation(behind_space(text, at)?)),
     }
 }
 
 // How the key at a position begins.
-pub fn begin(text: &[u8], at: usize, cells: &mut [u64], n: usize) -> Start
+#[tactic(auto, unfolding(model::specs::SearchGrammar::start_at))]
+pub fn begin(text: &[u8], at: usize, cells: &mut [u64], n: usize) -> Option<Start>
     requires { Room text.now at n }
     ensures { Begins text.now at cells.old cells.new n result }
 {
     let b = octets::octet_at(text, at);
     if b == b'(' {
-        return Start::Opening(at + 1);
+        return Some(Start::Opening(at + 1));
     }
-    if b == b'*' {
-        return put_set(text, at, cells, n, 6);
+    if b == b'*' || octets::in_class(b, Class::Digit) {
+        return put_set(text, at, cells, n, kinds::NUMBERS);
     }
-    if octets::in_class(b, Class::Digit) {
-        return put_set(text, at, cells, n, 6);
-    }
-    match octets::run_at(text, at, Class::Atom) {
-        Next::At(p) => {
-            let word = key_word(text, at, p);
-            begin_by(text, p, word, cells, n)
-        }
-        Next::Bad => Start::Wrong,
-    }
+    let end = octets::run_at(text, at, Class::Atom)?;
+    begin_by(text, end, key_word(text, at, end)?, cells, n)
 }

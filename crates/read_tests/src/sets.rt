@@ -1,88 +1,65 @@
 // Sets of message numbers and UIDs, into cells.
-ghost use Rattle.std.specs.Prelude.{◌≡◌, [], ◌∷◌, ◌+◌, ◌-◌, ◌*◌, ◌<◌, set};
+ghost use Rattle.std.specs.Prelude.{◌≡◌, ◌+◌, ◌-◌, ◌*◌, ◌^◌, ◌<◌, length};
 ghost use Rattle.std.proofs.lemmas.List.Edits.{sets};
 ghost use Rattle.model.specs.Reading.{bound_at};
 ghost use Rattle.octets.specs.Numerals.{Counts};
-ghost use Rattle.read_tests.specs.Sets.{read_bound, ReadsPart, Few, counted, SetRoom, WritesSet};
+ghost use Rattle.read_tests.specs.Sets.{read_bound, ReadsPart, SetRoom, WritesSet};
 
-use super::{PartRead, SetRead};
-use octets::Number;
+// A part of a set, and the position behind it.
+#[derive(Clone, Copy)]
+pub struct PartRead {
+    pub from: u64,
+    pub upto: u64,
+    pub next: usize,
+}
 
-// A cell is set, if there is one.
-pub fn store(cells: &mut [u64], n: usize, v: u64)
-    ensures { cells.new ≡ set cells.old n v }
+// Writes cells that stand side by side, as many of them as there are.
+pub fn store(cells: &mut [u64], n: usize, values: &[u64])
+    requires { n + length values.now < 2 ^ 64 }
+    ensures { cells.new ≡ sets cells.old n values.now }
 {
-    if n < cells.len() {
-        cells[n] = v;
+    for (i, v) in values.iter().enumerate() {
+        if n + i < cells.len() {
+            cells[n + i] = *v;
+        }
     }
 }
 
-// Two cells that stand side by side.
-pub fn store_two(cells: &mut [u64], n: usize, v: u64, w: u64)
-    requires { n < 1099511627776 }
-    ensures { cells.new ≡ sets cells.old n (v ∷ w ∷ []) }
-{
-    store(cells, n, v);
-    store(cells, n + 1, w);
-}
-
 // An end of a part of a set: a number, or 0 for the star.
-fn bound_at(text: &[u8], at: usize) -> Number
+fn bound_at(text: &[u8], at: usize) -> Option<(u64, usize)>
     ensures { Counts text.now at (read_bound (bound_at text.now at)) result }
 {
     if octets::octet_at(text, at) == b'*' {
-        return Number::Is(0, at + 1);
+        return Some((0, at + 1));
     }
     octets::positive_at(text, at)
 }
 
-fn part_at(text: &[u8], at: usize) -> PartRead
+fn part_at(text: &[u8], at: usize) -> Option<PartRead>
     ensures { ReadsPart text.now at result }
 {
-    match bound_at(text, at) {
-        Number::Is(from, p) => {
-            if octets::octet_at(text, p) == b':' {
-                match bound_at(text, p + 1) {
-                    Number::Is(upto, next) => PartRead::Is { from, upto, next },
-                    Number::Bad => PartRead::Bad,
-                }
-            } else {
-                PartRead::Is {
-                    from,
-                    upto: from,
-                    next: p,
-                }
-            }
-        }
-        Number::Bad => PartRead::Bad,
+    let (from, p) = bound_at(text, at)?;
+    if octets::octet_at(text, p) != b':' {
+        return Some(PartRead {
+            from,
+            upto: from,
+            next: p,
+        });
     }
+    let (upto, next) = bound_at(text, p + 1)?;
+    Some(PartRead { from, upto, next })
 }
 
-// One part more.
-fn one_more(r: SetRead) -> SetRead
-    requires { Few r }
-    ensures { result ≡ counted r }
-{
-    match r {
-        SetRead::Is(parts, next) => SetRead::Is(1 + parts, next),
-        SetRead::Bad => SetRead::Bad,
-    }
-}
-
-// Reads a set, its parts into the cells from n on, two numbers each.
-pub fn set_at(text: &[u8], at: usize, cells: &mut [u64], n: usize) -> SetRead
+// Reads a set, its parts into the cells from n on, two numbers each. It answers how many parts the set has, and the position behind it.
+pub fn set_at(text: &[u8], at: usize, cells: &mut [u64], n: usize) -> Option<(u64, usize)>
     requires { SetRoom text.now at n }
     ensures { WritesSet text.now at cells.old cells.new n result }
 {
-    match part_at(text, at) {
-        PartRead::Is { from, upto, next } => {
-            store_two(cells, n, from, upto);
-            if octets::octet_at(text, next) == b',' {
-                one_more(set_at(text, next + 1, cells, n + 2))
-            } else {
-                SetRead::Is(1, next)
-            }
-        }
-        PartRead::Bad => SetRead::Bad,
+    let part = part_at(text, at)?;
+    store(cells, n, &[part.from, part.upto]);
+    if octets::octet_at(text, part.next) != b',' {
+        return Some((1, part.next));
     }
+    let (parts, next) = set_at(text, part.next + 1, cells, n + 2)?;
+    Some((1 + parts, next))
 }

@@ -1,2 +1,2 @@
--- Lemmas on plain values, for the proofs of this crate and of its callers.
-pub mod Behind
+-- Lemmas on plain values, for the proofs of this crate.
+pub mod Chain

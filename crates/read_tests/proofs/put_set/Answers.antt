@@ -5,23 +5,21 @@ use lib.ListN.{length}
 use native.Mathlib.Omega.{arith}
 use Rattle.read_tests.proofs.put_set.Goals as goal
 
-pub returns-in-Is : goal.returns-in-Is
+pub returns-in_err-parts : goal.returns-in_err-parts
 unfolding number_set_at
-returns-in-Is c =
-    let w = rw c.in-Is.is at c.set_at.ensures.within in
-    record {
-      within = omega arith;
-      exact =
-          put_parts c.args.kind c.args.cells.now c.set_at.new.cells c.store_two.new.cells c.args.n (number_set_at c.args.text.now c.args.at)
-          (c.set_at.ensures.exact (length c.args.text.now) (omega arith)) c.in-Is.is c.store_two.ensures;
+returns-in_err-parts c =
+    rw c.from_residual.ensures record {
+      within = tt;
+      exact = put_none c.args.kind c.args.cells.now c.set_at.new.cells c.set_at.new.cells c.args.n _ (c.in_err-parts.ensures.exact (length c.args.text.now) (omega arith));
     }
 
-pub returns-in-Bad : goal.returns-in-Bad
+pub returns : goal.returns
 unfolding number_set_at
-returns-in-Bad c =
+returns c =
+    let w = c.in_ok-parts.ensures.within in
     record {
-      within = tt;
+      within = ((omega arith, omega arith), omega arith, omega arith);
       exact =
-          put_none c.args.kind c.args.cells.now c.set_at.new.cells c.set_at.new.cells c.args.n (number_set_at c.args.text.now c.args.at)
-          (c.set_at.ensures.exact (length c.args.text.now) (omega arith)) c.in-Bad.is;
+          put_parts c.args.kind c.args.cells.now c.set_at.new.cells c.store.new.cells c.args.n c.in_ok-parts.parts c.in_ok-parts.next _
+          (c.in_ok-parts.ensures.exact (length c.args.text.now) (omega arith)) c.store.ensures;
     }

@@ -1,22 +1,13 @@
--- The places that names are kept in, over plain values. Assumes nothing.
+-- A name in a buffer, over plain values. Assumes nothing.
 use mathlib.Core.Path.{◌≡◌, sym, ap, ◌∙◌}
 use mathlib.Core.List.{List, []}
-use Prim.Native.Nat.{ℕ, ◌+◌, ◌-◌, ◌≤◌, ◌<◌}
+use Prim.Native.Nat.{ℕ, ◌≤◌, ◌<◌}
 use native.Mathlib.Omega.{arith}
 use lib.ListN.{length, take, drop}
-use lib.Seq.{set_out, take_all, take-append_seam}
+use lib.Seq.{take_all, take-append_seam}
 use borrow.Author.Tests.{le-leb, lt-leb}
 use Rattle.model.specs.Listing.{lend_name}
 use Rattle.octets.specs.Values.{fill}
-use Rattle.model.specs.declared.LentName.{LentName}
-use Rattle.read_filters.specs.Keeping.{with_one}
-use Rattle.read_filters.specs.declared.Kept.{Kept}
-
--- a name that finds no place is counted
-pub one-dropped : (k : Kept) (n : LentName) → length k.names ≤ k.count → record { count = k.count + 1; names = k.names } ≡ with_one k n
-one-dropped k n h = rw (set_out k.names k.count n)
-
--- ---- a name in a buffer
 
 -- the front of a buffer that a value filled is the value
 pub front : (out v out' : List ℕ) (r : ℕ) → r ≡ length v → out' ≡ fill out v → r ≤ length out → take r out' ≡ v

@@ -8,12 +8,21 @@ use Rattle.read_filters.proofs.mailboxes.names_at.Goals as goal
 
 pub returns-then-octet_at-eq40 : goal.returns-then-octet_at-eq40
 returns-then-octet_at-eq40 c =
-    let i = in-text c.args.text.now c.args.at (sym c.octet_at.ensures ∙ c.if-octet_at-eq40.true) (omega arith) in record { exact = c.names_row.ensures.exact (length c.args.text.now) (omega arith) ∙ names_row c.args.text.now c.args.at (sym c.octet_at.ensures ∙ c.if-octet_at-eq40.true); within = within-from c.args.text.now c.args.at c.names_row.result c.names_row.ensures.within }
+    let b = sym c.octet_at.ensures ∙ c.if-octet_at-eq40.true in
+    let i = in-text c.args.text.now c.args.at b (omega arith) in
+    record {
+      exact = c.names_row.ensures.exact (length c.args.text.now) (omega arith) ∙ names_row c.args.text.now c.args.at b;
+      within = within-from c.args.text.now c.args.at c.names_row.result c.names_row.ensures.within;
+    }
 
-pub returns-in-At : goal.returns-in-At
-returns-in-At c =
-    let w = rw c.in-At.is at c.text_at.ensures.within in record { exact = names_one c.args.text.now c.args.at (λ e. c.if-octet_at-eq40.false (c.octet_at.ensures ∙ e)) (sym c.in-At.is ∙ c.text_at.ensures.exact); within = omega arith }
+pub returns-in_err-p : goal.returns-in_err-p
+returns-in_err-p c =
+    rw c.from_residual.ensures record {
+      exact = names_none c.args.text.now c.args.at (λ e. c.if-octet_at-eq40.false (c.octet_at.ensures ∙ e)) c.in_err-p.ensures.exact;
+      within = tt;
+    }
 
-pub returns-in-Bad : goal.returns-in-Bad
-returns-in-Bad c =
-    record { exact = names_none c.args.text.now c.args.at (λ e. c.if-octet_at-eq40.false (c.octet_at.ensures ∙ e)) (sym c.in-Bad.is ∙ c.text_at.ensures.exact); within = tt }
+pub returns : goal.returns
+returns c =
+    let w = c.in_ok-p.ensures.within in
+    record { exact = names_one c.args.text.now c.args.at (λ e. c.if-octet_at-eq40.false (c.octet_at.ensures ∙ e)) c.in_ok-p.ensures.exact; within = omega arith }

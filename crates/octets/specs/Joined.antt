@@ -1,5 +1,6 @@
 -- Things with a space between them, up to the parenthesis that closes them, each joined to those behind it. Assumes nothing.
-use Rattle.std.specs.Prelude.{◌≡◌, cond, true, false, Option, Some, None, List, [], ◌∷◌, ℕ, zero, suc, ◌+◌, ◌-◌, ◌≤◌, ◌<◌, length, refl}
+use Rattle.std.specs.Prelude.{◌≡◌, cond, true, false, Option, Some, None, List, [], ◌∷◌, ℕ, zero, suc, ◌+◌, ◌-◌, ◌≤◌, ◌<◌, length, ltb, refl}
+use Rattle.std.proofs.Common.{arith, lt-ltb}
 use Rattle.model.specs.Reading.{Parsed, bad, ok, and_then, Next, another, over, neither, row_by, row_at, closing, next_at, stands, after_by, list_at}
 
 -- what was read and the position behind it
@@ -69,3 +70,30 @@ module _ {A B : Type 0} (one : A → B) (all : List A → B) (join : B → B →
 
     pub joined_list : (item : ℕ → Parsed A) (s : List ℕ) (p : ℕ) → list_joined (λ q. read_by one (item q)) join s p ≡ read_by all (list_at item s p)
     joined_list item s p = elim (stands s p "(") as (λ b. cond b (joined (length s) (λ q. read_by one (item q)) join (next_at closing s) (p + 1)) None ≡ read_by all (after_by b (p + 1) (λ q. row_at (length s) item (next_at closing s) q))) [ true ↦ joined_row item (next_at closing s) (length s) (p + 1) | false ↦ refl ]
+
+-- ---- a row that was read is not empty
+abbrev pub Full : {A : Type 0} → Parsed (List A) → Type 0
+Full bad = Unit {0}
+Full (ok p l) = ltb 0 (length l) ≡ true
+
+module _ {A : Type 0} (item : ℕ → Parsed A) (next : ℕ → Next) where
+  full-more : (a : A) (x : Parsed (List A)) → Full (and_then x (λ p l. ok p (a ∷ l)))
+  full-more a bad = tt
+  full-more a (ok p l) = lt-ltb 0 (suc (length l)) (omega arith)
+
+  full_next : (n : ℕ) (a : A) (x : Next) → Full (row_by x (λ r. row_at n item next r) a)
+  full_next n a (another r) = full-more a (row_at n item next r)
+  full_next n a (over r) = lt-ltb 0 1 (omega arith)
+  full_next n a neither = tt
+
+  full_item : (n : ℕ) (x : Parsed A) → Full (and_then x (λ q a. row_by (next q) (λ r. row_at n item next r) a))
+  full_item n bad = tt
+  full_item n (ok q a) = full_next n a (next q)
+
+  pub full_row : (n p : ℕ) → Full (row_at n item next p)
+  unfolding row_at
+  full_row zero p = tt
+  full_row (suc n) p = full_item n (item p)
+
+pub full_list : {A : Type 0} (item : ℕ → Parsed A) (s : List ℕ) (p : ℕ) → Full (list_at item s p)
+full_list item s p = elim (stands s p "(") as (λ b. Full (after_by b (p + 1) (λ q. row_at (length s) item (next_at closing s) q))) [ true ↦ full_row item (next_at closing s) (length s) (p + 1) | false ↦ tt ]

@@ -11,7 +11,7 @@ use Rattle.model.specs.Replies.{unsupported_attribute}
 use Rattle.model.specs.Reading.{Parsed, bad, ok, and_then, piece, word_at, Next as RowNext, another, over, neither, row_by, row_at, closing, next_at, list_at}
 use Rattle.model.specs.Attributes.{attribute_at}
 use Rattle.model.specs.NotifyGrammar.{event_by, event_at, events_at}
-use Rattle.octets.specs.Joined.{ReadsOne, list_joined, joined_list}
+use Rattle.octets.specs.Joined.{ReadsOne, list_joined, joined_list, Full, full_row}
 use Rattle.octets.specs.Classes.{Ends}
 use Rattle.read_attributes.specs.Asked.{gather, both, read_attributes}
 use Rattle.read_attributes.specs.declared.Attributes.{Attributes}
@@ -49,30 +49,6 @@ pub list_gathers : (s : List ℕ) (p : ℕ) → list_joined (read_single s) merg
 list_gathers s p = joined_list single gather_events merge single-gathers merge-gathers (event_at s) s p
 
 -- ---- MessageNew and what stands behind it
--- a row that was read is not empty
-abbrev Full : {A : Type 0} → Parsed (List A) → Type 0
-Full bad = Unit {0}
-Full (ok p l) = ltb 0 (length l) ≡ true
-
-module _ {A : Type 0} (item : ℕ → Parsed A) (next : ℕ → RowNext) where
-  full-more : (a : A) (x : Parsed (List A)) → Full (and_then x (λ p l. ok p (a ∷ l)))
-  full-more a bad = tt
-  full-more a (ok p l) = lt-ltb 0 (suc (length l)) (omega arith)
-
-  full_next : (n : ℕ) (a : A) (x : RowNext) → Full (row_by x (λ r. row_at n item next r) a)
-  full_next n a (another r) = full-more a (row_at n item next r)
-  full_next n a (over r) = lt-ltb 0 1 (omega arith)
-  full_next n a neither = tt
-
-  full_item : (n : ℕ) (x : Parsed A) → Full (and_then x (λ q a. row_by (next q) (λ r. row_at n item next r) a))
-  full_item n bad = tt
-  full_item n (ok q a) = full_next n a (next q)
-
-  full_row : (n p : ℕ) → Full (row_at n item next p)
-  unfolding row_at
-  full_row zero p = tt
-  full_row (suc n) p = full_item n (item p)
-
 new-read : (x : Parsed (List Attribute)) {a : Attributes} {q : ℕ} → Full x → Some (a, q) ≡ read_attributes x → Some (with_attributes a, q) ≡ read_event (and_then x (λ r l. ok r (message_new l)))
 new-read bad f e = cc
 new-read (ok p l) {a} {q} f e =

@@ -101,8 +101,8 @@ pub fn put_owed(
         told,
         MessageNumber(1),
     );
-    let has = order_messages::staying(words, order, count, told, true);
-    let new = order_messages::unseen(words, order, count, told);
+    let has = order_messages::staying(words, &order[..count], told, true);
+    let new = order_messages::unseen(words, &order[..count], told);
     let b = put_exists(queue, a, limit, has, new);
     put_part(
         words,
@@ -131,8 +131,8 @@ pub fn put_news(
     requires { (count ≤ length order.now) × (count ≤ 1024) × (limit ≤ length queue.old) × (at ≤ 65536) }
     ensures { (Put queue.old at limit (news_text told.0 w (chosen (messages words.now) order.now count)) queue.new result) × (result ≤ at + 237000) }
 {
-    let has = order_messages::staying(words, order, count, told, false);
-    let new = order_messages::unseen(words, order, count, told);
+    let has = order_messages::staying(words, &order[..count], told, false);
+    let new = order_messages::unseen(words, &order[..count], told);
     let a = put_exists(queue, at, limit, has, new);
     if !w.any {
         return a;

@@ -8,7 +8,7 @@ use Prim.Native.Nat.{ℕ, zero, suc, ◌+◌, ◌-◌, ◌≤◌, min}
 use Rattle.std.proofs.Math.ListN.{length-map}
 use Rattle.model.specs.Lists.{filterb, keep, anyb}
 use Rattle.model.specs.Laws.{filter-length, cond_same, filter_twice}
-use Rattle.model.specs.Memory.{Memory, boxes, mails, filled, the_mailbox, no_message, uid_of, is_message, expunged, marked, with_states, with_mails, with_session, with_view, drop_mails, change_mails}
+use Rattle.model.specs.Memory.{Memory, boxes, mails, the_mailbox, no_message, uid_of, is_message, expunged, marked, with_states, with_mails, with_session, with_view, drop_mails, change_mails}
 use Rattle.model.specs.Lines.{Line, expunge}
 use Rattle.model.specs.Queue.{fitting, effects, unmark}
 use Rattle.model.specs.View.{expunge_lines, marked_lines, exists_line, flags_line}

@@ -1,16 +1,17 @@
 -- Where the client has all messages of the view and none of them waits, the end of a command leaves all as it is. Assumes nothing.
-use Rattle.std.specs.Prelude.{◌≡◌, refl, Bool, true, false, not, cond, ◌&&◌, ◌||◌, ℕ, suc, ◌*◌, ◌-◌, ◌<◌, ◌≤◌, eqb, ltb, length, take, get_or}
+use Rattle.std.specs.Prelude.{◌≡◌, refl, Bool, true, false, not, cond, ◌&&◌, ◌||◌, ℕ, ◌*◌, ◌-◌, ◌≤◌, eqb, ltb, length, take}
+use Rattle.std.specs.List.{list_any}
 use Rattle.std.proofs.Math.Path.{ap}
-use Rattle.std.proofs.Common.{sym, ◌∙◌, arith, get_or-take, length-take-le, eqb-true, eq-eqb, ne_eqb, lt-ltb, le-ltb}
-use mathlib.Core.List.{List, [], ◌∷◌}
+use Rattle.std.proofs.Common.{sym, ◌∙◌, eqb-true}
+use mathlib.Core.List.{List, [], ◌∷◌, map}
 use Rattle.std.proofs.lemmas.Bool.{not-false}
 use Rattle.model.specs.Laws.{or_l, or_r, and_false}
 use Rattle.model.specs.Lists.{anyb, filterb, keep, insert, sorted}
 use Rattle.model.specs.Text.{bit}
-use Rattle.model.specs.Memory.{no_message, uid_of, expunged, marked, in_mailbox, by_uid, messages_of}
+use Rattle.model.specs.Memory.{uid_of, expunged, marked, in_mailbox, by_uid, messages_of}
 use Rattle.model.specs.declared.Message.{Message}
 use Rattle.model.specs.declared.Session.{Session}
-use Rattle.table_messages.specs.Words.{messages, messages-length}
+use Rattle.table_messages.specs.Words.{messages}
 use Rattle.table_messages.specs.Laid.{laid_own}
 use Rattle.table_sweep.specs.Swept.{unsettled}
 use Rattle.order_messages.specs.Counts.{fresh}
@@ -28,22 +29,12 @@ waits told e = not (ltb (uid_of e) told) || not (eqb e.states 0)
 abbrev pub owes : ℕ → ℕ → Message → Bool
 owes id told e = in_mailbox id e && waits told e
 
--- ---- as the code tests it
-module _ (id told : ℕ) (e x : Message) (p : e ≡ x) where
-  pub other_box : (e.mailbox ≡ id → ⊥) → false ≡ owes id told x
-  other_box h = rw (← p, ne_eqb e.mailbox id h)
-
-  pub owes_news : e.mailbox ≡ id → told ≤ uid_of e → true ≡ owes id told x
-  owes_news h n = rw (← p, eq-eqb e.mailbox id h, le-ltb (uid_of e) told n)
-
-  pub owes_states : e.mailbox ≡ id → uid_of e < told → not (eqb e.states 0) ≡ owes id told x
-  owes_states h n = rw (← p, eq-eqb e.mailbox id h, lt-ltb (uid_of e) told n)
+-- of entries that are read one by one
+pub any_among : {B : Type 0} (p : Message → Bool) (f : B → Message) (xs : List B) → list_any (λ x. p (f x)) xs ≡ anyb p (map f xs)
+any_among p f [] = refl
+any_among p f (x ∷ xs) = ap (λ b. p (f x) || b) (any_among p f xs)
 
 -- ---- none of the table, none of the view
-none_any : (p : Message → Bool) (l : List Message) → ((i : ℕ) → i < length l → p (get_or l i no_message) ≡ false) → anyb p l ≡ false
-none_any p [] h = refl
-none_any p (x ∷ l) h = rw (h 0 (omega arith)) (none_any p l (λ i z. h (suc i) (omega arith)))
-
 none-filter : (id told : ℕ) (l : List Message) → anyb (owes id told) l ≡ false → anyb (waits told) (filterb (in_mailbox id) l) ≡ false
 none-filter id told [] h = refl
 none-filter id told (x ∷ l) h = go (in_mailbox id x) (or_l (owes id told x) (anyb (owes id told) l) h) (none-filter id told l (or_r (owes id told x) (anyb (owes id told) l) h))
@@ -127,12 +118,9 @@ silence told c lim l q at h =
     }
 
 -- ---- the end of a command, where no entry of the mailbox is owed a line
-module _ (ws : List ℕ) (used : ℕ) (q : List ℕ) (s : Session) (at : ℕ) (c : Bool) (next : ℕ) (h : used * 6 ≤ length ws) (none : (i : ℕ) → i < used → owes s.selected s.told (get_or (messages ws) i no_message) ≡ false) where
+module _ (ws : List ℕ) (used : ℕ) (q : List ℕ) (s : Session) (at : ℕ) (c : Bool) (next : ℕ) (h : used * 6 ≤ length ws) (none : anyb (owes s.selected s.told) (take used (messages ws)) ≡ false) where
   view : anyb (waits s.told) (messages_of s.selected (take used (messages ws))) ≡ false
-  view =
-      let n = length-take-le used (messages ws) (messages-length used ws h) in
-      none-sorted s.told (filterb (in_mailbox s.selected) (take used (messages ws))) (none-filter s.selected s.told (take used (messages ws))
-      (none_any (owes s.selected s.told) (take used (messages ws)) (λ i z. (let y : i < used = omega arith in ap (owes s.selected s.told) (get_or-take used (messages ws) i no_message y) ∙ none i y))))
+  view = none-sorted s.told (filterb (in_mailbox s.selected) (take used (messages ws))) (none-filter s.selected s.told (take used (messages ws)) none)
 
   pub leaves_all : (b : Bool) → Leaves (end_after (messages ws) used q s at c b next) (end_rest (messages ws) used q s at c b) ws ws q (record { session = s; used = used; filled = at; rest = 0 })
   leaves_all true =

@@ -1,8 +1,9 @@
 // `CE`, `SE` and `DR`: the end of a command, a selection, octets that were sent.
 #![tactic(auto)]
 
-ghost use Rattle.std.specs.Prelude.{◌≡◌, false, cond, ℕ, ◌+◌, ◌*◌, ◌-◌, ◌≤◌, ◌<◌, length, take, get_or};
-ghost use Rattle.model.specs.Memory.{no_message, with_view};
+ghost use Rattle.std.specs.Prelude.{◌≡◌, cond, ◌*◌, ◌-◌, ◌≤◌, length, take};
+ghost use Rattle.model.specs.Memory.{with_view};
+ghost use Rattle.model.specs.Lists.{anyb};
 ghost use Rattle.model.specs.Queue.{shifted};
 ghost use Rattle.table_messages.specs.Words.{messages};
 ghost use Rattle.table_messages.specs.Laid.{laid};
@@ -10,7 +11,8 @@ ghost use Rattle.event_session.specs.Ending.{end_after, end_rest, Leaves};
 ghost use Rattle.event_session.specs.Quiet.{owes};
 ghost use Rattle.event_session.specs.After.{rests, select_entries};
 
-use model::{Session, Uid};
+use model::{Message, Session, Uid};
+use table_messages::{of_row, rows};
 use table_sweep::Sweep;
 
 // ---- `DR`
@@ -19,28 +21,18 @@ pub fn drain(queue: &mut [u8], filled: usize, n: usize) -> usize
     requires { (n ≤ filled) × (filled ≤ length queue.old) }
     ensures { (queue.new ≡ shifted queue.old filled n) × (result ≡ filled - n) }
 {
-    let rest = filled - n;
-    let mut i = 0;
-    while i < rest {
-        queue[i] = queue[n + i];
-        i += 1;
-    }
-    rest
+    queue.copy_within(n..filled, 0);
+    filled - n
 }
 
 // ---- `SE`
 pub fn viewed(s: Session, id: u16, told: u32) -> Session
     ensures { result ≡ with_view s id told }
 {
-    let groups = s.groups;
-    let names = s.names;
     Session {
         selected: id,
-        notified: s.notified,
-        groupcount: s.groupcount,
         told,
-        groups,
-        names,
+        ..s
     }
 }
 
@@ -63,44 +55,25 @@ pub fn select(words: &mut [u64], used: usize, s: Session, id: u16, next: u32) ->
 }
 
 // ---- `CE`
-// Whether entry i is of the mailbox, and new to the client, expunged or marked.
-fn owes_one(words: &[u64], i: usize, id: u64, told: Uid) -> bool
-    requires { (i + 1) * 6 ≤ length words.now }
-    ensures { result ≡ owes id told.0 (get_or (messages words.now) i no_message) }
+// Whether the entry is of the mailbox, and new to the client, expunged or marked.
+fn owes(e: &Message, id: u64, told: Uid) -> bool
+    ensures { result ≡ owes id told.0 e.now }
 {
-    let e = table_messages::get(words, i);
-    if e.mailbox != id {
-        return false;
-    }
-    if told.0 <= e.uid.0 {
-        return true;
-    }
-    e.states != 0
+    e.mailbox == id && (!(e.uid < told) || e.states != 0)
 }
 
 // Whether a line may be owed of the mailbox: no means that there is none.
-pub fn is_owed(words: &[u64], used: usize, id: u64, told: Uid) -> bool
-    requires { used * 6 ≤ length words.now }
-    ensures { result ≡ false → (i : ℕ) → i < used → owes id told.0 (get_or (messages words.now) i no_message) ≡ false }
+pub fn is_owed(words: &[u64], id: u64, told: Uid) -> bool
+    ensures { result ≡ anyb (owes id told.0) (messages words.now) }
 {
-    let mut i = 0;
-    while i < used {
-        if owes_one(words, i, id, told) {
-            return true;
-        }
-        i += 1;
-    }
-    false
+    rows(words).iter().any(|row| owes(&of_row(row), id, told))
 }
 
 // The view, if EXISTS was written.
 fn announced(s: Session, news: bool, next: u32) -> Session
     ensures { result ≡ cond news (with_view s s.selected next) s }
 {
-    if news {
-        return viewed(s, s.selected, next);
-    }
-    s
+    if news { viewed(s, s.selected, next) } else { s }
 }
 
 // What the end of a command leaves besides the table and the queue's octets, and how many lines are still owed.
@@ -135,14 +108,13 @@ pub fn end_command(
             rest: 0,
         };
     }
-    let id = s.selected as u64;
-    let told = s.told as u64;
+    let id = u64::from(s.selected);
+    let told = Uid(u64::from(s.told));
     let limit = queue.len() - 64;
-    let n = order_messages::by_uid(words, used, id, order);
-    let t = event_view::speak(words, order, n, Uid(told), class, queue, limit, filled);
-    let gone = t.gone;
-    let shown = t.shown;
-    let left = table_sweep::settle(words, used, Sweep::Told(id, gone, shown));
+    let mails = &words[..6 * used];
+    let n = order_messages::by_uid(mails, id, order);
+    let t = event_view::speak(mails, order, n, told, class, queue, limit, filled);
+    let left = table_sweep::settle(words, used, Sweep::Told(id, t.gone, t.shown));
     Closed {
         session: announced(s, t.news, next),
         used: left,

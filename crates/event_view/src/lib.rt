@@ -182,8 +182,8 @@ pub fn speak(
         bound: Uid(0),
     };
     let a = say_first(words, order, n, told, class, queue, limit, g);
-    let k = order_messages::staying(words, order, n, told, class);
-    let f = order_messages::unseen(words, order, n, told);
+    let k = order_messages::staying(words, &order[..n], told, class);
+    let f = order_messages::unseen(words, &order[..n], told);
     let b = say_exists(queue, limit, begun(a), k, f);
     let c = marks(words, order, n, told, class, queue, limit, begun(b));
     let gone = a.bound;

@@ -78,8 +78,8 @@ pub fn put_owed(w: &mut Writer<'_>, words: &[u64], order: &[usize], told: Uid)
     ensures upper_bound { w.new.at ≤ w.old.at + 474000 }
 {
     put_part(w, words, order, Part::Expunged, told, MessageNumber(1));
-    let has = order_messages::staying(words, order, order.len(), told, true);
-    let new = order_messages::unseen(words, order, order.len(), told);
+    let has = order_messages::staying(words, order, told, true);
+    let new = order_messages::unseen(words, order, told);
     put_exists(w, has, new);
     put_part(w, words, order, Part::Marked, told, MessageNumber(1));
 }
@@ -105,8 +105,8 @@ impl Line for News<'_> {
             shows,
             ..
         } = *self;
-        let has = order_messages::staying(words, order, order.len(), told, false);
-        let new = order_messages::unseen(words, order, order.len(), told);
+        let has = order_messages::staying(words, order, told, false);
+        let new = order_messages::unseen(words, order, told);
         put_exists(w, has, new);
         if shows.any {
             put_part(

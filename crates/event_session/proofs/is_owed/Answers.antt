@@ -1,20 +1,14 @@
--- `is_owed`: the entries passed are owed nothing. Assumes nothing.
-use borrow.Author.Rules.{rules}
-use borrow.Author.Count.{below_more}
-use mathlib.Core.Path.{refl, sym, ◌∙◌}
-use mathlib.Core.Bool.{true, false}
-use native.Mathlib.Omega.{arith}
-use Rattle.model.specs.Laws.{tf}
+-- `is_owed`: one of the rows is owed a line where one of their entries is. Assumes nothing.
+use Rattle.std.proofs.Common.{rules, tests, ◌∙◌, ap}
+use Rattle.std.proofs.lemmas.Iterator.{YieldsList-from_slice}
+use Rattle.std.proofs.lemmas.Iterator.Search.{any_from_yields_List}
+use Rattle.model.specs.Lists.{anyb}
+use Rattle.table_messages.specs.Words.{of_row}
+use Rattle.event_session.specs.Quiet.{owes, any_among}
 use Rattle.event_session.proofs.is_owed.Goals as goal
 
-pub loop-i-init : goal.loop-i-init
-loop-i-init c = (search rules, λ k h. absurd (let z : ⊥ = omega arith in z))
-
-pub returns-then-owes_one : goal.returns-then-owes_one
-returns-then-owes_one c = λ e. tf true refl e
-
-pub loop-i-preserved : goal.loop-i-preserved
-loop-i-preserved c = (search rules, below_more _ _ c.loop-i.invariant.1 (sym c.owes_one.ensures ∙ c.if-owes_one.false))
-
 pub returns : goal.returns
-returns c = λ e i h. c.loop-i.invariant.1 i (omega arith)
+returns c =
+    let p = owes c.args.id c.args.told.0 in
+    any_from_yields_List (λ r. p (of_row r)) _ _ c.any.result c.any.ensures.ran (YieldsList-from_slice c.rows.result.now cc) (λ x b q k. search (rules, tests))
+    ∙ (any_among p of_row c.rows.result.now ∙ ap (anyb p) c.rows.ensures)

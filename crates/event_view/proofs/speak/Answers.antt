@@ -1,8 +1,10 @@
 -- `speak`: the three parts one after the other, each begun anew where the one before ended, are what is said. Assumes nothing.
-use mathlib.Core.Path.{ap}
+use Rattle.std.proofs.Common.{ap, ◌∙◌, length}
+use Rattle.model.specs.Lists.{filterb}
 use native.Mathlib.Omega.{arith}
 use Rattle.table_messages.specs.Words.{messages}
-use Rattle.order_messages.specs.Chosen.{chosen}
+use Rattle.order_messages.specs.Chosen.{chosen, chosen-take}
+use Rattle.order_messages.specs.Counts.{stays, fresh}
 use Rattle.event_view.specs.declared.Going.{Going}
 use Rattle.event_view.specs.Speaking.{speaks}
 use Rattle.event_view.proofs.speak.Goals as goal
@@ -36,7 +38,8 @@ shape_of-queue c =
 
 pub returns : goal.returns
 returns c =
+    let cut = chosen-take (messages c.args.words.now) c.args.order.now c.args.n (omega arith) in
     let all = chosen (messages c.args.words.now) c.args.order.now c.args.n in
     speaks c.args.told.0 c.args.class c.args.limit all c.args.queue.now c.args.filled _ _ _
     c.say_first-a.result c.begun.result c.say_exists-b.result c.begun-2.result c.marks-c.result c.staying-k.result c.unseen-f.result
-    c.say_first-a.ensures.0 c.begun.ensures c.staying-k.ensures.0 c.unseen-f.ensures.0 c.say_exists-b.ensures.0 c.begun-2.ensures c.marks-c.ensures.0
+    c.say_first-a.ensures.0 c.begun.ensures (c.staying-k.ensures.0 ∙ ap (λ l. length (filterb (stays c.args.told.0 c.args.class) l)) cut) (c.unseen-f.ensures.0 ∙ ap (λ l. length (filterb (fresh c.args.told.0) l)) cut) c.say_exists-b.ensures.0 c.begun-2.ensures c.marks-c.ensures.0

@@ -1,5 +1,5 @@
 -- A name in a buffer, over plain values. Assumes nothing.
-use mathlib.Core.Path.{◌≡◌, sym, ap, ◌∙◌}
+use mathlib.Core.Path.{◌≡◌}
 use mathlib.Core.List.{List, []}
 use Prim.Native.Nat.{ℕ, ◌≤◌, ◌<◌}
 use native.Mathlib.Omega.{arith}
@@ -14,9 +14,6 @@ pub front : (out v out' : List ℕ) (r : ℕ) → r ≡ length v → out' ≡ fi
 front out v out' r e f h =
     let l : length v ≤ length out = omega arith in
     rw (f, e, take_all (length out) v) (take-append_seam v (drop (length v) out))
-
-pub front_length : (out v out' : List ℕ) (r : ℕ) → r ≡ length v → out' ≡ fill out v → r ≤ length out → r ≡ length (take r out')
-front_length out v out' r e f h = e ∙ sym (ap length (front out v out' r e f h))
 
 -- a value that is too long is no name
 pub too_long : (v : List ℕ) → 64 < length v → lend_name [] ≡ lend_name v

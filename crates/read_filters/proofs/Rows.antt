@@ -5,7 +5,7 @@ use Prim.Native.Nat.{ℕ, ◌+◌, ◌-◌, ◌<◌}
 use native.Mathlib.Numerals.{add-one}
 use native.Mathlib.Omega.{arith}
 use lib.ListN.{length, get_or}
-use borrow.Author.Tests.{eq-eqb, ne_eqb}
+use borrow.Author.Tests.{eq-eqb}
 use Rattle.std.specs.Prelude.{Option, Some, None}
 use Rattle.std.specs.Option.{option_map}
 use Rattle.model.specs.Reading.{Parsed, bad, ok, and_then, astring_at, row_at, closing, next_at}
@@ -52,9 +52,3 @@ within-from s at None w = tt
 module _ (s : List ℕ) (at : ℕ) where
   pub names_row : get_or s at 0 ≡ 40 → read_names (row_at (length s) (astring_at s) (next_at closing s) (at + 1)) ≡ read_names (names_at s at)
   names_row b = rw (eq-eqb (get_or s at 0) 40 b)
-
-  pub names_one : (get_or s at 0 ≡ 40 → ⊥) → {p : ℕ} → Some p ≡ next_of (astring_at s at) → Some (1, p) ≡ read_names (names_at s at)
-  names_one b {p} e = let i = next-found (astring_at s at) e in rw (ne_eqb (get_or s at 0) 40 b, i.1)
-
-  pub names_none : (get_or s at 0 ≡ 40 → ⊥) → None ≡ next_of (astring_at s at) → None ≡ read_names (names_at s at)
-  names_none b e = rw (ne_eqb (get_or s at 0) 40 b, next-lost (astring_at s at) e)

@@ -17,7 +17,8 @@ use Rattle.read_filters.specs.Scopes.{word_for, read_filter, Plain, Bears, Withi
 use Rattle.read_filters.specs.declared.Scope.{Scope}
 use Rattle.read_filters.specs.declared.Word.TheVariants.{Named}
 use Rattle.read_filters.specs.declared.Filter.{Filter as FilterRead}
-use Rattle.octets.specs.Rows.{next-found, next-lost}
+use Rattle.read_filters.proofs.Pairs.{read-same}
+use Rattle.octets.specs.Rows.{next-found}
 
 -- a word that stands alone is of a filter without names
 either_way : (t : Bool) (x y : ScopeWord) → Plain x → Plain y → Plain (cond t x y)
@@ -40,9 +41,7 @@ plain w =
 
 pub counted : {n p : ℕ} (x : Parsed (List (List ℕ))) → Some (n, p) ≡ read_names x → (ns : List (List ℕ)) × (x ≡ ok p ns) × (length ns ≡ n)
 counted bad e = cc
-counted {n} {p} (ok q ns) e =
-    let f : ◌≡◌ {A = ℕ × ℕ} (n, p) (length ns, q) = cc in
-    (ns, rw (ap (λ (x : ℕ × ℕ). x.1) f), rw (ap (λ (x : ℕ × ℕ). x.0) f))
+counted (ok q ns) e = let f = read-same e in (ns, rw f.1, rw f.0)
 
 -- a filter of this scope with so many names, and the position behind it
 abbrev read : Scope → ℕ → ℕ → Option (FilterRead × ℕ)
@@ -72,13 +71,6 @@ module _ (s : List ℕ) (at : ℕ) where
   by-named h mailboxes_of e = h mailboxes (record { scoped = λ n ns. (cc); named = λ n ns. refl })
   by-named h unscoped e = cc
 
-  pub by_unknown : (x : ScopeWord) → None ≡ word_for x → None ≡ read_filter (filter_by x s at)
-  by_unknown (alone f) e = cc
-  by_unknown subtree_of e = cc
-  by_unknown one_level_of e = cc
-  by_unknown mailboxes_of e = cc
-  by_unknown unscoped e = refl
-
 -- ---- a whole filter
 
 -- a run is the octets up to its end
@@ -97,10 +89,6 @@ module _ (s : List ℕ) (at : ℕ) where
   pub filter_some : {p : ℕ} {r : Option (FilterRead × ℕ)} → Some p ≡ next_of (atom_at s at) → r ≡ read_filter (filter_by (scope_of (piece s at p)) s p) → r ≡ read_filter (filter_at s at)
   unfolding filter_at
   filter_some {p} e h = rw (atom s at e) h
-
-  pub filter_none : None ≡ next_of (atom_at s at) → None ≡ read_filter (filter_at s at)
-  unfolding filter_at
-  filter_none e = rw (next-lost (atom_at s at) e)
 
 -- ---- bounds
 

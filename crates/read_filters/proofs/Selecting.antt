@@ -6,7 +6,7 @@ use Prim.Native.Nat.{ℕ, zero, suc, ◌+◌, ◌<◌}
 use native.Mathlib.Omega.{arith}
 use lib.ListN.{length, get_or}
 use borrow.Author.Tests.{eq-eqb}
-use Rattle.std.specs.Prelude.{Option, Some, None}
+use Rattle.std.specs.Prelude.{Option, Some}
 use Rattle.model.specs.Requests.{Filter, subtree, subtree_one, mailboxes}
 use Rattle.model.specs.Reading.{Parsed, bad, ok, and_then, after_by, stands, piece, astring_at, atom_at, Next, another, over, neither, row_by, row_at, closing, next_at, list_at}
 use Rattle.model.specs.NotifyGrammar.{Scope as ScopeWord, alone, subtree_of, one_level_of, mailboxes_of, unscoped, scope_of, names_at, with_names, named_by, filter_by, filter_at}
@@ -18,7 +18,6 @@ use Rattle.read_filters.specs.declared.Scope.TheVariants.{Subtree, SubtreeOne, M
 use Rattle.read_filters.specs.declared.Word.TheVariants.{Named}
 use Rattle.read_filters.specs.declared.Kept.{Kept}
 use Rattle.read_filters.proofs.Scoping.{atom}
-use Rattle.octets.specs.Rows.{next-lost}
 
 -- ---- a row has one thing at least
 
@@ -82,19 +81,8 @@ module _ (s : List ℕ) (at : ℕ) (k : Kept) where
   keeps_by h mailboxes_of e = h Mailboxes mailboxes (record { scoped = λ n ns. refl; named = λ n ns. refl })
   keeps_by h unscoped e = cc
 
-  pub keeps_unknown : (x : ScopeWord) → None ≡ word_for x → None ≡ kept_filter k (filter_by x s at)
-  keeps_unknown (alone f) e = cc
-  keeps_unknown subtree_of e = cc
-  keeps_unknown one_level_of e = cc
-  keeps_unknown mailboxes_of e = cc
-  keeps_unknown unscoped e = refl
-
   -- ---- a whole filter
 
   pub keeps_some : {p : ℕ} {r : Option (Kept × ℕ)} → Some p ≡ next_of (atom_at s at) → r ≡ kept_filter k (filter_by (scope_of (piece s at p)) s p) → r ≡ kept_filter k (filter_at s at)
   unfolding filter_at
   keeps_some e h = rw (atom s at e) h
-
-  pub keeps_none : None ≡ next_of (atom_at s at) → None ≡ kept_filter k (filter_at s at)
-  unfolding filter_at
-  keeps_none e = rw (next-lost (atom_at s at) e)

@@ -96,9 +96,6 @@ module _ (s : List ℕ) (at : ℕ) (k : Kept) where
   pub kept_row : get_or s at 0 ≡ 40 → kept_names k (row (length s) s (at + 1)) ≡ kept_names k (names_at s at)
   kept_row b = rw (eq-eqb (get_or s at 0) 40 b)
 
-  pub kept_none : (get_or s at 0 ≡ 40 → ⊥) → None ≡ next_of (astring_at s at) → None ≡ kept_names k (names_at s at)
-  kept_none b e = rw (ne_eqb (get_or s at 0) 40 b, next-lost (astring_at s at) e)
-
   pub kept_one : (get_or s at 0 ≡ 40 → ⊥) → {p : ℕ} → Some p ≡ next_of (astring_at s at) → (x : Kept) → x ≡ with_one k (lend_name (value_of (astring_at s at)))
       → Some (x, p) ≡ kept_names k (names_at s at)
   kept_one b {p} e x w =

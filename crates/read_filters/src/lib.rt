@@ -3,7 +3,7 @@
 
 mod mailboxes;
 
-ghost use Rattle.std.specs.Prelude.{◌≡◌, ◌≤◌, length};
+ghost use Rattle.std.specs.Prelude.{◌≡◌, ◌≤◌, length, set};
 ghost use Rattle.model.specs.Reading.{piece};
 ghost use Rattle.model.specs.NotifyGrammar.{scope_of, filter_at};
 ghost use Rattle.read_filters.specs.Scopes.{Numbered, Grouped, word_for, read_filter, ReadsNamed, ReadsBy, ReadsFilter};
@@ -76,16 +76,16 @@ fn word_of(text: &[u8], from: usize, upto: usize) -> Option<Word>
             b"mailboxes",
         ],
     )?;
-    match place {
-        0 => Some(Word::Alone(Scope::Selected)),
-        1 => Some(Word::Alone(Scope::Delayed)),
-        2 => Some(Word::Alone(Scope::Inboxes)),
-        3 => Some(Word::Alone(Scope::Personal)),
-        4 => Some(Word::Alone(Scope::Subscribed)),
-        5 => Some(Word::Named(Scope::Subtree)),
-        6 => Some(Word::Named(Scope::SubtreeOne)),
-        _ => Some(Word::Named(Scope::Mailboxes)),
-    }
+    Some(match place {
+        0 => Word::Alone(Scope::Selected),
+        1 => Word::Alone(Scope::Delayed),
+        2 => Word::Alone(Scope::Inboxes),
+        3 => Word::Alone(Scope::Personal),
+        4 => Word::Alone(Scope::Subscribed),
+        5 => Word::Named(Scope::Subtree),
+        6 => Word::Named(Scope::SubtreeOne),
+        _ => Word::Named(Scope::Mailboxes),
+    })
 }
 
 // A filter that was read: whom it is about, and how many names it has.
@@ -118,6 +118,7 @@ fn filter_by(text: &[u8], at: usize, word: Word) -> Option<(Filter, usize)>
 }
 
 // Whom a group of NOTIFY or a source of ESEARCH is about, and the position behind it.
+#[tactic(auto, unfolding(model::specs::NotifyGrammar::filter_at))]
 pub fn filter_at(text: &[u8], at: usize) -> Option<(Filter, usize)>
     ensures { ReadsFilter text.now at (read_filter (filter_at text.now at)) result }
 {
@@ -146,6 +147,15 @@ pub fn keep_nothing() -> Kept
     }
 }
 
+// Sets one of some places, if there is such a place.
+pub fn put_at<T: Copy>(places: &mut [T], at: u64, item: T)
+    ensures { places.new ≡ set places.old at item }
+{
+    if at < places.len() as u64 {
+        places[at as usize] = item;
+    }
+}
+
 // Keeps the names of a filter, from the position behind its word on.
 fn keep_named(text: &[u8], at: usize, kept: Kept) -> Option<(Kept, usize)>
     requires { kept.count ≤ at }
@@ -169,6 +179,7 @@ fn keep_by(text: &[u8], at: usize, word: Word, kept: Kept) -> Option<(Kept, usiz
 }
 
 // Keeps the names of a filter behind those that are kept, and gives the position behind it.
+#[tactic(auto, unfolding(model::specs::NotifyGrammar::filter_at))]
 pub fn keep_filter(text: &[u8], at: usize, kept: Kept) -> Option<(Kept, usize)>
     requires { kept.count ≤ at }
     ensures { Keeps text.now at (kept_filter kept (filter_at text.now at)) result }

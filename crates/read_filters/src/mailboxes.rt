@@ -7,7 +7,7 @@ ghost use Rattle.octets.specs.Values.{value_of};
 ghost use Rattle.read_filters.specs.Counted.{read_names, ReadsNames, ReadsRow};
 ghost use Rattle.read_filters.specs.Keeping.{with_one, kept_names, KeepsRow, Keeps};
 
-use super::Kept;
+use super::{Kept, put_at};
 use model::LentName;
 use octets::Class;
 
@@ -43,9 +43,7 @@ fn keep_one(kept: Kept, name: LentName) -> Kept
     ensures { result ≡ with_one kept name }
 {
     let mut names = kept.names;
-    if kept.count < 16 {
-        names[kept.count as usize] = name;
-    }
+    put_at(&mut names, kept.count, name);
     Kept {
         count: kept.count + 1,
         names,

@@ -2,21 +2,8 @@
 use native.Mathlib.Omega.{arith}
 use Rattle.model.specs.Reading.{piece}
 use Rattle.model.specs.NotifyGrammar.{scope_of}
-use Rattle.read_filters.proofs.Scoping.{plain, by_unknown, filter_some, filter_none, within-behind}
+use Rattle.read_filters.proofs.Scoping.{plain, filter_some, within-behind}
 use Rattle.read_filters.proofs.filter_at.Goals as goal
-
-pub returns-in_err-p : goal.returns-in_err-p
-returns-in_err-p c =
-    rw c.from_residual.ensures record { exact = filter_none c.args.text.now c.args.at c.in_err-p.ensures.exact; within = tt }
-
-pub returns-in_err-word_of : goal.returns-in_err-word_of
-returns-in_err-word_of c =
-    let name = piece c.args.text.now c.args.at c.in_ok-p.p in
-    rw c.from_residual-in_err-word_of.ensures record {
-      exact = filter_some c.args.text.now c.args.at c.in_ok-p.ensures.exact
-          (by_unknown c.args.text.now c.in_ok-p.p (scope_of name) c.in_err-word_of.ensures);
-      within = tt;
-    }
 
 pub returns : goal.returns
 returns c =

@@ -4,21 +4,8 @@ use Rattle.model.specs.Reading.{piece}
 use Rattle.model.specs.NotifyGrammar.{scope_of}
 use Rattle.read_filters.proofs.Scoping.{plain}
 use Rattle.read_filters.proofs.Storing.{fits-behind}
-use Rattle.read_filters.proofs.Selecting.{keeps_unknown, keeps_some, keeps_none}
+use Rattle.read_filters.proofs.Selecting.{keeps_some}
 use Rattle.read_filters.proofs.keep_filter.Goals as goal
-
-pub returns-in_err-p : goal.returns-in_err-p
-returns-in_err-p c =
-    rw c.from_residual.ensures record { exact = keeps_none c.args.text.now c.args.at c.args.kept c.in_err-p.ensures.exact; within = tt }
-
-pub returns-in_err-word_of : goal.returns-in_err-word_of
-returns-in_err-word_of c =
-    let name = piece c.args.text.now c.args.at c.in_ok-p.p in
-    rw c.from_residual-in_err-word_of.ensures record {
-      exact = keeps_some c.args.text.now c.args.at c.args.kept c.in_ok-p.ensures.exact
-          (keeps_unknown c.args.text.now c.in_ok-p.p c.args.kept (scope_of name) c.in_err-word_of.ensures);
-      within = tt;
-    }
 
 pub returns : goal.returns
 returns c =

@@ -4,7 +4,7 @@ use native.Mathlib.Omega.{arith}
 use lib.ListN.{length}
 use Rattle.read_filters.specs.Keeping.{with_one}
 use Rattle.read_filters.specs.declared.Kept.{Kept}
-use Rattle.read_filters.proofs.Storing.{kept_row, kept_none, kept_one, fits-from}
+use Rattle.read_filters.proofs.Storing.{kept_row, kept_one, fits-from}
 use Rattle.octets.specs.Rows.{in-text}
 use Rattle.read_filters.proofs.mailboxes.keep_names.Goals as goal
 
@@ -15,13 +15,6 @@ returns-then-octet_at-eq40 c =
     record {
       exact = c.keep_row.ensures.exact (length c.args.text.now) (omega arith) ∙ kept_row c.args.text.now c.args.at c.args.kept b;
       within = fits-from c.args.text.now c.args.at c.keep_row.result c.keep_row.ensures.within;
-    }
-
-pub returns-in_err-p : goal.returns-in_err-p
-returns-in_err-p c =
-    rw c.from_residual.ensures record {
-      exact = kept_none c.args.text.now c.args.at c.args.kept (λ e. c.if-octet_at-eq40.false (c.octet_at.ensures ∙ e)) c.in_err-p.ensures.exact;
-      within = tt;
     }
 
 pub keep_one-requires : goal.keep_one-requires

@@ -7,4 +7,5 @@ mod Strings
 mod Filling
 pub mod Chains
 mod Days
+mod Joining
 mod Weights

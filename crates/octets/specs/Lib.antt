@@ -1,5 +1,6 @@
 pub mod Classes
 pub mod Found
+pub mod Joined
 pub mod Numerals
 pub mod Quotes
 pub mod Values

@@ -4,6 +4,7 @@
 pub mod classes;
 pub mod dates;
 pub mod numbers;
+pub mod rows;
 pub mod runs;
 pub mod texts;
 pub mod words;
@@ -11,6 +12,7 @@ pub mod words;
 pub use classes::{in_class, octet_at};
 pub use dates::date_at;
 pub use numbers::{little, number_at, positive_at};
+pub use rows::{Joined, list_at, row_to_close};
 pub use runs::{behind_space, run_at, run_end};
 pub use texts::{quoted_at, text_at, value_of};
 pub use words::{is_one_of, is_word, word_at, word_place};

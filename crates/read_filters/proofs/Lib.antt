@@ -5,3 +5,4 @@ pub mod Places
 pub mod Storing
 pub mod Selecting
 pub mod Filling
+pub mod Pairs

@@ -1,31 +1,19 @@
--- The places that names are kept in, over plain values. Assumes nothing.
-use mathlib.Core.Path.{◌≡◌, sym, ap, ◌∙◌}
+-- A name in a buffer, over plain values. Assumes nothing.
+use mathlib.Core.Path.{◌≡◌}
 use mathlib.Core.List.{List, []}
-use Prim.Native.Nat.{ℕ, ◌+◌, ◌-◌, ◌≤◌, ◌<◌}
+use Prim.Native.Nat.{ℕ, ◌≤◌, ◌<◌}
 use native.Mathlib.Omega.{arith}
 use lib.ListN.{length, take, drop}
-use lib.Seq.{set_out, take_all, take-append_seam}
+use lib.Seq.{take_all, take-append_seam}
 use borrow.Author.Tests.{le-leb, lt-leb}
 use Rattle.model.specs.Listing.{lend_name}
 use Rattle.octets.specs.Values.{fill}
-use Rattle.model.specs.declared.LentName.{LentName}
-use Rattle.read_filters.specs.Keeping.{with_one}
-use Rattle.read_filters.specs.declared.Kept.{Kept}
-
--- a name that finds no place is counted
-pub one-dropped : (k : Kept) (n : LentName) → length k.names ≤ k.count → record { count = k.count + 1; names = k.names } ≡ with_one k n
-one-dropped k n h = rw (set_out k.names k.count n)
-
--- ---- a name in a buffer
 
 -- the front of a buffer that a value filled is the value
 pub front : (out v out' : List ℕ) (r : ℕ) → r ≡ length v → out' ≡ fill out v → r ≤ length out → take r out' ≡ v
 front out v out' r e f h =
     let l : length v ≤ length out = omega arith in
     rw (f, e, take_all (length out) v) (take-append_seam v (drop (length v) out))
-
-pub front_length : (out v out' : List ℕ) (r : ℕ) → r ≡ length v → out' ≡ fill out v → r ≤ length out → r ≡ length (take r out')
-front_length out v out' r e f h = e ∙ sym (ap length (front out v out' r e f h))
 
 -- a value that is too long is no name
 pub too_long : (v : List ℕ) → 64 < length v → lend_name [] ≡ lend_name v

@@ -1,5 +1,5 @@
 -- Whom a filter is about, as the code answers it. Assumes nothing: these are definitions.
-use Rattle.std.specs.Prelude.{◌≡◌, Bool, List, [], ◌∷◌, ℕ, ◌+◌, ◌≤◌, ◌<◌, length}
+use Rattle.std.specs.Prelude.{◌≡◌, Option, Some, None, Bool, List, [], ◌∷◌, ℕ, ◌+◌, ◌≤◌, ◌<◌, length}
 use Rattle.model.specs.Requests.{Filter, selected, delayed, inboxes, personal, subscribed, subtree, subtree_one, mailboxes, names_of}
 use Rattle.model.specs.Reading.{Parsed, bad, ok}
 use Rattle.model.specs.NotifyGrammar.{Scope as ScopeWord, alone, subtree_of, one_level_of, mailboxes_of, unscoped, named_by, filter_by, groupable}
@@ -7,9 +7,8 @@ use Rattle.model.specs.Listing.{selector_number}
 use Rattle.read_filters.specs.declared.Scope.{Scope}
 use Rattle.read_filters.specs.declared.Scope.TheVariants.{Selected, Delayed, Inboxes, Personal, Subscribed, Subtree, SubtreeOne, Mailboxes}
 use Rattle.read_filters.specs.declared.Word.{Word}
-use Rattle.read_filters.specs.declared.Word.TheVariants.{Alone, Named, Unknown}
-use Rattle.read_filters.specs.declared.FilterRead.{FilterRead}
-use Rattle.read_filters.specs.declared.FilterRead.TheVariants.{Is, Bad}
+use Rattle.read_filters.specs.declared.Word.TheVariants.{Alone, Named}
+use Rattle.read_filters.specs.declared.Filter.{Filter as FilterRead}
 
 -- whom a filter is about, without its names
 abbrev pub scope_for : Filter → Scope
@@ -30,31 +29,31 @@ Numbered scope r = (f : Filter) → scope_for f ≡ scope → r ≡ selector_num
 abbrev pub Grouped : Scope → Bool → Type 0
 Grouped scope r = (f : Filter) → scope_for f ≡ scope → r ≡ groupable f
 
-abbrev pub read_filter : Parsed Filter → FilterRead
-read_filter bad = Bad
-read_filter (ok p f) = Is (scope_for f) (length (names_of f)) p
+abbrev pub read_filter : Parsed Filter → Option (FilterRead × ℕ)
+read_filter bad = None
+read_filter (ok p f) = Some (record { scope = scope_for f; names = length (names_of f) }, p)
 
 -- a filter ends in the text; behind its word it has no more names than octets
 pub record Bounded (s : List ℕ) (at n p : ℕ) : Type 0 where
   pub few : n + at < p
   pub inside : p ≤ length s
 
-abbrev pub Within : List ℕ → ℕ → FilterRead → Type 0
-Within s at (Is scope n p) = Bounded s at n p
-Within s at Bad = Unit {0}
+abbrev pub Within : List ℕ → ℕ → Option (FilterRead × ℕ) → Type 0
+Within s at (Some (f, p)) = Bounded s at f.names p
+Within s at None = Unit {0}
 
 -- r is the answer x of the definitions
-pub record ReadsFilter (s : List ℕ) (at : ℕ) (x r : FilterRead) : Type 0 where
+pub record ReadsFilter (s : List ℕ) (at : ℕ) (x r : Option (FilterRead × ℕ)) : Type 0 where
   pub exact : r ≡ x
   pub within : Within s at r
 
 -- ---- by the filter's word
-abbrev pub word_for : ScopeWord → Word
-word_for (alone f) = Alone (scope_for f)
-word_for subtree_of = Named Subtree
-word_for one_level_of = Named SubtreeOne
-word_for mailboxes_of = Named Mailboxes
-word_for unscoped = Unknown
+abbrev pub word_for : ScopeWord → Option Word
+word_for (alone f) = Some (Alone (scope_for f))
+word_for subtree_of = Some (Named Subtree)
+word_for one_level_of = Some (Named SubtreeOne)
+word_for mailboxes_of = Some (Named Mailboxes)
+word_for unscoped = None
 
 -- a filter whose word stands alone has no names
 abbrev pub Plain : ScopeWord → Type 0
@@ -74,16 +73,16 @@ pub record BoundedBehind (s : List ℕ) (at n p : ℕ) : Type 0 where
   pub few : n + at ≤ p
   pub inside : p ≤ length s
 
-abbrev pub WithinBehind : List ℕ → ℕ → FilterRead → Type 0
-WithinBehind s at (Is scope n p) = BoundedBehind s at n p
-WithinBehind s at Bad = Unit {0}
+abbrev pub WithinBehind : List ℕ → ℕ → Option (FilterRead × ℕ) → Type 0
+WithinBehind s at (Some (f, p)) = BoundedBehind s at f.names p
+WithinBehind s at None = Unit {0}
 
 -- r is the filter of this scope, whose names stand behind the position of its word's end
-pub record ReadsNamed (s : List ℕ) (at : ℕ) (scope : Scope) (r : FilterRead) : Type 0 where
+pub record ReadsNamed (s : List ℕ) (at : ℕ) (scope : Scope) (r : Option (FilterRead × ℕ)) : Type 0 where
   pub exact : (f : List ℕ → List (List ℕ) → Filter) → Bears scope f → r ≡ read_filter (named_by f s at)
   pub within : WithinBehind s at r
 
 -- r is the filter of this word, whatever the definitions' word that it stands for
-pub record ReadsBy (s : List ℕ) (at : ℕ) (word : Word) (r : FilterRead) : Type 0 where
-  pub exact : (x : ScopeWord) → Plain x → word ≡ word_for x → r ≡ read_filter (filter_by x s at)
+pub record ReadsBy (s : List ℕ) (at : ℕ) (word : Word) (r : Option (FilterRead × ℕ)) : Type 0 where
+  pub exact : (x : ScopeWord) → Plain x → Some word ≡ word_for x → r ≡ read_filter (filter_by x s at)
   pub within : WithinBehind s at r

@@ -3,19 +3,19 @@
 
 mod mailboxes;
 
-ghost use Rattle.std.specs.Prelude.{◌≡◌, ◌≤◌, length};
+ghost use Rattle.std.specs.Prelude.{◌≡◌, ◌≤◌, length, set};
 ghost use Rattle.model.specs.Reading.{piece};
 ghost use Rattle.model.specs.NotifyGrammar.{scope_of, filter_at};
 ghost use Rattle.read_filters.specs.Scopes.{Numbered, Grouped, word_for, read_filter, ReadsNamed, ReadsBy, ReadsFilter};
-ghost use Rattle.read_filters.specs.Keeping.{nothing_kept, unkept, kept_filter, Keeps, KeepsNamed, KeepsBy};
+ghost use Rattle.read_filters.specs.Keeping.{nothing_kept, kept_filter, Keeps, KeepsNamed, KeepsBy};
 
 use mailboxes::keep_names;
-pub use mailboxes::{NamesRead, names_at};
+pub use mailboxes::names_at;
 use model::LentName;
-use octets::{Class, Next};
+use octets::Class;
 
 // Whom a filter is about.
-#[derive(Clone, Copy)]
+#[derive(Clone, Copy, PartialEq, Eq)]
 pub enum Scope {
     Selected,
     Delayed,
@@ -37,8 +37,7 @@ pub fn selector_of(scope: Scope) -> u8
         Scope::Inboxes => 2,
         Scope::Personal => 3,
         Scope::Subscribed => 4,
-        Scope::Subtree => 5,
-        Scope::SubtreeOne => 5,
+        Scope::Subtree | Scope::SubtreeOne => 5,
         Scope::Mailboxes => 6,
     }
 }
@@ -47,89 +46,84 @@ pub fn selector_of(scope: Scope) -> u8
 pub fn is_groupable(scope: Scope) -> bool
     ensures { Grouped scope result }
 {
-    match scope {
-        Scope::Selected => true,
-        Scope::Delayed => true,
-        Scope::Inboxes => true,
-        Scope::Personal => true,
-        Scope::Subscribed => true,
-        Scope::Subtree => true,
-        Scope::SubtreeOne => false,
-        Scope::Mailboxes => true,
-    }
+    scope != Scope::SubtreeOne
 }
 
-// A filter's word: it stands alone, or has names behind it, or is none.
+// A filter's word: it stands alone, or has names behind it.
 #[derive(Clone, Copy)]
 pub enum Word {
     Alone(Scope),
     Named(Scope),
-    Unknown,
 }
 
 // The word that stands between two positions.
-fn word_of(text: &[u8], from: usize, upto: usize) -> Word
+#[tactic(auto, unfolding(model::specs::NotifyGrammar::scope_of))]
+fn word_of(text: &[u8], from: usize, upto: usize) -> Option<Word>
     ensures { result ≡ word_for (scope_of (piece text.now from upto)) }
 {
-    match octets::word_place(
+    let place = octets::word_place(
         text,
         from,
         upto,
-        b"\x08\x10\x07\x08\x0a\x07\x0b\x09",
-        b"selected selected-delayed inboxes personal subscribed subtree subtree-one mailboxes",
-    ) {
-        0 => Word::Unknown,
-        1 => Word::Alone(Scope::Selected),
-        2 => Word::Alone(Scope::Delayed),
-        3 => Word::Alone(Scope::Inboxes),
-        4 => Word::Alone(Scope::Personal),
-        5 => Word::Alone(Scope::Subscribed),
-        6 => Word::Named(Scope::Subtree),
-        7 => Word::Named(Scope::SubtreeOne),
+        &[
+            b"selected",
+            b"selected-delayed",
+            b"inboxes",
+            b"personal",
+            b"subscribed",
+            b"subtree",
+            b"subtree-one",
+            b"mailboxes",
+        ],
+    )?;
+    Some(match place {
+        0 => Word::Alone(Scope::Selected),
+        1 => Word::Alone(Scope::Delayed),
+        2 => Word::Alone(Scope::Inboxes),
+        3 => Word::Alone(Scope::Personal),
+        4 => Word::Alone(Scope::Subscribed),
+        5 => Word::Named(Scope::Subtree),
+        6 => Word::Named(Scope::SubtreeOne),
         _ => Word::Named(Scope::Mailboxes),
-    }
+    })
 }
 
-// A filter that was read: whom it is about, how many names it has, and the position behind it; or that none stands there.
+// A filter that was read: whom it is about, and how many names it has.
 #[derive(Clone, Copy)]
-pub enum FilterRead {
-    Is(Scope, u64, usize),
-    Bad,
+pub struct Filter {
+    pub scope: Scope,
+    pub names: u64,
 }
 
 // A filter with names, from the position behind its word on.
-fn named_at(text: &[u8], at: usize, scope: Scope) -> FilterRead
+fn named_at(text: &[u8], at: usize, scope: Scope) -> Option<(Filter, usize)>
     ensures { ReadsNamed text.now at scope result }
 {
     if octets::octet_at(text, at) != b' ' {
-        return FilterRead::Bad;
+        return None;
     }
-    match names_at(text, at + 1) {
-        NamesRead::Is(count, next) => FilterRead::Is(scope, count, next),
-        NamesRead::Bad => FilterRead::Bad,
-    }
+    let (names, next) = names_at(text, at + 1)?;
+    Some((Filter { scope, names }, next))
 }
 
 // A filter by its word, from the position behind the word on.
-fn filter_by(text: &[u8], at: usize, word: Word) -> FilterRead
+fn filter_by(text: &[u8], at: usize, word: Word) -> Option<(Filter, usize)>
     requires { at ≤ length text.now }
     ensures { ReadsBy text.now at word result }
 {
     match word {
-        Word::Alone(scope) => FilterRead::Is(scope, 0, at),
+        Word::Alone(scope) => Some((Filter { scope, names: 0 }, at)),
         Word::Named(scope) => named_at(text, at, scope),
-        Word::Unknown => FilterRead::Bad,
     }
 }
 
-// Whom a group of NOTIFY or a source of ESEARCH is about.
-pub fn filter_at(text: &[u8], at: usize) -> FilterRead
+// Whom a group of NOTIFY or a source of ESEARCH is about, and the position behind it.
+#[tactic(auto, unfolding(model::specs::NotifyGrammar::filter_at))]
+pub fn filter_at(text: &[u8], at: usize) -> Option<(Filter, usize)>
     ensures { ReadsFilter text.now at (read_filter (filter_at text.now at)) result }
 {
-    match octets::run_at(text, at, Class::Atom) {
-        Next::At(p) => filter_by(text, p, word_of(text, at, p)),
-        Next::Bad => FilterRead::Bad,
-    }
+    let p = octets::run_at(text, at, Class::Atom)?;
+    filter_by(text, p, word_of(text, at, p)?)
 }
 
 // Names that were kept: how many there were, and the first 16 of them as a session holds them.
@@ -139,21 +133,13 @@ pub struct Kept {
     pub names: [LentName; 16],
 }
 
-// What keeping names answers: whether they fit, the position behind them, and what is kept now.
-#[derive(Clone, Copy)]
-pub struct KeptRead {
-    pub ok: bool,
-    pub next: usize,
-    pub kept: Kept,
-}
-
 // No name is kept.
 pub fn keep_nothing() -> Kept
     ensures { result ≡ nothing_kept }
 {
     let none = LentName {
         len: 0,
-        octets: [0u8; 64],
+        octets: [0; 64],
     };
     Kept {
         count: 0,
@@ -161,51 +147,43 @@ pub fn keep_nothing() -> Kept
     }
 }
 
-// Nothing that fits was read, and all is kept as it was.
-fn unread(kept: Kept) -> KeptRead
-    ensures { result ≡ unkept kept }
+// Sets one of some places, if there is such a place.
+pub fn put_at<T: Copy>(places: &mut [T], at: u64, item: T)
+    ensures { places.new ≡ set places.old at item }
 {
-    KeptRead {
-        ok: false,
-        next: 0,
-        kept,
+    if at < places.len() as u64 {
+        places[at as usize] = item;
     }
 }
 
 // Keeps the names of a filter, from the position behind its word on.
-fn keep_named(text: &[u8], at: usize, kept: Kept) -> KeptRead
+fn keep_named(text: &[u8], at: usize, kept: Kept) -> Option<(Kept, usize)>
     requires { kept.count ≤ at }
     ensures { KeepsNamed text.now at kept result }
 {
     if octets::octet_at(text, at) != b' ' {
-        return unread(kept);
+        return None;
     }
     keep_names(text, at + 1, kept)
 }
 
 // Keeps the names of a filter by its word, from the position behind the word on.
-fn keep_by(text: &[u8], at: usize, word: Word, kept: Kept) -> KeptRead
+fn keep_by(text: &[u8], at: usize, word: Word, kept: Kept) -> Option<(Kept, usize)>
     requires { (at ≤ length text.now) × (kept.count ≤ at) }
     ensures { KeepsBy text.now at word kept result }
 {
     match word {
-        Word::Alone(_) => KeptRead {
-            ok: true,
-            next: at,
-            kept,
-        },
+        Word::Alone(_) => Some((kept, at)),
         Word::Named(_) => keep_named(text, at, kept),
-        Word::Unknown => unread(kept),
     }
 }
 
-// Keeps the names of a filter behind those that are kept.
-pub fn keep_filter(text: &[u8], at: usize, kept: Kept) -> KeptRead
+// Keeps the names of a filter behind those that are kept, and gives the position behind it.
+#[tactic(auto, unfolding(model::specs::NotifyGrammar::filter_at))]
+pub fn keep_filter(text: &[u8], at: usize, kept: Kept) -> Option<(Kept, usize)>
     requires { kept.count ≤ at }
     ensures { Keeps text.now at (kept_filter kept (filter_at text.now at)) result }
 {
-    let Next::At(p) = octets::run_at(text, at, Class::Atom) else {
-        return unread(kept);
-    };
-    keep_by(text, p, word_of(text, at, p), kept)
+    let p = octets::run_at(text, at, Class::Atom)?;
+    keep_by(text, p, word_of(text, at, p)?, kept)
 }

@@ -1,11 +1,10 @@
 -- Groups and names that are kept in several steps, and the session that holds them, over plain values. Assumes nothing.
 use mathlib.Core.Path.{◌≡◌, refl, ap, sym, ◌∙◌}
 use mathlib.Core.List.{List, [], ◌∷◌, map}
-use Prim.Native.Nat.{ℕ, suc, ◌+◌, ◌-◌, ◌≤◌, ◌<◌}
+use Prim.Native.Nat.{ℕ, suc, ◌+◌, ◌≤◌, ◌<◌}
 use native.Mathlib.Numerals.{add-one}
 use native.Mathlib.Omega.{arith}
 use lib.ListN.{length, length-append, length-map}
-use lib.Seq.{set_out}
 use borrow.Author.Tests.{lt-ltb}
 use Rattle.model.specs.Requests.{names_of, Asked}
 use Rattle.model.specs.Limits.{name_count}
@@ -21,11 +20,6 @@ use Rattle.read_filters.specs.declared.Kept.{Kept}
 use Rattle.read_notify.specs.Tallies.{filters_of}
 use Rattle.read_notify.specs.Watched.{low_of, lent_of, nothing_watched, with_group, with_groups, settle}
 use Rattle.read_notify.specs.declared.Watch.{Watch}
-
--- ---- places
--- ---- one group more
-pub group-dropped : (w : Watch) (g : LentGroup) → length w.groups ≤ w.count → record { count = w.count + 1; groups = w.groups } ≡ with_group w g
-group-dropped w g h = rw (set_out w.groups w.count g)
 
 -- numbers that are octets
 low_so : (x : ℕ) → x < 256 → low_of x ≡ x

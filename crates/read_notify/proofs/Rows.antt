@@ -1,20 +1,10 @@
 -- Rows of things and octets that must stand, one step of the definitions of `model` at a time, over plain values. Assumes nothing.
 use mathlib.Core.Path.{◌≡◌}
 use mathlib.Core.List.{List}
-use Prim.Native.Nat.{ℕ, ◌+◌, ◌-◌}
-use Prim.Native.Char.{Char, code}
+use Prim.Native.Nat.{ℕ, ◌+◌}
 use lib.ListN.{length, get_or}
 use borrow.Author.Tests.{eq-eqb, ne_eqb}
-use Rattle.model.specs.Reading.{Parsed, bad, after, another, over, neither, line_end, next_at}
-
--- ---- an octet that must stand there
-
-module _ {A : Type 0} (s : List ℕ) (p : ℕ) (c : Char) (f : ℕ → Parsed A) where
-  pub after_yes : get_or s p 0 ≡ code c → after s p c f ≡ f (p + 1)
-  after_yes e = rw (eq-eqb (get_or s p 0) (code c) e)
-
-  pub after_no : (get_or s p 0 ≡ code c → ⊥) → after s p c f ≡ bad
-  after_no e = rw (ne_eqb (get_or s p 0) (code c) e)
+use Rattle.model.specs.Reading.{another, over, neither, line_end, next_at}
 
 -- ---- what follows a thing on the line
 

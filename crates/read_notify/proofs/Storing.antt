@@ -7,24 +7,25 @@ use native.Mathlib.Omega.{arith}
 use native.Mathlib.Nat.{add-zero}
 use lib.Dec.{eqb}
 use lib.ListN.{length, get_or}
-use borrow.Author.Tests.{ne_eqb, eqb-true, eqb-false}
+use borrow.Author.Tests.{ne_eqb}
+use Rattle.std.specs.Prelude.{Some, None}
 use Rattle.model.specs.Requests.{Filter, names_of, Event, Asked}
 use Rattle.model.specs.Limits.{name_count}
 use Rattle.model.specs.Reading.{Parsed, bad, ok, and_then, stands, after, after_by, over, neither, row_by, row_at, line_end, next_at}
 use Rattle.model.specs.NotifyGrammar.{filter_at, events_at, groupable, group_by, group_at, groups_at}
 use Rattle.model.specs.Listing.{lend_group, all_names}
-use Rattle.model.specs.declared.LentGroup.{LentGroup}
-use Rattle.read_filters.specs.Keeping.{nothing_kept, with_all, kept_filter}
+use Rattle.read_filters.specs.Keeping.{nothing_kept, with_all}
 use Rattle.read_filters.specs.declared.Kept.{Kept}
-use Rattle.read_filters.specs.declared.KeptRead.{KeptRead}
 use Rattle.read_notify.specs.Tallies.{filters_of, tally_of, no_tally, read_tally, add}
-use Rattle.read_notify.specs.Readings.{Bounded, join, Kept_of, Gathers}
+use Rattle.read_notify.specs.Readings.{Bounded, join, setting, KeepsAt}
 use Rattle.read_notify.specs.Watched.{lent_of, read_lent, LentWithin, nothing_watched, with_group, with_groups}
 use Rattle.read_notify.specs.declared.Tally.{Tally}
-use Rattle.read_notify.specs.declared.Gathered.{Gathered}
+use Rattle.read_notify.specs.declared.Notify.TheVariants.{Groups}
 use Rattle.read_notify.specs.declared.Watch.{Watch}
-use Rattle.read_notify.specs.declared.LentRead.TheVariants.{Is, Bad}
+use Rattle.read_notify.specs.declared.Lent.{Lent}
+use Rattle.read_filters.proofs.Pairs.{read-same}
 use Rattle.read_notify.proofs.Rows.{next_another, next_over, next-neither}
+use Rattle.read_notify.proofs.Grouping.{set_lost, set_found}
 use Rattle.read_notify.proofs.Counting.{tally-more, add_none, add_right}
 use Rattle.read_notify.proofs.Filling.{lent_so, groups_first, names_first, names-count, settled_so}
 use Rattle.octets.specs.Rows.{row_another, row-neither, row_none, row_open, row_over}
@@ -33,22 +34,22 @@ use Rattle.octets.specs.Rows.{row_another, row-neither, row_none, row_open, row_
 module _ (s : List ℕ) {p : ℕ} {g : Asked} where
   made_last : (f : Filter) (es : List Event) (b : Bool) (q : ℕ) → after_by b q (λ e. ok e (record { filter = f; events = es })) ≡ ok p g → f ≡ g.filter
   made_last f es true q h = let k : ◌≡◌ {A = Asked} (record { filter = f; events = es }) g = cc in ap (λ (a : Asked). a.filter) k
-  made_last f es false q h = absurd (let z : ◌≡◌ {A = ℕ} 0 1 = cc in omega arith)
+  made_last f es false q h = cc
 
   made-events : (f : Filter) (x : Parsed (List Event)) → and_then x (λ r events. after s r ")" λ e. ok e (record { filter = f; events = events })) ≡ ok p g → f ≡ g.filter
-  made-events f bad h = absurd (let z : ◌≡◌ {A = ℕ} 0 1 = cc in omega arith)
+  made-events f bad h = cc
   made-events f (ok r es) h = made_last f es (stands s r ")") (r + 1) h
 
   made-space : (f : Filter) (b : Bool) (q : ℕ) → after_by b q (λ q. and_then (events_at s q) λ r events. after s r ")" λ e. ok e (record { filter = f; events = events })) ≡ ok p g → f ≡ g.filter
   made-space f true q h = made-events f (events_at s q) h
-  made-space f false q h = absurd (let z : ◌≡◌ {A = ℕ} 0 1 = cc in omega arith)
+  made-space f false q h = cc
 
   made_by : (f : Filter) (b : Bool) (r : ℕ) → group_by b f s r ≡ ok p g → f ≡ g.filter
   made_by f true r h = made-space f (stands s r " ") (r + 1) h
-  made_by f false r h = absurd (let z : ◌≡◌ {A = ℕ} 0 1 = cc in omega arith)
+  made_by f false r h = cc
 
   made-filter : (x : Parsed Filter) → and_then x (λ r f. group_by (groupable f) f s r) ≡ ok p g → (q : ℕ) × (x ≡ ok q g.filter)
-  made-filter bad h = absurd (let z : ◌≡◌ {A = ℕ} 0 1 = cc in omega arith)
+  made-filter bad h = cc
   made-filter (ok r f) h = (r, ap (ok r) (made_by f (groupable f) r h))
 
   group-filter : (at : ℕ) → group_at s at ≡ ok p g → (q : ℕ) × (filter_at s (at + 1) ≡ ok q g.filter)
@@ -57,30 +58,20 @@ module _ (s : List ℕ) {p : ℕ} {g : Asked} where
     where
       go : (b : Bool) → after_by b (at + 1) (λ q. and_then (filter_at s q) λ r f. group_by (groupable f) f s r) ≡ ok p g → (q : ℕ) × (filter_at s (at + 1) ≡ ok q g.filter)
       go true e = made-filter (filter_at s (at + 1)) e
-      go false e = absurd (let z : ◌≡◌ {A = ℕ} 0 1 = cc in omega arith)
+      go false e = cc
 
 -- ---- what was read, from the code's answer
-lent_found : (first : ℕ) {q : ℕ} {l : LentGroup} {t : Tally} (x : Parsed Asked) → Is l t q ≡ read_lent first x → (g : Asked) × (x ≡ ok q g) × (lent_of first g ≡ l) × (tally_of (g ∷ []) ≡ t)
-lent_found first bad h = absurd (let z : ◌≡◌ {A = ℕ} 0 1 = cc in omega arith)
-lent_found first (ok p g) h = (g, (cc), (cc), (cc))
+lent_found : (first : ℕ) {q : ℕ} {l : Lent} (x : Parsed Asked) → Some (l, q) ≡ read_lent first x → (g : Asked) × (x ≡ ok q g) × (lent_of first g ≡ l.group) × (tally_of (g ∷ []) ≡ l.tally)
+lent_found first bad h = cc
+lent_found first (ok p g) h = let e = read-same h in (g, rw e.1, rw e.0, rw e.0)
 
-lent-lost : (first : ℕ) (x : Parsed Asked) → Bad ≡ read_lent first x → x ≡ bad
+lent-lost : (first : ℕ) (x : Parsed Asked) → None ≡ read_lent first x → x ≡ bad
 lent-lost first bad h = refl
-lent-lost first (ok p g) h = absurd (let z : ◌≡◌ {A = ℕ} 0 1 = cc in omega arith)
+lent-lost first (ok p g) h = cc
 
--- ---- the names of a filter that was read
+-- ---- no name more
 no_names : (k : Kept) → with_all k [] ≡ k
 no_names k = rw (add-zero k.count)
-
-pub more_none : (k : Kept) (f : Filter) → length (names_of f) ≡ 0 → k ≡ with_all k (names_of f)
-more_none k f e = sym (ap (with_all k) (empty (names_of f) e) ∙ no_names k)
-  where
-    empty : (l : List (List ℕ)) → length l ≡ 0 → l ≡ []
-    empty [] h = refl
-    empty (x ∷ l) h = absurd (let z : ⊥ = omega arith in z)
-
-pub more-kept : (k : Kept) (r : KeptRead) {q : ℕ} {f : Filter} (x : Parsed Filter) → x ≡ ok q f → r ≡ kept_filter k x → r.kept ≡ with_all k (names_of f)
-more-kept k r x e h = ap (λ (y : KeptRead). y.kept) (rw e at h)
 
 -- ---- one step of a row that fits
 module _ (s : List ℕ) where
@@ -89,16 +80,16 @@ module _ (s : List ℕ) where
 
   fuelled : (m p : ℕ) {q : ℕ} {rest : List Asked} → row m p ≡ ok q rest → 0 < m
   unfolding row_at
-  fuelled zero p h = absurd (let z : ◌≡◌ {A = ℕ} 0 1 = cc in omega arith)
+  fuelled zero p h = cc
   fuelled (suc m) p h = omega arith
 
   cons-found : {q : ℕ} {rest : List Asked} (g : Asked) (x : Parsed (List Asked)) → and_then x (λ r l. ok r (g ∷ l)) ≡ ok q rest → (l : List Asked) × (x ≡ ok q l) × (rest ≡ g ∷ l)
-  cons-found g bad h = absurd (let z : ◌≡◌ {A = ℕ} 0 1 = cc in omega arith)
+  cons-found g bad h = cc
   cons-found g (ok r l) h = (l, (cc), (cc))
 
   last_found : {q : ℕ} {rest : List Asked} (g : Asked) (b : Bool) (e m : ℕ) → row_by (cond b (over e) neither) (λ r. row m r) g ≡ ok q rest → rest ≡ g ∷ []
   last_found {rest = rest} g true e m h = let k : (g ∷ []) ≡ rest = cc in sym k
-  last_found g false e m h = absurd (let z : ◌≡◌ {A = ℕ} 0 1 = cc in omega arith)
+  last_found g false e m h = cc
 
   module _ (m p : ℕ) {q : ℕ} {rest : List Asked} (h : row m p ≡ ok q rest) {next : ℕ} {g : Asked} (e : group_at s p ≡ ok next g) where
     opened : row_by (next_at line_end s next) (λ r. row (m - 1) r) g ≡ ok q rest
@@ -145,36 +136,29 @@ goes_start s at t w k d e f = record {
 }
 
 module _ (s : List ℕ) (at : ℕ) (t : Tally) (w : Watch) (k : Kept) (p : ℕ) (o : Goes s at t w k p) where
-  module _ (e : Bad ≡ read_lent k.count (group_at s p)) where
+  module _ (e : None ≡ read_lent k.count (group_at s p)) where
     none-there : (m : ℕ) → row s m p ≡ bad
     none-there m = row_none (group_at s) (next_at line_end s) p m (lent-lost k.count (group_at s p) e)
 
-    pub goes_none : bad ≡ read_tally (groups_at s at)
-    goes_none = sym (o.tallied.2 ∙ ap (λ (x : Parsed (List Asked)). join t (read_tally x)) (none-there o.tallied.0))
+    pub goes_none : (status : Bool) → KeepsAt s at (setting status (groups_at s at)) None
+    goes_none status = set_lost s at status (groups_at s at) (sym (o.tallied.2 ∙ ap (λ (x : Parsed (List Asked)). join t (read_tally x)) (none-there o.tallied.0)))
 
-    pub goes_never : (q : ℕ) (gs : List Asked) → groups_at s at ≡ ok q gs → name_count (filters_of gs) ≤ 16 → ⊥
-    goes_never q gs h l =
-        let i = o.goes q gs h l in
-        let z : bad ≡ ok q i.1 = sym (none-there i.0) ∙ i.2 in
-        let y : ◌≡◌ {A = ℕ} 0 1 = cc in
-        omega arith
-
-  module _ {group : LentGroup} {one : Tally} {next : ℕ} (e : Is group one next ≡ read_lent k.count (group_at s p)) (b : LentWithin s p (Is group one next)) where
+  module _ {got : Lent} {next : ℕ} (e : Some (got, next) ≡ read_lent k.count (group_at s p)) (b : LentWithin s p (Some (got, next))) where
     -- the group that stands at p
-    the : (g : Asked) × (group_at s p ≡ ok next g) × (lent_of k.count g ≡ group) × (tally_of (g ∷ []) ≡ one)
+    the : (g : Asked) × (group_at s p ≡ ok next g) × (lent_of k.count g ≡ got.group) × (tally_of (g ∷ []) ≡ got.tally)
     the = lent_found k.count (group_at s p) e
 
-    name-count : length (names_of the.0.filter) ≡ one.names
+    name-count : length (names_of the.0.filter) ≡ got.tally.names
     name-count = omega (arith, ap (λ (x : Tally). x.names) the.3)
 
-    module _ {k' : Kept} (f : (q : ℕ) (x : Filter) → filter_at s (p + 1) ≡ ok q x → length (names_of x) ≡ one.names → k' ≡ with_all k (names_of x)) where
+    module _ {k' : Kept} (f : (q : ℕ) (x : Filter) → filter_at s (p + 1) ≡ ok q x → length (names_of x) ≡ got.tally.names → k' ≡ with_all k (names_of x)) where
       the_names : k' ≡ with_all k (names_of the.0.filter)
       the_names = let i = group-filter s p the.1 in f i.0 the.0.filter i.1 name-count
 
-      kept-count : k'.count ≡ k.count + one.names
+      kept-count : k'.count ≡ k.count + got.tally.names
       kept-count = ap (λ (x : Kept). x.count) the_names ∙ ap (λ m. k.count + m) name-count
 
-      module _ (v : Watch) (x : v ≡ with_group w group) (u : Tally) (y : u ≡ add t one) where
+      module _ (v : Watch) (x : v ≡ with_group w got.group) (u : Tally) (y : u ≡ add t got.tally) where
         -- with this group the rest says the same
         step : (rest gs : List Asked) → name_count (filters_of gs) ≤ 16
             → with_groups w k.count (the.0 ∷ rest) ≡ with_groups nothing_watched 0 gs → with_all k (all_names (the.0 ∷ rest)) ≡ with_all nothing_kept (all_names gs)
@@ -193,7 +177,7 @@ module _ (s : List ℕ) (at : ℕ) (t : Tally) (w : Watch) (k : Kept) (p : ℕ) 
         fuel : 0 < o.tallied.0
         fuel = omega (arith, o.tallied.1, b.2, b.3)
 
-        sums : (u.groups ≡ t.groups + one.groups) × (u.names ≡ t.names + one.names) × (u.selected ≡ t.selected + one.selected)
+        sums : (u.groups ≡ t.groups + got.tally.groups) × (u.names ≡ t.names + got.tally.names) × (u.selected ≡ t.selected + got.tally.selected)
         sums = (ap (λ (z : Tally). z.groups) y, ap (λ (z : Tally). z.names) y, ap (λ (z : Tally). z.selected) y)
 
         pub goes_on : get_or s next 0 ≡ 32 → Goes s at u v k' (next + 1)
@@ -209,7 +193,7 @@ module _ (s : List ℕ) (at : ℕ) (t : Tally) (w : Watch) (k : Kept) (p : ℕ) 
                 ∙ (ap (λ (z : Parsed (List Asked)). join t (read_tally z)) (row_another (group_at s) (next_at line_end s) p o.tallied.0 fuel the.1 (next_another s next c))
                 ∙ (ap (join t) (sym (read_join the.0 (row s (o.tallied.0 - 1) (next + 1))))
                 ∙ (ap (λ (z : Tally). join t (join z (read_tally (row s (o.tallied.0 - 1) (next + 1))))) the.3
-                ∙ (join_join t one (read_tally (row s (o.tallied.0 - 1) (next + 1))) ∙ ap (λ (z : Tally). join z (read_tally (row s (o.tallied.0 - 1) (next + 1)))) (sym y))))),
+                ∙ (join_join t got.tally (read_tally (row s (o.tallied.0 - 1) (next + 1))) ∙ ap (λ (z : Tally). join z (read_tally (row s (o.tallied.0 - 1) (next + 1)))) (sym y))))),
           );
           goes = λ q gs h l.
               let i = o.goes q gs h l in
@@ -242,16 +226,13 @@ module _ (s : List ℕ) (at : ℕ) (t : Tally) (w : Watch) (k : Kept) (p : ℕ) 
             inside = b.3;
           }
 
-          pub goes_last : {r : Gathered} → r ≡ record { ok = eqb next (length s); tally = u; next = next; watch = v; kept = k' } → Gathers s at r
-          goes_last h = rw h (go (eqb next (length s)) refl)
-            where
-              keeps : (q : ℕ) (gs : List Asked) → groups_at s at ≡ ok q gs → Kept_of v k' gs
-              keeps q gs h a l z =
-                  let i = o.goes q gs h l in
-                  let j = row_last s i.0 p i.2 the.1 c in
-                  let r = step [] gs l (rw j at i.3) (rw j at i.4) in
-                  settled_so z v k' gs a l (sym (none_left v k'.count) ∙ r.0) (sym (no_names k') ∙ r.1)
+          pub goes_last : (status : Bool) → next ≡ length s → KeepsAt s at (setting status (groups_at s at)) (Some (Groups (record { status = status; tally = u; watch = v; kept = k' }), next))
+          goes_last status d =
+              set_found s at (record { status = status; tally = u; watch = v; kept = k' }) next (groups_at s at) (tally_last d) last_bounds λ q gs h a l z.
+              let i = o.goes q gs h l in
+              let j = row_last s i.0 p i.2 the.1 c in
+              let r = step [] gs l (rw j at i.3) (rw j at i.4) in
+              settled_so z v k' gs a l (sym (none_left v k'.count) ∙ r.0) (sym (no_names k') ∙ r.1)
 
-              go : (a : Bool) → eqb next (length s) ≡ a → Gathers s at (record { ok = a; tally = u; next = next; watch = v; kept = k' })
-              go true d = record { exact = tally_last (eqb-true next (length s) d); within = last_bounds; keeps = keeps }
-              go false d = record { exact = tally-wrong (eqb-false next (length s) d); within = tt; keeps = keeps }
+          pub goes-wrong : (status : Bool) → (next ≡ length s → ⊥) → KeepsAt s at (setting status (groups_at s at)) None
+          goes-wrong status d = set_lost s at status (groups_at s at) (tally-wrong d)

@@ -1,5 +1,5 @@
 -- Worked examples: what the definitions say of a few lines. Assumes nothing.
-use Rattle.std.specs.Prelude.{◌≡◌, refl, true, false, get_or}
+use Rattle.std.specs.Prelude.{◌≡◌, refl, Some, None, true, false, get_or}
 use Rattle.model.specs.Text.{octets}
 use Rattle.model.specs.Lists.{same}
 use Rattle.model.specs.Reading.{run_length, unquote, row_at}
@@ -12,22 +12,21 @@ use Rattle.model.specs.declared.Reply.TheVariants.{Bad as BadReply}
 use Rattle.read_notify.specs.Tallies.{reply_by_tally}
 use Rattle.read_notify.specs.Readings.{read_notify}
 use Rattle.read_notify.specs.Watched.{watched_by}
-use Rattle.read_notify.specs.declared.NotifyRead.TheVariants.{Nothing, Groups, Bad}
 
 -- no more notices
-nothing : read_notify (notify_at (octets "a NOTIFY none") 9) ≡ Nothing 13
+nothing : read_notify (notify_at (octets "a NOTIFY none") 9) ≡ Some (None, 13)
 unfolding notify_at run_length same
 nothing = refl
 
 -- two groups with three names, and STATUS
 two_groups : read_notify (notify_at (octets "SET STATUS (subtree (a b) NONE) (mailboxes c (MailboxName))") 0)
-    ≡ Groups true (record { groups = 2; names = 3; selected = 0; amiss = false; badevent = false; unsupported = false }) 59
+    ≡ Some (Some (true, record { groups = 2; names = 3; selected = 0; amiss = false; badevent = false; unsupported = false }), 59)
 unfolding notify_at group_at filter_at scope_of events_at event_of run_length unquote row_at same
 two_groups = refl
 
 -- MessageNew without MessageExpunge, in a group that asks for an unknown event too
 unpaired-group : read_notify (notify_at (octets "SET (selected (MessageNew Foo))") 0)
-    ≡ Groups false (record { groups = 1; names = 0; selected = 1; amiss = true; badevent = true; unsupported = false }) 31
+    ≡ Some (Some (false, record { groups = 1; names = 0; selected = 1; amiss = true; badevent = true; unsupported = false }), 31)
 unfolding notify_at group_at filter_at scope_of events_at event_of run_length unquote row_at same
 unpaired-group = refl
 
@@ -36,7 +35,7 @@ refused_first : reply_by_tally limits (record { groups = 1; names = 0; selected 
 refused_first = refl
 
 -- one level of a subtree is not for NOTIFY
-one_level : read_notify (notify_at (octets "SET (subtree-one a NONE)") 0) ≡ Bad
+one_level : read_notify (notify_at (octets "SET (subtree-one a NONE)") 0) ≡ None
 unfolding notify_at group_at filter_at scope_of events_at event_of run_length unquote row_at same
 one_level = refl
 

@@ -1,5 +1,5 @@
 -- What is kept of the groups of NOTIFY SET: each as a session holds it, and their names. Assumes nothing: these are definitions.
-use Rattle.std.specs.Prelude.{◌≡◌, Bool, true, cond, ◌&&◌, List, [], ◌∷◌, ℕ, ◌+◌, ◌≤◌, ◌<◌, eqb, leb, ltb, length, set, replicate}
+use Rattle.std.specs.Prelude.{◌≡◌, Option, Some, None, Bool, true, cond, ◌&&◌, List, [], ◌∷◌, ℕ, ◌+◌, ◌≤◌, ◌<◌, eqb, leb, ltb, length, set, replicate}
 use Rattle.std.proofs.lemmas.List.Edits.{sets}
 use Rattle.model.specs.Text.{pack}
 use Rattle.model.specs.Requests.{Filter, names_of, Asked, Command, notify_none, notify_set, search}
@@ -19,8 +19,7 @@ use Rattle.read_filters.specs.Keeping.{with_all}
 use Rattle.read_filters.specs.declared.Kept.{Kept}
 use Rattle.read_notify.specs.Tallies.{filters_of, tally_of}
 use Rattle.read_notify.specs.declared.Watch.{Watch}
-use Rattle.read_notify.specs.declared.LentRead.{LentRead}
-use Rattle.read_notify.specs.declared.LentRead.TheVariants.{Is, Bad}
+use Rattle.read_notify.specs.declared.Lent.{Lent}
 
 -- ---- the session that a NOTIFY sets
 -- groups that fit into a session: at most 8, with at most 16 names
@@ -60,26 +59,26 @@ lent_by selector names first e = record {
 abbrev pub lent_of : ℕ → Asked → LentGroup
 lent_of first g = lent_by (selector_number g.filter) (length (names_of g.filter)) first (gather_events g.events)
 
-abbrev pub read_lent : ℕ → Parsed Asked → LentRead
-read_lent first bad = Bad
-read_lent first (ok p g) = Is (lent_of first g) (tally_of (g ∷ [])) p
+abbrev pub read_lent : ℕ → Parsed Asked → Option (Lent × ℕ)
+read_lent first bad = None
+read_lent first (ok p g) = Some (record { group = lent_of first g; tally = tally_of (g ∷ []) }, p)
 
 -- a group ends in the text; it has no more names than octets behind its parenthesis
-abbrev pub LentWithin : List ℕ → ℕ → LentRead → Type 0
-LentWithin s at (Is g t p) = (t.groups ≤ 1) × (t.selected ≤ 1) × (t.names + (at + 1) < p) × (p ≤ length s)
-LentWithin s at Bad = Unit {0}
+abbrev pub LentWithin : List ℕ → ℕ → Option (Lent × ℕ) → Type 0
+LentWithin s at (Some (l, p)) = (l.tally.groups ≤ 1) × (l.tally.selected ≤ 1) × (l.tally.names + (at + 1) < p) × (p ≤ length s)
+LentWithin s at None = Unit {0}
 
 -- r is the answer x of the definitions
-pub record Lends (s : List ℕ) (at : ℕ) (x r : LentRead) : Type 0 where
+pub record Lends (s : List ℕ) (at : ℕ) (x r : Option (Lent × ℕ)) : Type 0 where
   pub exact : r ≡ x
   pub within : LentWithin s at r
 
 -- behind its filter
-abbrev pub LentBehind : List ℕ → ℕ → ℕ → LentRead → Type 0
-LentBehind s at names (Is g t p) = (t.groups ≤ 1) × (t.selected ≤ 1) × (t.names ≡ names) × (at < p) × (p ≤ length s)
-LentBehind s at names Bad = Unit {0}
+abbrev pub LentBehind : List ℕ → ℕ → ℕ → Option (Lent × ℕ) → Type 0
+LentBehind s at names (Some (l, p)) = (l.tally.groups ≤ 1) × (l.tally.selected ≤ 1) × (l.tally.names ≡ names) × (at < p) × (p ≤ length s)
+LentBehind s at names None = Unit {0}
 
-pub record LendsBehind (s : List ℕ) (at : ℕ) (scope : Scope) (n first : ℕ) (r : LentRead) : Type 0 where
+pub record LendsBehind (s : List ℕ) (at : ℕ) (scope : Scope) (n first : ℕ) (r : Option (Lent × ℕ)) : Type 0 where
   pub exact : (f : Filter) → scope_for f ≡ scope → length (names_of f) ≡ n → r ≡ read_lent first (group_by true f s at)
   pub within : LentBehind s at n r
 

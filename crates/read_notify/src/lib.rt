@@ -1,18 +1,18 @@
 // NOTIFY behind its verb: what its groups come to, how it is answered, and the session that it sets.
 #![tactic(auto)]
 
-mod groups;
+mod one_group;
 pub mod tallies;
 pub mod watches;
 
 use model::LentGroup;
 use read_filters::Kept;
 pub use tallies::reply_for;
-pub use watches::{keep_at, settled, unkept, watch_by};
+pub use watches::{keep_at, settled, watch_by};
 
 // What the groups of a NOTIFY come to: how many groups, names and groups about the selected mailbox; and whether a group has a fault
 // that makes it BAD, asks an event that is not supported, or an attribute that is not.
-#[derive(Clone, Copy)]
+#[derive(Clone, Copy, Default)]
 pub struct Tally {
     pub groups: u64,
     pub names: u64,
@@ -22,19 +22,11 @@ pub struct Tally {
     pub unsupported: bool,
 }
 
-// What a NOTIFY asks: no more notices, or groups, with or without STATUS; and the position behind it.
+// A group as a session holds it, and what it comes to.
 #[derive(Clone, Copy)]
-pub enum NotifyRead {
-    Nothing(usize),
-    Groups(bool, Tally, usize),
-    Bad,
-}
-
-// A group as a session holds it, what it comes to, and the position behind it; or that none stands there.
-#[derive(Clone, Copy)]
-pub enum LentRead {
-    Is(LentGroup, Tally, usize),
-    Bad,
+pub struct Lent {
+    pub group: LentGroup,
+    pub tally: Tally,
 }
 
 // Groups that were kept: how many there were, and the first 8 of them as a session holds them.
@@ -44,20 +36,18 @@ pub struct Watch {
     pub groups: [LentGroup; 8],
 }
 
-// Groups up to the end of the line: whether all fit, what they come to, the position behind them, and what is kept of them.
+// The groups of a NOTIFY: whether STATUS stands before them, what they come to, and what is kept of them and of their names.
 #[derive(Clone, Copy)]
-pub struct Gathered {
-    pub ok: bool,
+pub struct Groups {
+    pub status: bool,
     pub tally: Tally,
-    pub next: usize,
     pub watch: Watch,
     pub kept: Kept,
 }
 
-// A NOTIFY as it was read, and what is kept of its groups.
+// What a NOTIFY asks: no more notices, or groups.
 #[derive(Clone, Copy)]
-pub struct NotifyKept {
-    pub read: NotifyRead,
-    pub watch: Watch,
-    pub kept: Kept,
+pub enum Notify {
+    Nothing,
+    Groups(Groups),
 }

@@ -1,20 +1,17 @@
 // The session that an accepted NOTIFY sets: its groups gathered, its names kept.
-ghost use Rattle.std.specs.Prelude.{◌≡◌, false, ◌≤◌, ◌<◌, eqb, length};
+ghost use Rattle.std.specs.Prelude.{◌≡◌, ◌≤◌, ◌<◌, ℕ};
 ghost use Rattle.model.specs.Requests.{Command};
 ghost use Rattle.model.specs.Reading.{Parsed, word_at};
-ghost use Rattle.model.specs.NotifyGrammar.{set_by, notify_at};
+ghost use Rattle.model.specs.NotifyGrammar.{groups_at, set_by, notify_at};
 ghost use Rattle.model.specs.Memory.{silenced};
-ghost use Rattle.read_filters.specs.Keeping.{nothing_kept};
-ghost use Rattle.read_notify.specs.Tallies.{no_tally};
-ghost use Rattle.read_notify.specs.Readings.{Gathers, note_kept, bare_of, Keeps, KeepsAt};
+ghost use Rattle.read_notify.specs.Readings.{setting, Keeps, KeepsAt};
 ghost use Rattle.read_notify.specs.Watched.{with_group, nothing_watched, settle, KeepsMore, watched_by};
 
-use super::groups::{lent_at, low};
-use super::tallies::{added, no_tally};
-use super::{Gathered, LentRead, NotifyKept, NotifyRead, Tally, Watch};
+use super::one_group::{lent_at, low};
+use super::{Groups, Notify, Tally, Watch};
 use model::{LentGroup, Session};
 use octets::Class;
-use read_filters::Kept;
+use read_filters::{Kept, put_at};
 
 // One group more is kept, if there is a place for it.
 fn keep_group(watch: Watch, group: LentGroup) -> Watch
@@ -22,17 +19,9 @@ fn keep_group(watch: Watch, group: LentGroup) -> Watch
     ensures { result ≡ with_group watch group }
 {
     let mut groups = watch.groups;
-    let count = watch.count;
-    if count < 8 {
-        let i = count as usize;
-        groups[i] = group;
-        return Watch {
-            count: count + 1,
-            groups,
-        };
-    }
+    put_at(&mut groups, watch.count, group);
     Watch {
-        count: count + 1,
+        count: watch.count + 1,
         groups,
     }
 }
@@ -48,8 +37,10 @@ fn no_watch() -> Watch
         events: 0,
         attributes: 0,
     };
-    let groups = [none; 8];
-    Watch { count: 0, groups }
+    Watch {
+        count: 0,
+        groups: [none; 8],
+    }
 }
 
 // The session with these groups and names.
@@ -59,39 +50,11 @@ pub fn settled(session: Session, watch: Watch, kept: Kept) -> Session
     let groups = watch.groups;
     let names = kept.names;
     Session {
-        selected: session.selected,
         notified: 1,
         groupcount: low(watch.count),
-        told: session.told,
         groups,
         names,
-    }
-}
-
-// What was read of groups up to a position: all there is, if that is the end of the line.
-fn gathered(text: &[u8], tally: Tally, next: usize, watch: Watch, kept: Kept) -> Gathered
-    ensures { result ≡ record { ok = eqb next (length text.now); tally = tally; next = next; watch = watch; kept = kept } }
-{
-    Gathered {
-        ok: next == text.len(),
-        tally,
-        next,
-        watch,
-        kept,
-    }
-}
-
-// Nothing that fits was read.
-fn ungathered() -> Gathered
-    ensures { result ≡ record { ok = false; tally = no_tally; next = 0; watch = nothing_watched; kept = nothing_kept } }
-{
-    let none = read_filters::keep_nothing();
-    Gathered {
-        ok: false,
-        tally: no_tally(),
-        next: 0,
-        watch: no_watch(),
-        kept: none,
+        ..session
     }
 }
 
@@ -103,102 +66,68 @@ fn keep_more(text: &[u8], at: usize, names: u64, kept: Kept) -> Kept
     if names == 0 {
         return kept;
     }
-    let read = read_filters::keep_filter(text, at, kept);
-    let more = read.kept;
-    more
+    match read_filters::keep_filter(text, at, kept) {
+        Some((more, _)) => more,
+        None => kept,
+    }
 }
 
-// The groups from a position up to the end of the line, each read once: what they come to, and what is kept of them.
-fn gather(text: &[u8], at: usize) -> Gathered
-    ensures { Gathers text.now at result }
+// NOTIFY SET with the groups from a position up to the end of the line, each read once: what they come to, and what is kept of them.
+fn gather(text: &[u8], at: usize, status: bool) -> Option<(Notify, usize)>
+    ensures { KeepsAt text.now at (setting status (groups_at text.now at)) result }
 {
-    let mut tally = no_tally();
+    let mut tally = Tally::default();
     let mut watch = no_watch();
     let mut kept = read_filters::keep_nothing();
     let mut p = at;
     loop {
-        let LentRead::Is(group, one, next) = lent_at(text, p, kept.count) else {
-            return ungathered();
-        };
-        kept = keep_more(text, p + 1, one.names, kept);
-        watch = keep_group(watch, group);
-        tally = added(tally, one);
-        if octets::octet_at(text, next) != b' ' {
-            return gathered(text, tally, next, watch, kept);
+        let (lent, next) = lent_at(text, p, kept.count)?;
+        kept = keep_more(text, p + 1, lent.tally.names, kept);
+        watch = keep_group(watch, lent.group);
+        tally = tally + lent.tally;
+        if octets::octet_at(text, next) == b' ' {
+            p = next + 1;
+        } else if next == text.len() {
+            let groups = Groups {
+                status,
+                tally,
+                watch,
+                kept,
+            };
+            return Some((Notify::Groups(groups), next));
+        } else {
+            return None;
         }
-        p = next + 1;
     }
 }
 
 // ---- the command
 
-// NOTIFY SET with these groups, with STATUS or without.
-fn kept_with(status: bool, g: Gathered) -> NotifyKept
-    ensures { result ≡ note_kept status g }
-{
-    let watch = g.watch;
-    let kept = g.kept;
-    let tally = g.tally;
-    if g.ok {
-        return NotifyKept {
-            read: NotifyRead::Groups(status, tally, g.next),
-            watch,
-            kept,
-        };
-    }
-    NotifyKept {
-        read: NotifyRead::Bad,
-        watch,
-        kept,
-    }
-}
-
-// A NOTIFY of which nothing is kept.
-fn bare(read: NotifyRead) -> NotifyKept
-    ensures { result ≡ bare_of read }
-{
-    let none = read_filters::keep_nothing();
-    NotifyKept {
-        read,
-        watch: no_watch(),
-        kept: none,
-    }
-}
-
-// No NOTIFY.
-pub fn unkept() -> NotifyKept
-    ensures { result ≡ bare_of NotifyRead.Bad }
-{
-    bare(NotifyRead::Bad)
-}
-
 // Behind SET and a space: STATUS, if it is asked, then the groups.
-fn set_at(text: &[u8], at: usize) -> NotifyKept
+fn set_at(text: &[u8], at: usize) -> Option<(Notify, usize)>
     ensures { KeepsAt text.now at (set_by (word_at text.now at "STATUS") text.now at) result }
 {
     let end = octets::run_end(text, at, Class::Atom);
-    if octets::is_word(text, at, end, b"STATUS") {
-        if octets::octet_at(text, end) != b' ' {
-            return unkept();
-        }
-        return kept_with(true, gather(text, end + 1));
+    if !octets::is_word(text, at, end, b"STATUS") {
+        return gather(text, at, false);
     }
-    kept_with(false, gather(text, at))
+    if octets::octet_at(text, end) != b' ' {
+        return None;
+    }
+    gather(text, end + 1, true)
 }
 
-// NOTIFY behind its verb and a space.
-pub fn keep_at(text: &[u8], at: usize) -> NotifyKept
+// NOTIFY behind its verb and a space, and the position behind it.
+#[tactic(auto, unfolding(model::specs::NotifyGrammar::notify_at))]
+pub fn keep_at(text: &[u8], at: usize) -> Option<(Notify, usize)>
     ensures { KeepsAt text.now at (notify_at text.now at) result }
 {
     let end = octets::run_end(text, at, Class::Atom);
     if octets::is_word(text, at, end, b"NONE") {
-        return bare(NotifyRead::Nothing(end));
+        return Some((Notify::Nothing, end));
     }
-    if !octets::is_word(text, at, end, b"SET") {
-        return unkept();
-    }
-    if octets::octet_at(text, end) != b' ' {
-        return unkept();
+    if !octets::is_word(text, at, end, b"SET") || octets::octet_at(text, end) != b' ' {
+        return None;
     }
     set_at(text, end + 1)
 }
@@ -209,28 +138,18 @@ pub fn keep_at(text: &[u8], at: usize) -> NotifyKept
 fn silence(session: Session) -> Session
     ensures { result ≡ silenced session }
 {
-    let none = read_filters::keep_nothing();
-    settled(session, no_watch(), none)
+    settled(session, no_watch(), read_filters::keep_nothing())
 }
 
 // The session that a NOTIFY sets which was read so: another one where its groups fit into it.
-pub fn watch_by(r: NotifyKept, session: Session) -> Session
-    ensures { (x : Parsed Command) → Keeps x r → result ≡ watched_by x session }
+pub fn watch_by(notify: Notify, session: Session) -> Session
+    ensures { (x : Parsed Command) (p : ℕ) → Keeps x (Some (notify, p)) → result ≡ watched_by x session }
 {
-    let read = r.read;
-    match read {
-        NotifyRead::Nothing(_) => silence(session),
-        NotifyRead::Groups(_, tally, _) => {
-            if 8 < tally.groups {
-                return session;
-            }
-            if 16 < tally.names {
-                return session;
-            }
-            let watch = r.watch;
-            let kept = r.kept;
-            settled(session, watch, kept)
+    match notify {
+        Notify::Nothing => silence(session),
+        Notify::Groups(g) if g.tally.groups <= 8 && g.tally.names <= 16 => {
+            settled(session, g.watch, g.kept)
         }
-        NotifyRead::Bad => session,
+        Notify::Groups(_) => session,
     }
 }

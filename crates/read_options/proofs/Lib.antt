@@ -1,4 +1,3 @@
 -- Lemmas on plain values, for the proofs of this crate.
-mod Atoms
-mod Rows
-mod Strings
+mod Judging
+mod Naming

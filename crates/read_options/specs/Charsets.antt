@@ -1,10 +1,8 @@
 -- What the reader of a charset answers. Assumes nothing: these are definitions.
-use Rattle.std.specs.Prelude.{◌≡◌, Bool, true, false, List, [], ◌∷◌, ℕ, ◌≤◌, ◌<◌, length}
+use Rattle.std.specs.Prelude.{Bool, true, false, Option, List, [], ◌∷◌, ℕ}
 use Rattle.model.specs.Requests.{Charset, none, known, unknown}
-use Rattle.model.specs.Reading.{Parsed, bad, ok, is_of}
-use Rattle.model.specs.SearchGrammar.{charset_at}
-use Rattle.read_options.specs.declared.CharsetRead.{CharsetRead}
-use Rattle.read_options.specs.declared.CharsetRead.TheVariants.{Is, Bad}
+use Rattle.model.specs.Reading.{Parsed, is_of}
+use Rattle.octets.specs.Joined.{read_by}
 
 -- a name of a charset that is known
 abbrev pub is_known : List ℕ → Bool
@@ -15,16 +13,5 @@ known_of known = true
 known_of unknown = false
 known_of none = false
 
-abbrev pub read_charset : Parsed Charset → CharsetRead
-read_charset bad = Bad
-read_charset (ok p c) = Is (known_of c) p
-
--- a position behind a charset stands in the text, behind its beginning
-abbrev pub CharsetWithin : List ℕ → ℕ → CharsetRead → Type 0
-CharsetWithin s at (Is k p) = (at < p) × (p ≤ length s)
-CharsetWithin s at Bad = Unit {0}
-
--- r is the charset at a position
-pub record ReadsCharset (s : List ℕ) (at : ℕ) (r : CharsetRead) : Type 0 where
-  pub exact : r ≡ read_charset (charset_at s at)
-  pub within : CharsetWithin s at r
+abbrev pub read_charset : Parsed Charset → Option (Bool × ℕ)
+read_charset x = read_by known_of x

@@ -1,6 +1,3 @@
--- The lemmas that the proofs of `read_search` cite.
+-- Lemmas on plain values, for the proofs of this crate and of its callers.
 pub mod Rows
-pub mod Optional
-pub mod Searches
-pub mod Replying
-pub mod Judging
+mod Charsets

@@ -1,37 +1,30 @@
--- Rows of sources and what is counted of them, over plain values. Assumes nothing.
-use mathlib.Core.Path.{◌≡◌, refl, sym, ap, ◌∙◌}
-use mathlib.Core.Bool.{Bool}
-use mathlib.Core.List.{List, [], ◌∷◌}
-use Prim.Native.Nat.{ℕ, ◌+◌, ◌-◌, ◌≤◌, ◌<◌}
-use native.Mathlib.Numerals.{add-one}
-use native.Mathlib.Omega.{arith}
-use lib.ListN.{length, get_or}
-use borrow.Author.Tests.{eq-eqb, ne_eqb}
+-- Rows of sources and what is counted of them, one step of the definition at a time, over plain values. Assumes nothing.
+use Rattle.std.proofs.Common.{◌≡◌, ℕ, ◌+◌, ◌-◌, ◌<◌, length, get_or, Option, Some, None, List, [], ◌∷◌, refl, sym, ap, ◌∙◌, arith, add-one}
 use Rattle.model.specs.Requests.{Filter, selected, delayed, inboxes, personal, subscribed, subtree, subtree_one, mailboxes, names_of}
-use Rattle.model.specs.Reading.{Parsed, bad, ok, and_then, row_at, closing, next_at, list_at}
+use Rattle.model.specs.Reading.{Parsed, bad, ok, and_then, row_at, closing, next_at}
 use Rattle.model.specs.NotifyGrammar.{filter_at}
-use Rattle.read_filters.specs.Scopes.{scope_for, read_filter}
-use Rattle.read_filters.specs.declared.Scope.{Scope}
-use Rattle.read_filters.specs.declared.FilterRead.TheVariants.{Is as IsFilter, Bad as NoFilter}
-use Rattle.read_search.specs.Sourced.{sources_of, read_sources, none, delayed_scope, selected_scope, ahead, put_ahead, RoomFor, RoomAhead, Within}
+use Rattle.octets.specs.Rows.{in-text, next_close, next-neither, next-space, row_none as no_row, row_open}
+use Rattle.read_filters.specs.Scopes.{scope_for, read_filter, Bounded as FilterBounded}
+use Rattle.read_filters.specs.declared.Filter.{Filter as FilterRead}
+use Rattle.read_search.specs.Sourced.{sources_of, read_sources, ahead, ReadsRow}
 use Rattle.read_search.specs.declared.Sources.{Sources}
-use Rattle.read_search.specs.declared.SourcesRead.{SourcesRead}
-use Rattle.read_search.specs.declared.SourcesRead.TheVariants.{Is, Bad}
-use Rattle.octets.specs.Rows.{next_close, next-neither, next-space, row_open}
 
 -- ---- a filter that was read, from the code's answer
+abbrev pub filter_of : Filter → FilterRead
+filter_of f = record { scope = scope_for f; names = length (names_of f) }
 
-pub found : {scope : Scope} {n p : ℕ} (x : Parsed Filter) → IsFilter scope n p ≡ read_filter x → (f : Filter) × (x ≡ ok p f) × (scope_for f ≡ scope) × (length (names_of f) ≡ n)
-found bad e = absurd (let z : ◌≡◌ {A = ℕ} 0 1 = cc in omega arith)
-found (ok q f) e = (f, (cc), (cc), (cc))
+pub found : (x : Parsed Filter) {g : FilterRead} {p : ℕ} → Some (g, p) ≡ read_filter x → (f : Filter) × (x ≡ ok p f) × (filter_of f ≡ g)
+found bad e = cc
+found (ok q f) {g} {p} e =
+    let i : ◌≡◌ {A = FilterRead × ℕ} (g, p) (filter_of f, q) = cc in
+    (f, ap (λ (x : FilterRead × ℕ). ok x.1 f) (sym i), ap (λ (x : FilterRead × ℕ). x.0) (sym i))
 
-pub missing : (x : Parsed Filter) → NoFilter ≡ read_filter x → x ≡ bad
+pub missing : (x : Parsed Filter) → None ≡ read_filter x → x ≡ bad
 missing bad e = refl
-missing (ok q f) e = absurd (let z : ◌≡◌ {A = ℕ} 0 1 = cc in omega arith)
+missing (ok q f) e = cc
 
 -- ---- a source in front of others is counted
-
-ahead_of : (f : Filter) (fs : List Filter) → ahead (scope_for f) (length (names_of f)) (sources_of fs) ≡ sources_of (f ∷ fs)
+ahead_of : (f : Filter) (fs : List Filter) → ahead (filter_of f) (sources_of fs) ≡ sources_of (f ∷ fs)
 ahead_of selected fs = rw (add-one (length fs))
 ahead_of delayed fs = rw (add-one (length fs))
 ahead_of inboxes fs = rw (add-one (length fs))
@@ -41,64 +34,50 @@ ahead_of (subtree n ns) fs = rw (add-one (length fs))
 ahead_of (subtree_one n ns) fs = rw (add-one (length fs))
 ahead_of (mailboxes n ns) fs = rw (add-one (length fs))
 
-pub made : (scope : Scope) (n : ℕ) (more : Sources) {d e : Bool} → d ≡ delayed_scope scope more.delayed → e ≡ selected_scope scope more.selected
-    → record { count = more.count + 1; names = n + more.names; delayed = d; selected = e } ≡ ahead scope n more
-made scope n more g h = rw (g, h)
+-- what the code answers where others follow
+abbrev put_ahead : FilterRead → Option (Sources × ℕ) → Option (Sources × ℕ)
+put_ahead g (Some (more, p)) = Some (ahead g more, p)
+put_ahead g None = None
 
-ahead_by : (f : Filter) (fs : List Filter) {scope : Scope} {k : ℕ} → scope_for f ≡ scope → length (names_of f) ≡ k → ahead scope k (sources_of fs) ≡ sources_of (f ∷ fs)
-ahead_by f fs {scope} {k} e g =
-    ap (λ (x : Scope). ahead x k (sources_of fs)) (sym e) ∙ ap (λ (m : ℕ). ahead (scope_for f) m (sources_of fs)) (sym g) ∙ ahead_of f fs
-
-put_ahead_lem : (f : Filter) (x : Parsed (List Filter)) → put_ahead (scope_for f) (length (names_of f)) (read_sources x) ≡ read_sources (and_then x (λ q l. ok q (f ∷ l)))
-put_ahead_lem f bad = refl
-put_ahead_lem f (ok p fs) = ap (λ (r : Sources). Is r p) (ahead_of f fs)
+put_read : (f : Filter) (x : Parsed (List Filter)) → put_ahead (filter_of f) (read_sources x) ≡ read_sources (and_then x (λ q l. ok q (f ∷ l)))
+put_read f bad = refl
+put_read f (ok p fs) = ap (λ (r : Sources). Some (r, p)) (ahead_of f fs)
 
 -- ---- one step of a row
+module _ (s : List ℕ) (at : ℕ) where
+  pub row_none : None ≡ read_filter (filter_at s at) → ReadsRow s at None
+  row_none e = record { exact = λ n h. rw (no_row (filter_at s) (next_at closing s) at n (missing (filter_at s at) e)); within = tt }
 
-module _ (s : List ℕ) (at n : ℕ) (h : 0 < n) where
-  pub row_none : NoFilter ≡ read_filter (filter_at s at) → Bad ≡ read_sources (row_at n (filter_at s) (next_at closing s) at)
-  row_none e = rw (row_open (filter_at s) (next_at closing s) at n h, missing (filter_at s at) e)
-
-  module _ {scope : Scope} {k p : ℕ} (e : IsFilter scope k p ≡ read_filter (filter_at s at)) where
-    pub row_more : get_or s p 0 ≡ 32 → put_ahead scope k (read_sources (row_at (n - 1) (filter_at s) (next_at closing s) (p + 1))) ≡ read_sources (row_at n (filter_at s) (next_at closing s) at)
-    row_more b =
-        let i = found (filter_at s at) e in
-        rw (row_open (filter_at s) (next_at closing s) at n h, i.1, next-space s p b) (rw (i.2, i.3) at (put_ahead_lem i.0 (row_at (n - 1) (filter_at s) (next_at closing s) (p + 1))))
-
-    pub row_last : get_or s p 0 ≡ 41 → Is (ahead scope k none) (p + 1) ≡ read_sources (row_at n (filter_at s) (next_at closing s) at)
+  module _ {g : FilterRead} {p : ℕ} (e : Some (g, p) ≡ read_filter (filter_at s at)) (w : FilterBounded s at g.names p) where
+    pub row_last : get_or s p 0 ≡ 41 → ReadsRow s at (Some (ahead g (sources_of []), p + 1))
     row_last b =
         let i = found (filter_at s at) e in
-        rw (row_open (filter_at s) (next_at closing s) at n h, i.1, next_close s p b) (ap (λ (r : Sources). Is r (p + 1)) (ahead_by i.0 [] i.2 i.3))
+        let l = in-text s p b (omega arith) in
+        record {
+          exact =
+              λ n h.
+              rw (row_open (filter_at s) (next_at closing s) at n (omega arith), i.1, next_close s p b)
+              (ap (λ (g : FilterRead). Some (ahead g (sources_of []), p + 1)) (sym i.2) ∙ ap (λ (r : Sources). Some (r, p + 1)) (ahead_of i.0 []));
+          within = record { some = omega arith; few = omega arith; inside = omega arith };
+        }
 
-    pub row-wrong : (get_or s p 0 ≡ 32 → ⊥) → (get_or s p 0 ≡ 41 → ⊥) → Bad ≡ read_sources (row_at n (filter_at s) (next_at closing s) at)
-    row-wrong b c = let i = found (filter_at s at) e in rw (row_open (filter_at s) (next_at closing s) at n h, i.1, next-neither s p b c)
+    pub row-wrong : (get_or s p 0 ≡ 32 → ⊥) → (get_or s p 0 ≡ 41 → ⊥) → ReadsRow s at None
+    row-wrong b c =
+        let i = found (filter_at s at) e in
+        record { exact = λ n h. rw (row_open (filter_at s) (next_at closing s) at n (omega arith), i.1, next-neither s p b c); within = tt }
 
--- ---- bounds
+    module _ (b : get_or s p 0 ≡ 32) where
+      more : {r : Option (Sources × ℕ)} → ReadsRow s (p + 1) r → (n : ℕ) → length s - at < n → put_ahead g r ≡ read_sources (row_at n (filter_at s) (next_at closing s) at)
+      more {r} x n h =
+          let i = found (filter_at s at) e in
+          let l = in-text s p b (omega arith) in
+          rw (row_open (filter_at s) (next_at closing s) at n (omega arith), i.1, next-space s p b)
+          (ap (put_ahead g) (x.exact (n - 1) (omega arith))
+          ∙ ap (λ (g : FilterRead). put_ahead g (read_sources (row_at (n - 1) (filter_at s) (next_at closing s) (p + 1)))) (sym i.2)
+          ∙ put_read i.0 (row_at (n - 1) (filter_at s) (next_at closing s) (p + 1)))
 
--- the filter with k names ends at p, and the others begin behind a space
-pub room : (s : List ℕ) (k at p : ℕ) (r : SourcesRead) → length s < 18446744073709551616 → k + at < p → Within s (p + 1) r → RoomAhead k r
-room s k at p (Is r q) h l w = record { one = omega arith; names = omega arith }
-room s k at p Bad h l w = tt
+      pub row-ends : ReadsRow s (p + 1) None → ReadsRow s at None
+      row-ends x = record { exact = λ n h. more x n h; within = tt }
 
-pub within_more : (s : List ℕ) (scope : Scope) (k at p : ℕ) (r : SourcesRead) → k + at < p → Within s (p + 1) r → Within s at (put_ahead scope k r)
-within_more s scope k at p (Is r q) h w = record { some = omega arith; few = omega arith; inside = omega arith }
-within_more s scope k at p Bad h w = tt
-
-pub room_none : (s : List ℕ) (k at p : ℕ) → length s < 18446744073709551616 → k + at < p → p ≤ length s → RoomFor k none
-room_none s k at p h l i = record { one = omega arith; names = omega arith }
-
-pub within_last : (s : List ℕ) (scope : Scope) (k at p : ℕ) → k + at < p → p < length s → Within s at (Is (ahead scope k none) (p + 1))
-within_last s scope k at p h l = record { some = omega arith; few = omega arith; inside = omega arith }
-
-pub within-from : (s : List ℕ) (at : ℕ) (r : SourcesRead) → Within s (at + 1) r → Within s at r
-within-from s at (Is r q) w = record { some = omega arith; few = omega arith; inside = omega arith }
-within-from s at Bad w = tt
-
--- ---- sources in parentheses
-
-module _ (s : List ℕ) (at : ℕ) where
-  pub sources_row : get_or s at 0 ≡ 40 → read_sources (row_at (length s) (filter_at s) (next_at closing s) (at + 1)) ≡ read_sources (list_at (filter_at s) s at)
-  sources_row b = rw (eq-eqb (get_or s at 0) 40 b)
-
-  pub sources_none : (get_or s at 0 ≡ 40 → ⊥) → Bad ≡ read_sources (list_at (filter_at s) s at)
-  sources_none b = rw (ne_eqb (get_or s at 0) 40 b)
+      pub row-goes : {r : Sources} {q : ℕ} → ReadsRow s (p + 1) (Some (r, q)) → ReadsRow s at (Some (ahead g r, q))
+      row-goes x = let v = x.within in record { exact = λ n h. more x n h; within = record { some = omega arith; few = omega arith; inside = omega arith } }

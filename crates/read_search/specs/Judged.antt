@@ -1,12 +1,10 @@
 -- How a search is answered, by what the code knows of it. Assumes nothing: these are definitions.
-use Rattle.std.specs.Prelude.{Bool, cond, not, ◌&&◌, ◌||◌, eqb, ltb}
+use Rattle.std.specs.Prelude.{Option, Some, None, ℕ, Bool, cond, not, ◌&&◌, ◌||◌, eqb, ltb}
 use Rattle.model.specs.declared.Limits.{Limits}
 use Rattle.model.specs.declared.Reply.{Reply}
 use Rattle.model.specs.declared.Reply.TheVariants.{Bad, Unsupported, BadCharset, TooLarge, Accepted}
 use Rattle.read_search.specs.declared.Sources.{Sources}
 use Rattle.read_search.specs.declared.Asked.{Asked}
-use Rattle.read_search.specs.declared.SearchRead.{SearchRead}
-use Rattle.read_search.specs.declared.SearchRead.TheVariants.{Is, Bad as Unread}
 
 -- `has_selected` says whether a mailbox is selected
 abbrev pub refused_by : Bool → Sources → Bool
@@ -27,6 +25,6 @@ reply_by_asked l has_selected a =
     (cond (too_many_sources l a.sources || too_many_keys_by l a) TooLarge Accepted)))
 
 -- the same for a search as it was read
-abbrev pub reply_by_read : Limits → Bool → SearchRead → Reply
-reply_by_read l has_selected Unread = Bad
-reply_by_read l has_selected (Is a p) = reply_by_asked l has_selected a
+abbrev pub reply_by_read : Limits → Bool → Option (Asked × ℕ) → Reply
+reply_by_read l has_selected None = Bad
+reply_by_read l has_selected (Some (a, p)) = reply_by_asked l has_selected a

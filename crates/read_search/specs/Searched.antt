@@ -1,18 +1,16 @@
 -- A search as the code answers it. Assumes nothing: these are definitions.
-use Rattle.std.specs.Prelude.{◌≡◌, Bool, List, ℕ, ◌*◌, ◌≤◌, length}
+use Rattle.std.specs.Prelude.{◌≡◌, Option, Some, None, Bool, List, ℕ, ◌*◌, ◌≤◌, length}
 use Rattle.std.proofs.lemmas.List.Edits.{sets}
 use Rattle.model.specs.Requests.{Keys, Search, Command, notify_none, notify_set, search}
 use Rattle.model.specs.Limits.{keys_count, keys_depth, some_tests}
 use Rattle.model.specs.Replies.{unsupported_test, unknown_charset}
 use Rattle.model.specs.Reading.{Parsed, bad, ok}
-use Rattle.model.specs.SearchGrammar.{program_at, search_at}
+use Rattle.model.specs.SearchGrammar.{search_at}
 use Rattle.read_keys.specs.Table.{codes, parts_mosts}
 use Rattle.read_options.specs.declared.Returns.{Returns}
 use Rattle.read_search.specs.Sourced.{sources_of}
 use Rattle.read_search.specs.declared.Sources.{Sources}
 use Rattle.read_search.specs.declared.Asked.{Asked}
-use Rattle.read_search.specs.declared.SearchRead.{SearchRead}
-use Rattle.read_search.specs.declared.SearchRead.TheVariants.{Is, Bad}
 
 -- what is to be returned, of the search that was read
 abbrev pub returns_for : Search → Returns
@@ -36,13 +34,13 @@ abbrev pub asked_of : Search → Asked
 asked_of q = asked_by (sources_of q.sources) (returns_for q) (unknown_charset q.charset) q.keys
 
 -- a search at its end; no other command stands behind ESEARCH
-abbrev pub read_command : ℕ → Command → SearchRead
-read_command p notify_none = Bad
-read_command p (notify_set status gs) = Bad
-read_command p (search q) = Is (asked_of q) p
+abbrev pub read_command : ℕ → Command → Option (Asked × ℕ)
+read_command p notify_none = None
+read_command p (notify_set status gs) = None
+read_command p (search q) = Some (asked_of q, p)
 
-abbrev pub read_search : Parsed Command → SearchRead
-read_search bad = Bad
+abbrev pub read_search : Parsed Command → Option (Asked × ℕ)
+read_search bad = None
 read_search (ok p c) = read_command p c
 
 -- the cells b became b': the keys stand in them from the first on, and a cell past the end is dropped
@@ -60,21 +58,12 @@ pub record Bounded (s : List ℕ) (p : ℕ) (a : Asked) : Type 0 where
   pub inside : p ≤ length s
   pub short : a.used ≤ 4 * length s
 
-abbrev pub Within : List ℕ → SearchRead → Type 0
-Within s (Is a p) = Bounded s p a
-Within s Bad = Unit {0}
-
--- the keys behind what stands before them
-abbrev pub KeysIn : Sources → Returns → Bool → SearchRead → List ℕ → List ℕ → Parsed Keys → Type 0
-KeysIn sources returns unknown r b b' bad = r ≡ Bad
-KeysIn sources returns unknown r b b' (ok p ks) = (r ≡ Is (asked_by sources returns unknown ks) p) × (b' ≡ sets b 0 (codes ks))
-
-pub record ReadsKeys (s : List ℕ) (at : ℕ) (b b' : List ℕ) (sources : Sources) (returns : Returns) (unknown : Bool) (r : SearchRead) : Type 0 where
-  pub exact : KeysIn sources returns unknown r b b' (program_at s at)
-  pub within : Within s r
+abbrev pub Within : List ℕ → Option (Asked × ℕ) → Type 0
+Within s (Some (a, p)) = Bounded s p a
+Within s None = Unit {0}
 
 -- r is the search at a position, with its keys in the cells
-pub record ReadsSearch (s : List ℕ) (at : ℕ) (b b' : List ℕ) (r : SearchRead) : Type 0 where
+pub record ReadsSearch (s : List ℕ) (at : ℕ) (b b' : List ℕ) (r : Option (Asked × ℕ)) : Type 0 where
   pub exact : r ≡ read_search (search_at s at)
   pub cells : Cells b b' (search_at s at)
   pub within : Within s r

@@ -1,100 +1,45 @@
 // The sources behind IN: how many there are, and what they speak of.
-ghost use Rattle.std.specs.Prelude.{◌≡◌, true};
-ghost use Rattle.read_search.specs.Sourced.{delayed_scope, selected_scope, ahead, none, RoomFor, RoomAhead, put_ahead, ReadsRow, ReadsSources};
+ghost use Rattle.read_search.specs.Sourced.{ahead, RoomFor, ReadsRow, ReadsSources};
+ghost use Rattle.std.specs.Prelude.{◌≡◌};
 
-use super::{Sources, SourcesRead};
-use read_filters::{FilterRead, Scope};
-
-pub fn no_sources() -> Sources
-    ensures { result ≡ none }
-{
-    Sources {
-        count: 0,
-        names: 0,
-        delayed: false,
-        selected: false,
-    }
-}
-
-fn is_delayed(scope: Scope, more: bool) -> bool
-    ensures { result ≡ delayed_scope scope more }
-{
-    match scope {
-        Scope::Delayed => true,
-        Scope::Selected => more,
-        Scope::Inboxes => more,
-        Scope::Personal => more,
-        Scope::Subscribed => more,
-        Scope::Subtree => more,
-        Scope::SubtreeOne => more,
-        Scope::Mailboxes => more,
-    }
-}
-
-fn is_selected(scope: Scope, more: bool) -> bool
-    ensures { result ≡ selected_scope scope more }
-{
-    match scope {
-        Scope::Selected => true,
-        Scope::Delayed => true,
-        Scope::Inboxes => more,
-        Scope::Personal => more,
-        Scope::Subscribed => more,
-        Scope::Subtree => more,
-        Scope::SubtreeOne => more,
-        Scope::Mailboxes => more,
-    }
-}
+use super::Sources;
+use read_filters::{Filter, Scope};
 
 // A source in front of others.
-fn with_source(scope: Scope, names: u64, more: Sources) -> Sources
-    requires { RoomFor names more }
-    ensures { result ≡ ahead scope names more }
+fn with_source(filter: Filter, more: Sources) -> Sources
+    requires { RoomFor filter.names more }
+    ensures { result ≡ ahead filter more }
 {
     Sources {
         count: more.count + 1,
-        names: names + more.names,
-        delayed: is_delayed(scope, more.delayed),
-        selected: is_selected(scope, more.selected),
-    }
-}
-
-// The same for sources as they were read.
-fn put_source(scope: Scope, names: u64, r: SourcesRead) -> SourcesRead
-    requires { RoomAhead names r }
-    ensures { result ≡ put_ahead scope names r }
-{
-    match r {
-        SourcesRead::Is(more, next) => SourcesRead::Is(with_source(scope, names, more), next),
-        SourcesRead::Bad => SourcesRead::Bad,
+        names: filter.names + more.names,
+        delayed: filter.scope == Scope::Delayed || more.delayed,
+        selected: matches!(filter.scope, Scope::Selected | Scope::Delayed) || more.selected,
     }
 }
 
 // Sources with a space between them, up to the parenthesis that closes them.
-fn sources_row(text: &[u8], at: usize) -> SourcesRead
+// Kept: what is joined here has to fit its counts, by the octets that were read; `octets::row_to_close` joins without a bound.
+fn sources_row(text: &[u8], at: usize) -> Option<(Sources, usize)>
     ensures { ReadsRow text.now at result }
 {
-    match read_filters::filter_at(text, at) {
-        FilterRead::Is(scope, names, p) => {
-            let b = octets::octet_at(text, p);
-            if b == b' ' {
-                put_source(scope, names, sources_row(text, p + 1))
-            } else if b == b')' {
-                SourcesRead::Is(with_source(scope, names, no_sources()), p + 1)
-            } else {
-                SourcesRead::Bad
-            }
+    let (filter, p) = read_filters::filter_at(text, at)?;
+    match octets::octet_at(text, p) {
+        b' ' => {
+            let (more, next) = sources_row(text, p + 1)?;
+            Some((with_source(filter, more), next))
         }
-        FilterRead::Bad => SourcesRead::Bad,
+        b')' => Some((with_source(filter, Sources::default()), p + 1)),
+        _ => None,
     }
 }
 
 // Sources in parentheses.
-pub fn sources_at(text: &[u8], at: usize) -> SourcesRead
+pub fn sources_at(text: &[u8], at: usize) -> Option<(Sources, usize)>
     ensures { ReadsSources text.now at result }
 {
     if octets::octet_at(text, at) != b'(' {
-        return SourcesRead::Bad;
+        return None;
     }
     sources_row(text, at + 1)
 }

@@ -11,26 +11,12 @@ use read_options::Returns;
 pub use whole::{reply_for, search_at};
 
 // What is counted of sources: how many they are and how many names they have, and whether one is for NOTIFY alone and one about the selected mailbox.
-#[derive(Clone, Copy)]
+#[derive(Clone, Copy, Default)]
 pub struct Sources {
     pub count: u64,
     pub names: u64,
     pub delayed: bool,
     pub selected: bool,
-}
-
-// Sources that were read and the position behind them, or that none stand there.
-#[derive(Clone, Copy)]
-pub enum SourcesRead {
-    Is(Sources, usize),
-    Bad,
-}
-
-// Whether a charset was given that is not known, and the position behind it, or that it does not fit.
-#[derive(Clone, Copy)]
-pub enum CharsetPart {
-    Is(bool, usize),
-    Bad,
 }
 
 // What a search asks: its sources, what it is to return, whether its charset is not known; of its keys how many they are, how deep lists are nested in
@@ -45,11 +31,4 @@ pub struct Asked {
     pub unsupported: bool,
     pub parts: u64,
     pub used: usize,
-}
-
-// A search that was read and the position behind it, or that none stands there.
-#[derive(Clone, Copy)]
-pub enum SearchRead {
-    Is(Asked, usize),
-    Bad,
 }

@@ -1,3 +1,3 @@
--- Lemmas on plain values, for the proofs of this crate and of its callers.
-pub mod Rows
-mod Sectioning
+-- Lemmas on plain values, for the proofs of this crate.
+mod Parts
+mod Fields

@@ -5,61 +5,50 @@ ghost use Rattle.std.specs.Prelude.{◌≡◌};
 ghost use Rattle.model.specs.Reading.{piece};
 ghost use Rattle.model.specs.Attributes.{section_word, section_text_at, section_part_at, section_spec_at, partial_at, section_at};
 ghost use Rattle.octets.specs.Found.{Reads, next_of};
-ghost use Rattle.read_sections.specs.Sections.{word_of, ReadsParts, ReadsFields, ReadsOn, fields_at, count_at, close_at};
+ghost use Rattle.read_sections.specs.Sections.{word_of, ReadsParts, read_field, ReadsOn, fields_at, count_at, close_at};
 
-use octets::{Class, Next, Number};
+use octets::{Class, Joined};
 
 // Numbers of parts with dots between them; a dot before a letter ends them.
-fn parts_at(text: &[u8], at: usize) -> Next
+fn parts_at(text: &[u8], at: usize) -> Option<usize>
     ensures { ReadsParts text.now at result }
 {
-    match octets::positive_at(text, at) {
-        Number::Is(_, next) => {
-            if octets::octet_at(text, next) != b'.' {
-                return Next::At(next);
-            }
-            let part = next + 1;
-            if octets::in_class(octets::octet_at(text, part), Class::Digit) {
-                parts_at(text, part)
-            } else {
-                Next::At(next)
-            }
-        }
-        Number::Bad => Next::Bad,
+    let (_, next) = octets::positive_at(text, at)?;
+    if octets::octet_at(text, next) == b'.'
+        && octets::in_class(octets::octet_at(text, next + 1), Class::Digit)
+    {
+        return parts_at(text, next + 1);
     }
+    Some(next)
 }
 
-// Names of header fields with a space between them, up to the parenthesis that closes them.
-fn fields_to_close(text: &[u8], at: usize) -> Next
-    ensures { ReadsFields text.now at result }
-{
-    match octets::text_at(text, at, Class::Astring) {
-        Next::At(next) => {
-            let b = octets::octet_at(text, next);
-            if b == b' ' {
-                fields_to_close(text, next + 1)
-            } else if b == b')' {
-                Next::At(next + 1)
-            } else {
-                Next::Bad
-            }
-        }
-        Next::Bad => Next::Bad,
+// The name of a header field; of names only where they end is kept.
+#[derive(Clone, Copy)]
+pub struct Field;
+
+impl Joined for Field {
+    ghost one = { read_field };
+
+    ghost joins = { λ a b. b };
+
+    fn one_at(text: &[u8], at: usize) -> Option<(Field, usize)> {
+        octets::text_at(text, at, Class::Astring).map(|next| (Field, next))
+    }
+
+    fn join(self, rest: Field) -> Field {
+        rest
     }
 }
 
 // A space, and names of header fields in parentheses.
-fn fields_at(text: &[u8], at: usize) -> Next
+fn fields_at(text: &[u8], at: usize) -> Option<usize>
     ensures { Reads text.now at (next_of (fields_at text.now at)) result }
 {
     if octets::octet_at(text, at) != b' ' {
-        return Next::Bad;
+        return None;
     }
-    let next = at + 1;
-    if octets::octet_at(text, next) != b'(' {
-        return Next::Bad;
-    }
-    fields_to_close(text, next + 1)
+    let (_, end) = octets::list_at::<Field>(text, at + 1)?;
+    Some(end)
 }
 
 // What a word in a section asks for.
@@ -68,67 +57,61 @@ pub enum Wanted {
     Whole,
     Fields,
     Mime,
-    Nothing,
 }
 
 // The word from one position up to another, in a section.
-fn section_word(text: &[u8], from: usize, upto: usize) -> Wanted
+#[tactic(auto, unfolding(model::specs::Attributes::section_word))]
+fn section_word(text: &[u8], from: usize, upto: usize) -> Option<Wanted>
     ensures { result ≡ word_of (section_word (piece text.now from upto)) }
 {
     match octets::word_place(
         text,
         from,
         upto,
-        b"\x06\x04\x0d\x11\x04",
-        b"HEADER TEXT HEADER.FIELDS HEADER.FIELDS.NOT MIME",
-    ) {
-        0 => Wanted::Nothing,
-        1 => Wanted::Whole,
-        2 => Wanted::Whole,
-        3 => Wanted::Fields,
-        4 => Wanted::Fields,
-        _ => Wanted::Mime,
+        &[
+            b"HEADER",
+            b"TEXT",
+            b"HEADER.FIELDS",
+            b"HEADER.FIELDS.NOT",
+            b"MIME",
+        ],
+    )? {
+        0 | 1 => Some(Wanted::Whole),
+        2 | 3 => Some(Wanted::Fields),
+        _ => Some(Wanted::Mime),
     }
 }
 
 // The text that a section names; `part` says that the number of a part stands before it.
-fn section_text_at(text: &[u8], at: usize, part: bool) -> Next
+fn section_text_at(text: &[u8], at: usize, part: bool) -> Option<usize>
     ensures { Reads text.now at (next_of (section_text_at part text.now at)) result }
 {
-    match octets::run_at(text, at, Class::Label) {
-        Next::At(end) => match section_word(text, at, end) {
-            Wanted::Whole => Next::At(end),
-            Wanted::Fields => fields_at(text, end),
-            Wanted::Mime => { if part { Next::At(end) } else { Next::Bad } }
-            Wanted::Nothing => Next::Bad,
-        },
-        Next::Bad => Next::Bad,
+    let end = octets::run_at(text, at, Class::Label)?;
+    match section_word(text, at, end)? {
+        Wanted::Whole => Some(end),
+        Wanted::Fields => fields_at(text, end),
+        Wanted::Mime => { if part { Some(end) } else { None } }
     }
 }
 
 // A part, and what of it.
-fn section_part_at(text: &[u8], at: usize) -> Next
+fn section_part_at(text: &[u8], at: usize) -> Option<usize>
     ensures { Reads text.now at (next_of (section_part_at text.now at)) result }
 {
-    match parts_at(text, at) {
-        Next::At(next) => {
-            if octets::octet_at(text, next) == b'.' {
-                section_text_at(text, next + 1, true)
-            } else {
-                Next::At(next)
-            }
-        }
-        Next::Bad => Next::Bad,
+    let next = parts_at(text, at)?;
+    if octets::octet_at(text, next) == b'.' {
+        return section_text_at(text, next + 1, true);
     }
+    Some(next)
 }
 
 // What stands between the brackets, if anything does.
-fn section_spec_at(text: &[u8], at: usize) -> Next
+fn section_spec_at(text: &[u8], at: usize) -> Option<usize>
     ensures { ReadsOn text.now at (next_of (section_spec_at text.now at)) result }
 {
     let b = octets::octet_at(text, at);
     if b == b']' {
-        return Next::At(at);
+        return Some(at);
     }
     if octets::in_class(b, Class::Digit) {
         section_part_at(text, at)
@@ -138,61 +121,51 @@ fn section_spec_at(text: &[u8], at: usize) -> Next
 }
 
 // How many octets are asked for, behind the first of them.
-fn count_at(text: &[u8], at: usize) -> Next
+fn count_at(text: &[u8], at: usize) -> Option<usize>
     ensures { Reads text.now at (next_of (count_at text.now at)) result }
 {
     if octets::octet_at(text, at) != b'.' {
-        return Next::Bad;
+        return None;
     }
-    match octets::positive_at(text, at + 1) {
-        Number::Is(_, next) => {
-            if octets::octet_at(text, next) == b'>' {
-                Next::At(next + 1)
-            } else {
-                Next::Bad
-            }
-        }
-        Number::Bad => Next::Bad,
+    let (_, next) = octets::positive_at(text, at + 1)?;
+    if octets::octet_at(text, next) != b'>' {
+        return None;
     }
+    Some(next + 1)
 }
 
 // The octets asked for, the first and how many.
-fn partial_at(text: &[u8], at: usize) -> Next
+fn partial_at(text: &[u8], at: usize) -> Option<usize>
     ensures { Reads text.now at (next_of (partial_at text.now at)) result }
 {
     if octets::octet_at(text, at) != b'<' {
-        return Next::Bad;
+        return None;
     }
-    match octets::number_at(text, at + 1) {
-        Number::Is(_, next) => count_at(text, next),
-        Number::Bad => Next::Bad,
-    }
+    let (_, next) = octets::number_at(text, at + 1)?;
+    count_at(text, next)
 }
 
 // The closing bracket, and the octets asked for, if any.
-fn close_at(text: &[u8], at: usize) -> Next
+fn close_at(text: &[u8], at: usize) -> Option<usize>
     ensures { Reads text.now at (next_of (close_at text.now at)) result }
 {
     if octets::octet_at(text, at) != b']' {
-        return Next::Bad;
+        return None;
     }
-    let next = at + 1;
-    if octets::octet_at(text, next) == b'<' {
-        partial_at(text, next)
-    } else {
-        Next::At(next)
+    if octets::octet_at(text, at + 1) == b'<' {
+        return partial_at(text, at + 1);
     }
+    Some(at + 1)
 }
 
 // A section in its brackets, and the octets asked for, if any.
-pub fn section_at(text: &[u8], at: usize) -> Next
+#[tactic(auto, unfolding(model::specs::Attributes::section_at))]
+pub fn section_at(text: &[u8], at: usize) -> Option<usize>
     ensures { Reads text.now at (next_of (section_at text.now at)) result }
 {
     if octets::octet_at(text, at) != b'[' {
-        return Next::Bad;
+        return None;
     }
-    match section_spec_at(text, at + 1) {
-        Next::At(next) => close_at(text, next),
-        Next::Bad => Next::Bad,
-    }
+    let next = section_spec_at(text, at + 1)?;
+    close_at(text, next)
 }

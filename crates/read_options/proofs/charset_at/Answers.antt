@@ -1,12 +1,9 @@
 -- `charset_at`: the string that was read is the charset. Assumes nothing.
-use mathlib.Core.Path.{sym, ◌∙◌}
-use Rattle.read_options.proofs.Strings.{charset-found, charset_missing}
+use Rattle.read_options.proofs.Naming.{charset-found, charset_missing}
 use Rattle.read_options.proofs.charset_at.Goals as goal
 
-pub returns-in-At : goal.returns-in-At
-returns-in-At c =
-    record { exact = charset-found c.args.text.now c.args.at (sym c.in-At.is ∙ c.text_at.ensures.exact) c.is_known.ensures; within = rw c.in-At.is at c.text_at.ensures.within }
+pub returns-in_err-end : goal.returns-in_err-end
+returns-in_err-end c = rw c.from_residual.ensures record { exact = charset_missing c.args.text.now c.args.at c.in_err-end.ensures.exact; within = tt }
 
-pub returns-in-Bad : goal.returns-in-Bad
-returns-in-Bad c =
-    record { exact = charset_missing c.args.text.now c.args.at (sym c.in-Bad.is ∙ c.text_at.ensures.exact); within = tt }
+pub returns : goal.returns
+returns c = record { exact = charset-found c.args.text.now c.args.at c.in_ok-end.ensures.exact c.is_known.ensures; within = c.in_ok-end.ensures.within }

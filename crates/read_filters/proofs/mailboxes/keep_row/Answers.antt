@@ -8,31 +8,27 @@ use Rattle.octets.specs.Rows.{in-text}
 use Rattle.read_filters.proofs.mailboxes.keep_row.Goals as goal
 
 pub loop-q-init : goal.loop-q-init
-loop-q-init c =
-    goes_start c.args.text.now c.args.at c.args.kept c.requires
+loop-q-init c = goes_start c.args.text.now c.args.at c.args.kept c.requires
 
-pub returns-in_default : goal.returns-in_default
-returns-in_default c =
-    record {
-      exact = λ n h. c.unread.ensures
-          ∙ goes_none c.args.text.now c.args.at c.args.kept c.loop-q.more c.loop-q.p c.loop-q.invariant
-          (sym c.in_default.is ∙ c.text_at.ensures.exact) n h;
-      within = rw c.unread.ensures tt;
+pub returns-in_err-q : goal.returns-in_err-q
+returns-in_err-q c =
+    rw c.from_residual.ensures record {
+      exact = λ n h. goes_none c.args.text.now c.args.at c.args.kept c.loop-q.more c.loop-q.p c.loop-q.invariant c.in_err-q.ensures.exact n h;
+      within = tt;
     }
 
 pub keep_one-more-requires : goal.keep_one-more-requires
-keep_one-more-requires c =
-    let w = rw c.in-At.is at c.text_at.ensures.within in
-    omega (arith, c.loop-q.invariant.few)
+keep_one-more-requires c = let w = c.in_ok-q.ensures.within in omega (arith, c.loop-q.invariant.few)
 
-pub returns-then-b-eq41 : goal.returns-then-b-eq41
-returns-then-b-eq41 c =
-    let w = rw c.in-At.is at c.text_at.ensures.within in
-    let i = in-text c.args.text.now c.in-At.q (sym c.octet_at-b.ensures ∙ c.if-b-eq41.true) (omega arith) in
+pub returns-in-41 : goal.returns-in-41
+returns-in-41 c =
+    let w = c.in_ok-q.ensures.within in
+    let b = sym c.octet_at.ensures ∙ c.in-41.is in
+    let i = in-text c.args.text.now c.in_ok-q.q b (omega arith) in
     record {
       exact = λ n h. goes_last c.args.text.now c.args.at c.args.kept c.loop-q.more c.loop-q.p c.loop-q.invariant
-          (sym c.in-At.is ∙ c.text_at.ensures.exact) c.keep_one-more.result
-          (c.keep_one-more.ensures ∙ ap (with_one c.loop-q.more) c.name_at.ensures) (sym c.octet_at-b.ensures ∙ c.if-b-eq41.true) n h;
+          c.in_ok-q.ensures.exact c.keep_one-more.result
+          (c.keep_one-more.ensures ∙ ap (with_one c.loop-q.more) c.name_at.ensures) b n h;
       within = (
         omega (arith, c.loop-q.invariant.from),
         omega arith,
@@ -40,26 +36,18 @@ returns-then-b-eq41 c =
       );
     }
 
-pub returns-then-b-ne32 : goal.returns-then-b-ne32
-returns-then-b-ne32 c =
+pub returns-in_default : goal.returns-in_default
+returns-in_default c =
     record {
-      exact = λ n h. c.unread-then-b-ne32.ensures
-          ∙ goes-wrong c.args.text.now c.args.at c.args.kept c.loop-q.more c.loop-q.p c.loop-q.invariant
-          (sym c.in-At.is ∙ c.text_at.ensures.exact) (λ e. c.if-b-ne32.true (c.octet_at-b.ensures ∙ e))
-          (λ e. c.if-b-eq41.false (c.octet_at-b.ensures ∙ e)) n h;
-      within = rw c.unread-then-b-ne32.ensures tt;
+      exact = λ n h. goes-wrong c.args.text.now c.args.at c.args.kept c.loop-q.more c.loop-q.p c.loop-q.invariant
+          c.in_ok-q.ensures.exact (λ e. omega arith) (λ e. omega arith) n h;
+      within = tt;
     }
-
-pub loop-q-smaller : goal.loop-q-smaller
-loop-q-smaller c =
-    let w = rw c.in-At.is at c.text_at.ensures.within in
-    let i = in-text c.args.text.now c.in-At.q (sym c.octet_at-b.ensures ∙ c.if-b-ne32.false) (omega arith) in
-    omega arith
 
 pub loop-q-preserved : goal.loop-q-preserved
 loop-q-preserved c =
-    let w = rw c.in-At.is at c.text_at.ensures.within in
+    let w = c.in_ok-q.ensures.within in
     goes_on c.args.text.now c.args.at c.args.kept c.loop-q.more c.loop-q.p c.loop-q.invariant
-    (sym c.in-At.is ∙ c.text_at.ensures.exact) c.keep_one-more.result
+    c.in_ok-q.ensures.exact c.keep_one-more.result
     (c.keep_one-more.ensures ∙ ap (with_one c.loop-q.more) c.name_at.ensures) (omega arith)
-    (sym c.octet_at-b.ensures ∙ c.if-b-ne32.false)
+    (sym c.octet_at.ensures ∙ c.in-32.is)

@@ -5,7 +5,7 @@ use Rattle.read_filters.proofs.Storing.{Goes}
 use Rattle.read_filters.proofs.mailboxes.keep_row.Given as goal
 
 abbrev pub invariant-loop-q : goal.invariant-loop-q
-invariant-loop-q l = Goes l.text l.at l.kept l.more l.p
+invariant-loop-q l = Goes l.text l.at l.fn.kept l.more l.p
 
 abbrev pub decreases-loop-q : goal.decreases-loop-q
 decreases-loop-q l = length l.text - l.p

@@ -1,43 +1,36 @@
 -- `gather`: what is counted and kept grows by a group at each turn; what is left of the row says the same behind it. Assumes nothing.
-use mathlib.Core.Path.{sym, ◌∙◌}
-use native.Mathlib.Omega.{arith}
-use Rattle.read_notify.proofs.Storing.{goes_start, goes_none, goes_never, goes_on, goes_last}
-use Rattle.octets.specs.Rows.{in-text}
+use mathlib.Core.Path.{◌≡◌, sym, ◌∙◌}
+use borrow.Author.Rules.{rules}
+use Rattle.read_notify.specs.Tallies.{no_tally}
+use Rattle.read_notify.proofs.Storing.{goes_start, goes_none, goes_on, goes_last, goes-wrong}
 use Rattle.read_notify.proofs.watches.gather.Goals as goal
 
-pub loop-group-init : goal.loop-group-init
-loop-group-init c =
-    goes_start c.args.text.now c.args.at _ _ _ c.no_tally-tally.ensures c.no_watch-watch.ensures c.keep_nothing-kept.ensures
+pub loop-lent-init : goal.loop-lent-init
+loop-lent-init c =
+    let none : c.default-tally.result ≡ no_tally = search rules in
+    goes_start c.args.text.now c.args.at _ _ _ none c.no_watch-watch.ensures c.keep_nothing-kept.ensures
 
-pub returns-in_default : goal.returns-in_default
-returns-in_default c =
-    let e = sym c.in_default.is ∙ c.lent_at.ensures.exact in
-    rw c.ungathered.ensures (record { exact = goes_none c.args.text.now c.args.at c.loop-group.tally c.loop-group.watch c.loop-group.kept c.loop-group.p c.loop-group.invariant e; within = tt; keeps = λ q gs h a n y. absurd (goes_never c.args.text.now c.args.at c.loop-group.tally c.loop-group.watch c.loop-group.kept c.loop-group.p c.loop-group.invariant e q gs h n) })
+pub returns-in_err-lent : goal.returns-in_err-lent
+returns-in_err-lent c =
+    rw c.from_residual.ensures (goes_none c.args.text.now c.args.at c.loop-lent.tally c.loop-lent.watch c.loop-lent.kept c.loop-lent.p c.loop-lent.invariant c.in_err-lent.ensures.exact c.args.status)
 
-pub keep_more-kept-requires : goal.keep_more-kept-requires
-keep_more-kept-requires c = omega (arith, c.loop-group.invariant.names)
+pub loop-lent-preserved : goal.loop-lent-preserved
+loop-lent-preserved c =
+    goes_on c.args.text.now c.args.at c.loop-lent.tally c.loop-lent.watch c.loop-lent.kept c.loop-lent.p c.loop-lent.invariant
+    c.in_ok-lent.ensures.exact c.in_ok-lent.ensures.within c.keep_more-kept.ensures.exact
+    c.keep_group-watch.result c.keep_group-watch.ensures c.add-tally.result c.add-tally.ensures
+    (sym c.octet_at.ensures ∙ c.if-octet_at-eq32.true)
 
-pub keep_group-watch-requires : goal.keep_group-watch-requires
-keep_group-watch-requires c =
-    let w = rw c.in-Is.is at c.lent_at.ensures.within in omega (arith, c.loop-group.invariant.groups, w.2, w.3)
+pub returns-then-next-text : goal.returns-then-next-text
+returns-then-next-text c =
+    goes_last c.args.text.now c.args.at c.loop-lent.tally c.loop-lent.watch c.loop-lent.kept c.loop-lent.p c.loop-lent.invariant
+    c.in_ok-lent.ensures.exact c.in_ok-lent.ensures.within c.keep_more-kept.ensures.exact
+    c.keep_group-watch.result c.keep_group-watch.ensures c.add-tally.result c.add-tally.ensures
+    (λ e. c.if-octet_at-eq32.false (c.octet_at.ensures ∙ e)) c.args.status c.if-next-text.true
 
-pub added-tally-requires : goal.added-tally-requires
-added-tally-requires c =
-    let w = rw c.in-Is.is at c.lent_at.ensures.within in
-    record { groups = omega (arith, c.loop-group.invariant.counts.0, w.0, w.2, w.3); names = omega (arith, c.loop-group.invariant.counts.1, w.2, w.3); selected = omega (arith, c.loop-group.invariant.counts.2, w.1, w.2, w.3) }
-
-pub returns-then-octet_at-ne32 : goal.returns-then-octet_at-ne32
-returns-then-octet_at-ne32 c =
-    let w = rw c.in-Is.is at c.lent_at.ensures.within in
-    goes_last c.args.text.now c.args.at c.loop-group.tally c.loop-group.watch c.loop-group.kept c.loop-group.p c.loop-group.invariant (sym c.in-Is.is ∙ c.lent_at.ensures.exact) w c.keep_more-kept.ensures.exact c.keep_group-watch.result c.keep_group-watch.ensures c.added-tally.result c.added-tally.ensures
-    (λ e. c.if-octet_at-ne32.true (c.octet_at.ensures ∙ e)) c.gathered.ensures
-
-pub loop-group-smaller : goal.loop-group-smaller
-loop-group-smaller c =
-    let w = rw c.in-Is.is at c.lent_at.ensures.within in let i = in-text c.args.text.now c.in-Is.next (sym c.octet_at.ensures ∙ c.if-octet_at-ne32.false) (omega arith) in omega (arith, w.2)
-
-pub loop-group-preserved : goal.loop-group-preserved
-loop-group-preserved c =
-    let w = rw c.in-Is.is at c.lent_at.ensures.within in
-    goes_on c.args.text.now c.args.at c.loop-group.tally c.loop-group.watch c.loop-group.kept c.loop-group.p c.loop-group.invariant (sym c.in-Is.is ∙ c.lent_at.ensures.exact) w c.keep_more-kept.ensures.exact c.keep_group-watch.result c.keep_group-watch.ensures c.added-tally.result c.added-tally.ensures
-    (sym c.octet_at.ensures ∙ c.if-octet_at-ne32.false)
+pub returns-else-next-text : goal.returns-else-next-text
+returns-else-next-text c =
+    goes-wrong c.args.text.now c.args.at c.loop-lent.tally c.loop-lent.watch c.loop-lent.kept c.loop-lent.p c.loop-lent.invariant
+    c.in_ok-lent.ensures.exact c.in_ok-lent.ensures.within c.keep_more-kept.ensures.exact
+    c.keep_group-watch.result c.keep_group-watch.ensures c.add-tally.result c.add-tally.ensures
+    (λ e. c.if-octet_at-eq32.false (c.octet_at.ensures ∙ e)) c.args.status c.if-next-text.false

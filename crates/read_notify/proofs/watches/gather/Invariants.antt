@@ -4,8 +4,8 @@ use lib.ListN.{length}
 use Rattle.read_notify.proofs.Storing.{Goes}
 use Rattle.read_notify.proofs.watches.gather.Given as goal
 
-abbrev pub invariant-loop-group : goal.invariant-loop-group
-invariant-loop-group l = Goes l.text l.at l.tally l.watch l.kept l.p
+abbrev pub invariant-loop-lent : goal.invariant-loop-lent
+invariant-loop-lent l = Goes l.text l.at l.tally l.watch l.kept l.p
 
-abbrev pub decreases-loop-group : goal.decreases-loop-group
-decreases-loop-group l = length l.text - l.p
+abbrev pub decreases-loop-lent : goal.decreases-loop-lent
+decreases-loop-lent l = length l.text - l.p

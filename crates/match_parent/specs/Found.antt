@@ -1,16 +1,15 @@
 -- A row that stands for the parent: of the parent's name, with the attributes of the row that may be listed under that name; none, where no group stands.
 -- Assumes nothing.
-use Rattle.std.specs.Prelude.{◌≡◌, refl, List, [], ◌∷◌, map, Bool, true, false, cond, ◌&&◌, ℕ, length, take, get_or}
+use Rattle.std.specs.Prelude.{◌≡◌, refl, List, [], ◌∷◌, Bool, true, false, cond, ◌&&◌, ℕ, length, take, get_or}
 use Rattle.std.proofs.Common.{ap, sym, ◌∙◌}
-use Rattle.model.specs.Lists.{keep, filterb, anyb, same, when}
-use Rattle.model.specs.Laws.{and_r, and_false}
+use Rattle.model.specs.Lists.{keep, filterb, same, when}
+use Rattle.model.specs.Laws.{and_r}
 use Rattle.model.specs.Names.{Name, parent_of, has_parent}
 use Rattle.model.specs.Text.{bit}
-use Rattle.model.specs.Memory.{name_of, may_list, both_rights, no_mailbox, stored}
-use Rattle.model.specs.Groups.{group_of, meets, asked, asked_of, asks_name}
+use Rattle.model.specs.Memory.{name_of, may_list, both_rights, stored}
+use Rattle.model.specs.Groups.{asked, asks_name}
 use Rattle.model.specs.Lines.{Line, list, plain, noselect, non_existent}
-use Rattle.model.specs.Events.{stand_in, is_listed, listed_row, parent_row}
-use Rattle.model.specs.declared.Group.{Group}
+use Rattle.model.specs.Events.{stand_in, is_listed, listed_row}
 use Rattle.model.specs.declared.Mailbox.{Mailbox}
 use Rattle.model.specs.declared.Session.{Session}
 use Rattle.demands.specs.Lasting.NameLaws.{same_true, name-stored}
@@ -43,11 +42,3 @@ module _ (s : Session) (l : List Mailbox) (n : Name) where
       ap (λ (z : Mailbox). upper_lines s z x) e
       ∙ (ap (λ (p : Name). line_of s (both_rights x) (has_parent n) p (listed_row (parent_of n) l).attributes) (name-stored (parent_of n) ∙ sym (listed_name (parent_of n) l))
       ∙ ap (λ (k : Name). line_of s (both_rights x) (has_parent k) (name_of (listed_row (parent_of k) l)) (listed_row (parent_of k) l).attributes) (sym h))
-
-  -- where no group stands nobody is told of any
-  pub stands_none : (y : Mailbox) → y ≡ no_mailbox → s.groupcount ≡ 0 → StandsFor s l n y
-  stands_none y e z x h =
-      let silent : asked_of s (parent_row l x) asks_name ≡ false = ap (λ (k : ℕ). anyb (λ (g : Group). meets s (name_of (parent_row l x)) (parent_row l x).attributes g.selector && asks_name g) (map group_of (take k s.groups))) z in
-      ap (λ (w : Mailbox). upper_lines s w x) e
-      ∙ (ap (λ (b : Bool). when b (list non_existent [])) (and_false (both_rights x))
-      ∙ rw (silent, and_false (has_parent (name_of x)), and_false (both_rights x)))

@@ -1,4 +1,4 @@
--- Marks beside the rows of the mailbox table: an octet for each row, not 0 where a test said yes, put there a group and a name after the other.
+-- Marks beside the rows of the mailbox table: whether a test said yes of a row, put there a group and a name after the other.
 -- Assumes nothing.
 use Rattle.std.specs.Prelude.{◌≡◌, refl, Bool, true, false, cond, ◌&&◌, ◌||◌, List, [], ◌∷◌, ℕ, ◌+◌, ◌<◌, ◌≤◌, length, get_or, set, replicate}
 use Rattle.std.proofs.Common.{ap, sym, ◌∙◌, arith, get_or-set_same, get_or-set_other, below_more}
@@ -7,13 +7,11 @@ use Rattle.model.specs.Lists.{anyb, same}
 use Rattle.model.specs.Text.{bit}
 use Rattle.model.specs.Names.{Name, subtree}
 use Rattle.model.specs.Selectors.{taken_by_inboxes, taken_by_personal, taken_by_subscribed}
-use Rattle.model.specs.Groups.{meets, asks_messages, asks_mailbox}
+use Rattle.model.specs.Groups.{asks_messages, asks_mailbox}
 use Rattle.model.specs.declared.Group.{Group}
 use Rattle.model.specs.declared.Selector.{Selector}
 use Rattle.model.specs.declared.Selector.TheVariants.{Selected, Delayed, Inboxes, Personal, Subscribed, Subtree, Mailboxes}
-use Rattle.model.specs.declared.Session.{Session}
 use Rattle.model.specs.Laws.{or-false, and_false, or_assoc}
-use Rattle.table_mailboxes.specs.Columns.{noted}
 
 -- whom a selector takes by attributes alone
 abbrev pub taken_by : Selector → ℕ → Bool
@@ -34,28 +32,25 @@ abbrev pub asks_of : Bool → Group → Bool
 asks_of messages g = cond messages (asks_messages g) (asks_mailbox g)
 
 -- of n rows those have a mark now that had one, and those of which the test says yes
-abbrev pub Marks : ℕ → (ℕ → Bool) → List ℕ → List ℕ → Type 0
-Marks n p old new = (k : ℕ) → k < n → noted (get_or new k 0) ≡ (noted (get_or old k 0) || p k)
+abbrev pub Marks : ℕ → (ℕ → Bool) → List Bool → List Bool → Type 0
+Marks n p old new = (k : ℕ) → k < n → get_or new k false ≡ (get_or old k false || p k)
 
 -- ---- a row after the other
-pub record Marking (i : ℕ) (p : ℕ → Bool) (old new : List ℕ) : Type 0 where
+pub record Marking (i : ℕ) (p : ℕ → Bool) (old new : List Bool) : Type 0 where
   pub below : Marks i p old new
-  pub above : (k : ℕ) → i ≤ k → get_or new k 0 ≡ get_or old k 0
+  pub above : (k : ℕ) → i ≤ k → get_or new k false ≡ get_or old k false
 
-pub marking_start : (p : ℕ → Bool) (l : List ℕ) → Marking 0 p l l
-marking_start p l = record { below = λ k h. absurd (let z : ⊥ = omega arith in z); above = λ k h. refl }
-
-pub marking_next : (p : ℕ → Bool) (old new : List ℕ) (i v : ℕ) → i < length new → Marking i p old new → noted v ≡ (noted (get_or new i 0) || p i) → Marking (i + 1) p old (set new i v)
+pub marking_next : (p : ℕ → Bool) (old new : List Bool) (i : ℕ) (v : Bool) → i < length new → Marking i p old new → v ≡ (get_or new i false || p i) → Marking (i + 1) p old (set new i v)
 marking_next p old new i v w m e = record {
-  below = below_more (λ (k : ℕ). noted (get_or (set new i v) k 0) ≡ (noted (get_or old k 0) || p k)) i
-      (λ k h. let d : k ≡ i → ⊥ = λ z. absurd (let y : ⊥ = omega arith in y) in rw (get_or-set_other new i k v 0 d) (m.below k h))
-      (rw (get_or-set_same new i v 0 w) (e ∙ ap (λ (x : ℕ). noted x || p i) (m.above i (omega arith))));
-  above = λ k h. let d : k ≡ i → ⊥ = λ z. absurd (let y : ⊥ = omega arith in y) in get_or-set_other new i k v 0 d ∙ m.above k (omega arith);
+  below = below_more (λ (k : ℕ). get_or (set new i v) k false ≡ (get_or old k false || p k)) i
+      (λ k h. let d : k ≡ i → ⊥ = λ z. absurd (let y : ⊥ = omega arith in y) in rw (get_or-set_other new i k v false d) (m.below k h))
+      (rw (get_or-set_same new i v false w) (e ∙ ap (λ (x : Bool). x || p i) (m.above i (omega arith))));
+  above = λ k h. let d : k ≡ i → ⊥ = λ z. absurd (let y : ⊥ = omega arith in y) in get_or-set_other new i k v false d ∙ m.above k (omega arith);
 }
 
 -- ---- a name or a group after the other: with q to come all is as it was with p to come
-abbrev pub Left : ℕ → (ℕ → Bool) → (ℕ → Bool) → List ℕ → List ℕ → Type 0
-Left n p q old new = (k : ℕ) → k < n → (noted (get_or old k 0) || p k) ≡ (noted (get_or new k 0) || q k)
+abbrev pub Left : ℕ → (ℕ → Bool) → (ℕ → Bool) → List Bool → List Bool → Type 0
+Left n p q old new = (k : ℕ) → k < n → (get_or old k false || p k) ≡ (get_or new k false || q k)
 
 -- of one row, whose mark is m: x comes next, and r is left behind it
 pub left_next : (m x r : Bool) {z q n : Bool} → z ≡ (m || q) → q ≡ (x || r) → n ≡ (m || x) → z ≡ (n || r)
@@ -65,34 +60,16 @@ left_next m x r e f g = e ∙ (ap (λ (b : Bool). m || b) f ∙ (or_assoc m x r 
 pub left_past : (m : Bool) {z q : Bool} → z ≡ (m || q) → q ≡ false → m ≡ z
 left_past m e f = sym (e ∙ (ap (λ (b : Bool). m || b) f ∙ or-false m))
 
-pub marks_none : (n : ℕ) (p : ℕ → Bool) (l : List ℕ) → ((k : ℕ) → p k ≡ false) → Marks n p l l
-marks_none n p l e k h = sym (ap (λ (b : Bool). noted (get_or l k 0) || b) (e k) ∙ or-false (noted (get_or l k 0)))
-
 -- from no marks on
-pub fresh : (n k : ℕ) {z x : Bool} → k < n → z ≡ (noted (get_or (replicate n 0) k 0) || x) → z ≡ x
-fresh n k {z} {x} h e = e ∙ ap (λ (m : ℕ). noted m || x) (get_or-replicate n k 0 0 h)
+pub fresh : (n k : ℕ) {z x : Bool} → k < n → z ≡ (get_or (replicate n false) k false || x) → z ≡ x
+fresh n k {z} {x} h e = e ∙ ap (λ (m : Bool). m || x) (get_or-replicate n k false false h)
 
 -- ---- whom a range of names takes
 and_or : (b x y : Bool) → ((b && x) || (b && y)) ≡ (b && (x || y))
 and_or true x y = refl
 and_or false x y = refl
 
--- those taken by attributes alone
-pub met-taken : (s : Session) (n : Name) (a : ℕ) (x y : Selector) → x ≡ y → taken_by y a ≡ meets s n a y → taken_by x a ≡ meets s n a x
-met-taken s n a x y e h = rw e h
-
 -- those of a subtree are selectable, all or none
 pub taken_deep : (a : ℕ) (n : Name) (l : List Name) → anyb (taken_by_name true n a) l ≡ (bit 0 a && anyb (λ (t : Name). subtree t n) l)
 taken_deep a n [] = sym (and_false (bit 0 a))
 taken_deep a n (t ∷ l) = ap (λ (b : Bool). (bit 0 a && subtree t n) || b) (taken_deep a n l) ∙ and_or (bit 0 a) (subtree t n) (anyb (λ (t : Name). subtree t n) l)
-
--- a group that asks for the events, and one that does not
-pub met_asking : (s : Session) (n : Name) (a : ℕ) (g : Group) (b : Bool) → b ≡ true → meets s n a g.selector ≡ (meets s n a g.selector && b)
-met_asking s n a g b e = sym (ap (λ (x : Bool). meets s n a g.selector && x) e ∙ all (meets s n a g.selector))
-  where
-    all : (x : Bool) → (x && true) ≡ x
-    all true = refl
-    all false = refl
-
-pub met-silent : (s : Session) (n : Name) (a : ℕ) (g : Group) (b : Bool) → b ≡ false → (meets s n a g.selector && b) ≡ false
-met-silent s n a g b e = ap (λ (x : Bool). meets s n a g.selector && x) e ∙ and_false (meets s n a g.selector)

@@ -1,11 +1,11 @@
 -- Notes beside the rows of the mailbox table: an octet for each row that is not 0 where a test says yes. Assumes nothing.
-use Rattle.std.specs.Prelude.{◌≡◌, Bool, List, ℕ, ◌+◌, ◌-◌, ◌<◌, length, get_or, set}
-use Rattle.std.proofs.Common.{ap, ap₂, ◌∙◌, arith, get_or-set_same, get_or-set_other, below_more}
+use Rattle.std.specs.Prelude.{◌≡◌, Bool, List, ℕ, ◌+◌, ◌<◌, length, get_or, set}
+use Rattle.std.proofs.Common.{arith, get_or-set_same, get_or-set_other, below_more}
 use Rattle.model.specs.Names.{Name}
 use Rattle.model.specs.Memory.{no_mailbox}
 use Rattle.model.specs.declared.Mailbox.{Mailbox}
 use Rattle.model.specs.declared.Session.{Session}
-use Rattle.table_mailboxes.specs.Columns.{Column, Names, name_at, name_at_lem, noted}
+use Rattle.table_mailboxes.specs.Columns.{noted}
 use Rattle.match_rows.specs.Picked.{selects, picked_by, status_by, is_picked, is_status}
 
 -- the notes of the rows are the answers of a test
@@ -29,19 +29,3 @@ notes_next P p q k v w hp hq old new =
     below_more (λ (j : ℕ). P j (get_or (set p k v) j 0) (get_or (set q k w) j 0)) k
     (λ j h. let d : j ≡ k → ⊥ = λ e. absurd (let z : ⊥ = omega arith in z) in rw (get_or-set_other p k j v 0 d, get_or-set_other q k j w 0 d) (old j h))
     (rw (get_or-set_same p k v 0 hp, get_or-set_same q k w 0 hq) new)
-
--- by columns, then by rows
-pub notes_all : (s : Session) (wanted : Bool) (ids attributes lens names picked asks : List ℕ) (n : ℕ)
-    → ((j : ℕ) → j < n → Notes s wanted (get_or ids j 0) (get_or attributes j 0) (name_at lens names j) (get_or picked j 0) (get_or asks j 0))
-    → (l : List Mailbox) → length l ≡ n → Column (λ (x : Mailbox). x.id) l ids → Column (λ (x : Mailbox). x.attributes) l attributes
-    → Column (λ (x : Mailbox). x.namelen) l lens → Names l names → NotesAll s wanted l picked asks
-notes_all s wanted ids attributes lens names picked asks n notes l e p q r t = record {
-  told = λ k h.
-      (notes k (omega arith)).told
-      ∙ (ap₂ (λ (i a : ℕ). picked_by s (name_at lens names k) a (selects s i)) (p k h) (q k h)
-      ∙ ap (λ (o : Name). picked_by s o (get_or l k no_mailbox).attributes (selects s (get_or l k no_mailbox).id)) (name_at_lem l lens names k r t h));
-  status = λ k h.
-      (notes k (omega arith)).status
-      ∙ (ap₂ (λ (i a : ℕ). status_by s (name_at lens names k) a (selects s i) wanted) (p k h) (q k h)
-      ∙ ap (λ (o : Name). status_by s o (get_or l k no_mailbox).attributes (selects s (get_or l k no_mailbox).id) wanted) (name_at_lem l lens names k r t h));
-}

@@ -69,7 +69,7 @@ module _ (p : Group → Bool) (l : List Group) where
   any_is : has asks_any ≡ (has asks_messages || has asks_mailbox)
   any_is = any_or p asks_messages asks_mailbox l
 
-selected_any : (s : Session) → selected_asks s asks_any ≡ ((selected_asks s (asks_bit 0) || (selected_asks s (asks_bit 1) || selected_asks s (asks_bit 2))) || (selected_asks s (asks_bit 3) || selected_asks s (asks_bit 4)))
+pub selected_any : (s : Session) → selected_asks s asks_any ≡ ((selected_asks s (asks_bit 0) || (selected_asks s (asks_bit 1) || selected_asks s (asks_bit 2))) || (selected_asks s (asks_bit 3) || selected_asks s (asks_bit 4)))
 selected_any s =
     any_is (λ (g : Group). is_selecting g.selector) (groups_of s)
     ∙ ap₂ (λ (a b : Bool). a || b) (messages_or (λ (g : Group). is_selecting g.selector) (groups_of s)) (mailbox_or (λ (g : Group). is_selecting g.selector) (groups_of s))
@@ -88,58 +88,12 @@ module _ (s : Session) (n : Name) (a : ℕ) where
   asks_any_lem = any_is (λ (g : Group). meets s n a g.selector) (groups_of s)
 
   -- who is told of
-  pub picked-hidden : (b : Bool) → bit 4 a ≡ false → false ≡ picked_by s n a b
-  picked-hidden b e = rw e
-
   pub picked_mailbox : (b : Bool) → bit 4 a ≡ true → asked s n a asks_mailbox ≡ true → true ≡ picked_by s n a b
   picked_mailbox true e f = sym (ap₂ (λ (u v : Bool). u && (selected_asks s asks_any || v)) e f ∙ last (selected_asks s asks_any))
   picked_mailbox false e f =
       sym (ap₂ (λ (u v : Bool). u && v) e (asks_any_lem ∙ (ap (λ (v : Bool). asked s n a asks_messages || v) f ∙ last (asked s n a asks_messages))))
 
-  pub picked-selected : (r b : Bool) → bit 4 a ≡ true → asked s n a asks_mailbox ≡ false → b ≡ true → r ≡ selected_asks s asks_any → r ≡ picked_by s n a b
-  picked-selected r b e f h g =
-      g ∙ sym (ap₂ (λ (u c : Bool). u && cond c (selected_asks s asks_any || asked s n a asks_mailbox) (asked s n a asks_any)) e h
-      ∙ (ap (λ (v : Bool). selected_asks s asks_any || v) f ∙ none (selected_asks s asks_any)))
-
   pub picked-other : (r b : Bool) → bit 4 a ≡ true → asked s n a asks_mailbox ≡ false → b ≡ false → r ≡ asked s n a asks_messages → r ≡ picked_by s n a b
   picked-other r b e f h g =
       g ∙ sym (ap₂ (λ (u c : Bool). u && cond c (selected_asks s asks_any || asked s n a asks_mailbox) (asked s n a asks_any)) e h
       ∙ (asks_any_lem ∙ (ap (λ (v : Bool). asked s n a asks_messages || v) f ∙ none (asked s n a asks_messages))))
-
-  -- whose STATUS is told
-  pub status_no : (b w : Bool) → w ≡ false → false ≡ status_by s n a b w
-  status_no b w e = sym (ap (λ (u : Bool). u && (not b && asked s n a asks_messages)) e)
-
-  pub status-selected : (b w : Bool) → w ≡ true → b ≡ true → false ≡ status_by s n a b w
-  status-selected b w e f = sym (ap₂ (λ (u v : Bool). u && (not v && asked s n a asks_messages)) e f)
-
-  pub status-asked : (r b w : Bool) → w ≡ true → b ≡ false → r ≡ asked s n a asks_messages → r ≡ status_by s n a b w
-  status-asked r b w e f g = g ∙ sym (ap₂ (λ (u v : Bool). u && (not v && asked s n a asks_messages)) e f)
-
--- the selected group asks for one of the five
-module _ (s : Session) where
-  abbrev selected_on : ℕ → Bool
-  selected_on k = selected_asks s (asks_bit k)
-
-  pub any_first : selected_on 0 ≡ true → true ≡ selected_asks s asks_any
-  any_first h = sym (selected_any s ∙ rw h)
-
-  pub any-second : selected_on 0 ≡ false → selected_on 1 ≡ true → true ≡ selected_asks s asks_any
-  any-second h i = sym (selected_any s ∙ rw (h, i))
-
-  pub any-third : selected_on 0 ≡ false → selected_on 1 ≡ false → selected_on 2 ≡ true → true ≡ selected_asks s asks_any
-  any-third h i j = sym (selected_any s ∙ rw (h, i, j))
-
-  pub any-fourth : selected_on 0 ≡ false → selected_on 1 ≡ false → selected_on 2 ≡ false → selected_on 3 ≡ true → true ≡ selected_asks s asks_any
-  any-fourth h i j k = sym (selected_any s ∙ rw (h, i, j, k))
-
-  pub any-fifth : (r : Bool) → selected_on 0 ≡ false → selected_on 1 ≡ false → selected_on 2 ≡ false → selected_on 3 ≡ false → r ≡ selected_on 4 → r ≡ selected_asks s asks_any
-  any-fifth r h i j k l = l ∙ sym (selected_any s ∙ rw (h, i, j, k))
-
--- an id that is the selected one
-module _ (s : Session) (i : ℕ) where
-  pub selects_none : eqb i 0 ≡ true → false ≡ selects s i
-  selects_none e = rw e
-
-  pub selects_some : (r : Bool) → eqb i 0 ≡ false → r ≡ eqb i s.selected → r ≡ selects s i
-  selects_some r e g = rw e g

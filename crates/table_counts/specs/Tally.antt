@@ -1,6 +1,8 @@
 -- Counts of many mailboxes at once: an entry adds to the count of its row, and to no other. Assumes nothing.
-use Rattle.std.specs.Prelude.{◌≡◌, refl, Bool, true, false, not, cond, ◌&&◌, List, [], ◌∷◌, ℕ, zero, suc, ◌+◌, ◌<◌, ◌≤◌, ◌%◌, eqb, leb, length, take, get_or, set}
-use Rattle.std.proofs.Common.{ap, sym, ◌∙◌, add-one, arith, length-set, get_or-set_same, get_or-set_other, eq-eqb, ne_eqb, eqb-true, leb-true, leb-false}
+use Rattle.std.specs.Prelude.{◌≡◌, refl, Bool, true, false, not, cond, ◌&&◌, List, [], ◌∷◌, ℕ, zero, suc, ◌+◌, ◌<◌, ◌≤◌, ◌%◌, eqb, ltb, length, take, get_or, set, Option, Some, None, position}
+use Rattle.std.proofs.Common.{ap, sym, ◌∙◌, add-one, arith, length-set, get_or-set_same, get_or-set_other, eq-eqb, ne_eqb, eqb-true, ltb-false, get_or-take, length-take-le}
+use Rattle.std.specs.List.{position_or_len}
+use Rattle.std.proofs.lemmas.List.Quantifiers.{position-Some}
 use Rattle.std.proofs.lemmas.Bool.{eqb-false}
 use Rattle.model.specs.Memory.{no_message, in_mailbox, expunged, by_uid, messages_of, existing}
 use Rattle.model.specs.Lists.{filterb}
@@ -14,29 +16,42 @@ use Rattle.lawful_digests.specs.Distinct.{place_own}
 use Rattle.laws.specs.Counting.{countb, filter-count, filter_both, count-sorted}
 
 -- a row with the id, or none
-pub record Finds (ids : List ℕ) (n id r : ℕ) : Type 0 where
-  pub here : r < n → get_or ids r 0 ≡ id
-  pub none : n ≤ r → (j : ℕ) → j < n → get_or ids j 0 ≡ id → ⊥
+pub record Finds (ids : List ℕ) (n id : ℕ) (r : Option ℕ) : Type 0 where
+  pub here : (k : ℕ) → r ≡ Some k → (k < n) × (get_or ids k 0 ≡ id)
+  pub none : r ≡ None → (j : ℕ) → j < n → get_or ids j 0 ≡ id → ⊥
 
-pub found : (ids : List ℕ) (n id r : ℕ) → r < n → get_or ids r 0 ≡ id → Finds ids n id r
-found ids n id r h e = record { here = λ z. e; none = λ z. absurd (let y : ⊥ = omega arith in y) }
+pub found : (ids : List ℕ) (n id k : ℕ) → k < n → get_or ids k 0 ≡ id → Finds ids n id (Some k)
+found ids n id k h e = record { here = λ j q. (let z : k ≡ j = cc in rw (← z) (h, e)); none = λ q. absurd (let z : ⊥ = cc in z) }
 
--- the first i are others
-abbrev pub Others : List ℕ → ℕ → ℕ → Type 0
-Others ids i id = (j : ℕ) → j < i → get_or ids j 0 ≡ id → ⊥
-
-pub others_none : (ids : List ℕ) (id : ℕ) → Others ids 0 id
-others_none ids id j h e = let y : ⊥ = omega arith in y
-
-pub others_next : (ids : List ℕ) (i id : ℕ) → Others ids i id → (get_or ids i 0 ≡ id → ⊥) → Others ids (i + 1) id
-others_next ids i id o ne j h e = go (leb i j) refl
+-- none before the end passes
+absent : (p : ℕ → Bool) (xs : List ℕ) → length xs ≤ position_or_len p xs → (k : ℕ) → k < length xs → p (get_or xs k 0) ≡ false
+absent p [] h k w = absurd (let z : ⊥ = omega arith in z)
+absent p (x ∷ xs) h k w = go (p x) refl h (absent p xs) k w
   where
-    go : (b : Bool) → leb i j ≡ b → ⊥
-    go true q = let l = leb-true i j q in let z : i ≡ j = omega arith in ne (ap (λ (x : ℕ). get_or ids x 0) z ∙ e)
-    go false q = o j (leb-false i j q) e
+    go : (b : Bool) → p x ≡ b → suc (length xs) ≤ cond (not b) (1 + position_or_len p xs) 0 → (length xs ≤ position_or_len p xs → (j : ℕ) → j < length xs → p (get_or xs j 0) ≡ false)
+        → (j : ℕ) → j < suc (length xs) → p (get_or (x ∷ xs) j 0) ≡ false
+    go true e t f j v = absurd (let z : ⊥ = omega arith in z)
+    go false e t f zero v = e
+    go false e t f (suc j) v = f (omega arith) j (omega arith)
 
-pub not_found : (ids : List ℕ) (n id : ℕ) → Others ids n id → Finds ids n id n
-not_found ids n id o = record { here = λ z. absurd (let y : ⊥ = omega arith in y); none = λ z. o }
+-- what was looked for in all of them
+pub finds : (ids : List ℕ) (n id : ℕ) (r : Option ℕ) → n ≤ length ids → r ≡ position (λ (y : ℕ). eqb y id) (take n ids) → Finds ids n id r
+finds ids n id r w e = record {
+  here = λ k q.
+      (let f = position-Some (λ (y : ℕ). eqb y id) (take n ids) k 0 (sym e ∙ q) in
+      let l = length-take-le n ids w in
+      let h : k < n = omega arith in
+      (h, sym (get_or-take n ids k 0 h) ∙ eqb-true (get_or (take n ids) k 0) id f.1));
+  none = λ q j h g.
+      (let l = length-take-le n ids w in
+      let f = absent (λ (y : ℕ). eqb y id) (take n ids) (past (ltb (position_or_len (λ (y : ℕ). eqb y id) (take n ids)) (length (take n ids))) refl (sym e ∙ q)) j (omega arith) in
+      let t : eqb (get_or (take n ids) j 0) id ≡ true = eq-eqb (get_or (take n ids) j 0) id (get_or-take n ids j 0 h ∙ g) in
+      cc);
+}
+  where
+    past : (b : Bool) → ltb (position_or_len (λ (y : ℕ). eqb y id) (take n ids)) (length (take n ids)) ≡ b → cond b (Some (position_or_len (λ (y : ℕ). eqb y id) (take n ids))) None ≡ None → length (take n ids) ≤ position_or_len (λ (y : ℕ). eqb y id) (take n ids)
+    past true t q = absurd (let z : ⊥ = cc in z)
+    past false t q = ltb-false (position_or_len (λ (y : ℕ). eqb y id) (take n ids)) (length (take n ids)) t
 
 -- no two rows have an id
 abbrev pub Apart : List ℕ → ℕ → Type 0
@@ -68,30 +83,39 @@ module _ (ids : List ℕ) (n : ℕ) (e : Message) (i : ℕ) (c : List ℕ) (low 
       go false = refl
 
   -- no row has it
-  pub tally_none : (r : ℕ) → Finds ids n e.mailbox r → n ≤ r → Tallied ids n e i c c
-  tally_none r f h = nothing (λ k z. rw (ne_eqb e.mailbox (get_or ids k 0) (λ q. f.none h k z (sym q))))
+  pub tally_none : Finds ids n e.mailbox None → Tallied ids n e i c c
+  tally_none f = nothing (λ k z. rw (ne_eqb e.mailbox (get_or ids k 0) (λ q. f.none refl k z (sym q))))
 
   -- row r has it
-  pub tally_one : (r : ℕ) → (e.states % 2 ≡ 1 → ⊥) → Finds ids n e.mailbox r → r < n → n ≤ length c → Tallied ids n e i c (set c r (get_or c r 0 + 1))
-  tally_one r g f h w = record {
+  pub tally_one : (r : ℕ) → (e.states % 2 ≡ 1 → ⊥) → Finds ids n e.mailbox (Some r) → n ≤ length c → Tallied ids n e i c (set c r (get_or c r 0 + 1))
+  tally_one r g f w = record {
     more = λ a k z. by_place a k z (eqb k r) refl;
     below = λ k. at_place k (eqb k r) refl;
     long = length-set c r (get_or c r 0 + 1);
   }
     where
+      h : r < n
+      h = (f.here r refl).0
+
+      inside : r < length c
+      inside = let z = h in omega arith
+
+      own : get_or ids r 0 ≡ e.mailbox
+      own = (f.here r refl).1
+
       by_place : Apart ids n → (k : ℕ) → k < n → (b : Bool) → eqb k r ≡ b → get_or (set c r (get_or c r 0 + 1)) k 0 ≡ get_or c k 0 + cond (stands (get_or ids k 0) e) 1 0
       by_place a k z true q =
           let s : k ≡ r = eqb-true k r q in
-          rw (s, get_or-set_same c r (get_or c r 0 + 1) 0 (omega arith), eq-eqb e.mailbox (get_or ids r 0) (sym (f.here h)), ne_eqb (e.states % 2) 1 g)
+          rw (s, get_or-set_same c r (get_or c r 0 + 1) 0 inside, eq-eqb e.mailbox (get_or ids r 0) (sym own), ne_eqb (e.states % 2) 1 g)
       by_place a k z false q =
           let s : (k ≡ r → ⊥) = eqb-false k r q in
-          get_or-set_other c r k (get_or c r 0 + 1) 0 s ∙ rw (ne_eqb e.mailbox (get_or ids k 0) (λ x. s (a k r z h (sym x ∙ sym (f.here h))))) (omega arith)
+          get_or-set_other c r k (get_or c r 0 + 1) 0 s ∙ rw (ne_eqb e.mailbox (get_or ids k 0) (λ x. s (a k r z h (sym x ∙ sym own)))) (omega arith)
 
       at_place : (k : ℕ) (b : Bool) → eqb k r ≡ b → get_or (set c r (get_or c r 0 + 1)) k 0 ≤ i + 1
       at_place k true q =
           let s : k ≡ r = eqb-true k r q in
           let l = low r in
-          rw (s, get_or-set_same c r (get_or c r 0 + 1) 0 (omega arith)) (omega arith)
+          rw (s, get_or-set_same c r (get_or c r 0 + 1) 0 inside) (omega arith)
       at_place k false q =
           let l = low k in
           rw (get_or-set_other c r k (get_or c r 0 + 1) 0 (eqb-false k r q)) (omega arith)

@@ -1,6 +1,6 @@
 -- The mailbox table by columns: a field of every row side by side, and the names in one run, 64 octets a row. Assumes nothing.
-use Rattle.std.specs.Prelude.{◌≡◌, refl, Bool, true, false, not, List, [], ◌∷◌, ◌++◌, ℕ, zero, suc, ◌+◌, ◌-◌, ◌*◌, ◌<◌, ◌≤◌, eqb, ltb, length, take, drop, get_or, set, replicate}
-use Rattle.std.proofs.Common.{ap, ap₂, sym, ◌∙◌, append_assoc, arith, length-drop, take-append-drop, get_or-set_same, get_or-set_other, length-take-le, take-take, take_at, drop_at, take_all, eqb-true, ltb-true, ltb-false}
+use Rattle.std.specs.Prelude.{◌≡◌, refl, Bool, true, false, not, List, ◌++◌, ℕ, zero, suc, ◌+◌, ◌*◌, ◌<◌, ◌≤◌, eqb, ltb, length, take, drop, get_or, set, replicate}
+use Rattle.std.proofs.Common.{drop-drop, ap, ap₂, sym, ◌∙◌, append_assoc, arith, length-drop, take-append-drop, get_or-set_same, get_or-set_other, length-take-le, take-take, take_at, drop_at, take_all, eqb-true, ltb-true, ltb-false}
 use Rattle.std.proofs.lemmas.List.{take-append-le, drop-append-le}
 use Rattle.std.proofs.Math.Seq.{paste}
 use Rattle.std.proofs.lemmas.Bool.{eqb-false}
@@ -41,22 +41,18 @@ name_at lens names k = take (get_or lens k 0) (block names k)
 pub name_at_lem : (l : List Mailbox) (lens names : List ℕ) (k : ℕ) → Column (λ (x : Mailbox). x.namelen) l lens → Names l names → k < length l → name_at lens names k ≡ name_of (get_or l k no_mailbox)
 name_at_lem l lens names k p q h = ap₂ (λ (n : ℕ) (o : List ℕ). take n o) (p k h) (q k h)
 
--- r is where that name ends
-pub record Ends (lens : List ℕ) (k r : ℕ) : Type 0 where
-  pub low : 64 * k ≤ r
-  pub high : r ≤ 64 * k + 64
-  pub name : (names : List ℕ) → length names ≡ 4096 → take (r - 64 * k) (drop (64 * k) names) ≡ name_at lens names k
+-- a clipped length cuts it off
+pub name_cut : (lens names : List ℕ) (k m n : ℕ) → k < 64 → length names ≡ 4096 → n ≡ m → m ≤ 64 → ((o : List ℕ) → length o ≡ 64 → take m o ≡ take (get_or lens k 0) o) → take n (drop (64 * k) names) ≡ name_at lens names k
+name_cut lens names k m n h l e w f =
+    let d = length-drop (64 * k) names in
+    let b : length (block names k) ≡ 64 = length-take-le 64 (drop (64 * k) names) (omega arith) in
+    rw (e, ← f (block names k) b) (sym (take-take m 64 (drop (64 * k) names) w))
 
-pub ends_at : (lens : List ℕ) (k r m : ℕ) → k < 64 → r ≡ 64 * k + m → m ≤ 64 → ((o : List ℕ) → length o ≡ 64 → take m o ≡ take (get_or lens k 0) o) → Ends lens k r
-ends_at lens k r m h e w f = record {
-  low = omega arith;
-  high = omega arith;
-  name = λ names l.
-      let d = length-drop (64 * k) names in
-      let b : length (block names k) ≡ 64 = length-take-le 64 (drop (64 * k) names) (omega arith) in
-      let z : r - 64 * k ≡ m = omega arith in
-      rw (z, ← f (block names k) b) (sym (take-take m 64 (drop (64 * k) names) w));
-}
+-- the 64 octets of a name are put in its place
+pub name_put : (names name : List ℕ) (k n : ℕ) → k < 64 → length names ≡ 4096 → length name ≡ 64 → n ≡ 64 → take (64 * k) names ++ (name ++ drop n (drop (64 * k) names)) ≡ paste names (64 * k) name 64
+name_put names name k n h l w e =
+    let z : length name ≤ 64 = omega arith in
+    rw (e, drop-drop 64 (64 * k) names, take_all 64 name z) (sym (append_assoc (take (64 * k) names) name (drop (64 * k + 64) names)))
 
 -- ---- how they are filled, a row after the other
 
@@ -93,17 +89,6 @@ pub zero_at : (n k : ℕ) → ◌≡◌ {A = ℕ} (get_or (replicate n 0) k 0) 0
 zero_at zero k = refl
 zero_at (suc n) zero = refl
 zero_at (suc n) (suc k) = zero_at n k
-
--- a column of zeros, as far as it goes, is zero everywhere
-pub zeros_all : (c : List ℕ) → ((k : ℕ) → k < length c → get_or c k 0 ≡ 0) → (k : ℕ) → get_or c k 0 ≡ 0
-zeros_all [] p k = refl
-zeros_all (x ∷ c) p zero = p 0 (omega arith)
-zeros_all (x ∷ c) p (suc k) = zeros_all c (λ j h. p (suc j) (omega arith)) k
-
-pub zeros_next : (c : List ℕ) (i : ℕ) → i < length c → ((k : ℕ) → k < i → get_or c k 0 ≡ 0) → (k : ℕ) → k < i + 1 → get_or (set c i 0) k 0 ≡ 0
-zeros_next c i h p = all_below (λ (k : ℕ). get_or (set c i 0) k 0 ≡ 0) i
-    (λ k q. get_or-set_other c i k 0 0 (λ z. (let y : ⊥ = omega arith in y)) ∙ p k q)
-    (get_or-set_same c i 0 0 h)
 
 -- a block that lies in front
 block-front : (a z : List ℕ) (j : ℕ) → 64 * j + 64 ≤ length a → block (a ++ z) j ≡ block a j

@@ -4,3 +4,4 @@ pub mod Columns
 pub mod Filling
 pub mod Shift
 pub mod Rows
+pub mod Whole

@@ -1,15 +1,15 @@
 -- The writes of the mailbox table as code makes them: one row is set, one is put behind the last. Assumes nothing.
-use Rattle.std.specs.Prelude.{◌≡◌, Bool, not, ◌&&◌, List, [], ◌∷◌, ◌++◌, ℕ, suc, ◌+◌, ◌-◌, ◌<◌, ◌≤◌, max, eqb, length, take, drop, get_or, set}
-use Rattle.std.proofs.Common.{ap, ap₂, sym, ◌∙◌, append_assoc, arith, length-set, length-append, length-take-le}
+use Rattle.std.specs.Prelude.{◌≡◌, Bool, not, ◌&&◌, List, [], ◌∷◌, ◌++◌, ℕ, suc, ◌+◌, ◌-◌, ◌<◌, ◌≤◌, max, eqb, ltb, length, take, drop, set, refl, true, false, cond, Option, Some, None, position}
+use Rattle.std.proofs.Common.{ap, ap₂, sym, ◌∙◌, append_assoc, arith, length-set, length-append, length-take-le, ltb-true, ltb-false}
+use Rattle.std.specs.List.{position_or_len}
+use Rattle.std.specs.Option.{unwrap_or}
 use Rattle.std.proofs.lemmas.List.{set_split}
 use Rattle.model.specs.Lists.{same}
-use Rattle.model.specs.Text.{bit}
 use Rattle.model.specs.Names.{Name}
-use Rattle.model.specs.Memory.{Memory, boxes, name_of, no_mailbox, refill, with_boxes, put_box, add_box, place}
-use Rattle.model.specs.Events.{is_listed}
+use Rattle.model.specs.Memory.{Memory, boxes, name_of, no_mailbox, refill, with_boxes, put_box, add_box, place, known}
 use Rattle.model.specs.declared.Mailbox.{Mailbox}
 use Rattle.laws.specs.Changing.{refill_same, set_front}
-use Rattle.table_mailboxes.specs.Columns.{Column, Names, name_at, name_at_lem}
+use Rattle.table_mailboxes.specs.Columns.{Column}
 
 -- another mailbox has the name
 abbrev pub holds : ℕ → Name → Mailbox → Bool
@@ -46,12 +46,60 @@ module _ (m : Memory) (fit : m.counts.mailboxes ≤ length m.rows) where
           let b : max k (length (take n t ++ (x ∷ []))) ≡ suc n = omega arith in
           rw (a, b) (append_assoc (take n t) (x ∷ []) (drop (suc n) t) ∙ sym (set_split t n x h))
 
--- the same of row k by its columns
-pub holds_at : (l : List Mailbox) (ids lens names : List ℕ) (k i : ℕ) (n : Name) → Column (λ (x : Mailbox). x.id) l ids → Column (λ (x : Mailbox). x.namelen) l lens → Names l names → k < length l
-    → (same (name_at lens names k) n && not (eqb (get_or ids k 0) i)) ≡ holds i n (get_or l k no_mailbox)
-holds_at l ids lens names k i n p q r h = ap₂ (λ (o : Name) (j : ℕ). same o n && not (eqb j i)) (name_at_lem l lens names k q r h) (p k h)
+-- ---- the place of the first with id i, if there is one
+abbrev pub place_in : ℕ → List Mailbox → Option ℕ
+place_in i l = position (λ (x : Mailbox). eqb x.id i) l
 
--- row k, by its columns, may be listed and has the name
-pub listed_at : (l : List Mailbox) (attributes lens names : List ℕ) (k : ℕ) (n : Name) → Column (λ (x : Mailbox). x.attributes) l attributes → Column (λ (x : Mailbox). x.namelen) l lens → Names l names → k < length l
-    → (bit 4 (get_or attributes k 0) && same (name_at lens names k) n) ≡ is_listed n (get_or l k no_mailbox)
-listed_at l attributes lens names k n p q r h = ap₂ (λ (a : ℕ) (o : Name). bit 4 a && same o n) (p k h) (name_at_lem l lens names k q r h)
+place_len : (i : ℕ) (l : List Mailbox) → position_or_len (λ (x : Mailbox). eqb x.id i) l ≡ place i l
+unfolding place
+place_len i [] = refl
+place_len i (x ∷ l) = go (eqb x.id i) (place_len i l)
+  where
+    go : (b : Bool) → position_or_len (λ (x : Mailbox). eqb x.id i) l ≡ place i l → cond (not b) (1 + position_or_len (λ (x : Mailbox). eqb x.id i) l) 0 ≡ cond b 0 (suc (place i l))
+    go true e = refl
+    go false e = omega arith
+
+place-le : (i : ℕ) (l : List Mailbox) → place i l ≤ length l
+unfolding place
+place-le i [] = omega arith
+place-le i (x ∷ l) = go (eqb x.id i) (place-le i l)
+  where
+    go : (b : Bool) → place i l ≤ length l → cond b 0 (suc (place i l)) ≤ suc (length l)
+    go true h = omega arith
+    go false h = omega arith
+
+-- by where `place` is
+pub place_is : (i : ℕ) (l : List Mailbox) → place_in i l ≡ cond (known i l) (Some (place i l)) None
+place_is i l = ap (λ (k : ℕ). cond (ltb k (length l)) (Some k) None) (place_len i l)
+
+pub place_some : (i : ℕ) (l : List Mailbox) (k : ℕ) → Some k ≡ place_in i l → (k ≡ place i l) × (k < length l)
+place_some i l k e = go (known i l) refl (e ∙ place_is i l)
+  where
+    go : (b : Bool) → known i l ≡ b → Some k ≡ cond b (Some (place i l)) None → (k ≡ place i l) × (k < length l)
+    go true t q = let z : k ≡ place i l = cc in (z, rw z (ltb-true (place i l) (length l) t))
+    go false t q = absurd (let z : ⊥ = cc in z)
+
+pub place_none : (i : ℕ) (l : List Mailbox) → None ≡ place_in i l → (place i l ≡ length l) × (known i l ≡ false)
+place_none i l e = go (known i l) refl (e ∙ place_is i l)
+  where
+    go : (b : Bool) → known i l ≡ b → None ≡ cond b (Some (place i l)) None → (place i l ≡ length l) × (known i l ≡ false)
+    go true t q = absurd (let z : ⊥ = cc in z)
+    go false t q = (let y = ltb-false (place i l) (length l) t in let z = place-le i l in omega arith, t)
+
+-- where there is none, the place behind the last
+pub place_or : (i : ℕ) (l : List Mailbox) → unwrap_or (place_in i l) (length l) ≡ place i l
+place_or i l = ap (λ (o : Option ℕ). unwrap_or o (length l)) (place_is i l) ∙ go (known i l) refl
+  where
+    go : (b : Bool) → known i l ≡ b → unwrap_or (cond b (Some (place i l)) None) (length l) ≡ place i l
+    go true t = refl
+    go false t = let y = ltb-false (place i l) (length l) t in let z = place-le i l in omega arith
+
+-- and by the column of ids
+column_place : (i : ℕ) (l : List Mailbox) (c : List ℕ) → length l ≤ length c → Column (λ (x : Mailbox). x.id) l c → position_or_len (λ (y : ℕ). eqb y i) (take (length l) c) ≡ position_or_len (λ (x : Mailbox). eqb x.id i) l
+column_place i [] c w p = refl
+column_place i (x ∷ l) [] w p = absurd (let z : ⊥ = omega arith in z)
+column_place i (x ∷ l) (y ∷ c) w p = ap₂ (λ (j n : ℕ). cond (not (eqb j i)) (1 + n) 0) (p 0 (omega arith)) (column_place i l c (omega arith) (λ k h. p (suc k) (omega arith)))
+
+pub column_place_in : (i : ℕ) (l : List Mailbox) (c : List ℕ) (n : ℕ) → length l ≡ n → n ≤ length c → Column (λ (x : Mailbox). x.id) l c → position (λ (y : ℕ). eqb y i) (take n c) ≡ place_in i l
+column_place_in i l c n h w p =
+    rw (← h) (ap₂ (λ (k m : ℕ). cond (ltb k m) (Some k) None) (column_place i l c (omega arith) p) (length-take-le (length l) c (omega arith)))

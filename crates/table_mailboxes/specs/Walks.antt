@@ -4,7 +4,7 @@ use Rattle.std.specs.Prelude.{◌≡◌, refl, Bool, true, false, ◌&&◌, List
 use Rattle.std.proofs.Common.{sym, ◌∙◌, add-one, arith, drop_of_length-le, drop-cons, get_or-take, length-take-le}
 use Rattle.std.proofs.lemmas.List.{length-map}
 use borrow.Author.Tests.{eq-eqb, ne_eqb, lt-ltb, le-ltb, le-leb}
-use Rattle.model.specs.Lists.{filterb, anyb, allb, apart, every}
+use Rattle.model.specs.Lists.{anyb, allb, apart, every}
 use Rattle.model.specs.Memory.{place, no_mailbox, known, the_mailbox}
 use Rattle.model.specs.Lawful.{counter_ok}
 use Rattle.model.specs.declared.Mailbox.{Mailbox}
@@ -83,17 +83,6 @@ module _ {A : Type 0} where
 
     pub all_over : length l ≤ i → allb p (drop i l) ≡ true
     all_over h = rw (drop_of_length-le l {i = i} h)
-
-  -- the first that passes, or z
-  module _ (p : A → Bool) (l : List A) (i : ℕ) (z : A) where
-    pub first_found : (d : A) → i < length l → p (get_or l i d) ≡ true → get_or (filterb p (drop i l)) 0 z ≡ get_or l i d
-    first_found d h e = rw (head_at l i d h, e)
-
-    pub first_on : (d : A) → i < length l → p (get_or l i d) ≡ false → get_or (filterb p (drop i l)) 0 z ≡ get_or (filterb p (drop (i + 1) l)) 0 z
-    first_on d h e = rw (head_at l i d h, e)
-
-    pub first_over : length l ≤ i → get_or (filterb p (drop i l)) 0 z ≡ z
-    first_over h = rw (drop_of_length-le l {i = i} h)
 
   module _ (like : A → A → Bool) (l : List A) (i : ℕ) where
     pub apart_broken : (d : A) → i < length l → anyb (λ (y : A). like (get_or l i d) y) (drop (i + 1) l) ≡ true → apart like (drop i l) ≡ false

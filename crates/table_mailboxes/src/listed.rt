@@ -1,45 +1,22 @@
 // The row with a name that may be listed, by which a parent is told of.
-ghost use Rattle.std.specs.Prelude.{◌≡◌, ◌&&◌, List, ◌≤◌, ◌<◌, length, get_or};
-ghost use Rattle.model.specs.Lists.{same};
-ghost use Rattle.model.specs.Text.{bit};
+ghost use Rattle.std.specs.Prelude.{◌≡◌, List, length};
 ghost use Rattle.model.specs.Events.{listed_row};
 ghost use Rattle.model.specs.declared.Mailbox.{Mailbox};
-ghost use Rattle.table_mailboxes.specs.Columns.{Column, Names, name_at};
+ghost use Rattle.table_mailboxes.specs.Columns.{Column, Names};
 
-// Whether row k may be listed and has the name; the name first, since it tells most rows apart.
-fn is_listed(
-    attributes: &[u8; 64],
-    lens: &[u8; 64],
-    names: &[u8; 4096],
-    k: usize,
-    name: &[u8],
-) -> bool
-    requires { k < 64 }
-    ensures { result ≡ (bit 4 (get_or attributes.now k 0) && same (name_at lens.now names.now k) name.now) }
-{
-    if !crate::has_name(lens, names, k, name) {
-        return false;
-    }
-    crate::has(attributes[k], 4)
-}
+use crate::Columns;
 
-// The attributes of the first of the n rows that may be listed and has the name; 1, selectable alone, where there is none.
-pub fn listed_bits(
-    attributes: &[u8; 64],
-    lens: &[u8; 64],
-    names: &[u8; 4096],
-    n: usize,
-    name: &[u8],
-) -> u8
-    requires { n ≤ 64 }
-    ensures { (l : List Mailbox) → length l ≡ n → Column (λ (x : Mailbox). x.attributes) l attributes.now → Column (λ (x : Mailbox). x.namelen) l lens.now → Names l names.now → result ≡ (listed_row name.now l).attributes }
-{
-    let mut i: usize = 0;
-    while i < n {
-        if is_listed(attributes, lens, names, i, name) {
-            return attributes[i];
+impl Columns {
+    // The attributes of the first row that may be listed and has the name; 1, selectable alone, where there is none.
+    pub fn listed_bits(&self, name: &[u8]) -> u8
+        ensures { (l : List Mailbox) → length l ≡ self.now.n → Column (λ (x : Mailbox). x.attributes) l self.now.attributes → Column (λ (x : Mailbox). x.namelen) l self.now.lens → Names l self.now.names → result ≡ (listed_row name.now l).attributes }
+    {
+        for k in 0..self.n {
+            // the name first, since it tells most rows apart
+            if self.has_name(k, name) && crate::has(self.attributes[k], 4) {
+                return self.attributes[k];
+            }
         }
-        i += 1;
+        1
     }
-    1
 }

@@ -1,44 +1,30 @@
 -- `note_rows`: the marks say of each row what the groups ask; the loop keeps that every row before k is noted. Assumes nothing.
-use mathlib.Core.Path.{refl, ◌∙◌}
-use Prim.Native.Nat.{ℕ, ◌<◌}
-use native.Mathlib.Omega.{arith}
-use lib.ListN.{get_or, length-set}
-use Rattle.table_mailboxes.specs.Columns.{name_at}
-use Rattle.match_rows.specs.Notes.{Notes, notes_next, notes_all}
+use Rattle.std.proofs.Common.{rules, arith, ◌≡◌, ap, ◌∙◌, refl, ℕ, Bool, ◌<◌, get_or, true, false}
+use Rattle.std.specs.Int.{from_bool}
+use Rattle.model.specs.Groups.{asked, asks_messages, asks_mailbox}
+use Rattle.table_mailboxes.specs.Columns.{name_at, noted}
+use Rattle.match_rows.specs.Notes.{Notes, notes_next}
+use Rattle.match_rows.specs.Picked.{picked_by, status_by}
 use Rattle.match_rows.specs.Marks.{fresh}
 use Rattle.match_rows.proofs.note_rows.Goals as goal
 
-pub loop-k-init : goal.loop-k-init
-loop-k-init c = (omega arith, refl, refl, λ j h. absurd (let z : ⊥ = omega arith in z))
-
-pub bounds-picked-k : goal.bounds-picked-k
-bounds-picked-k c =
-    omega (arith, c.requires.1, c.loop-k.invariant.0, c.loop-k.invariant.1, c.loop-k-test)
-
-pub bounds-asks-k : goal.bounds-asks-k
-bounds-asks-k c =
-    omega (arith, c.requires.2, c.loop-k.invariant.0, c.loop-k.invariant.2, c.loop-k-test)
+noted_byte : (b : Bool) → noted (from_bool b) ≡ b
+noted_byte true = refl
+noted_byte false = refl
 
 pub loop-k-preserved : goal.loop-k-preserved
 loop-k-preserved c =
-    let h : c.loop-k.k < c.args.n = omega (arith, c.loop-k-test) in (
-      omega arith,
-      length-set c.loop-k.picked c.loop-k.k c.note-row.result.picked ∙ c.loop-k.invariant.1,
-      length-set c.loop-k.asks c.loop-k.k c.note-row.result.asks ∙ c.loop-k.invariant.2,
-      notes_next (λ (j p q : ℕ). Notes c.args.s c.args.wanted (get_or c.args.ids.now j 0) (get_or c.args.attributes.now j 0) (name_at c.args.lens.now c.args.names.now j) p q)
-          c.loop-k.picked c.loop-k.asks c.loop-k.k c.note-row.result.picked c.note-row.result.asks
-          (omega (arith, c.requires.1, c.loop-k.invariant.1)) (omega (arith, c.requires.2, c.loop-k.invariant.2)) c.loop-k.invariant.3
-          (c.note-row.ensures c.args.s (name_at c.args.lens.now c.args.names.now c.loop-k.k) refl c.selected_asks_any-any.ensures
-          (fresh 64 c.loop-k.k (omega arith) (c.mark_asked.ensures c.loop-k.k h)) (fresh 64 c.loop-k.k (omega arith) (c.mark_asked-2.ensures c.loop-k.k h))),
-    )
-
-pub shape_of-picked : goal.shape_of-picked
-shape_of-picked c = c.loop-k.invariant.1
-
-pub shape_of-asks : goal.shape_of-asks
-shape_of-asks c = c.loop-k.invariant.2
-
-pub returns : goal.returns
-returns c =
-    notes_all c.args.s c.args.wanted c.args.ids.now c.args.attributes.now c.args.lens.now c.args.names.now _ _ c.args.n
-    (λ j h. c.loop-k.invariant.3 j (omega arith))
+    let h : c.loop-k.k < c.args.cols.now.n = c.loop-k-test.true in
+    let few = c.args.cols.now.few in
+    let a = get_or c.args.cols.now.attributes c.loop-k.k 0 in
+    let n = name_at c.args.cols.now.lens c.args.cols.now.names c.loop-k.k in
+    let messages : get_or c.mark_asked.new.marks c.loop-k.k false ≡ asked c.args.s n a asks_messages = fresh 64 c.loop-k.k (omega arith) (c.mark_asked.ensures c.loop-k.k h) in
+    let mailbox : get_or c.mark_asked-2.new.marks c.loop-k.k false ≡ asked c.args.s n a asks_mailbox = fresh 64 c.loop-k.k (omega arith) (c.mark_asked-2.ensures c.loop-k.k h) in
+    let on = c.is_selected-on.ensures c.args.s refl in
+    let told : noted c.from.result ≡ c.is_picked.result = rw c.from.ensures (noted_byte c.is_picked.result) in
+    let status : noted c.from-in-loop-k.result ≡ c.has_status.result = rw c.from-in-loop-k.ensures (noted_byte c.has_status.result) in
+    notes_next (λ (j p q : ℕ). Notes c.args.s c.args.wanted (get_or c.args.cols.now.ids j 0) (get_or c.args.cols.now.attributes j 0) (name_at c.args.cols.now.lens c.args.cols.now.names j) p q)
+    c.loop-k.picked c.loop-k.asks c.loop-k.k _ _ (search rules) (search rules) c.loop-k.invariant record {
+      told = told ∙ (c.is_picked.ensures c.args.s n c.selected_asks_any-any.ensures messages mailbox ∙ ap (picked_by c.args.s n a) on);
+      status = status ∙ (c.has_status.ensures c.args.s n a messages ∙ ap (λ (b : Bool). status_by c.args.s n a b c.args.wanted) on);
+    }

@@ -1,14 +1,8 @@
 -- `mark_top`: the loop keeps that the rows before k are marked by the test and the others as they were. Assumes nothing.
-use mathlib.Core.Path.{◌≡◌}
-use Prim.Native.Nat.{ℕ, ◌≤◌, ◌-◌}
-use lib.ListN.{length, get_or}
+use Rattle.std.proofs.Common.{ℕ, get_or}
 use Rattle.table_mailboxes.specs.Columns.{name_at}
 use Rattle.match_rows.specs.Marks.{taken_by_name, Marking}
 use Rattle.match_rows.proofs.marking.mark_top.Given as goal
 
 abbrev pub invariant-loop-k : goal.invariant-loop-k
-invariant-loop-k l = (l.k ≤ l.n) × (length l.marks ≡ length l.initial.marks)
-    × Marking l.k (λ (j : ℕ). taken_by_name l.deep (name_at l.lens l.names j) (get_or l.attributes j 0) l.top) l.initial.marks l.marks
-
-abbrev pub decreases-loop-k : goal.decreases-loop-k
-decreases-loop-k l = l.n - l.k
+invariant-loop-k l = Marking l.k (λ (j : ℕ). taken_by_name l.deep (name_at l.cols.lens l.cols.names j) (get_or l.cols.attributes j 0) l.top) l.initial.marks l.marks

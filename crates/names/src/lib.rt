@@ -1,7 +1,7 @@
 // Mailbox names: what a name is, how an argument is kept, which names are the same, beneath one another, and in what order.
 #![tactic(auto)]
 
-ghost use Rattle.std.specs.Prelude.{◌≡◌, length, ◌≤◌};
+ghost use Rattle.std.specs.Prelude.{◌≡◌, ◌&&◌, ◌≤◌, length, eqb};
 ghost use Rattle.model.specs.Lists.{same};
 ghost use Rattle.model.specs.Text.{same_word};
 ghost use Rattle.model.specs.Names.{valid, fold, inbox, leads, beneath, subtree, subtree_one, before, parent_of};
@@ -73,6 +73,13 @@ pub fn is_inbox(name: &[u8]) -> bool
     same_word(name, b"INBOX")
 }
 
+// Two slashes, one behind the other.
+fn both_slashes(b: u8, last: u8) -> bool
+    ensures { result ≡ (eqb b 47 && eqb last 47) }
+{
+    b == b'/' && last == b'/'
+}
+
 // Every octet may stand in a name, and no part is empty: one pass.
 fn text_ok(name: &[u8]) -> bool
     ensures { result ≡ text_ok name.now }
@@ -82,7 +89,7 @@ fn text_ok(name: &[u8]) -> bool
         if !(0x20..=0x7e).contains(&b) {
             return false;
         }
-        if b == b'/' && last == b'/' {
+        if both_slashes(b, last) {
             return false;
         }
         last = b;

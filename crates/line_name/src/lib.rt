@@ -11,10 +11,7 @@ use octets::Class;
 fn is_bare(name: &[u8]) -> bool
     ensures { result ≡ bare name.now }
 {
-    if octets::run_end(name, 0, Class::Atom) < name.len() {
-        return false;
-    }
-    !names::same_word(name, b"NIL")
+    octets::run_end(name, 0, Class::Atom) >= name.len() && !names::same_word(name, b"NIL")
 }
 
 // A mailbox name: as it is where it may be, else in quotes.

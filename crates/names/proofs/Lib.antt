@@ -1,2 +1,2 @@
-pub mod Walks
-pub mod Answers
+pub mod Laws
+pub mod Slashes

@@ -3,13 +3,14 @@ use mathlib.Core.Path.{◌≡◌}
 use mathlib.Core.List.{List, [], ◌∷◌}
 use Prim.Native.Nat.{ℕ, ◌+◌, ◌-◌, ◌*◌, ◌≤◌, ◌<◌}
 use native.Mathlib.Omega.{arith}
-use lib.ListN.{length, get_or}
+use lib.ListN.{length, get_or, drop, drop_of_length-le}
+use lib.Seq.{drop-cons}
+use native.Mathlib.Numerals.{add-one}
 use borrow.Author.Tests.{lt-ltb, le-ltb, le-leb, lt-leb}
 use Rattle.model.specs.Octets.{digit}
 use Rattle.model.specs.Reading.{piece, end_of, value_from, number_at}
 use Rattle.octets.specs.Numerals.{number_read}
 use Rattle.std.specs.Prelude.{Some, None}
-use Rattle.octets.proofs.Pieces.{piece_over, piece-cons}
 
 -- more digits make no number less
 value_least : (v : ℕ) (l : List ℕ) → v ≤ value_from v l
@@ -17,14 +18,14 @@ unfolding value_from
 value_least v [] = omega arith
 value_least v (d ∷ ds) = omega (arith, value_least (v * 10 + (d - 48)) ds)
 
-module _ (s : List ℕ) (i end v : ℕ) where
-  pub value_done : end ≤ i → value_from v (piece s i end) ≡ v
+module _ (ds : List ℕ) (i v : ℕ) where
+  pub value_done : length ds ≤ i → value_from v (drop i ds) ≡ v
   unfolding value_from
-  value_done h = rw (piece_over s i end h)
+  value_done h = rw (drop_of_length-le ds h)
 
-  pub value-step : i < end → i < length s → value_from v (piece s i end) ≡ value_from (v * 10 + (get_or s i 0 - 48)) (piece s (i + 1) end)
+  pub value-step : i < length ds → value_from v (drop i ds) ≡ value_from (v * 10 + (get_or ds i 0 - 48)) (drop (i + 1) ds)
   unfolding value_from
-  value-step l h = rw (piece-cons s i end l h)
+  value-step h = rw (add-one, drop-cons ds i 0 h)
 
 -- the answer, by the end of the digits
 module _ (s : List ℕ) (at end : ℕ) (e : end ≡ end_of digit s at) where

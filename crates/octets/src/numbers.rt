@@ -8,17 +8,14 @@ use super::Class;
 use super::classes::octet_at;
 use super::runs::run_end;
 
-fn wide(b: u8) -> u64
-    ensures { (result ≡ b) × (result < 256) }
-{
-    b as u64
-}
+// The largest number of 32 bits.
+const MOST: u64 = 4294967295;
 
 // What a digit counts.
 fn digit_value(b: u8) -> u64
     ensures { (result ≡ b - 48) × (result < 256) }
 {
-    if b < b'0' { 0 } else { wide(b - b'0') }
+    u64::from(b.saturating_sub(b'0'))
 }
 
 // Digits, zeros in front too, of a number of at most 32 bits.
@@ -30,13 +27,11 @@ pub fn number_at(text: &[u8], at: usize) -> Option<(u64, usize)>
         return None;
     }
     let mut v: u64 = 0;
-    let mut i = at;
-    while i < end {
-        v = v * 10 + digit_value(text[i]);
-        if 4294967295 < v {
+    for &b in &text[at..end] {
+        v = v * 10 + digit_value(b);
+        if MOST < v {
             return None;
         }
-        i += 1;
     }
     Some((v, end))
 }
@@ -55,31 +50,20 @@ pub fn positive_at(text: &[u8], at: usize) -> Option<(u64, usize)>
 fn octet_from(b: &[u8], at: usize, i: usize) -> u8
     ensures { result ≡ get_or b.now (at + i) 0 }
 {
-    if b.len() <= at {
-        return 0;
+    match at.checked_add(i) {
+        Some(k) => octet_at(b, k),
+        None => 0,
     }
-    if b.len() - at <= i {
-        return 0;
-    }
-    b[at + i]
-}
-
-fn four_at_most(width: usize) -> usize
-    ensures { (result ≡ min width 4) × (result ≤ 4) }
-{
-    if width < 4 { width } else { 4 }
 }
 
 // The octets from a position on as a number, the lowest first; no more than four of them.
 pub fn little(b: &[u8], at: usize, width: usize) -> u64
     ensures { Weighs b.now at width result }
 {
-    let w = four_at_most(width);
+    let w = width.min(4);
     let mut v: u64 = 0;
-    let mut i = w;
-    while 0 < i {
-        i -= 1;
-        v = v * 256 + wide(octet_from(b, at, i));
+    for i in (0..w).rev() {
+        v = v * 256 + u64::from(octet_from(b, at, i));
     }
     v
 }

@@ -4,22 +4,18 @@ ghost use Rattle.octets.specs.Classes.{in_class, Ends};
 ghost use Rattle.octets.specs.Found.{next_of, space_at, Reads};
 
 use super::Class;
-use super::classes::{CLASSES, in_table, octet_at};
+use super::classes::{in_class, octet_at};
 
 // Where the run of a class that begins at a position ends.
 pub fn run_end(text: &[u8], at: usize, c: Class) -> usize
     ensures { Ends (in_class c) text.now at result }
 {
-    let table = CLASSES;
-    let mut p = at;
-    while p < text.len() {
-        if in_table(&table, text[p], c) {
-            p += 1;
-        } else {
+    for p in at..text.len() {
+        if !in_class(text[p], c) {
             return p;
         }
     }
-    p
+    at.max(text.len())
 }
 
 // One octet or more of a class.

@@ -4,36 +4,45 @@ ghost use Rattle.std.proofs.lemmas.List.Edits.{sets};
 ghost use Rattle.model.specs.Reading.{piece, quoting, quoted_at, text_at};
 ghost use Rattle.octets.specs.Classes.{in_class};
 ghost use Rattle.octets.specs.Found.{next_of, Reads};
-ghost use Rattle.octets.specs.Quotes.{step_of, kept};
+ghost use Rattle.octets.specs.Quotes.{step_of, kept, escaping};
 ghost use Rattle.octets.specs.Values.{value_of, Filled};
 
 use super::Class;
 use super::classes::{in_class, octet_at};
 use super::runs::{run_at, run_end};
 
-// What an octet between quotes does: 0 closes, 1 may not stand there, 2 belongs to the string, 3 escapes the next.
-fn quote_step(escaped: bool, b: u8) -> u8
+// What an octet between quotes does.
+#[derive(Clone, Copy)]
+pub enum QuoteStep {
+    // It closes the string.
+    Closes,
+    // It may not stand there.
+    Wrong,
+    // It belongs to the string.
+    Kept,
+    // It escapes the next.
+    Escapes,
+}
+
+// What it does, behind a backslash that escapes it or not.
+fn quote_step(escaped: bool, b: u8) -> QuoteStep
     ensures { result ≡ step_of (quoting escaped b) }
 {
-    if escaped {
-        if b == b'"' {
-            return 2;
-        }
-        if b == b'\\' {
-            return 2;
-        }
-        return 1;
+    match (escaped, b) {
+        (true, b'"' | b'\\') => QuoteStep::Kept,
+        (true, _) => QuoteStep::Wrong,
+        (false, b'"') => QuoteStep::Closes,
+        (false, b'\\') => QuoteStep::Escapes,
+        (false, _) if in_class(b, Class::Quoted) => QuoteStep::Kept,
+        (false, _) => QuoteStep::Wrong,
     }
-    if b == b'"' {
-        return 0;
-    }
-    if b == b'\\' {
-        return 3;
-    }
-    if in_class(b, Class::Quoted) {
-        return 2;
-    }
-    1
+}
+
+// Whether a step escapes the next octet.
+fn escapes(step: QuoteStep) -> bool
+    ensures { result ≡ escaping step }
+{
+    matches!(step, QuoteStep::Escapes)
 }
 
 // A quoted string.
@@ -43,18 +52,14 @@ pub fn quoted_at(text: &[u8], at: usize) -> Option<usize>
     if octet_at(text, at) != b'"' {
         return None;
     }
-    let mut p = at + 1;
     let mut escaped = false;
-    while p < text.len() {
+    for p in at + 1..text.len() {
         let step = quote_step(escaped, text[p]);
-        if step == 0 {
-            return Some(p + 1);
+        match step {
+            QuoteStep::Closes => return Some(p + 1),
+            QuoteStep::Wrong => return None,
+            _ => escaped = escapes(step),
         }
-        if step == 1 {
-            return None;
-        }
-        escaped = step == 3;
-        p += 1;
     }
     None
 }
@@ -79,15 +84,17 @@ fn store(out: &mut [u8], n: usize, b: u8)
 }
 
 // Writes an octet that belongs to a string, and gives the next place.
-fn keep(out: &mut [u8], n: usize, b: u8, step: u8) -> usize
+fn keep(out: &mut [u8], n: usize, b: u8, step: QuoteStep) -> usize
     requires { n < 18446744073709551615 }
     ensures { (result ≡ n + length (kept step b)) × (out.new ≡ sets out.old n (kept step b)) }
 {
-    if step == 2 {
-        store(out, n, b);
-        return n + 1;
+    match step {
+        QuoteStep::Kept => {
+            store(out, n, b);
+            n + 1
+        }
+        _ => n,
     }
-    n
 }
 
 // Writes the octets from one position up to another.
@@ -114,18 +121,15 @@ fn copy_quoted(text: &[u8], at: usize, out: &mut [u8]) -> usize
     if quoted_at(text, at).is_none() {
         return 0;
     }
-    let mut p = at + 1;
     let mut escaped = false;
     let mut n = 0;
-    while p < text.len() {
-        let b = text[p];
-        let step = quote_step(escaped, b);
-        if step == 0 {
+    for p in at + 1..text.len() {
+        let step = quote_step(escaped, text[p]);
+        if let QuoteStep::Closes = step {
             return n;
         }
-        n = keep(out, n, b, step);
-        escaped = step == 3;
-        p += 1;
+        n = keep(out, n, text[p], step);
+        escaped = escapes(step);
     }
     n
 }

@@ -13,16 +13,8 @@ use super::runs::run_end;
 fn part(text: &[u8], from: usize, upto: usize) -> &[u8]
     ensures { result.now ≡ piece text.now from upto }
 {
-    if upto <= from {
-        return &text[..0];
-    }
-    if text.len() <= from {
-        return &text[..0];
-    }
-    if text.len() < upto {
-        return &text[from..];
-    }
-    &text[from..upto]
+    let end = upto.min(text.len());
+    if from < end { &text[from..end] } else { &[] }
 }
 
 // Whether the octets from one position up to another are a word, whatever the case of its letters.

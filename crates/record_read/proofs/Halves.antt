@@ -1,7 +1,7 @@
 -- A number of eight octets is read in two halves of four, the lower one first. Assumes nothing.
 use mathlib.Core.Path.{◌≡◌, refl, sym, ap, ◌∙◌}
 use mathlib.Core.List.{List, [], ◌∷◌}
-use Prim.Native.Nat.{ℕ, ◌+◌, ◌*◌, ◌≤◌, min}
+use Prim.Native.Nat.{ℕ, ◌+◌, ◌*◌, min}
 use native.Mathlib.Omega.{arith}
 use lib.ListN.{drop}
 use lib.Seq.{drop-drop}
@@ -17,10 +17,6 @@ little_halves (p ∷ q ∷ r ∷ []) = omega arith
 little_halves (p ∷ q ∷ r ∷ s ∷ b) = omega arith
 
 module _ (o : List ℕ) (at : ℕ) {w low : ℕ} where
-  -- four octets at most
-  pub read_few : w ≤ 4 → Weighs o at w low → low ≡ little w (drop at o)
-  read_few few reads = let e : min w 4 ≡ w = omega arith in reads.exact ∙ ap (λ (n : ℕ). little n (drop at o)) e
-
   -- eight
   pub read_eight : {high : ℕ} → w ≡ 8 → Weighs o at w low → Weighs o (at + 4) 4 high → low + 4294967296 * high ≡ little w (drop at o)
   read_eight {high} eight reads more =

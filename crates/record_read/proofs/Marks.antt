@@ -1,42 +1,19 @@
 -- The two octets of a mark. Assumes nothing.
-use mathlib.Core.Path.{◌≡◌, refl, sym}
-use mathlib.Core.Bool.{Bool, true, false, cond}
-use mathlib.Core.List.{List, [], ◌∷◌}
-use Prim.Native.Nat.{ℕ, ◌≤◌, ◌<◌}
-use native.Mathlib.Omega.{arith}
-use lib.Dec.{eqb}
-use lib.ListN.{length, get_or, take}
-use borrow.Author.Tests.{eq-eqb, ne_eqb}
+use Rattle.std.specs.Prelude.{◌≡◌, refl, List, [], ◌∷◌, ℕ, eqb, take}
+use Rattle.std.proofs.Common.{◌∙◌, arith}
+use lib.Pointwise.{pointwise}
+use Rattle.model.specs.Iterating.{same_is_eq}
 use Rattle.model.specs.Lists.{same}
 
--- no both ways
-cond_self : (b : Bool) → cond b false false ≡ false
-cond_self true = refl
-cond_self false = refl
+swap : (x y : ℕ) → eqb x y ≡ eqb y x
+swap x y = grind arith
 
--- a test by its own answer
-cond_bool : (b : Bool) → cond b true false ≡ b
-cond_bool true = refl
-cond_bool false = refl
+turned : (xs ys : List ℕ) → pointwise eqb xs ys ≡ pointwise eqb ys xs
+turned [] [] = refl
+turned [] (y ∷ ys) = refl
+turned (x ∷ xs) [] = refl
+turned (x ∷ xs) (y ∷ ys) = rw (swap x y, turned xs ys)
 
-module _ (a b : ℕ) where
-  -- fewer than two octets
-  pub mark_short : (o : List ℕ) → length o < 2 → false ≡ same (take 2 o) (a ∷ b ∷ [])
-  unfolding same
-  mark_short [] h = refl
-  mark_short (x ∷ []) h = sym (cond_self (eqb x a))
-  mark_short (x ∷ y ∷ o) h = absurd (omega arith)
-
-  -- the first octet is another
-  pub mark-other : (o : List ℕ) → 2 ≤ length o → (get_or o 0 0 ≡ a → ⊥) → false ≡ same (take 2 o) (a ∷ b ∷ [])
-  unfolding same
-  mark-other [] h n = absurd (omega arith)
-  mark-other (x ∷ []) h n = absurd (omega arith)
-  mark-other (x ∷ y ∷ o) h n = rw (ne_eqb x a n)
-
-  -- the first octet is this one: the second decides
-  pub mark-second : (o : List ℕ) → 2 ≤ length o → get_or o 0 0 ≡ a → eqb (get_or o 1 0) b ≡ same (take 2 o) (a ∷ b ∷ [])
-  unfolding same
-  mark-second [] h e = absurd (omega arith)
-  mark-second (x ∷ []) h e = absurd (omega arith)
-  mark-second (x ∷ y ∷ o) h e = rw (eq-eqb x a e) (sym (cond_bool (eqb y b)))
+-- the library's test of a beginning
+pub mark_is : (a b : ℕ) (o : List ℕ) → pointwise eqb (a ∷ b ∷ []) (take 2 o) ≡ same (take 2 o) (a ∷ b ∷ [])
+mark_is a b o = turned (a ∷ b ∷ []) (take 2 o) ∙ same_is_eq (take 2 o) (a ∷ b ∷ [])

@@ -1,6 +1,6 @@
 -- The loop over the letters of a layout: what is read of the fields passed, and of those to come. Assumes nothing.
 use mathlib.Core.Path.{◌≡◌, refl, sym, ap, ◌∙◌}
-use mathlib.Core.Bool.{Bool, true, ◌&&◌, and-true, and_assoc}
+use mathlib.Core.Bool.{Bool, true, false, ◌&&◌, and-true, and_assoc}
 use mathlib.Core.List.{List, [], ◌∷◌, ◌++◌, append-nil, append_assoc}
 use Prim.Native.Nat.{ℕ, ◌+◌, ◌*◌, ◌≤◌, ◌<◌}
 use native.Mathlib.Numerals.{add-one}
@@ -10,7 +10,7 @@ use lib.Seq.{drop-cons, drop-drop, drop-length, get_or-take, length-take-le, tak
 use Rattle.model.specs.Text.{little}
 use Rattle.model.specs.Records.{Field, width, widths, values, in_range, all_in_range}
 use Rattle.record_read.specs.Layouts.{field_of, fields_for}
-use Rattle.record_read.specs.Reading.{FieldsRead}
+use Rattle.record_read.specs.Reading.{FieldsTaken}
 
 -- i fields are passed; what all fields say is what these say, and what the rest says from here on
 pub record Passed (o letters : List ℕ) (all : Bool) (vs : List ℕ) (end i : ℕ) : Type 0 where
@@ -76,11 +76,11 @@ module _ (o letters : List ℕ) {all : Bool} {vs : List ℕ} {end i : ℕ} (p : 
 
 -- all fields are passed
 pub passed_all : (o letters : List ℕ) {all : Bool} {vs : List ℕ} {end : ℕ} → Passed o letters all vs end (length letters)
-    → FieldsRead o letters (record { all = all; values = vs; end = end })
-passed_all o letters {all} {vs} {end} p =
+    → all ≡ true → FieldsTaken o letters (record { values = vs; end = end })
+passed_all o letters {all} {vs} {end} p holds =
     let none : drop (length letters) letters ≡ [] = drop-length letters in
     record {
-      ranges = sym (p.ranges ∙ ap (λ (l : List ℕ). all && all_in_range (fields_for l) (drop end o)) none ∙ and-true all);
+      ranges = p.ranges ∙ ap (λ (l : List ℕ). all && all_in_range (fields_for l) (drop end o)) none ∙ and-true all ∙ holds;
       filled = sym (p.filled ∙ ap (λ (l : List ℕ). take (length letters) vs ++ values (fields_for l) (drop end o)) none ∙ append-nil (take (length letters) vs));
       places = p.places;
       ends = let e : widths (fields_for (drop (length letters) letters)) ≡ 0 = ap (λ (l : List ℕ). widths (fields_for l)) none in omega (arith, p.ends);
@@ -102,9 +102,16 @@ module _ (o letters : List ℕ) (n : ℕ) (five : length letters ≡ 5) (few : n
       let y : length (take n letters) ≤ 5 = omega (arith, row-length) in
       passed-more o (take n letters) p z y f (names ∙ ap field_of (sym (get_or-take n letters i 0 more))) wide fits reads (b ∙ ap (λ (t : Bool). all && t) e)
 
+  -- a field out of its range
+  pub row_out : {vs : List ℕ} {end i : ℕ} → Passed o (take n letters) true vs end i → i < n
+      → (f : Field) → f ≡ field_of (get_or letters i 0)
+      → {w v : ℕ} → w ≡ width f → w ≤ 8 → v ≡ little w (drop end o)
+      → {r : Bool} → r ≡ in_range f v → r ≡ false → all_in_range (fields_for (take n letters)) (drop 4 o) ≡ false
+  row_out p more f names wide fits reads e b = (row_more p more f names wide fits reads e (sym b)).ranges
+
   -- its end
-  pub row_read : {all : Bool} {vs : List ℕ} {end i : ℕ} → Passed o (take n letters) all vs end i → i ≤ n → n ≤ i
-      → FieldsRead o (take n letters) (record { all = all; values = vs; end = end })
-  row_read {all} {vs} {end} {i} p a b =
+  pub row_read : {vs : List ℕ} {end i : ℕ} → Passed o (take n letters) true vs end i → i ≤ n → n ≤ i
+      → FieldsTaken o (take n letters) (record { values = vs; end = end })
+  row_read {vs} {end} {i} p a b =
       let e : i ≡ length (take n letters) = omega (arith, row-length) in
-      passed_all o (take n letters) (rw e at p)
+      passed_all o (take n letters) (rw e at p) refl

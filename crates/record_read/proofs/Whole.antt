@@ -9,13 +9,14 @@ use lib.Dec.{eqb, leb}
 use lib.ListN.{length, get_or, take, drop, length-drop, length-map}
 use lib.Seq.{drop-drop, get_or-take, get_or-drop}
 use borrow.Author.Tests.{leb-true, leb-false, eqb-true, le-leb, lt-leb}
+use Rattle.model.specs.Laws.{and_false}
 use Rattle.model.specs.Lists.{allb}
-use Rattle.model.specs.Names.{valid, printable, no_part_empty}
+use Rattle.model.specs.Names.{printable, no_part_empty}
 use Rattle.model.specs.Text.{little}
-use Rattle.model.specs.Records.{Kind, MB, DL, RN, SB, RT, ME, XP, FL, SE, CE, CM, DR, unknown, Field, id, id_or_none, attributes, quiet, uidvalidity, subscribed, rights, uid, flags, size, class, count, counter, Tail, nothing, name, command, layout, width, widths, values, in_range, all_in_range, tail_ok, body_ok, body_of, is_known, framed, kind_of, record_by, record_of}
+use Rattle.model.specs.Records.{Kind, MB, DL, RN, SB, RT, ME, XP, FL, SE, CE, CM, DR, unknown, Field, id, id_or_none, attributes, quiet, uidvalidity, subscribed, rights, uid, flags, size, class, count, counter, Tail, nothing, name, command, layout, width, widths, values, in_range, all_in_range, tail_ok, body_ok, body_of, is_known, framed, kind_of, is_record, record_by, record_of}
 use Rattle.record_read.specs.Kinds.{kind_for}
 use Rattle.record_read.specs.Layouts.{field_of, fields_for, tail_for, layout_for, Fits, layout-fits}
-use Rattle.record_read.specs.Reading.{FieldsRead, Bounds, Bounded, Following, Reads}
+use Rattle.record_read.specs.Reading.{FieldsTaken, Bounds, Bounded, Following, Taken}
 use Rattle.record_read.specs.declared.Kind.{Kind as CodeKind}
 use Rattle.record_read.specs.declared.layouts.Layout.{Layout}
 use Rattle.record_read.specs.declared.bodies.Fields.{Fields}
@@ -109,10 +110,10 @@ record Parts (o : List ℕ) (k : Kind) (all : Bool) (vs : List ℕ) (end : ℕ) 
   ends : end ≡ 4 + widths (layout k).fields
 
 -- from the letters of the layout
-parts_read : (o letters : List ℕ) (k : Kind) {f : Fields} → FieldsRead o letters f → fields_for letters ≡ (layout k).fields → Parts o k f.all f.values f.end
+parts_read : (o letters : List ℕ) (k : Kind) {f : Fields} → FieldsTaken o letters f → fields_for letters ≡ (layout k).fields → Parts o k true f.values f.end
 parts_read o letters k {f} p e =
     record {
-      ranges = p.ranges ∙ ap (λ (fs : List Field). all_in_range fs (drop 4 o)) e;
+      ranges = sym p.ranges ∙ ap (λ (fs : List Field). all_in_range fs (drop 4 o)) e;
       filled =
           ap (λ (n : ℕ). take n f.values) (ap length (sym e) ∙ length-map letters field_of) ∙ p.filled
           ∙ ap (λ (fs : List Field). values fs (drop 4 o)) e;
@@ -187,6 +188,10 @@ module _ (o : List ℕ) (k : Kind) {all : Bool} {vs : List ℕ} {end : ℕ} (p :
     parts_within : end ≤ length o
     parts_within = leb-true end (length o) (both_left (leb end (length o)) (tail_ok (layout k).tail (drop end o)) ending-holds)
 
+-- one of the tests fails
+none_of : (a b c : Bool) → (a && (b && (c && false))) ≡ false
+none_of a b c = rw (and_false c, and_false b) (and_false a)
+
 -- ---- what was read of octets, from what its parts answered
 module _ (k : CodeKind) {l : Layout} (laid : l ≡ layout_for k) where
   -- the row is that of the kind
@@ -197,32 +202,58 @@ module _ (k : CodeKind) {l : Layout} (laid : l ≡ layout_for k) where
   pub few-fields : l.1 ≤ 5
   few-fields = fits_row.few
 
-  module _ (o : List ℕ) (marked : kind_for k ≡ kind_of o) {f : Fields} (read : FieldsRead o (take l.1 l.0) f) where
-    -- the parts, by the layout of the kind
-    parts : Parts o (kind_for k) f.all f.values f.end
-    parts = parts_read o (take l.1 l.0) (kind_for k) read fits_row.fields
+  module _ (o : List ℕ) (marked : kind_for k ≡ kind_of o) where
+    -- a record, by the layout of the kind
+    abbrev by_kind : Kind → Bool
+    by_kind x = is_known x && (framed o && body_ok (layout x) (body_of o))
 
-    module _ {known fits whole ok : Bool} (is_known' : known ≡ is_known (kind_for k)) (fit : fits ≡ (known && f.all))
-        (ending : whole ≡ (framed o && (leb f.end (length o) && tail_ok (tail_for l.2) (drop f.end o)))) (both : ok ≡ (fits && whole)) where
+    -- no mark
+    pub unknown_none : {known : Bool} → known ≡ is_known (kind_for k) → known ≡ false → is_record o ≡ false
+    unknown_none e z = sym (ap by_kind marked) ∙ ap (λ (t : Bool). t && (framed o && body_ok (layout (kind_for k)) (body_of o))) (sym e ∙ z)
+
+    -- a field out of its range
+    pub range_none : all_in_range (fields_for (take l.1 l.0)) (drop 4 o) ≡ false → is_record o ≡ false
+    range_none e =
+        let fields = (layout (kind_for k)).fields in
+        sym (ap by_kind marked)
+        ∙ ap (λ (t : Bool). is_known (kind_for k) && (framed o && (leb (widths fields) (length (drop 4 o)) && (t && tail_ok (layout (kind_for k)).tail (drop (widths fields) (drop 4 o))))))
+        (ap (λ (fs : List Field). all_in_range fs (drop 4 o)) (sym fits_row.fields) ∙ e)
+        ∙ none_of (is_known (kind_for k)) (framed o) (leb (widths fields) (length (drop 4 o)))
+
+    -- the fields are in their ranges
+    module _ {f : Fields} (read : FieldsTaken o (take l.1 l.0) f) {known whole : Bool} (is_known' : known ≡ is_known (kind_for k)) (marks : known ≡ true)
+        (ending : whole ≡ (framed o && (leb f.end (length o) && tail_ok (tail_for l.2) (drop f.end o)))) where
+      -- the parts, by the layout of the kind
+      parts : Parts o (kind_for k) true f.values f.end
+      parts = parts_read o (take l.1 l.0) (kind_for k) read fits_row.fields
+
       -- the tests together
-      tests : ok ≡ ((is_known (kind_for k) && f.all) && (framed o && (leb f.end (length o) && tail_ok (layout (kind_for k)).tail (drop f.end o))))
+      tests : whole ≡ ((is_known (kind_for k) && true) && (framed o && (leb f.end (length o) && tail_ok (layout (kind_for k)).tail (drop f.end o))))
       tests =
-          both ∙ ap (λ (t : Bool). t && whole) (fit ∙ ap (λ (t : Bool). t && f.all) is_known')
-          ∙ ap (λ (t : Bool). (is_known (kind_for k) && f.all) && t)
-          (ending ∙ ap (λ (t : Tail). framed o && (leb f.end (length o) && tail_ok t (drop f.end o))) fits_row.tail)
+          ending ∙ ap (λ (t : Tail). framed o && (leb f.end (length o) && tail_ok t (drop f.end o))) fits_row.tail
+          ∙ ap (λ (t : Bool). (t && true) && (framed o && (leb f.end (length o) && tail_ok (layout (kind_for k)).tail (drop f.end o)))) (sym marks ∙ is_known')
+
+      record_is : whole ≡ is_record o
+      record_is = tests ∙ parts-tests o (kind_for k) parts ∙ ap by_kind marked
+
+      -- the length or the tail is wrong
+      pub ending_none : whole ≡ false → is_record o ≡ false
+      ending_none z = sym record_is ∙ z
 
       -- the answer
-      pub octets_read : Reads o (record { valid = ok; kind = k; values = f.values; tail = f.end })
+      pub octets_read : whole ≡ true → Taken o (record { kind = k; values = f.values; tail = f.end })
       unfolding record_of
-      octets_read =
+      octets_read h =
           record {
-            valid = tests ∙ parts-tests o (kind_for k) parts ∙ ap (λ (x : Kind). is_known x && (framed o && body_ok (layout x) (body_of o))) marked;
             kind = marked;
-            says =
-                ap (λ (x : Kind). record_by x (values (layout x).fields (drop 4 o)) (drop (widths (layout x).fields) (drop 4 o))) (sym marked)
-                ∙ parts-say o (kind_for k) parts;
-            places = read.places;
-            bounds = λ h. parts_bounds o (kind_for k) parts tests h;
-            following = λ h. parts_following o (kind_for k) parts tests h;
-            within = λ h. parts_within o (kind_for k) parts tests h;
+            says = record {
+              is = sym record_is ∙ h;
+              says =
+                  ap (λ (x : Kind). record_by x (values (layout x).fields (drop 4 o)) (drop (widths (layout x).fields) (drop 4 o))) (sym marked)
+                  ∙ parts-say o (kind_for k) parts;
+              places = read.places;
+              bounds = parts_bounds o (kind_for k) parts tests h;
+              following = parts_following o (kind_for k) parts tests h;
+              within = parts_within o (kind_for k) parts tests h;
+            };
           }

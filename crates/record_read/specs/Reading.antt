@@ -1,19 +1,25 @@
 -- What is read of octets: their fields, and the record as a whole, with what a caller may rely on where it is one.
 -- Assumes nothing: these are definitions.
-use Rattle.std.specs.Prelude.{◌≡◌, true, List, [], ◌∷◌, ℕ, suc, ◌+◌, ◌%◌, ◌≤◌, length, take, drop, get_or}
+use Rattle.std.specs.Prelude.{◌≡◌, true, false, Option, Some, None, List, [], ◌∷◌, ℕ, suc, ◌+◌, ◌%◌, ◌≤◌, length, take, drop, get_or}
 use Rattle.model.specs.Names.{valid}
 use Rattle.model.specs.Records.{Field, id, id_or_none, attributes, quiet, uidvalidity, subscribed, rights, uid, flags, size, class, count, counter, Tail, nothing, name, command, layout, widths, values, all_in_range, kind_of, is_record, record_by, record_of}
 use Rattle.record_read.specs.Kinds.{kind_for}
 use Rattle.record_read.specs.Layouts.{fields_for}
+use Rattle.record_read.specs.declared.Kind.{Kind}
 use Rattle.record_read.specs.declared.bodies.Fields.{Fields}
 use Rattle.record_read.specs.declared.Received.{Received}
 
--- the fields of a text of letters, read from the fourth octet on: their values stand first
-pub record FieldsRead (o letters : List ℕ) (r : Fields) : Type 0 where
-  pub ranges : r.all ≡ all_in_range (fields_for letters) (drop 4 o)
+-- the fields of a text of letters, read from the fourth octet on, each in its range: their values stand first
+pub record FieldsTaken (o letters : List ℕ) (r : Fields) : Type 0 where
+  pub ranges : all_in_range (fields_for letters) (drop 4 o) ≡ true
   pub filled : take (length letters) r.values ≡ values (fields_for letters) (drop 4 o)
   pub places : length r.values ≡ 5
   pub ends : r.end ≡ 4 + widths (fields_for letters)
+
+-- or one is out of its range
+abbrev pub FieldsRead : List ℕ → List ℕ → Option Fields → Type 0
+FieldsRead o letters None = all_in_range (fields_for letters) (drop 4 o) ≡ false
+FieldsRead o letters (Some r) = FieldsTaken o letters r
 
 -- the numbers that a field may have
 abbrev pub Bounds : Field → ℕ → Type 0
@@ -42,12 +48,21 @@ Following nothing t = length t ≡ 0
 Following name t = (valid t ≡ true) × (1 ≤ length t) × (length t ≤ 64)
 Following command t = length t ≤ 1024
 
--- r is what the octets say, and whether they are a record
-pub record Reads (o : List ℕ) (r : Received) : Type 0 where
-  pub valid : r.valid ≡ is_record o
+-- the octets are a record of kind k with these values, and its tail begins there; for a kind that is known each part computes
+pub record Says (k : Kind) (o vs : List ℕ) (tail : ℕ) : Type 0 where
+  pub is : is_record o ≡ true
+  pub says : record_of o ≡ record_by (kind_for k) vs (drop tail o)
+  pub places : length vs ≡ 5
+  pub bounds : Bounded (layout (kind_for k)).fields 0 vs
+  pub following : Following (layout (kind_for k)).tail (drop tail o)
+  pub within : tail ≤ length o
+
+-- the octets are a record, and r is what they say
+pub record Taken (o : List ℕ) (r : Received) : Type 0 where
   pub kind : kind_for r.kind ≡ kind_of o
-  pub says : record_of o ≡ record_by (kind_for r.kind) r.values (drop r.tail o)
-  pub places : length r.values ≡ 5
-  pub bounds : r.valid ≡ true → Bounded (layout (kind_for r.kind)).fields 0 r.values
-  pub following : r.valid ≡ true → Following (layout (kind_for r.kind)).tail (drop r.tail o)
-  pub within : r.valid ≡ true → r.tail ≤ length o
+  pub says : Says r.kind o r.values r.tail
+
+-- r is what the octets say, if they are a record
+abbrev pub Reads : List ℕ → Option Received → Type 0
+Reads o None = is_record o ≡ false
+Reads o (Some r) = Taken o r

@@ -7,20 +7,9 @@ ghost use Rattle.record_read.specs.Reading.{FieldsRead};
 
 use super::layouts::{Tail, field_of, in_range, width_of};
 
-// Both hold.
-pub fn both(a: bool, b: bool) -> bool
-    ensures { result ≡ (a && b) }
-{
-    if a {
-        return b;
-    }
-    false
-}
-
-// The fields of a body: whether each is in its range, their values, and the place behind them.
+// The fields of a body, each in its range: their values, and the place behind them.
 #[derive(Clone, Copy)]
 pub struct Fields {
-    pub all: bool,
     pub values: [u64; 5],
     pub end: usize,
 }
@@ -37,36 +26,31 @@ fn number_at(o: &[u8], at: usize, w: usize) -> u64
     low + 4294967296 * octets::little(o, at + 4, 4)
 }
 
-// The fields of a layout, read from the fourth octet on, whether or not so many octets are there.
-pub fn fields_at(o: &[u8], letters: [u8; 5], count: usize) -> Fields
+// The fields of a layout, read from the fourth octet on, whether or not so many octets are there; None where one is out of its range.
+pub fn fields_at(o: &[u8], letters: [u8; 5], count: usize) -> Option<Fields>
     requires { count ≤ 5 }
     ensures { FieldsRead o.now (take count letters) result }
 {
-    let mut all = true;
     let mut values = [0; 5];
     let mut end: usize = 4;
-    let mut i = 0;
-    while i < count {
+    for i in 0..count {
         let f = field_of(letters[i]);
         let w = width_of(f);
         let v = number_at(o, end, w);
-        all = both(all, in_range(f, v));
+        if !in_range(f, v) {
+            return None;
+        }
         values[i] = v;
         end += w;
-        i += 1;
     }
-    Fields { all, values, end }
+    Some(Fields { values, end })
 }
 
 // The octets are as many as their length field says.
 fn is_framed(o: &[u8]) -> bool
     ensures { result ≡ framed o.now }
 {
-    if o.len() < 4 {
-        return false;
-    }
-    let body = octets::little(o, 2, 2);
-    (o.len() - 4) as u64 == body
+    o.len() >= 4 && (o.len() - 4) as u64 == octets::little(o, 2, 2)
 }
 
 // What stands from a place on may follow the fields.
@@ -85,11 +69,5 @@ fn tail_ok(o: &[u8], at: usize, tail: Tail) -> bool
 pub fn is_whole(o: &[u8], end: usize, tail: Tail) -> bool
     ensures { result ≡ (framed o.now && (leb end (length o.now) && tail_ok (tail_for tail) (drop end o.now))) }
 {
-    if !is_framed(o) {
-        return false;
-    }
-    if o.len() < end {
-        return false;
-    }
-    tail_ok(o, end, tail)
+    is_framed(o) && end <= o.len() && tail_ok(o, end, tail)
 }

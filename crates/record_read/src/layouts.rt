@@ -103,20 +103,14 @@ pub fn width_of(f: Field) -> usize
 fn between(low: u64, v: u64, high: u64) -> bool
     ensures { result ≡ (leb low v && leb v high) }
 {
-    if low <= v {
-        return v <= high;
-    }
-    false
+    low <= v && v <= high
 }
 
 // A number has no bit but 4 and 5.
 fn is_rights(v: u64) -> bool
     ensures { result ≡ (eqb (v % 16) 0 && leb v 48) }
 {
-    if v % 16 == 0 {
-        return v <= 48;
-    }
-    false
+    v % 16 == 0 && v <= 48
 }
 
 // A field may have this value.

@@ -10,7 +10,7 @@ ghost use Rattle.model.specs.Records.{kind_of, is_known, starts_with_id, layout,
 ghost use Rattle.record_read.specs.Kinds.{kind_for, later_kind};
 ghost use Rattle.record_read.specs.Reading.{Reads};
 
-use bodies::{both, fields_at, is_whole};
+use bodies::{fields_at, is_whole};
 use layouts::layout_of;
 
 // ---- marks
@@ -37,23 +37,14 @@ pub enum Kind {
 fn is_marked(o: &[u8], a: u8, b: u8) -> bool
     ensures { result ≡ same (take 2 o.now) (a ∷ b ∷ []) }
 {
-    if o.len() < 2 {
-        return false;
-    }
-    if o[0] != a {
-        return false;
-    }
-    o[1] == b
+    o.starts_with(&[a, b])
 }
 
 // The kind of a mark where the octets begin with it, or another kind.
 fn by_mark(o: &[u8], a: u8, b: u8, kind: Kind, other: Kind) -> Kind
     ensures { kind_for result ≡ cond (same (take 2 o.now) (a ∷ b ∷ [])) (kind_for kind) (kind_for other) }
 {
-    if is_marked(o, a, b) {
-        return kind;
-    }
-    other
+    if is_marked(o, a, b) { kind } else { other }
 }
 
 // The kind that the mark says, of the last six.
@@ -85,75 +76,48 @@ pub fn kind_of(o: &[u8]) -> Kind
 fn is_known(k: Kind) -> bool
     ensures { result ≡ is_known (kind_for k) }
 {
-    match k {
-        Kind::Create => true,
-        Kind::Delete => true,
-        Kind::Rename => true,
-        Kind::Subscribe => true,
-        Kind::Grant => true,
-        Kind::Arrive => true,
-        Kind::Expunge => true,
-        Kind::Reflag => true,
-        Kind::Select => true,
-        Kind::Ended => true,
-        Kind::Command => true,
-        Kind::Drained => true,
-        Kind::Unknown => false,
-    }
+    !matches!(k, Kind::Unknown)
 }
 
 // ---- records
 
-// What was read of octets: whether they are a record, its kind, the values of its fields, and where what follows them begins.
+// What a record says: its kind, the values of its fields, and where what follows them begins.
 #[derive(Clone, Copy)]
 pub struct Received {
-    pub valid: bool,
     pub kind: Kind,
     pub values: [u64; 5],
     pub tail: usize,
 }
 
-// Any octets, read as a record.
-pub fn read(o: &[u8]) -> Received
+// Any octets, read as a record; None where they are none.
+pub fn read(o: &[u8]) -> Option<Received>
     ensures { Reads o.now result }
 {
     let kind = kind_of(o);
     let l = layout_of(kind);
-    let letters = l.0;
-    let count = l.1;
-    let tail = l.2;
-    let f = fields_at(o, letters, count);
+    if !is_known(kind) {
+        return None;
+    }
+    let f = fields_at(o, l.0, l.1)?;
+    if !is_whole(o, f.end, l.2) {
+        return None;
+    }
     let values = f.values;
-    let end = f.end;
-    let fits = both(is_known(kind), f.all);
-    let valid = both(fits, is_whole(o, end, tail));
-    Received {
-        valid,
+    Some(Received {
         kind,
         values,
-        tail: end,
-    }
+        tail: f.end,
+    })
 }
 
 // The layout of a kind begins with an id.
 fn starts_with_id(k: Kind) -> bool
     ensures { result ≡ starts_with_id (layout (kind_for k)).fields }
 {
-    match k {
-        Kind::Create => true,
-        Kind::Delete => true,
-        Kind::Rename => true,
-        Kind::Subscribe => true,
-        Kind::Grant => true,
-        Kind::Arrive => true,
-        Kind::Expunge => true,
-        Kind::Reflag => true,
-        Kind::Select => true,
-        Kind::Ended => false,
-        Kind::Command => false,
-        Kind::Drained => false,
-        Kind::Unknown => false,
-    }
+    !matches!(
+        k,
+        Kind::Ended | Kind::Command | Kind::Drained | Kind::Unknown
+    )
 }
 
 // The id that the octets are about, 0 where they are about none.
@@ -161,11 +125,9 @@ pub fn about(o: &[u8]) -> u64
     ensures { result ≡ about o.now }
 {
     let k = kind_of(o);
-    if !starts_with_id(k) {
-        return 0;
+    if starts_with_id(k) && o.len() >= 6 {
+        octets::little(o, 4, 2)
+    } else {
+        0
     }
-    if o.len() < 6 {
-        return 0;
-    }
-    octets::little(o, 4, 2)
 }

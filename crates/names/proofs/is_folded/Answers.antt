@@ -1,10 +1,8 @@
--- `is_folded`: INBOX must be in capitals; any other name is folded as it is. Assumes nothing.
-use mathlib.Core.Path.{sym, ◌∙◌}
-use Rattle.names.specs.Folding.{folded-inbox, folded-other}
+-- `is_folded`: any other name than INBOX is as it is. Assumes nothing.
+use Rattle.std.specs.Prelude.{not}
+use Rattle.std.proofs.Common.{ap, sym, ◌∙◌}
+use Rattle.names.specs.Folding.{folded-other}
 use Rattle.names.proofs.is_folded.Goals as goal
 
-pub returns-then-is_inbox : goal.returns-then-is_inbox
-returns-then-is_inbox c = c.same.ensures ∙ sym (folded-inbox c.args.name.now (sym c.is_inbox.ensures ∙ c.if-is_inbox.true))
-
-pub returns : goal.returns
-returns c = folded-other c.args.name.now (sym c.is_inbox.ensures ∙ c.if-is_inbox.false)
+pub returns-then-not-is_inbox : goal.returns-then-not-is_inbox
+returns-then-not-is_inbox c = ap not c.if-not-is_inbox.true ∙ folded-other c.args.name.now (sym c.is_inbox.ensures ∙ c.if-not-is_inbox.true)

@@ -1,12 +1,7 @@
--- `text_ok`: the loop keeps that the whole is in order exactly if it is from i on, behind the octet last seen. Assumes nothing.
-use mathlib.Core.Path.{◌≡◌}
-use Prim.Native.Nat.{◌≤◌, ◌-◌}
-use lib.ListN.{length}
+-- `text_ok`: the whole is in order exactly if it is from the place on, behind the octet last seen. Assumes nothing.
+use Rattle.std.specs.Prelude.{◌≡◌}
 use Rattle.names.specs.Once.{text_ok, text_from}
 use Rattle.names.proofs.text_ok.Given as goal
 
-abbrev pub invariant-loop-i : goal.invariant-loop-i
-invariant-loop-i l = (l.i ≤ length l.name) × (text_ok l.name ≡ text_from l.name l.i l.last)
-
-abbrev pub decreases-loop-i : goal.decreases-loop-i
-decreases-loop-i l = length l.name - l.i
+abbrev pub invariant-loop-b : goal.invariant-loop-b
+invariant-loop-b l = text_ok l.name ≡ text_from l.name l.b-index l.last

@@ -1,11 +1,17 @@
 -- `record_read::read` meets its contract: its parts answer what the rules ask. Assumes nothing.
-use Rattle.record_read.proofs.Whole.{few-fields, octets_read}
+use Rattle.record_read.proofs.Whole.{unknown_none, range_none, ending_none, octets_read}
 use Rattle.record_read.proofs.read.Goals as goal
 
-pub fields_at-f-requires : goal.fields_at-f-requires
-fields_at-f-requires c = few-fields c.kind_of-kind.result c.layout_of-l.ensures
+pub returns-then-not-is_known : goal.returns-then-not-is_known
+returns-then-not-is_known c = unknown_none c.kind_of-kind.result c.layout_of-l.ensures c.args.o.now c.kind_of-kind.ensures c.is_known.ensures c.if-not-is_known.true
+
+pub returns-in_err-f : goal.returns-in_err-f
+returns-in_err-f c = rw c.from_residual.ensures (range_none c.kind_of-kind.result c.layout_of-l.ensures c.args.o.now c.kind_of-kind.ensures c.in_err-f.ensures)
+
+pub returns-then-not-is_whole : goal.returns-then-not-is_whole
+returns-then-not-is_whole c =
+    ending_none c.kind_of-kind.result c.layout_of-l.ensures c.args.o.now c.kind_of-kind.ensures c.in_ok-f.ensures c.is_known.ensures c.if-not-is_known.false c.is_whole.ensures c.if-not-is_whole.true
 
 pub returns : goal.returns
 returns c =
-    octets_read c.kind_of-kind.result c.layout_of-l.ensures c.args.o.now c.kind_of-kind.ensures c.fields_at-f.ensures
-    c.is_known.ensures c.both-fits.ensures c.is_whole.ensures c.both-valid.ensures
+    octets_read c.kind_of-kind.result c.layout_of-l.ensures c.args.o.now c.kind_of-kind.ensures c.in_ok-f.ensures c.is_known.ensures c.if-not-is_known.false c.is_whole.ensures c.if-not-is_whole.false

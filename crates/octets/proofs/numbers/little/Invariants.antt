@@ -7,6 +7,3 @@ use Rattle.octets.proofs.numbers.little.Given as goal
 
 abbrev pub invariant-loop-i : goal.invariant-loop-i
 invariant-loop-i l = (l.i ≤ l.w) × (l.v < 4294967296) × (l.v ≡ little (l.w - l.i) (drop (l.at + l.i) l.b))
-
-abbrev pub decreases-loop-i : goal.decreases-loop-i
-decreases-loop-i l = l.i

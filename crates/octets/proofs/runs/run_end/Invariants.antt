@@ -3,11 +3,8 @@ use mathlib.Core.Path.{◌≡◌}
 use Prim.Native.Nat.{◌≤◌, ◌+◌, ◌-◌}
 use lib.ListN.{length}
 use Rattle.model.specs.Reading.{end_of}
-use Rattle.octets.specs.Classes.{in_class, class_table}
+use Rattle.octets.specs.Classes.{in_class}
 use Rattle.octets.proofs.runs.run_end.Given as goal
 
 abbrev pub invariant-loop-p : goal.invariant-loop-p
-invariant-loop-p l = (l.table ≡ class_table) × (l.at ≤ l.p) × (l.p ≤ l.at + (length l.text - l.at)) × (end_of (in_class l.c) l.text l.at ≡ end_of (in_class l.c) l.text l.p)
-
-abbrev pub decreases-loop-p : goal.decreases-loop-p
-decreases-loop-p l = length l.text - l.p
+invariant-loop-p l = (l.at ≤ l.p) × (l.p ≤ l.at + (length l.text - l.at)) × (end_of (in_class l.c) l.text l.at ≡ end_of (in_class l.c) l.text l.p)

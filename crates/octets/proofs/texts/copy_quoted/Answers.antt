@@ -23,20 +23,20 @@ loop-p-init c =
     let b = string_begins c.args.text.now c.args.at ok in
     (omega arith, omega arith, refl, λ z. ok (ap next_of b ∙ z), copied_start _ _ _ (ap value_of b))
 
-pub returns-then-step-eq0 : goal.returns-then-step-eq0
-returns-then-step-eq0 c =
-    let e = string_closes c.args.text.now c.loop-p.p c.loop-p.escaped (omega arith) _ c.quote_step-step.ensures c.if-step-eq0.true in
+pub returns-in-Closes : goal.returns-in-Closes
+returns-in-Closes c =
+    let e = string_closes c.args.text.now c.loop-p.p c.loop-p.escaped (omega arith) _ c.quote_step-step.ensures c.in-Closes.is in
     record { long = copied_long c.loop-p.invariant.4 e; is = copied_is c.loop-p.invariant.4 e; within = omega arith }
 
 pub loop-p-preserved : goal.loop-p-preserved
 loop-p-preserved c =
     let short = kept_short c.quote_step-step.result (get_or c.args.text.now c.loop-p.p 0) in
-    let goes = string-goes c.args.text.now c.loop-p.p c.loop-p.escaped (omega arith) _ c.quote_step-step.ensures c.if-step-eq0.false c.loop-p.invariant.3 in (
+    let goes = string-goes c.args.text.now c.loop-p.p c.loop-p.escaped (omega arith) _ c.quote_step-step.ensures c.in_default.not-Closes c.loop-p.invariant.3 in (
       omega (arith, short),
       omega (arith, short),
       search rules,
-      string-still c.args.text.now c.loop-p.p c.loop-p.escaped (omega arith) _ c.quote_step-step.ensures c.if-step-eq0.false c.loop-p.invariant.3,
-      rw (c.keep-n.ensures.1, c.keep-n.ensures.0) (copied-kept c.quote_step-step.result (get_or c.args.text.now c.loop-p.p 0) _ c.loop-p.invariant.4 goes),
+      rw c.escapes-escaped.ensures (string-still c.args.text.now c.loop-p.p c.loop-p.escaped (omega arith) _ c.quote_step-step.ensures c.in_default.not-Closes c.loop-p.invariant.3),
+      rw (c.keep-n.ensures.1, c.keep-n.ensures.0, c.escapes-escaped.ensures) (copied-kept c.quote_step-step.result (get_or c.args.text.now c.loop-p.p 0) _ c.loop-p.invariant.4 goes),
     )
 
 pub returns : goal.returns

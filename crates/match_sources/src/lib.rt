@@ -12,6 +12,7 @@ use read_filters::Kept;
 use read_sources::{Listed, Source};
 use table_mailboxes::Columns;
 
+// Kept: the scope as a number, since a `Source` holds its number, which a program prints.
 // A scope, by the number that `read_sources` gives it, admits a mailbox with these attributes; `named` says whether one of its names fits, where it has names.
 fn admits(scope: u64, attributes: u8, selected: bool, named: bool) -> bool
     ensures { result ≡ admits_by scope attributes selected named }

@@ -1,10 +1,11 @@
 -- The sources of a search in a list of 8, with their names, as they are searched. Assumes nothing: these are definitions.
-use Rattle.std.specs.Prelude.{◌≡◌, true, false, List, [], ◌∷◌, ◌++◌, ℕ, ◌+◌, ◌-◌, ◌≤◌, ◌<◌, length, set, replicate}
+use Rattle.std.specs.Prelude.{◌≡◌, Option, Some, None, List, [], ◌∷◌, ◌++◌, ℕ, ◌+◌, ◌-◌, ◌≤◌, ◌<◌, length, set, replicate}
 use Rattle.std.proofs.lemmas.List.Edits.{sets}
 use Rattle.model.specs.Requests.{Filter, names_of}
-use Rattle.model.specs.Reading.{Parsed, bad, ok, row_at, next_at, closing}
+use Rattle.model.specs.Reading.{Parsed, row_at, next_at, closing}
 use Rattle.model.specs.NotifyGrammar.{filter_at}
 use Rattle.model.specs.Searching.{or_selected}
+use Rattle.octets.specs.Joined.{read_by}
 use Rattle.read_filters.specs.Keeping.{nothing_kept, with_all}
 use Rattle.read_filters.specs.Scopes.{scope_for}
 use Rattle.read_filters.specs.declared.Kept.{Kept}
@@ -12,7 +13,6 @@ use Rattle.read_filters.specs.declared.Scope.{Scope}
 use Rattle.read_filters.specs.declared.Scope.TheVariants.{Selected, Delayed, Inboxes, Personal, Subscribed, Subtree, SubtreeOne, Mailboxes}
 use Rattle.read_sources.specs.declared.Source.{Source}
 use Rattle.read_sources.specs.declared.Listed.{Listed}
-use Rattle.read_sources.specs.declared.ListedRead.{ListedRead}
 
 abbrev pub scope_number : Scope → ℕ
 scope_number Selected = 0
@@ -43,29 +43,28 @@ abbrev pub add_all : Listed → List Filter → Listed
 add_all t [] = t
 add_all t (f ∷ fs) = add_all (add_filter t f) fs
 
-abbrev pub no_list : ListedRead
-no_list = record { ok = false; next = 0; listed = nothing_listed }
-
-abbrev pub read_listed : Listed → Parsed (List Filter) → ListedRead
-read_listed t bad = no_list
-read_listed t (ok p fs) = record { ok = true; next = p; listed = add_all t fs }
+abbrev pub read_listed : Listed → Parsed (List Filter) → Option (Listed × ℕ)
+read_listed t x = read_by (λ fs. add_all t fs) x
 
 -- the sources of a search as they are searched: with none, the selected mailbox is
-abbrev pub kept_sources : Parsed (List Filter) → ListedRead
-kept_sources bad = no_list
-kept_sources (ok p fs) = record { ok = true; next = p; listed = add_all nothing_listed (or_selected fs) }
+abbrev pub kept_sources : Parsed (List Filter) → Option (Listed × ℕ)
+kept_sources x = read_by (λ fs. add_all nothing_listed (or_selected fs)) x
 
 -- ---- one source
--- no more sources and names than octets before
-pub record RoomToList (t : Listed) (at : ℕ) : Type 0 where
-  pub sources : t.count < 18446744073709551615
-  pub names : t.kept.count ≤ at
+abbrev pub read_listed_one : Listed → Parsed Filter → Option (Listed × ℕ)
+read_listed_one t x = read_by (λ f. add_filter t f) x
 
-abbrev pub ListsOne : List ℕ → ℕ → Scope → ℕ → Listed → Listed → Type 0
-ListsOne s at scope n t r = (q : ℕ) (f : Filter) → filter_at s at ≡ ok q f → scope_for f ≡ scope → length (names_of f) ≡ n → r ≡ add_filter t f
+-- a source ends in the text, and no more sources and names are listed than there are octets before that
+abbrev pub Fits : List ℕ → ℕ → Option (Listed × ℕ) → Type 0
+Fits s at (Some (t, p)) = (at < p) × (p ≤ length s) × (t.count ≤ p) × (t.kept.count ≤ p)
+Fits s at None = Unit {0}
+
+pub record ListsOne (s : List ℕ) (at : ℕ) (t : Listed) (r : Option (Listed × ℕ)) : Type 0 where
+  pub exact : r ≡ read_listed_one t (filter_at s at)
+  pub within : Fits s at r
 
 -- ---- a row, whatever the number of steps, if it is enough
-abbrev pub ListsRow : List ℕ → ℕ → Listed → ListedRead → Type 0
+abbrev pub ListsRow : List ℕ → ℕ → Listed → Option (Listed × ℕ) → Type 0
 ListsRow s at t r = (n : ℕ) → length s - at < n → r ≡ read_listed t (row_at n (filter_at s) (next_at closing s) at)
 
 -- ---- the same in one piece

@@ -1,15 +1,14 @@
 // The sources as they are searched: each with its scope's number and its names, kept.
 #![tactic(auto)]
 
-ghost use Rattle.std.specs.Prelude.{◌≡◌, true, ◌≤◌, ◌<◌};
+ghost use Rattle.std.specs.Prelude.{◌≡◌, ◌≤◌, ◌<◌};
 ghost use Rattle.model.specs.Reading.{list_at};
 ghost use Rattle.model.specs.NotifyGrammar.{filter_at};
-ghost use Rattle.read_search.specs.Parts.{in_by, in_at};
-ghost use Rattle.read_sources.specs.Listing.{scope_number, nothing_listed, no_list, put_listed, read_listed, kept_sources, RoomToList, ListsOne, ListsRow};
+ghost use Rattle.read_search.specs.Parts.{in_at};
+ghost use Rattle.read_sources.specs.Listing.{scope_number, nothing_listed, put_listed, kept_sources, ListsOne, ListsRow};
 
-use octets::Next;
-use read_filters::{FilterRead, Kept, Scope};
-use read_search::parts::{behind_space, behind_word};
+use read_filters::{Kept, Scope};
+use read_search::parts::behind_word;
 
 // A source: whom it is about, by number, and which of the names that are kept are its own.
 #[derive(Clone, Copy)]
@@ -27,39 +26,20 @@ pub struct Listed {
     pub kept: Kept,
 }
 
-// What listing sources answers: whether they fit, the position behind them, and the list.
-#[derive(Clone, Copy)]
-pub struct ListedRead {
-    pub ok: bool,
-    pub next: usize,
-    pub listed: Listed,
-}
+// The selected mailbox, as a search has it that names no sources.
+const SELECTED: Source = Source {
+    scope: 0,
+    first: 0,
+    count: 0,
+};
 
 fn nothing_listed() -> Listed
     ensures { result ≡ nothing_listed }
 {
-    let none = Source {
-        scope: 0,
-        first: 0,
-        count: 0,
-    };
-    let kept = read_filters::keep_nothing();
     Listed {
         count: 0,
-        sources: [none; 8],
-        kept,
-    }
-}
-
-// Nothing that fits was read.
-fn unlisted() -> ListedRead
-    ensures { result ≡ no_list }
-{
-    let listed = nothing_listed();
-    ListedRead {
-        ok: false,
-        next: 0,
-        listed,
+        sources: [SELECTED; 8],
+        kept: read_filters::keep_nothing(),
     }
 }
 
@@ -85,116 +65,69 @@ fn put_listed(listed: Listed, one: Source, kept: Kept) -> Listed
     ensures { result ≡ put_listed listed one kept }
 {
     let mut sources = listed.sources;
-    let count = listed.count;
-    if count < 8 {
-        let i = count as usize;
-        sources[i] = one;
-        return Listed {
-            count: count + 1,
-            sources,
-            kept,
-        };
+    if listed.count < 8 {
+        sources[listed.count as usize] = one;
     }
     Listed {
-        count: count + 1,
+        count: listed.count + 1,
         sources,
         kept,
     }
 }
 
-// The source at a position, behind those that are listed.
-fn list_one(text: &[u8], at: usize, scope: Scope, names: u64, listed: Listed) -> Listed
-    requires { RoomToList listed at }
-    ensures { ListsOne text.now at scope names listed result }
+// The source at a position, behind those that are listed, and the position behind it.
+fn list_one(text: &[u8], at: usize, listed: Listed) -> Option<(Listed, usize)>
+    requires { (listed.count ≤ at) × (listed.kept.count ≤ at) }
+    ensures { ListsOne text.now at listed result }
 {
-    let before = listed.kept;
+    let (filter, next) = read_filters::filter_at(text, at)?;
+    let (kept, _) = read_filters::keep_filter(text, at, listed.kept)?;
     let one = Source {
-        scope: scope_number(scope),
-        first: before.count,
-        count: names,
+        scope: scope_number(filter.scope),
+        first: listed.kept.count,
+        count: filter.names,
     };
-    let read = read_filters::keep_filter(text, at, before);
-    let kept = read.kept;
-    put_listed(listed, one, kept)
+    Some((put_listed(listed, one, kept), next))
 }
 
 // Sources with a space between them, up to the parenthesis that closes them, behind those that are listed.
-fn list_row(text: &[u8], at: usize, listed: Listed) -> ListedRead
+fn list_row(text: &[u8], at: usize, listed: Listed) -> Option<(Listed, usize)>
     requires { (listed.count ≤ at) × (listed.kept.count ≤ at) }
     ensures { ListsRow text.now at listed result }
 {
     let mut more = listed;
     let mut p = at;
     loop {
-        let FilterRead::Is(scope, names, q) = read_filters::filter_at(text, p) else {
-            return unlisted();
-        };
-        more = list_one(text, p, scope, names, more);
-        let b = octets::octet_at(text, q);
-        if b == b')' {
-            return ListedRead {
-                ok: true,
-                next: q + 1,
-                listed: more,
-            };
+        let (longer, q) = list_one(text, p, more)?;
+        more = longer;
+        match octets::octet_at(text, q) {
+            b' ' => p = q + 1,
+            b')' => return Some((more, q + 1)),
+            _ => return None,
         }
-        if b != b' ' {
-            return unlisted();
-        }
-        p = q + 1;
     }
 }
 
 // Sources in parentheses.
-fn list_at(text: &[u8], at: usize) -> ListedRead
-    ensures { result ≡ read_listed nothing_listed (list_at (filter_at text.now) text.now at) }
+fn list_at(text: &[u8], at: usize) -> Option<(Listed, usize)>
+    ensures { result ≡ kept_sources (list_at (filter_at text.now) text.now at) }
 {
     if octets::octet_at(text, at) != b'(' {
-        return unlisted();
+        return None;
     }
     list_row(text, at + 1, nothing_listed())
 }
 
-// The sources behind IN, with the spaces around them.
-fn list_by(text: &[u8], at: usize) -> ListedRead
-    ensures { result ≡ read_listed nothing_listed (in_by true text.now at) }
-{
-    let Next::At(q) = behind_word(text, at) else {
-        return unlisted();
-    };
-    let r = list_at(text, q);
-    let fits = r.ok;
-    if fits {
-        let p = r.next;
-        let Next::At(next) = behind_space(text, p) else {
-            return unlisted();
-        };
-        let listed = r.listed;
-        return ListedRead {
-            ok: true,
-            next,
-            listed,
-        };
-    }
-    unlisted()
-}
-
 // The sources of a search as they are searched: where IN is left out, the selected mailbox is.
-pub fn keep_sources(text: &[u8], at: usize) -> ListedRead
+pub fn keep_sources(text: &[u8], at: usize) -> Option<(Listed, usize)>
     ensures { result ≡ kept_sources (in_at text.now at) }
 {
-    if octets::word_at(text, at, b"IN") {
-        return list_by(text, at);
+    if !octets::word_at(text, at, b"IN") {
+        return Some((
+            put_listed(nothing_listed(), SELECTED, read_filters::keep_nothing()),
+            at,
+        ));
     }
-    let one = Source {
-        scope: 0,
-        first: 0,
-        count: 0,
-    };
-    let listed = put_listed(nothing_listed(), one, read_filters::keep_nothing());
-    ListedRead {
-        ok: true,
-        next: at,
-        listed,
-    }
+    let (listed, p) = list_at(text, behind_word(text, at)?)?;
+    Some((listed, octets::behind_space(text, p)?))
 }

@@ -4,8 +4,8 @@ use lib.ListN.{length}
 use Rattle.read_sources.proofs.Keeping.{Goes}
 use Rattle.read_sources.proofs.list_row.Given as goal
 
-abbrev pub invariant-loop-scope : goal.invariant-loop-scope
-invariant-loop-scope l = Goes l.text l.at l.initial.more l.more l.p
+abbrev pub invariant-loop-longer : goal.invariant-loop-longer
+invariant-loop-longer l = Goes l.text l.at l.initial.more l.more l.p
 
-abbrev pub decreases-loop-scope : goal.decreases-loop-scope
-decreases-loop-scope l = length l.text - l.p
+abbrev pub decreases-loop-longer : goal.decreases-loop-longer
+decreases-loop-longer l = length l.text - l.p

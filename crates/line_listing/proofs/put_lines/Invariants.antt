@@ -9,5 +9,5 @@ abbrev pub invariant-loop-i : goal.invariant-loop-i
 invariant-loop-i l = record {
   limit : l.w.limit ≤ length l.w.queue.now;
   upper_bound : l.w.at + 300 * l.i ≤ l.initial.w.at + 300 * l.n;
-  put : Goes l.initial.w (texts l.attributes l.lens l.validities l.nexts l.counters l.names l.order l.counts l.asks l.n) l.w (texts l.attributes l.lens l.validities l.nexts l.counters l.names l.order l.counts l.asks l.i);
+  put : Goes l.initial.w (texts l.cols l.order l.counts l.asks l.n) l.w (texts l.cols l.order l.counts l.asks l.i);
 }

@@ -56,20 +56,19 @@ pub fn put_row(w: &mut Writer<'_>, cols: &Columns, k: usize, messages: u64, stat
     );
 }
 
-// The lines of the first n places of an order, from the top.
+// The lines of the places of an order, from the top.
 pub fn put_lines(
     w: &mut Writer<'_>,
     cols: &Columns,
     order: &[usize],
-    n: usize,
     counts: &[u64; 64],
     asks: &[u8; 64],
 )
-    requires { (w.old.limit ≤ length w.old.queue.now) × (w.old.at ≤ 65536) × (n ≤ 64) × (n ≤ length order.now) }
-    ensures put { (f : Mailbox → List Line) (l : List Mailbox) → length l ≤ 64 → Shown l cols.now → Below order.now n (length l) → Tells f l counts.now asks.now → Writes w.old (render_all (concat_map f (chosen l order.now n))) w.new }
-    ensures upper_bound { w.new.at ≤ w.old.at + 300 * n }
+    requires { (w.old.limit ≤ length w.old.queue.now) × (w.old.at ≤ 65536) × (length order.now ≤ 64) }
+    ensures put { (f : Mailbox → List Line) (l : List Mailbox) → length l ≤ 64 → Shown l cols.now → Below order.now (length order.now) (length l) → Tells f l counts.now asks.now → Writes w.old (render_all (concat_map f (chosen l order.now (length order.now)))) w.new }
+    ensures upper_bound { w.new.at ≤ w.old.at + 300 * length order.now }
 {
-    for i in (0..n).rev() {
+    for i in (0..order.len()).rev() {
         let k = order[i] % 64;
         put_row(w, cols, k, counts[k], asks[k] != 0);
     }
@@ -80,13 +79,12 @@ pub fn put_listing(
     w: &mut Writer<'_>,
     cols: &Columns,
     order: &[usize],
-    n: usize,
     counts: &[u64; 64],
     asks: &[u8; 64],
 )
-    requires { (w.old.limit ≤ length w.old.queue.now) × (w.old.at ≤ 65536) × (n ≤ 64) × (n ≤ length order.now) }
-    ensures put { (m : Memory) (s : Session) (wanted : Bool) → length (boxes m) ≤ 64 → Shown (boxes m) cols.now → Ordered (λ (x : Mailbox). may_list x && concerns m s x) (boxes m) order.now n → Tells (listing_line m s wanted) (boxes m) counts.now asks.now → Writes w.old (render_all (listing m s wanted)) w.new }
+    requires { (w.old.limit ≤ length w.old.queue.now) × (w.old.at ≤ 65536) × (length order.now ≤ 64) }
+    ensures put { (m : Memory) (s : Session) (wanted : Bool) → length (boxes m) ≤ 64 → Shown (boxes m) cols.now → Ordered (λ (x : Mailbox). may_list x && concerns m s x) (boxes m) order.now (length order.now) → Tells (listing_line m s wanted) (boxes m) counts.now asks.now → Writes w.old (render_all (listing m s wanted)) w.new }
     ensures upper_bound { w.new.at ≤ w.old.at + 19200 }
 {
-    put_lines(w, cols, order, n, counts, asks);
+    put_lines(w, cols, order, counts, asks);
 }

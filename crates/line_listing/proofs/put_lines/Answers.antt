@@ -3,6 +3,7 @@ use mathlib.Core.Path.{◌≡◌}
 use native.Mathlib.Omega.{arith}
 use Rattle.line_put.specs.Writes.{writes_as}
 use Rattle.line_listing.specs.Telling.{texts_are, goes_next, goes_end}
+use lib.ListN.{length}
 use Rattle.line_listing.proofs.put_lines.Goals as goal
 
 pub loop-i-preserved : goal.loop-i-preserved
@@ -18,4 +19,4 @@ returns-clause-put c =
     λ f l w v b t.
     writes_as
     (goes_end c.args.cols.now c.args.order.now c.args.counts.now c.args.asks.now (omega arith) (rw e at c.loop-i.invariant.put))
-    (texts_are f l c.args.cols.now c.args.order.now c.args.counts.now c.args.asks.now w v t c.args.n b)
+    (texts_are f l c.args.cols.now c.args.order.now c.args.counts.now c.args.asks.now w v t (length c.args.order.now) b)

@@ -1,7 +1,7 @@
 -- What a cell says of the set, the test or the key that is coded there. Assumes nothing.
 use Rattle.std.specs.Prelude.{◌≡◌, Bool, true, false, cond, ◌&&◌, ◌||◌, ℕ, zero, suc, ◌+◌, ◌-◌, ◌*◌, ◌/◌, ◌%◌, ◌^◌, ◌≤◌, ◌<◌, min, max, eqb, leb, ltb, get_or}
 use Rattle.std.proofs.Math.Path.{refl, ap, sym}
-use Rattle.std.proofs.Common.{ap₂, subst, ◌∙◌, add-one, div-one, eq-eqb, ne_eqb, le-ltb, ltb-false, length-drop, drop-cons, drop-drop}
+use Rattle.std.proofs.Common.{ap₂, subst, ◌∙◌, add-one, div-one, eq-eqb, ne_eqb, le-ltb, ltb-false, length-drop, take, drop-cons, drop-drop}
 use Rattle.std.proofs.Math.Bool.{not}
 use mathlib.Core.Bool.{beq}
 use mathlib.Core.List.{List, [], ◌∷◌, ◌++◌, append_assoc, append-nil}
@@ -9,13 +9,14 @@ use native.Mathlib.Omega.{arith}
 use Rattle.std.proofs.Math.Nat.{div-div-eq-div-mul, pow-succ', pow-le-pow_right}
 use Rattle.std.proofs.lemmas.Bool.{lt-leb, not-true, not-false}
 use Rattle.std.proofs.Math.ListN.{length, drop, length-append}
-use Rattle.std.proofs.Math.Seq.{drop-append_seam}
+use Rattle.std.proofs.Math.Seq.{take-append_seam, drop-append_seam}
+use Rattle.std.proofs.lemmas.List.{take_all}
 use Rattle.model.specs.Text.{bit}
 use Rattle.model.specs.Requests.{Bound, number, star, Part, Test, all, unsupported, flagged, larger, smaller, uids, numbers, Key, test, non, either, group, Keys, end, more}
 use Rattle.model.specs.Searching.{Candidate, agrees, bound_of, in_part, in_set, passes, holds, holds_all}
 use Rattle.read_tests.specs.Table.{bound_number, part_cells, flag_number, test_code}
 use Rattle.read_keys.specs.Table.{code, codes}
-use Rattle.match_keys.specs.Tests.{candidate, facts_of, ProperBound, ProperParts, Proper, Propers, bound_by, part_holds, Counted, counted_width, simple_of, width_of, holds_some, folded, TestsSet, TestsTest, TestsKey, TestsKeysOn, TestsAll, Behind, Answers}
+use Rattle.match_keys.specs.Tests.{candidate, facts_of, ProperBound, ProperParts, Proper, Propers, bound_by, part_holds, set_by, Counted, counted_width, simple_of, width_of, holds_some, folded, TestsSet, TestsTest, TestsKey, TestsKeysOn, TestsAll, Behind, Answers}
 use Rattle.match_keys.specs.declared.Probe.{Probe}
 use Rattle.match_keys.specs.declared.Facts.{Facts}
 use Rattle.match_keys.specs.declared.Outcome.{Outcome}
@@ -50,59 +51,42 @@ bound_same last star h = refl
 part_same : (last n : ℕ) (p : Part) → ProperBound p.from → ProperBound p.upto → part_holds (bound_number p.from) (bound_number p.upto) last n ≡ in_part last n p
 part_same last n p h k = ap₂ (λ (a b : ℕ). leb (min a b) n && leb n (max a b)) (bound_same last p.from h) (bound_same last p.upto k)
 
--- the parts that are left, from cell i on
-pub record SetLeft (cells : List ℕ) (i stop last n : ℕ) (whole : Bool) : Type 0 where
-  pub parts : List Part
-  pub rest : List ℕ
-  pub is : drop i cells ≡ part_cells parts ++ rest
-  pub stops : stop ≡ i + length (part_cells parts)
-  pub proper : ProperParts parts
-  pub same : whole ≡ in_set last n parts
+-- the first part of those that are left, and the others
+module _ (last n : ℕ) where
+  set_open : (l : List ℕ) → 2 ≤ length l → set_by last n l ≡ (part_holds (get_or l 0 0) (get_or l 1 0) last n || set_by last n (take (length l - 2) (drop 2 l)))
+  unfolding set_by
+  set_open [] h = absurd (let z : ⊥ = omega arith in z)
+  set_open (a ∷ []) h = absurd (let z : ⊥ = omega arith in z)
+  set_open (a ∷ b ∷ l) h = ap (λ (x : List ℕ). part_holds a b last n || set_by last n x) (sym (take_all (length (a ∷ b ∷ l) - 2) l (omega arith)))
 
-abbrev pub SetGoing : List ℕ → ℕ → ℕ → ℕ → ℕ → ℕ → Type 0
-SetGoing cells at stop last n i = (ps : List Part) (rest : List ℕ) → drop at cells ≡ part_cells ps ++ rest → stop ≡ at + length (part_cells ps) → ProperParts ps → SetLeft cells i stop last n (in_set last n ps)
+  module _ (l : List ℕ) (h : 2 ≤ length l) (b : Bool) (q : b ≡ part_holds (get_or l 0 0) (get_or l 1 0) last n) where
+    pub set_hit : b ≡ true → true ≡ set_by last n l
+    set_hit t = sym (set_open l h ∙ ap (λ (x : Bool). x || set_by last n (take (length l - 2) (drop 2 l))) (sym q ∙ t))
 
-module _ (cells : List ℕ) (at stop last n : ℕ) where
-  pub set_start : SetGoing cells at stop last n at
-  set_start ps rest e f g = record { parts = ps; rest = rest; is = e; stops = f; proper = g; same = refl }
+    pub set_next : b ≡ false → set_by last n l ≡ set_by last n (take (length l - 2) (drop 2 l))
+    set_next t = set_open l h ∙ ap (λ (x : Bool). x || set_by last n (take (length l - 2) (drop 2 l))) (sym q ∙ t)
 
-  module _ (i : ℕ) (b : Bool) (q : b ≡ part_holds (get_or cells i 0) (get_or cells (i + 1) 0) last n) (h : i + 1 < stop) (go : SetGoing cells at stop last n i) where
-    hit : b ≡ true → (whole : Bool) (ps : List Part) (rest : List ℕ) → drop i cells ≡ part_cells ps ++ rest → stop ≡ i + length (part_cells ps) → ProperParts ps → whole ≡ in_set last n ps → true ≡ whole
-    hit t whole [] rest e f g s = absurd (let z : ⊥ = omega arith in z)
-    hit t whole (p ∷ ps) rest e f g s =
-        let a = first cells i (bound_number p.from) (bound_number p.upto) (part_cells ps ++ rest) e in
-        let d = second cells i (bound_number p.from) (bound_number p.upto) (part_cells ps ++ rest) e in
-        let k : true ≡ in_part last n p = sym t ∙ (q ∙ (ap₂ (λ (x y : ℕ). part_holds x y last n) a d ∙ part_same last n p g.0.0 g.0.1)) in
-        ap (λ (x : Bool). x || in_set last n ps) k ∙ sym s
+  pub set_end : (l : List ℕ) → length l < 2 → false ≡ set_by last n l
+  unfolding set_by
+  set_end [] h = refl
+  set_end (a ∷ []) h = refl
+  set_end (a ∷ b ∷ l) h = absurd (let z : ⊥ = omega arith in z)
 
-    pub set_hit : b ≡ true → TestsSet cells at stop last n true
-    set_hit t ps rest e f g = let l = go ps rest e f g in hit t (in_set last n ps) l.parts l.rest l.is l.stops l.proper l.same
+  -- the cells of a set
+  set_is : (ps : List Part) → ProperParts ps → set_by last n (part_cells ps) ≡ in_set last n ps
+  unfolding set_by
+  set_is [] g = refl
+  set_is (p ∷ ps) g = ap₂ (λ (x y : Bool). x || y) (part_same last n p g.0.0 g.0.1) (set_is ps g.1)
 
-    miss : b ≡ false → (whole : Bool) (ps : List Part) (rest : List ℕ) → drop i cells ≡ part_cells ps ++ rest → stop ≡ i + length (part_cells ps) → ProperParts ps → whole ≡ in_set last n ps → SetLeft cells (i + 2) stop last n whole
-    miss t whole [] rest e f g s = absurd (let z : ⊥ = omega arith in z)
-    miss t whole (p ∷ ps) rest e f g s =
-        let a = first cells i (bound_number p.from) (bound_number p.upto) (part_cells ps ++ rest) e in
-        let d = second cells i (bound_number p.from) (bound_number p.upto) (part_cells ps ++ rest) e in
-        let k : in_part last n p ≡ false = sym (ap₂ (λ (x y : ℕ). part_holds x y last n) a d ∙ part_same last n p g.0.0 g.0.1) ∙ (sym q ∙ t) in
-        record {
-          parts = ps;
-          rest = rest;
-          is = others cells i (bound_number p.from) (bound_number p.upto) (part_cells ps ++ rest) e;
-          stops = omega arith;
-          proper = g.1;
-          same = s ∙ ap (λ (x : Bool). x || in_set last n ps) k;
-        }
-
-    pub set_next : b ≡ false → SetGoing cells at stop last n (i + 2)
-    set_next t ps rest e f g = let l = go ps rest e f g in miss t (in_set last n ps) l.parts l.rest l.is l.stops l.proper l.same
-
-  module _ (i : ℕ) (h : stop ≤ i + 1) (go : SetGoing cells at stop last n i) where
-    over : (whole : Bool) (ps : List Part) → stop ≡ i + length (part_cells ps) → whole ≡ in_set last n ps → false ≡ whole
-    over whole [] f s = sym s
-    over whole (p ∷ ps) f s = absurd (let z : ⊥ = omega arith in z)
-
-    pub set_end : TestsSet cells at stop last n false
-    set_end ps rest e f g = let l = go ps rest e f g in over (in_set last n ps) l.parts l.stops l.same
+  pub tests_set : (cells : List ℕ) (at stop : ℕ) (r : Bool) → r ≡ set_by last n (take (stop - min stop at) (drop (min stop at) cells)) → TestsSet cells at stop last n r
+  tests_set cells at stop r q ps rest e f g =
+      let m : min stop at ≡ at = omega arith in
+      let k : stop - at ≡ length (part_cells ps) = omega arith in
+      q ∙ ap (λ (x : ℕ). set_by last n (take (stop - x) (drop x cells))) m
+      ∙ ap (λ (x : ℕ). set_by last n (take x (drop at cells))) k
+      ∙ ap (λ (x : List ℕ). set_by last n (take (length (part_cells ps)) x)) e
+      ∙ ap (set_by last n) (take-append_seam (part_cells ps) rest)
+      ∙ set_is ps g
 
 -- ---- tests
 -- what holds is as it is asked for

@@ -51,6 +51,11 @@ bound_by last x = cond (eqb x 0) last x
 abbrev pub part_holds : ℕ → ℕ → ℕ → ℕ → Bool
 part_holds a b last n = leb (min (bound_by last a) (bound_by last b)) n && leb n (max (bound_by last a) (bound_by last b))
 
+-- one of the parts that these cells hold has the number
+unfoldable pub set_by : ℕ → ℕ → List ℕ → Bool
+set_by last n (a ∷ b ∷ l) = part_holds a b last n || set_by last n l
+set_by last n l = false
+
 -- a key of which the second cell counts: sets, and keys that hold keys
 abbrev pub Counted : ℕ → Type 0
 Counted kind = (4 < kind) × (kind ≡ 7 → ⊥)

@@ -3,7 +3,7 @@
 
 ghost use Rattle.std.specs.Prelude.{◌≡◌, not, ◌+◌, ◌≤◌, ◌<◌, length, get_or};
 ghost use Rattle.model.specs.Text.{bit};
-ghost use Rattle.match_keys.specs.Tests.{facts_of, bound_by, part_holds, Counted, counted_width, LastNest, Behind, Answers, TestsSet, TestsKeysOn, TestsAll};
+ghost use Rattle.match_keys.specs.Tests.{facts_of, bound_by, part_holds, set_by, Counted, counted_width, LastNest, Behind, Answers, TestsSet, TestsKeysOn, TestsAll};
 
 use model::{Message, MessageNumber, Uid};
 use read_tests::kinds;
@@ -73,19 +73,16 @@ fn in_part(from: u64, upto: u64, last: u64, n: u64) -> bool
     a.min(b) <= n && n <= a.max(b)
 }
 
-// A number is of the set whose parts are the cells from `at` up to `stop`.
-fn in_set(cells: &[u64], at: usize, stop: usize, last: u64, n: u64) -> bool
-    requires { (at ≤ stop + 1) × (stop ≤ length cells.now) }
-    ensures { TestsSet cells.now at stop last n result }
+// A number is of the set with these parts, two cells each.
+fn in_set(parts: &[u64], last: u64, n: u64) -> bool
+    ensures { result ≡ set_by last n parts.now }
 {
-    let mut i = at;
-    while i + 1 < stop {
-        let from = cells[i];
-        let upto = cells[i + 1];
-        if in_part(from, upto, last, n) {
+    let mut left = parts;
+    while let [from, upto, rest @ ..] = left {
+        if in_part(*from, *upto, last, n) {
             return true;
         }
-        i += 2;
+        left = rest;
     }
     false
 }
@@ -135,7 +132,8 @@ fn set_at(cells: &[u64], at: usize, stop: usize, last: u64, n: u64) -> Outcome
     ensures { (Behind cells.now at stop result.after) × (TestsSet cells.now (at + 2) result.after last n result.holds) }
 {
     let after = behind(cells, at, stop);
-    let holds = in_set(cells, at + 2, after, last, n);
+    let from = after.min(at + 2);
+    let holds = in_set(&cells[from..after], last, n);
     Outcome { holds, after }
 }
 

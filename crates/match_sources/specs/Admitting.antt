@@ -1,6 +1,6 @@
 -- A source by the number of its scope and the names that are kept, and that it admits what the definition's source admits. Assumes nothing.
-use Rattle.std.specs.Prelude.{◌≡◌, refl, Bool, true, false, cond, ◌&&◌, ◌||◌, List, [], ◌∷◌, ◌++◌, map, ℕ, suc, ◌+◌, ◌-◌, ◌≤◌, eqb, length, take, drop, replicate}
-use Rattle.std.proofs.Common.{ap, ap₂, sym, ◌∙◌, append_assoc, arith, eq-eqb, ne_eqb, drop-drop, take_at}
+use Rattle.std.specs.Prelude.{◌≡◌, refl, Bool, false, cond, ◌&&◌, ◌||◌, List, [], ◌∷◌, ◌++◌, map, ℕ, suc, ◌+◌, ◌-◌, ◌≤◌, eqb, length, take, drop, replicate}
+use Rattle.std.proofs.Common.{ap, ap₂, sym, ◌∙◌, append_assoc, arith, drop-drop, take_at}
 use Rattle.std.proofs.lemmas.List.{length-map, length-replicate}
 use Rattle.std.proofs.lemmas.List.Edits.{sets-eq}
 use Rattle.std.proofs.Math.Seq.{take-append_seam, drop-append-add}
@@ -14,7 +14,6 @@ use Rattle.model.specs.Listing.{lend_name}
 use Rattle.model.specs.Searching.{admits}
 use Rattle.model.specs.declared.Mailbox.{Mailbox}
 use Rattle.model.specs.declared.LentName.{LentName}
-use Rattle.model.specs.Laws.{take-drop}
 use Rattle.read_filters.specs.Scopes.{scope_for}
 use Rattle.read_sources.specs.Listing.{scope_number, source_from, sources_from, all_names, nothing_listed, add_all}
 use Rattle.read_sources.specs.declared.Source.{Source}
@@ -33,21 +32,6 @@ admits_by scope a here named =
 abbrev pub meant : ℕ → Name → Name → Bool
 meant scope t n = cond (eqb scope 5) (beneath_or_same t n) (cond (eqb scope 6) (one_level_or_same t n) (same t n))
 
--- the three ways, as the code takes them: a is what it reads for the name t
-module _ (scope : ℕ) (n : Name) {a t : Name} (e : a ≡ t) where
-  pub meant_tree : scope ≡ 5 → beneath_or_same a n ≡ meant scope t n
-  meant_tree f = ap (λ (z : Name). beneath_or_same z n) e ∙ sym (ap (λ (b : Bool). cond b (beneath_or_same t n) (cond (eqb scope 6) (one_level_or_same t n) (same t n))) (eq-eqb scope 5 f))
-
-  module _ (g : scope ≡ 5 → ⊥) where
-    other : cond (eqb scope 6) (one_level_or_same t n) (same t n) ≡ meant scope t n
-    other = sym (ap (λ (b : Bool). cond b (beneath_or_same t n) (cond (eqb scope 6) (one_level_or_same t n) (same t n))) (ne_eqb scope 5 g))
-
-    pub meant_level : scope ≡ 6 → one_level_or_same a n ≡ meant scope t n
-    meant_level f = ap (λ (z : Name). one_level_or_same z n) e ∙ (sym (ap (λ (b : Bool). cond b (one_level_or_same t n) (same t n)) (eq-eqb scope 6 f)) ∙ other)
-
-    pub meant_same : (scope ≡ 6 → ⊥) → same a n ≡ meant scope t n
-    meant_same f = ap (λ (z : Name). same z n) e ∙ (sym (ap (λ (b : Bool). cond b (one_level_or_same t n) (same t n)) (ne_eqb scope 6 f)) ∙ other)
-
 -- one of the source's names takes it
 abbrev pub named_in : List LentName → Name → Source → Bool
 named_in names n s = anyb (λ (x : LentName). meant s.scope (lent_name x) n) (take s.count (drop s.first names))
@@ -57,25 +41,6 @@ admits_in names a n here s = admits_by s.scope a here (named_in names n s)
 
 abbrev pub searched_by : Listed → ℕ → Name → Bool → Bool
 searched_by t a n here = bit 5 a && anyb (admits_in t.kept.names a n here) (take t.count t.sources)
-
--- with the right to read, and without
-module _ (t : Listed) (a : ℕ) (n : Name) (here : Bool) where
-  pub searched_not : bit 5 a ≡ false → false ≡ searched_by t a n here
-  searched_not e = sym (ap (λ (b : Bool). b && anyb (admits_in t.kept.names a n here) (take t.count t.sources)) e)
-
-  pub searched_by_lem : bit 5 a ≡ true → anyb (admits_in t.kept.names a n here) (take t.count t.sources) ≡ searched_by t a n here
-  searched_by_lem e = sym (ap (λ (b : Bool). b && anyb (admits_in t.kept.names a n here) (take t.count t.sources)) e)
-
--- ---- a run of names, as a loop meets it
-pub named_run : (names : List LentName) (n : Name) (s : Source) (end : ℕ) → take end names ≡ take (s.first + s.count) names → anyb (λ (x : LentName). meant s.scope (lent_name x) n) (drop s.first (take end names)) ≡ named_in names n s
-named_run names n s end e = ap (λ (l : List LentName). anyb (λ (x : LentName). meant s.scope (lent_name x) n) l) (ap (drop s.first) e ∙ sym (take-drop s.first s.count names))
-
--- the defaults that the code's arrays have
-abbrev pub vacant_name : LentName
-vacant_name = record { len = 0; octets = [] }
-
-abbrev pub vacant_source : Source
-vacant_source = record { scope = 0; first = 0; count = 0 }
 
 -- ---- a name that is kept is the argument
 name-kept : (a : List ℕ) → lent_name (lend_name a) ≡ argument a

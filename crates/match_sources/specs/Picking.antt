@@ -1,6 +1,6 @@
 -- Which rows are searched, noted by columns, and that these are the definition's. Assumes nothing.
 use Rattle.std.specs.Prelude.{◌≡◌, refl, Bool, true, false, not, ◌&&◌, List, ℕ, ◌+◌, ◌-◌, ◌*◌, ◌<◌, ◌≤◌, eqb, leb, length, take, drop, get_or, set}
-use Rattle.std.proofs.Common.{ap, ap₂, sym, ◌∙◌, arith, eq-eqb, ne_eqb, leb-true, leb-false, take-take, get_or-set_same, get_or-set_other}
+use Rattle.std.proofs.Common.{ap, ap₂, sym, ◌∙◌, arith, leb-true, leb-false, take-take, get_or-set_same, get_or-set_other}
 use Rattle.model.specs.Lists.{anyb}
 use Rattle.model.specs.Names.{Name}
 use Rattle.model.specs.Requests.{Filter}
@@ -15,13 +15,6 @@ use Rattle.table_mailboxes.specs.Columns.{Column, Names, noted}
 -- the mailbox with this id is the selected one
 abbrev pub selected_by : ℕ → ℕ → Bool
 selected_by s i = not (eqb i 0) && eqb i s
-
-module _ (s i : ℕ) where
-  pub selected_none : i ≡ 0 → false ≡ selected_by s i
-  selected_none e = sym (ap (λ (b : Bool). not b && eqb i s) (eq-eqb i 0 e))
-
-  pub selected_some : (i ≡ 0 → ⊥) → eqb i s ≡ selected_by s i
-  selected_some e = sym (ap (λ (b : Bool). not b && eqb i s) (ne_eqb i 0 e))
 
 -- the name of row k in the flat names
 abbrev pub name_at : List ℕ → ℕ → ℕ → Name

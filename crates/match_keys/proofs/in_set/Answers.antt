@@ -1,20 +1,15 @@
--- `in_set`: the loop keeps that no part before i holds the number. Assumes nothing.
-use Rattle.match_keys.specs.Laws.{set_start, set_hit, set_next, set_end}
-use native.Mathlib.Omega.{arith}
+-- `in_set`: the loop keeps that no part before those that are left has the number. Assumes nothing.
+use mathlib.Core.Path.{sym, ◌∙◌}
+use Rattle.match_keys.specs.Laws.{set_hit, set_next, set_end}
 use Rattle.match_keys.proofs.in_set.Goals as goal
-
-pub loop-i-init : goal.loop-i-init
-loop-i-init c =
-    (omega arith, set_start c.args.cells.now c.args.at c.args.stop c.args.last c.args.n)
 
 pub returns-then-in_part : goal.returns-then-in_part
 returns-then-in_part c =
-    set_hit c.args.cells.now c.args.at c.args.stop c.args.last c.args.n c.loop-i.i c.in_part.result c.in_part.ensures c.loop-i-test.true c.loop-i.invariant.1 c.if-in_part.true
+    set_hit c.args.last c.args.n c.loop-left.left.now c.in-len2-up.len_at_least c.in_part.result c.in_part.ensures c.if-in_part.true ∙ sym c.loop-left.invariant
 
-pub loop-i-preserved : goal.loop-i-preserved
-loop-i-preserved c =
-    (omega arith, set_next c.args.cells.now c.args.at c.args.stop c.args.last c.args.n c.loop-i.i c.in_part.result c.in_part.ensures c.loop-i-test.true c.loop-i.invariant.1 c.if-in_part.false)
+pub loop-left-preserved : goal.loop-left-preserved
+loop-left-preserved c =
+    c.loop-left.invariant ∙ set_next c.args.last c.args.n c.loop-left.left.now c.in-len2-up.len_at_least c.in_part.result c.in_part.ensures c.if-in_part.false
 
 pub returns : goal.returns
-returns c =
-    set_end c.args.cells.now c.args.at c.args.stop c.args.last c.args.n c.loop-i.i c.loop-i-test.false c.loop-i.invariant.1
+returns c = set_end c.args.last c.args.n c.loop-left.left.now c.in_default.len_below ∙ sym c.loop-left.invariant

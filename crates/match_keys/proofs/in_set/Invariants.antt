@@ -1,10 +1,10 @@
--- `in_set`: the loop keeps that no part before i holds the number. Assumes nothing.
-use Rattle.match_keys.specs.Laws.{SetGoing}
-use Prim.Native.Nat.{◌+◌, ◌-◌, ◌≤◌}
+-- `in_set`: the loop keeps that no part before those that are left has the number. Assumes nothing.
+use Rattle.std.proofs.Common.{◌≡◌, length}
+use Rattle.match_keys.specs.Tests.{set_by}
 use Rattle.match_keys.proofs.in_set.Given as goal
 
-abbrev pub invariant-loop-i : goal.invariant-loop-i
-invariant-loop-i l = (l.i ≤ l.stop + 1) × SetGoing l.cells l.at l.stop l.last l.n l.i
+abbrev pub invariant-loop-left : goal.invariant-loop-left
+invariant-loop-left l = set_by l.last l.n l.parts ≡ set_by l.last l.n l.left
 
-abbrev pub decreases-loop-i : goal.decreases-loop-i
-decreases-loop-i l = l.stop - l.i
+abbrev pub decreases-loop-left : goal.decreases-loop-left
+decreases-loop-left l = length l.left

@@ -1,15 +1,18 @@
--- `is_searched`: without the right to read nothing is searched; else one of the sources must admit the mailbox. Assumes nothing.
+-- `is_searched`: the chain goes over the sources that are listed. Assumes nothing.
+use borrow.Author.Rules.{rules}
+use borrow.Author.Tests.{tests}
 use mathlib.Core.Path.{sym, ◌∙◌}
-use Rattle.match_sources.specs.Admitting.{searched_not, searched_by_lem}
+use lib.ListN.{take}
+use Rattle.std.proofs.lemmas.Iterator.{YieldsList-from_slice, YieldsList-from_take}
+use Rattle.std.proofs.lemmas.Iterator.Search.{any_from_yields_List}
+use Rattle.model.specs.Iterating.{anyb_is_any}
+use Rattle.match_sources.specs.Admitting.{admits_in}
 use Rattle.match_sources.proofs.is_searched.Goals as goal
 
-pub returns-then-not-has : goal.returns-then-not-has
-returns-then-not-has c =
-    searched_not c.args.listed c.args.attributes c.args.name.now
-    c.args.selected (sym c.has.ensures ∙ c.if-not-has.true)
-
-pub returns : goal.returns
-returns c =
-    c.any_admits.ensures
-    ∙ searched_by_lem c.args.listed c.args.attributes c.args.name.now
-    c.args.selected (sym c.has.ensures ∙ c.if-not-has.false)
+pub returns-then-has : goal.returns-then-has
+returns-then-has c =
+    let test = admits_in c.args.listed.now.kept.names c.args.attributes c.args.name.now c.args.selected in
+    rw (sym c.has.ensures ∙ c.if-has.true)
+    (any_from_yields_List {s = c.take.result} test _ _ c.any.result c.any.ensures.ran
+    (YieldsList-from_take c.args.listed.now.count (YieldsList-from_slice c.args.listed.now.sources cc) c.take.ensures.count) (λ x b q k. search (rules, tests))
+    ∙ anyb_is_any test (take c.args.listed.now.count c.args.listed.now.sources))

@@ -1,5 +1,6 @@
 -- A command line as the code answers it. Assumes nothing: these are definitions.
-use Rattle.std.specs.Prelude.{◌≡◌, Bool, cond, List, ℕ, eqb}
+use Rattle.std.specs.Prelude.{◌≡◌, Option, Some, None, Bool, List, ℕ}
+use Rattle.std.specs.Option.{option_map}
 use Rattle.model.specs.Requests.{Verb as Word, notify, esearch, other_verb, Command}
 use Rattle.model.specs.Reading.{Parsed, bad, and_then}
 use Rattle.model.specs.Commands.{command_by, whole_line, command_of}
@@ -11,15 +12,13 @@ use Rattle.model.specs.declared.Reply.TheVariants.{Bad, Accepted}
 use Rattle.read_options.specs.Heads.{verb_of}
 use Rattle.read_options.specs.declared.Verb.{Verb}
 use Rattle.read_options.specs.declared.Verb.TheVariants.{Notify, Esearch, Other}
-use Rattle.read_options.specs.declared.VerbRead.{VerbRead}
-use Rattle.read_options.specs.declared.VerbRead.TheVariants.{Is as Headed, Bad as Headless}
+use Rattle.read_notify.specs.Readings.{asked}
+use Rattle.read_notify.specs.declared.Notify.{Notify as Asking}
+use Rattle.read_notify.specs.declared.Tally.{Tally}
+use Rattle.read_search.specs.declared.Asked.{Asked}
 use Rattle.read_notify.specs.Tallies.{reply_by_tally}
-use Rattle.read_notify.specs.declared.NotifyRead.{NotifyRead}
-use Rattle.read_notify.specs.declared.NotifyRead.TheVariants.{Nothing, Groups, Bad as NoNotify}
 use Rattle.read_search.specs.Searched.{read_search, Cells}
 use Rattle.read_search.specs.Judged.{reply_by_asked}
-use Rattle.read_search.specs.declared.SearchRead.{SearchRead}
-use Rattle.read_search.specs.declared.SearchRead.TheVariants.{Is, Bad as NoSearch}
 use Rattle.read_commands.specs.declared.Judged.{Judged}
 
 abbrev pub answer_of : Verb → Reply → Judged
@@ -49,34 +48,28 @@ word_of Other = other_verb
 abbrev pub judged_by : Verb → List ℕ → ℕ → Parsed Command
 judged_by v s p = whole_by (word_of v) s p
 
--- what was read, if it ends at n
-abbrev pub notify_upto : ℕ → NotifyRead → NotifyRead
-notify_upto n (Nothing p) = cond (eqb p n) (Nothing p) NoNotify
-notify_upto n (Groups status t p) = cond (eqb p n) (Groups status t p) NoNotify
-notify_upto n NoNotify = NoNotify
-
-abbrev pub search_upto : ℕ → SearchRead → SearchRead
-search_upto n (Is a p) = cond (eqb p n) (Is a p) NoSearch
-search_upto n NoSearch = NoSearch
-
 -- ---- how what was read is answered
-abbrev pub notified : Limits → NotifyRead → Judged
-notified l (Nothing p) = answer_of Notify Accepted
-notified l (Groups status t p) = answer_of Notify (reply_by_tally l t)
-notified l NoNotify = unread
+-- what a NOTIFY asks, and the position behind it
+abbrev pub asks : Option (Asking × ℕ) → Option (Option (Bool × Tally) × ℕ)
+asks r = option_map (λ (n : Asking × ℕ). (asked n.0, n.1)) r
 
-abbrev pub searched : Limits → Bool → SearchRead → Judged
-searched l has_selected (Is a p) = answer_of Esearch (reply_by_asked l has_selected a)
-searched l has_selected NoSearch = unread
+abbrev pub notified : Limits → Option (Option (Bool × Tally) × ℕ) → Judged
+notified l (Some (None, p)) = answer_of Notify Accepted
+notified l (Some (Some (status, t), p)) = answer_of Notify (reply_by_tally l t)
+notified l None = unread
+
+abbrev pub searched : Limits → Bool → Option (Asked × ℕ) → Judged
+searched l has_selected (Some (a, p)) = answer_of Esearch (reply_by_asked l has_selected a)
+searched l has_selected None = unread
 
 -- ---- contracts
 -- r is the verb of the line and the position behind it, or the line is no command
-abbrev pub Heads : List ℕ → VerbRead → Type 0
-Heads s (Headed v at) = judged_by v s at ≡ command_of s
-Heads s Headless = bad ≡ command_of s
+abbrev pub Heads : List ℕ → Option (Verb × ℕ) → Type 0
+Heads s (Some (v, at)) = judged_by v s at ≡ command_of s
+Heads s None = bad ≡ command_of s
 
 -- r is the search x, and its keys stand in the cells b' that were b
-pub record ReadsSearch (x : Parsed Command) (b b' : List ℕ) (r : SearchRead) : Type 0 where
+pub record ReadsSearch (x : Parsed Command) (b b' : List ℕ) (r : Option (Asked × ℕ)) : Type 0 where
   pub exact : r ≡ read_search x
   pub cells : Cells b b' x
 

@@ -5,23 +5,24 @@ ghost use Rattle.std.specs.Prelude.{◌≡◌, Bool, cond, ◌<◌, length};
 ghost use Rattle.model.specs.Requests.{notify as notify_word, esearch};
 ghost use Rattle.model.specs.Commands.{tag_end, tagged, command_of};
 ghost use Rattle.model.specs.Limits.{limits as most};
-ghost use Rattle.read_notify.specs.Readings.{read_notify, Keeps};
+ghost use Rattle.read_notify.specs.Readings.{Keeps};
 ghost use Rattle.read_notify.specs.Watched.{watched_by};
-ghost use Rattle.read_commands.specs.Judging.{answer_of, unread as nothing, judged_of, whole_by, judged_by, notify_upto, search_upto, notified, searched, Heads, ReadsSearch, Judges};
+ghost use Rattle.read_commands.specs.Judging.{answer_of, unread as nothing, judged_of, whole_by, judged_by, asks, notified, searched, Heads, ReadsSearch, Judges};
 
 use model::{Limits, Reply, Session};
-use read_notify::{NotifyKept, NotifyRead};
-use read_options::{Verb, VerbRead};
-use read_search::SearchRead;
+use read_notify::Notify;
+use read_options::Verb;
+use read_search::Asked;
 
 // The length of the tag that the answer bears; 0 where the line has none.
 pub fn tag_length(text: &[u8]) -> usize
     ensures { result ≡ cond (tagged text.now) (tag_end text.now) 0 }
 {
     if read_options::is_tagged(text) {
-        return read_options::tag_end(text);
+        read_options::tag_end(text)
+    } else {
+        0
     }
-    0
 }
 
 // The most that a command may have.
@@ -59,111 +60,63 @@ fn unread() -> Judged
 
 // ---- NOTIFY
 
-// What was read, if it ends at the end of the line.
-fn notify_upto(r: NotifyRead, end: usize) -> NotifyRead
-    ensures { result ≡ notify_upto end r }
-{
-    match r {
-        NotifyRead::Nothing(next) => {
-            if next == end {
-                NotifyRead::Nothing(next)
-            } else {
-                NotifyRead::Bad
-            }
-        }
-        NotifyRead::Groups(status, tally, next) => {
-            if next == end {
-                NotifyRead::Groups(status, tally, next)
-            } else {
-                NotifyRead::Bad
-            }
-        }
-        NotifyRead::Bad => NotifyRead::Bad,
-    }
-}
-
 // NOTIFY, from the position behind its word up to the end of the line, and what is kept of it.
-pub fn keep_notify(text: &[u8], at: usize) -> NotifyKept
+pub fn keep_notify(text: &[u8], at: usize) -> Option<(Notify, usize)>
     ensures { Keeps (whole_by notify_word text.now at) result }
 {
     if octets::octet_at(text, at) != b' ' {
-        return read_notify::unkept();
+        return None;
     }
-    let r = read_notify::keep_at(text, at + 1);
-    let watch = r.watch;
-    let kept = r.kept;
-    let read = r.read;
-    NotifyKept {
-        read: notify_upto(read, text.len()),
-        watch,
-        kept,
+    let (notify, end) = read_notify::keep_at(text, at + 1)?;
+    if end == text.len() {
+        Some((notify, end))
+    } else {
+        None
     }
-}
-
-// What was read of it.
-pub fn notify_at(text: &[u8], at: usize) -> NotifyRead
-    ensures { result ≡ read_notify (whole_by notify_word text.now at) }
-{
-    let r = keep_notify(text, at);
-    r.read
 }
 
 // How it is answered.
-pub fn notify_reply(r: NotifyRead, l: Limits) -> Judged
-    ensures { result ≡ notified l r }
+pub fn notify_reply(r: &Option<(Notify, usize)>, l: Limits) -> Judged
+    ensures { result ≡ notified l (asks r.now) }
 {
     match r {
-        NotifyRead::Nothing(_) => answer(Verb::Notify, Reply::Accepted),
-        NotifyRead::Groups(_, tally, _) => answer(Verb::Notify, read_notify::reply_for(tally, l)),
-        NotifyRead::Bad => unread(),
+        Some((Notify::Nothing, _)) => answer(Verb::Notify, Reply::Accepted),
+        Some((Notify::Groups(g), _)) => answer(Verb::Notify, read_notify::reply_for(g.tally, l)),
+        None => unread(),
     }
 }
 
 pub fn judge_notify(text: &[u8], at: usize, l: Limits) -> Judged
     ensures { (has_selected : Bool) → result ≡ judged_of l has_selected (whole_by notify_word text.now at) }
 {
-    notify_reply(notify_at(text, at), l)
+    notify_reply(&keep_notify(text, at), l)
 }
 
 // ---- ESEARCH
 
-// What was read, if it ends at the end of the line.
-fn search_upto(r: SearchRead, end: usize) -> SearchRead
-    ensures { result ≡ search_upto end r }
-{
-    match r {
-        SearchRead::Is(asked, next) => {
-            if next == end {
-                SearchRead::Is(asked, next)
-            } else {
-                SearchRead::Bad
-            }
-        }
-        SearchRead::Bad => SearchRead::Bad,
-    }
-}
-
 // ESEARCH, from the position behind its word up to the end of the line; its keys go into the cells from the first on.
-pub fn search_at(text: &[u8], at: usize, cells: &mut [u64]) -> SearchRead
+pub fn search_at(text: &[u8], at: usize, cells: &mut [u64]) -> Option<(Asked, usize)>
     requires { length text.now < 4294967296 }
     ensures { ReadsSearch (whole_by esearch text.now at) cells.old cells.new result }
 {
     if octets::octet_at(text, at) != b' ' {
-        return SearchRead::Bad;
+        return None;
     }
-    search_upto(read_search::search_at(text, at + 1, cells), text.len())
+    let (asked, end) = read_search::search_at(text, at + 1, cells)?;
+    if end == text.len() {
+        Some((asked, end))
+    } else {
+        None
+    }
 }
 
 // How it is answered.
-fn search_reply(r: SearchRead, selected: bool, l: Limits) -> Judged
+fn search_reply(r: Option<(Asked, usize)>, selected: bool, l: Limits) -> Judged
     ensures { result ≡ searched l selected r }
 {
     match r {
-        SearchRead::Is(asked, _) => answer(
-            Verb::Esearch,
-            read_search::reply_for(asked, selected, l),
-        ),
-        SearchRead::Bad => unread(),
+        Some((asked, _)) => answer(Verb::Esearch, read_search::reply_for(asked, selected, l)),
+        None => unread(),
     }
 }
 
@@ -177,14 +130,13 @@ pub fn judge_search(text: &[u8], at: usize, selected: bool, l: Limits, cells: &m
 // ---- the line
 
 // The verb of a line that has a tag, and the position behind it.
-pub fn head(text: &[u8]) -> VerbRead
+pub fn head(text: &[u8]) -> Option<(Verb, usize)>
     ensures { Heads text.now result }
 {
     if !read_options::is_tagged(text) {
-        return VerbRead::Bad;
+        return None;
     }
-    let end = read_options::tag_end(text);
-    read_options::verb_at(text, end + 1)
+    read_options::verb_at(text, read_options::tag_end(text) + 1)
 }
 
 // The command of a verb, from the position behind its word on.
@@ -212,8 +164,8 @@ pub fn judge(text: &[u8], selected: bool, l: Limits, cells: &mut [u64]) -> Judge
     ensures { Judges l selected (command_of text.now) cells.old cells.new result }
 {
     match head(text) {
-        VerbRead::Is(verb, at) => judge_by(verb, text, at, selected, l, cells),
-        VerbRead::Bad => unread(),
+        Some((verb, at)) => judge_by(verb, text, at, selected, l, cells),
+        None => unread(),
     }
 }
 
@@ -223,7 +175,10 @@ pub fn judge(text: &[u8], selected: bool, l: Limits, cells: &mut [u64]) -> Judge
 pub fn watch_notify(text: &[u8], at: usize, session: Session) -> Session
     ensures { result ≡ watched_by (whole_by notify_word text.now at) session }
 {
-    read_notify::watch_by(keep_notify(text, at), session)
+    match keep_notify(text, at) {
+        Some((notify, _)) => read_notify::watch_by(notify, session),
+        None => session,
+    }
 }
 
 // The session that the command of a verb sets.
@@ -232,8 +187,7 @@ fn watch_by(verb: Verb, text: &[u8], at: usize, session: Session) -> Session
 {
     match verb {
         Verb::Notify => watch_notify(text, at, session),
-        Verb::Esearch => session,
-        Verb::Other => session,
+        Verb::Esearch | Verb::Other => session,
     }
 }
 
@@ -242,7 +196,7 @@ pub fn watched(text: &[u8], session: Session) -> Session
     ensures { result ≡ watched_by (command_of text.now) session }
 {
     match head(text) {
-        VerbRead::Is(verb, at) => watch_by(verb, text, at, session),
-        VerbRead::Bad => session,
+        Some((verb, at)) => watch_by(verb, text, at, session),
+        None => session,
     }
 }

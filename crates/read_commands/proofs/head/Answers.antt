@@ -1,11 +1,10 @@
--- `head`: by the tag and the verb. Assumes nothing.
-use mathlib.Core.Path.{sym, ◌∙◌}
-use borrow.Author.Tests.{not-true, not-false}
+-- `head`: by the verb that was read, as the definition does. Assumes nothing.
+use Rattle.std.proofs.Common.{sym, ◌∙◌}
 use Rattle.read_commands.proofs.Wholes.{no_tag, heads_by}
 use Rattle.read_commands.proofs.head.Goals as goal
 
 pub returns-then-not-is_tagged : goal.returns-then-not-is_tagged
-returns-then-not-is_tagged c = no_tag c.args.text.now (sym c.is_tagged.ensures ∙ not-true c.is_tagged.result c.if-not-is_tagged.true-raw)
+returns-then-not-is_tagged c = no_tag c.args.text.now (sym c.is_tagged.ensures ∙ c.if-not-is_tagged.true)
 
 pub returns : goal.returns
-returns c = heads_by c.args.text.now c.tag_end-end.result c.tag_end-end.ensures.exact (sym c.is_tagged.ensures ∙ not-false c.is_tagged.result c.if-not-is_tagged.false-raw) c.verb_at.result c.verb_at.ensures.exact
+returns c = heads_by c.args.text.now c.tag_end.result c.tag_end.ensures.exact (sym c.is_tagged.ensures ∙ c.if-not-is_tagged.false) _ c.verb_at.ensures.exact

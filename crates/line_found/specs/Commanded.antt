@@ -1,7 +1,7 @@
 -- What a command line that is a search gives to the code: its keys in the cells, its sources in the list. Assumes nothing.
-use Rattle.std.specs.Prelude.{◌≡◌, refl, Option, Some, Bool, true, false, cond, List, [], ◌∷◌, ℕ, ◌+◌, ◌≤◌, eqb, ltb, length, take}
+use Rattle.std.specs.Prelude.{◌≡◌, refl, Some, Bool, true, false, cond, List, [], ◌∷◌, ℕ, ◌+◌, ◌≤◌, eqb, ltb, length, take}
 use Rattle.std.proofs.Math.Path.{ap, ap₂}
-use Rattle.std.proofs.Common.{sym, ◌∙◌, subst, arith, ltb-false, length-append}
+use Rattle.std.proofs.Common.{◌∙◌, subst, arith, ltb-false, length-append}
 use Rattle.std.proofs.lemmas.List.Edits.{sets}
 use Rattle.model.specs.Requests.{Filter, names_of, Search, Command, search, esearch}
 use Rattle.model.specs.Limits.{limits, name_count, too_many_filters, too_many_keys, command_too_large}
@@ -78,7 +78,7 @@ module _ (s : List ℕ) (p : ℕ) (q : Search) where
   pub asked_read : (x : Parsed Command) → x ≡ ok p (search q) → (a : Asked) (n : ℕ) → Some (a, n) ≡ read_search x → a ≡ asked_of q
   asked_read x g a n i = ap (λ (z : Asked × ℕ). z.0) (inside (i ∙ ap read_search g))
     where
-      inside : Some (a, n) ≡ Some (asked_of q, p) → (a, n) ≡ (asked_of q, p)
+      inside : {x y : Asked × ℕ} → Some x ≡ Some y → x ≡ y
       inside z = cc
 
   -- the cells that the reader filled hold its keys, if they had room
@@ -92,7 +92,7 @@ module _ (s : List ℕ) (p : ℕ) (q : Search) where
       (read_cells b b' q.keys y a.used v w, read_proper s k.from p q.keys k.keys)
 
   -- the list of its sources is that of the definition
-  pub listed_read : (at : ℕ) → search_at s at ≡ ok p (search q) → kept_sources (in_at s at) ≡ Some (add_all nothing_listed (or_selected q.sources), (parts_of_lem at e).behind)
+  pub listed_read : (at : ℕ) (e : search_at s at ≡ ok p (search q)) → kept_sources (in_at s at) ≡ Some (add_all nothing_listed (or_selected q.sources), (parts_of_lem at e).behind)
   listed_read at e = ap kept_sources (parts_of_lem at e).sources
 
 -- ---- within the limits there are few sources and names
@@ -110,4 +110,3 @@ few_of (f ∷ fs) h =
 
 pub few_read : (q : Search) → command_too_large limits (search q) ≡ false → Few (or_selected q.sources)
 few_read q h = few_of q.sources (or_l (too_many_filters limits q.sources) (too_many_keys limits q.keys) h)
-

@@ -1,5 +1,5 @@
 -- The line of what was found, as it is written piece by piece. Assumes nothing.
-use Rattle.std.specs.Prelude.{◌≡◌, refl, cond, List, [], ◌∷◌, ◌++◌, map, ℕ, ◌+◌, ◌-◌, ◌*◌, length}
+use Rattle.std.specs.Prelude.{◌≡◌, refl, cond, List, [], ◌∷◌, ◌++◌, map, ℕ, length}
 use Rattle.std.proofs.Common.{sym, append-nil}
 use Rattle.model.specs.Lists.{concat_map, last_or}
 use Rattle.model.specs.Text.{octets, decimal, quoted}

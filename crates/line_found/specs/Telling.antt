@@ -34,6 +34,10 @@ use Rattle.order_mailboxes.specs.Named.{chosen, Below}
 pub name_short : (lens names : List ℕ) (k : ℕ) → length (name_at lens names k) ≤ 64
 name_short lens names k = let a = length-take (get_or lens k 0) (take 64 (drop (64 * k) names)) in let b = length-take 64 (drop (64 * k) names) in omega arith
 
+-- as code says how long a run is
+pub run-part : (from n : ℕ) → from + n - from ≡ n
+run-part from n = omega arith
+
 -- nothing was found
 pub line_none : (tag : List ℕ) (name : Name) (v : ℕ) (w : Returns) (l : List ℕ) → length l ≡ 0 → line_text tag name v w (uids_of l) ≡ []
 unfolding line_text

@@ -1,12 +1,10 @@
 -- The pieces of the line are the line. Assumes nothing.
-use Rattle.std.specs.Prelude.{◌≡◌, refl, Bool, true, false, ℕ, zero, suc, ◌+◌, ◌-◌, ◌*◌, ◌<◌, ◌≤◌, eqb, length, take, drop, get_or}
+use Rattle.std.specs.Prelude.{◌≡◌, refl, Bool, true, false, ℕ, ◌+◌, ◌-◌, ◌<◌, ◌≤◌, eqb, length, drop, get_or}
 use Rattle.std.proofs.Math.Path.{ap}
-use Rattle.std.proofs.Common.{ap₂, sym, ◌∙◌, add-one, arith, eq-eqb, ne_eqb, eqb-true, drop_of_length-le, drop-cons, get_or-take}
+use Rattle.std.proofs.Common.{ap₂, sym, ◌∙◌, add-one, arith, drop_of_length-le, drop-cons}
 use Rattle.std.proofs.Math.Bool.{cond}
 use mathlib.Core.List.{List, [], ◌∷◌, ◌++◌, append_assoc, append-nil}
-use Rattle.std.proofs.lemmas.Bool.{eqb-false}
 use Rattle.std.proofs.lemmas.List.{length-map}
-use Rattle.std.proofs.Math.Seq.{length-take-le}
 use Rattle.model.specs.Lists.{concat_map, last_or}
 use Rattle.model.specs.Text.{octets, decimal, quoted}
 use Rattle.model.specs.Lines.{Result, min, max, all as all_of, count, crlf, run_text, runs_text, set_text, result_text, render}
@@ -16,25 +14,20 @@ use Rattle.line_put.specs.Writes.{Writes, writes_as, Goes, goes_on}
 use Rattle.read_options.specs.declared.Returns.{Returns}
 use Rattle.line_found.specs.Line.{uids_of, tag_text, box_text, results_of, results_text, line_text}
 
--- a number that is not 0 is behind another, if the number before it is that one
-pub follows_is : (u upto : ℕ) → (not (eqb u 0) && eqb (u - 1) upto) ≡ eqb u (upto + 1)
-follows_is zero upto = sym (ne_eqb 0 (upto + 1) (λ z. (let y : ⊥ = omega arith in y)))
-follows_is (suc u) upto = rw (add-one)
-
 -- ---- ALL: the run from `from` to `upto` is open, and of the UIDs behind it i were passed
 module _ (from upto : ℕ) (xs : List ℕ) (i : ℕ) {w w' : Writer} {all : List ℕ} (g : Goes w all w' (runs_text from upto (uids_of (drop i xs)))) where
   module _ (h : i < length xs) where
-    step : (t : Bool) → t ≡ eqb (get_or xs i 0) (upto + 1)
+    step : (t : Bool) → eqb (get_or xs i 0) (upto + 1) ≡ t
         → runs_text from upto (uids_of (drop i xs)) ≡ cond t (runs_text from (get_or xs i 0) (uids_of (drop (i + 1) xs))) (run_text from upto ++ (octets "," ++ runs_text (get_or xs i 0) (get_or xs i 0) (uids_of (drop (i + 1) xs))))
     unfolding runs_text
     step t f =
         ap (λ (l : List ℕ). runs_text from upto (uids_of l)) (drop-cons xs i 0 h)
-        ∙ rw (add-one, ← f)
+        ∙ rw (add-one i, f)
 
-    pub set_joined : true ≡ eqb (get_or xs i 0) (upto + 1) → Goes w all w' (runs_text from (get_or xs i 0) (uids_of (drop (i + 1) xs)))
+    pub set_joined : eqb (get_or xs i 0) (upto + 1) ≡ true → Goes w all w' (runs_text from (get_or xs i 0) (uids_of (drop (i + 1) xs)))
     set_joined f = rw (step true f) at g
 
-    pub set-apart : false ≡ eqb (get_or xs i 0) (upto + 1) → {w₁ : Writer} → Writes w' (run_text from upto ++ (44 ∷ [])) w₁ → Goes w all w₁ (runs_text (get_or xs i 0) (get_or xs i 0) (uids_of (drop (i + 1) xs)))
+    pub set-apart : eqb (get_or xs i 0) (upto + 1) ≡ false → {w₁ : Writer} → Writes w' (run_text from upto ++ (44 ∷ [])) w₁ → Goes w all w₁ (runs_text (get_or xs i 0) (get_or xs i 0) (uids_of (drop (i + 1) xs)))
     set-apart f p = goes_on (rw (step false f, ← append_assoc) at g) p
 
   pub set_end : length xs ≤ i → {w₁ : Writer} → Writes w' (run_text from upto) w₁ → Writes w all w₁
@@ -71,31 +64,28 @@ four w u us =
     ∙ ap₂ (λ (x y : List ℕ). x ++ y) (of_one w.max (max (last_or u us))) (of_both c d
     ∙ ap₂ (λ (x y : List ℕ). x ++ y) (of_one w.all (all_of (u ∷ us))) (of_one w.count (count (length (u ∷ us)))))))
 
-last-uid : (x : ℕ) (xs : List ℕ) (k : ℕ) → k ≤ length xs → get_or (x ∷ xs) k 0 ≡ (last_or (record { 0 = x }) (uids_of (take k xs))).0
-last-uid x xs zero h = refl
-last-uid x [] (suc k) h = absurd (let z : ⊥ = omega arith in z)
-last-uid x (y ∷ xs) (suc k) h = last-uid y xs k (omega arith)
+last-uid : (x : ℕ) (xs : List ℕ) → get_or (x ∷ xs) (length xs) 0 ≡ (last_or (record { 0 = x }) (uids_of xs)).0
+last-uid x [] = refl
+last-uid x (y ∷ xs) = last-uid y xs
 
-abbrev pub pieces : Wanted → List ℕ → ℕ → List ℕ
-pieces w us n = ((cond w.min (octets " MIN " ++ decimal (get_or us 0 0)) [] ++ cond w.max (octets " MAX " ++ decimal (get_or us (n - 1) 0)) []) ++ cond w.all (octets " ALL " ++ set_text (uids_of (take n us))) []) ++ cond w.count (octets " COUNT " ++ decimal n) []
+abbrev pub pieces : Returns → List ℕ → List ℕ
+pieces w us = ((cond w.min (octets " MIN " ++ decimal (get_or us 0 0)) [] ++ cond w.max (octets " MAX " ++ decimal (get_or us (length us - 1) 0)) []) ++ cond w.all (octets " ALL " ++ set_text (uids_of us)) []) ++ cond w.count (octets " COUNT " ++ decimal (length us)) []
 
-pub pieces_are : (w : Returns) (us : List ℕ) (n : ℕ) → 1 ≤ n → n ≤ length us → pieces w us n ≡ results_text w (uids_of (take n us))
+pub pieces_are : (w : Returns) (us : List ℕ) → 1 ≤ length us → pieces w us ≡ results_text w (uids_of us)
 unfolding results_text
-pieces_are w us zero h k = absurd (let z : ⊥ = omega arith in z)
-pieces_are w [] (suc n) h k = absurd (let z : ⊥ = omega arith in z)
-pieces_are w (x ∷ xs) (suc n) h k =
-    let e : get_or (x ∷ xs) (suc n - 1) 0 ≡ (last_or (record { 0 = x }) (uids_of (take n xs))).0 = ap (λ (j : ℕ). get_or (x ∷ xs) j 0) (let z : suc n - 1 ≡ n = omega arith in z) ∙ last-uid x xs n (omega arith) in
-    let f : suc n ≡ length (uids_of (take (suc n) (x ∷ xs))) = sym (length-map (take (suc n) (x ∷ xs)) (λ (u : ℕ). record { 0 = u }) ∙ length-take-le (suc n) (x ∷ xs) k) in
-    ap₂ (λ (z m : ℕ). ((cond w.min (octets " MIN " ++ decimal x) [] ++ cond w.max (octets " MAX " ++ decimal z) []) ++ cond w.all (octets " ALL " ++ set_text (uids_of (take (suc n) (x ∷ xs)))) []) ++ cond w.count (octets " COUNT " ++ decimal m) []) e f
-    ∙ four w (record { 0 = x }) (uids_of (take n xs))
+pieces_are w [] h = absurd (let z : ⊥ = omega arith in z)
+pieces_are w (x ∷ xs) h =
+    let e : get_or (x ∷ xs) (length (x ∷ xs) - 1) 0 ≡ (last_or (record { 0 = x }) (uids_of xs)).0 = ap (λ (j : ℕ). get_or (x ∷ xs) j 0) (let z : length (x ∷ xs) - 1 ≡ length xs = omega arith in z) ∙ last-uid x xs in
+    let f : length (x ∷ xs) ≡ length (uids_of (x ∷ xs)) = sym (length-map (x ∷ xs) (λ (u : ℕ). record { 0 = u })) in
+    ap₂ (λ (z m : ℕ). ((cond w.min (octets " MIN " ++ decimal x) [] ++ cond w.max (octets " MAX " ++ decimal z) []) ++ cond w.all (octets " ALL " ++ set_text (uids_of (x ∷ xs))) []) ++ cond w.count (octets " COUNT " ++ decimal m) []) e f
+    ∙ four w (record { 0 = x }) (uids_of xs)
 
 -- ---- the line
 whole : (a t b q c v d r e : List ℕ) → ((((a ++ t) ++ b) ++ (((q ++ c) ++ v) ++ d)) ++ r) ++ e ≡ (a ++ (t ++ (b ++ (q ++ (c ++ (v ++ (d ++ r))))))) ++ e
 whole a t b q c v d r e = simp append_assoc
 
-pub line_pieces : (tag name : List ℕ) (v : ℕ) (w : Returns) (us : List ℕ) (n : ℕ) → 1 ≤ n → n ≤ length us → ((tag_text tag ++ box_text name v) ++ results_text w (uids_of (take n us))) ++ (13 ∷ 10 ∷ []) ≡ line_text tag name v w (uids_of (take n us))
+pub line_pieces : (tag name : List ℕ) (v : ℕ) (w : Returns) (us : List ℕ) → 1 ≤ length us → ((tag_text tag ++ box_text name v) ++ results_text w (uids_of us)) ++ (13 ∷ 10 ∷ []) ≡ line_text tag name v w (uids_of us)
 unfolding tag_text box_text results_text line_text render
-line_pieces tag name v w us zero h k = absurd (let z : ⊥ = omega arith in z)
-line_pieces tag name v w [] (suc n) h k = absurd (let z : ⊥ = omega arith in z)
-line_pieces tag name v w (x ∷ xs) (suc n) h k =
-    whole (octets "* ESEARCH (TAG \"") tag (octets "\" MAILBOX ") (quoted name) (octets " UIDVALIDITY ") (decimal v) (octets ") UID") (concat_map result_text (results_of w (record { 0 = x }) (uids_of (take n xs)))) crlf
+line_pieces tag name v w [] h = absurd (let z : ⊥ = omega arith in z)
+line_pieces tag name v w (x ∷ xs) h =
+    whole (octets "* ESEARCH (TAG \"") tag (octets "\" MAILBOX ") (quoted name) (octets " UIDVALIDITY ") (decimal v) (octets ") UID") (concat_map result_text (results_of w (record { 0 = x }) (uids_of xs))) crlf

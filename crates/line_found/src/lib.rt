@@ -2,13 +2,12 @@
 // UIDs come in an array of words; a single UID is a `Uid`.
 #![tactic(auto, using(line_put::specs::Writes::writes_nothing))]
 
-ghost use Rattle.std.specs.Prelude.{◌≡◌, cond, [], ◌∷◌, ◌++◌, ◌+◌, ◌*◌, ◌≤◌, ◌<◌, eqb, length, take, drop, get_or};
+ghost use Rattle.std.specs.Prelude.{◌≡◌, cond, [], ◌∷◌, ◌++◌, ◌+◌, ◌*◌, ◌≤◌, ◌<◌, eqb, length, take, drop};
 ghost use Rattle.model.specs.Text.{octets, decimal};
 ghost use Rattle.model.specs.Lines.{run_text, set_text};
 ghost use Rattle.line_put.specs.Writes.{Writes};
 ghost use Rattle.line_found.specs.Line.{uids_of, tag_text, box_text, results_text, line_text};
 ghost use Rattle.line_found.specs.Telling.{texts};
-ghost use Rattle.table_mailboxes.specs.Columns.{name_at};
 ghost use Rattle.search_find.specs.Runs.{Bounded};
 
 use line_put::Writer;
@@ -139,21 +138,21 @@ pub fn put_found(
     w.put(b"\r\n");
 }
 
-// The line of row k, of the UIDs that were found in it; none where nothing was.
+// The line of a row, of the UIDs that were found in it; none where nothing was.
 fn put_row(
     w: &mut Writer<'_>,
     tag: &[u8],
-    cols: &Columns,
-    k: usize,
+    name: &[u8],
+    validity: u64,
     wanted: Returns,
     uids: &[u64],
 )
-    requires { (w.old.limit ≤ length w.old.queue.now) × (w.old.at ≤ 8388608) × (length tag.now ≤ 32) × (k < 64) × (length uids.now ≤ 1024) }
-    ensures put { Writes w.old (line_text tag.now (name_at cols.now.lens cols.now.names k) (get_or cols.now.validities k 0) wanted (uids_of uids.now)) w.new }
+    requires { (w.old.limit ≤ length w.old.queue.now) × (w.old.at ≤ 8388608) × (length tag.now ≤ 32) × (length name.now ≤ 64) × (length uids.now ≤ 1024) }
+    ensures put { Writes w.old (line_text tag.now name.now validity wanted (uids_of uids.now)) w.new }
     ensures upper_bound { w.new.at ≤ w.old.at + 43500 }
 {
     if !uids.is_empty() {
-        put_found(w, tag, cols.name(k), cols.validities[k], wanted, uids);
+        put_found(w, tag, name, validity, wanted, uids);
     }
 }
 
@@ -175,6 +174,13 @@ pub fn put_rows(
     for i in (0..rows.len()).rev() {
         let k = rows[i] % 64;
         let from = starts[i];
-        put_row(w, tag, cols, k, wanted, &uids[from..from + counts[i]]);
+        put_row(
+            w,
+            tag,
+            cols.name(k),
+            cols.validities[k],
+            wanted,
+            &uids[from..from + counts[i]],
+        );
     }
 }

@@ -1,5 +1,5 @@
--- A source by the number of its scope and the names that are kept, and that it admits what the definition's source admits. Assumes nothing.
-use Rattle.std.specs.Prelude.{◌≡◌, refl, Bool, false, cond, ◌&&◌, ◌||◌, List, [], ◌∷◌, ◌++◌, map, ℕ, suc, ◌+◌, ◌-◌, ◌≤◌, eqb, length, take, drop, replicate}
+-- A source by its scope and the names that are kept, and that it admits what the definition's source admits. Assumes nothing.
+use Rattle.std.specs.Prelude.{◌≡◌, refl, Bool, false, ◌&&◌, ◌||◌, List, [], ◌∷◌, ◌++◌, map, ℕ, suc, ◌+◌, ◌-◌, ◌≤◌, length, take, drop, replicate}
 use Rattle.std.proofs.Common.{ap, ap₂, sym, ◌∙◌, append_assoc, arith, drop-drop, take_at}
 use Rattle.std.proofs.lemmas.List.{length-map, length-replicate}
 use Rattle.std.proofs.lemmas.List.Edits.{sets-eq}
@@ -15,22 +15,29 @@ use Rattle.model.specs.Searching.{admits}
 use Rattle.model.specs.declared.Mailbox.{Mailbox}
 use Rattle.model.specs.declared.LentName.{LentName}
 use Rattle.read_filters.specs.Scopes.{scope_for}
-use Rattle.read_sources.specs.Listing.{scope_number, source_from, sources_from, all_names, nothing_listed, add_all}
+use Rattle.read_filters.specs.declared.Scope.{Scope}
+use Rattle.read_filters.specs.declared.Scope.TheVariants.{Selected, Delayed, Inboxes, Personal, Subscribed, Subtree, SubtreeOne, Mailboxes}
+use Rattle.read_sources.specs.Listing.{source_from, sources_from, all_names, nothing_listed, add_all}
 use Rattle.read_sources.specs.declared.Source.{Source}
 use Rattle.read_sources.specs.declared.Listed.{Listed}
 use Rattle.read_sources.proofs.Folding.{listed_all}
 
 -- ---- as the code answers
-abbrev pub rights_by : ℕ → Bool → Bool → Bool → Bool → Bool → Bool → Bool
-rights_by scope a0 a1 a2 a3 a4 named = a4 && cond (eqb scope 4) a3 (a0 && cond (eqb scope 3) a1 (cond (eqb scope 2) (a1 && a2) named))
+abbrev pub admits_by : Scope → ℕ → Bool → Bool → Bool
+admits_by Selected a here named = here
+admits_by Delayed a here named = false
+admits_by Inboxes a here named = bit 4 a && (bit 0 a && (bit 1 a && bit 2 a))
+admits_by Personal a here named = bit 4 a && (bit 0 a && bit 1 a)
+admits_by Subscribed a here named = bit 4 a && bit 3 a
+admits_by Subtree a here named = bit 4 a && (bit 0 a && named)
+admits_by SubtreeOne a here named = bit 4 a && (bit 0 a && named)
+admits_by Mailboxes a here named = named
 
-abbrev pub admits_by : ℕ → ℕ → Bool → Bool → Bool
-admits_by scope a here named =
-    cond (eqb scope 0) here (cond (eqb scope 1) false (cond (eqb scope 7) named (rights_by scope (bit 0 a) (bit 1 a) (bit 2 a) (bit 3 a) (bit 4 a) named)))
-
--- a name takes another, by the number of the scope
-abbrev pub meant : ℕ → Name → Name → Bool
-meant scope t n = cond (eqb scope 5) (beneath_or_same t n) (cond (eqb scope 6) (one_level_or_same t n) (same t n))
+-- a name takes another, by the scope
+abbrev pub meant : Scope → Name → Name → Bool
+meant Subtree t n = beneath_or_same t n
+meant SubtreeOne t n = one_level_or_same t n
+meant _ t n = same t n
 
 -- one of the source's names takes it
 abbrev pub named_in : List LentName → Name → Source → Bool
@@ -53,9 +60,9 @@ names-kept p (a ∷ ns) = ap₂ (λ (n : Name) (b : Bool). p n || b) (name-kept 
 -- ---- one source
 module _ (m : Memory) (x : Mailbox) where
   abbrev named : Filter → Bool
-  named f = anyb (λ (t : List ℕ). meant (scope_number (scope_for f)) (argument t) (name_of x)) (names_of f)
+  named f = anyb (λ (t : List ℕ). meant (scope_for f) (argument t) (name_of x)) (names_of f)
 
-  admits_is : (f : Filter) → admits_by (scope_number (scope_for f)) x.attributes (is_selected m x.id) (named f) ≡ admits m x f
+  admits_is : (f : Filter) → admits_by (scope_for f) x.attributes (is_selected m x.id) (named f) ≡ admits m x f
   admits_is selected = refl
   admits_is delayed = refl
   admits_is inboxes = refl
@@ -68,9 +75,9 @@ module _ (m : Memory) (x : Mailbox) where
   module _ (names : List LentName) where
     source_is : (k : ℕ) (f : Filter) (rest : List LentName) → drop k names ≡ map lend_name (names_of f) ++ rest → admits_in names x.attributes (name_of x) (is_selected m x.id) (source_from k f) ≡ admits m x f
     source_is k f rest e =
-        ap (λ (l : List LentName). admits_by (scope_number (scope_for f)) x.attributes (is_selected m x.id) (anyb (λ (y : LentName). meant (scope_number (scope_for f)) (lent_name y) (name_of x)) l))
+        ap (λ (l : List LentName). admits_by (scope_for f) x.attributes (is_selected m x.id) (anyb (λ (y : LentName). meant (scope_for f) (lent_name y) (name_of x)) l))
         (ap (take (length (names_of f))) e ∙ take_at (map lend_name (names_of f)) rest (length (names_of f)) (length-map (names_of f) lend_name))
-        ∙ (ap (admits_by (scope_number (scope_for f)) x.attributes (is_selected m x.id)) (names-kept (λ (n : Name). meant (scope_number (scope_for f)) n (name_of x)) (names_of f))
+        ∙ (ap (admits_by (scope_for f) x.attributes (is_selected m x.id)) (names-kept (λ (n : Name). meant (scope_for f) n (name_of x)) (names_of f))
         ∙ admits_is f)
 
     -- the names of the others stand behind those of the first
@@ -111,8 +118,8 @@ module _ (fs : List Filter) (few : Few fs) where
   listed-sources =
       let w = few.sources in
       let l = sources_long 0 fs in
-      let zeros : List Source = replicate 8 (record { scope = 0; first = 0; count = 0 }) in
-      let r = length-replicate {A = Source} 8 (record { scope = 0; first = 0; count = 0 }) in
+      let zeros : List Source = replicate 8 (record { scope = Selected; first = 0; count = 0 }) in
+      let r = length-replicate {A = Source} 8 (record { scope = Selected; first = 0; count = 0 }) in
       ap (λ (t : Listed). take t.count t.sources) (listed_all nothing_listed fs)
       ∙ (ap (take (0 + length fs)) (sets-eq (sources_from 0 fs) zeros 0 (omega arith))
       ∙ take_at (sources_from 0 fs) (drop (0 + length (sources_from 0 fs)) zeros) (0 + length fs) (omega arith))

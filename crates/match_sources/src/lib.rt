@@ -8,12 +8,12 @@ ghost use Rattle.match_sources.specs.Admitting.{admits_by, meant, named_in, admi
 ghost use Rattle.match_sources.specs.Picking.{selected_by, Noted};
 
 use model::LentName;
-use read_filters::Kept;
+use read_filters::{Kept, Scope};
 use read_sources::{Listed, Source};
 use table_mailboxes::Columns;
 
-// A scope, by the number that `read_sources` gives it, admits a mailbox with these attributes; `named` says whether one of its names fits, where it has names.
-fn admits(scope: u64, attributes: u8, selected: bool, named: bool) -> bool
+// A scope admits a mailbox with these attributes; `named` says whether one of its names fits, where it has names.
+fn admits(scope: Scope, attributes: u8, selected: bool, named: bool) -> bool
     ensures { result ≡ admits_by scope attributes selected named }
 {
     let selectable = table_mailboxes::has(attributes, 0);
@@ -22,24 +22,24 @@ fn admits(scope: u64, attributes: u8, selected: bool, named: bool) -> bool
     let subscribed = table_mailboxes::has(attributes, 3);
     let list = table_mailboxes::has(attributes, 4);
     match scope {
-        0 => selected,
-        1 => false,
-        2 => list && selectable && personal && delivered,
-        3 => list && selectable && personal,
-        4 => list && subscribed,
-        7 => named,
-        _ => list && selectable && named,
+        Scope::Selected => selected,
+        Scope::Delayed => false,
+        Scope::Inboxes => list && selectable && personal && delivered,
+        Scope::Personal => list && selectable && personal,
+        Scope::Subscribed => list && subscribed,
+        Scope::Subtree | Scope::SubtreeOne => list && selectable && named,
+        Scope::Mailboxes => named,
     }
 }
 
 // A name that is kept takes this one, as its scope has it.
-fn is_meant(x: &LentName, scope: u64, name: &[u8]) -> bool
+fn is_meant(x: &LentName, scope: Scope, name: &[u8]) -> bool
     ensures { result ≡ meant scope (lent_name x.now) name.now }
 {
     let kept = table_mailboxes::row::kept_name(x);
     match scope {
-        5 => names::in_subtree(kept, name),
-        6 => names::in_one_level(kept, name),
+        Scope::Subtree => names::in_subtree(kept, name),
+        Scope::SubtreeOne => names::in_one_level(kept, name),
         _ => names::same(kept, name),
     }
 }

@@ -169,8 +169,11 @@ max_none i = omega arith
 wrote_last : (b b₁ : List ℕ) (n : ℕ) {p : ℕ} (p₁ : ℕ) (r : Read) (a : Key) → r ≡ key_found n p a → b₁ ≡ sets b n (code a)
     → WroteKeys (Some (record r { next = p₁ })) b b₁ n (ok p₁ (more a end))
 unfolding code key_count key_depth some_test parts_most
-wrote_last b b₁ n p₁ r a e f =
-    (ap (λ (x : Read). Some x) (rw (e, append-nil (code a), or-false (some_test unsupported_test a), max_none (parts_most a), max_none (key_depth a)) (found_is (record (key_found n p₁ a) { next = p₁ }) refl (omega arith) refl)), f ∙ rw (append-nil (code a)))
+wrote_last b b₁ n p₁ r a e f = (
+  ap (λ (x : Read). Some x) (rw (e, append-nil (code a), or-false (some_test unsupported_test a), max_none (parts_most a), max_none (key_depth a))
+      (found_is (record (key_found n p₁ a) { next = p₁ }) refl (omega arith) refl)),
+  f ∙ rw (append-nil (code a)),
+)
 
 -- ---- the cases of `key_at`
 
@@ -229,8 +232,14 @@ module _ (s : List ℕ) (at m : ℕ) where
               × (r₁ ≡ key_found (n + 2) p a) × (b₁ ≡ sets b (n + 2) (code a))
           first =
               let i = key-found b₀ b₁ (n + 2) r₁ (key_at (m - 1) s p₀) v in
-              let f = λ (z : ℕ). after s z " " (λ t. and_then (key_at (m - 1) s t) (λ o c. ok o (either i.1 c))) in
-              (i.0, i.1, either_is i.2 ∙ ap f (sym (ap (λ (x : Read). x.next) i.3)), i.3, i.4 ∙ ap (λ (x : List ℕ). sets x (n + 2) (code i.1)) (begun_alternation r b b₀ n (start_at s at) w e).1)
+              let f = λ (z : ℕ). after s z " " (λ t. and_then (key_at (m - 1) s t) (λ o c. ok o (either i.1 c))) in (
+                i.0,
+                i.1,
+                either_is i.2 ∙ ap f (sym (ap (λ (x : Read). x.next) i.3)),
+                i.3,
+                i.4 ∙ ap (λ (x : List ℕ). sets x (n + 2) (code i.1))
+                    (begun_alternation r b b₀ n (start_at s at) w e).1,
+              )
 
           pub either_one : None ≡ space_at s r₁.next → WroteKey None b b₁ n (key_at m s at)
           either_one g = let i = first in rw (i.2, space_no (λ t. and_then (key_at (m - 1) s t) (λ o c. ok o (either i.1 c))) (stands s r₁.next " ") (r₁.next + 1) g)

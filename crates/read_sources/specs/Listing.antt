@@ -26,11 +26,11 @@ scope_number Mailboxes = 7
 
 -- a source whose names are kept from n on
 abbrev pub source_from : ℕ → Filter → Source
-source_from n f = record { scope = scope_number (scope_for f); first = n; count = length (names_of f) }
+source_from n f = record { scope = scope_for f; first = n; count = length (names_of f) }
 
 -- ---- lists
 abbrev pub nothing_listed : Listed
-nothing_listed = record { count = 0; sources = replicate 8 (record { scope = 0; first = 0; count = 0 }); kept = nothing_kept }
+nothing_listed = record { count = 0; sources = replicate 8 (record { scope = Selected; first = 0; count = 0 }); kept = nothing_kept }
 
 -- one source more; one that finds no place is counted and dropped
 abbrev pub put_listed : Listed → Source → Kept → Listed

@@ -1,4 +1,4 @@
-// The sources as they are searched: each with its scope's number and its names, kept.
+// The sources as they are searched: each with its scope and its names, kept.
 #![tactic(auto)]
 
 ghost use Rattle.std.specs.Prelude.{◌≡◌, ◌≤◌, ◌<◌};
@@ -10,10 +10,10 @@ ghost use Rattle.read_sources.specs.Listing.{scope_number, nothing_listed, put_l
 use read_filters::{Kept, Scope};
 use read_search::parts::behind_word;
 
-// A source: whom it is about, by number, and which of the names that are kept are its own.
+// A source: whom it is about, and which of the names that are kept are its own.
 #[derive(Clone, Copy)]
 pub struct Source {
-    pub scope: u64,
+    pub scope: Scope,
     pub first: u64,
     pub count: u64,
 }
@@ -28,7 +28,7 @@ pub struct Listed {
 
 // The selected mailbox, as a search has it that names no sources.
 const SELECTED: Source = Source {
-    scope: 0,
+    scope: Scope::Selected,
     first: 0,
     count: 0,
 };
@@ -43,8 +43,8 @@ fn nothing_listed() -> Listed
     }
 }
 
-// The number of a scope.
-fn scope_number(scope: Scope) -> u64
+// The number of a scope, as programs print it.
+pub fn scope_number(scope: Scope) -> u64
     ensures { result ≡ scope_number scope }
 {
     match scope {
@@ -83,7 +83,7 @@ fn list_one(text: &[u8], at: usize, listed: Listed) -> Option<(Listed, usize)>
     let (filter, next) = read_filters::filter_at(text, at)?;
     let (kept, _) = read_filters::keep_filter(text, at, listed.kept)?;
     let one = Source {
-        scope: scope_number(filter.scope),
+        scope: filter.scope,
         first: listed.kept.count,
         count: filter.names,
     };

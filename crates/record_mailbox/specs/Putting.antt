@@ -1,8 +1,8 @@
 -- A row is put: what the code leaves is what the rules say. Assumes nothing.
-use Rattle.std.specs.Prelude.{◌≡◌, refl, true, false, List, ℕ, ◌<◌, ◌≤◌, ltb, length, set}
-use Rattle.std.proofs.Common.{ap, ap₂, sym, ◌∙◌, leb-true, lt-ltb, le-ltb}
+use Rattle.std.specs.Prelude.{◌≡◌, List, ℕ, length, set, Ok}
+use Rattle.std.proofs.Common.{ap, ap₂, sym, ◌∙◌, leb-true}
 use Rattle.model.specs.Names.{Name}
-use Rattle.model.specs.Memory.{Memory, boxes, filled, known}
+use Rattle.model.specs.Memory.{Memory, boxes, filled}
 use Rattle.model.specs.Rules.{Outcome}
 use Rattle.model.specs.declared.Mailbox.{Mailbox}
 use Rattle.model.specs.declared.Counts.{Counts}
@@ -14,22 +14,12 @@ use Rattle.table_messages.specs.Laid.{laid, laid_own}
 use Rattle.match_parent.specs.Upper.{StandsFor}
 use Rattle.line_put.specs.Heard.{After, Leaves}
 use Rattle.event_mailbox.specs.Accepted.{left}
-use Rattle.record_outcome.specs.Coming.{Lends, Placed, Comes, changed, putting}
-use Rattle.record_outcome.specs.Laws.{placed-known}
-use Rattle.record_outcome.specs.declared.Outcome.{Outcome as Came}
+use Rattle.record_outcome.specs.Coming.{Lends, Comes, Came, answer_of, rows_after, counts_after, session_after, putting}
 
 module _ (m : Memory) (ws : List ℕ) (k : Counts) (s : Session) (q : List ℕ) (lent : Lends m ws k s q) where
   -- as many mailboxes as the code counts
   pub counted : Law m → length (boxes m) ≡ k.mailboxes
   counted law = boxes_long m (leb-true _ _ law.used) ∙ ap (λ (c : Counts). c.mailboxes) lent.counts
-
-  -- a mailbox that is known, or not, by the count of rows that the code has
-  module _ (law : Law m) (i at : ℕ) (x : Mailbox) (w : Placed m i at x) where
-    pub here : at < k.mailboxes → known i (boxes m) ≡ true
-    here h = sym (placed-known m law i at x w (known i (boxes m)) refl) ∙ (ap (λ (c : Counts). ltb at c.mailboxes) lent.counts ∙ lt-ltb at k.mailboxes h)
-
-    pub nowhere : k.mailboxes ≤ at → known i (boxes m) ≡ false
-    nowhere h = sym (placed-known m law i at x w (known i (boxes m)) refl) ∙ (ap (λ (c : Counts). ltb at c.mailboxes) lent.counts ∙ le-ltb at k.mailboxes h)
 
   -- a row that stands for a parent by the code's session
   pub stands : (y : Mailbox) (n : Name) → StandsFor s (boxes m) n y → StandsFor m.session (boxes m) n y
@@ -38,18 +28,18 @@ module _ (m : Memory) (ws : List ℕ) (k : Counts) (s : Session) (q : List ℕ) 
   -- what a record leaves, by queue, session and F before it; n rows are used after it
   pub comes_put : (u o : Outcome) (at n : ℕ) (after : List ℕ → Session → ℕ → After) {row : Mailbox} {q' : List ℕ} {s' : Session} {f : ℕ} (r : Came)
       → u ≡ o → u.answer ≡ Done → u.after ≡ left m at n (after m.queue m.session (filled m)) → Leaves (after q s k.filled) row q' s' f
-      → r ≡ putting at row (record { mailboxes = n; messages = k.messages; filled = f }) s' → Comes m o r ws ws q'
+      → r ≡ Ok (putting at row (record { mailboxes = n; messages = k.messages; filled = f }) s') → Comes m o r ws ws q'
   comes_put u o at n after {row} {q'} {s'} {f} r same done is x e =
       let z : o.after ≡ left m at n (after q s k.filled) =
       ap (λ (j : Outcome). j.after) (sym same)
       ∙ (is ∙ ap (left m at n) (ap₂ (λ (p : List ℕ) (t : Session). after p t (filled m)) lent.queue lent.session ∙ ap (λ (c : Counts). after q s c.filled) lent.counts)) in
       record {
-        answer = ap (λ (c : Came). c.answer) e ∙ (sym done ∙ ap (λ (j : Outcome). j.answer) same);
-        rows = ap (λ (c : Came). changed c.change c.at c.row m.counts.mailboxes m.rows) e ∙ (ap (set m.rows at) x.row ∙ sym (ap (λ (j : Memory). j.rows) z));
+        answer = ap answer_of e ∙ (sym done ∙ ap (λ (j : Outcome). j.answer) same);
+        rows = ap (λ (c : Came). rows_after c m.counts.mailboxes m.rows) e ∙ (ap (set m.rows at) x.row ∙ sym (ap (λ (j : Memory). j.rows) z));
         words = laid_own ws ∙ ap (laid ws) (sym lent.entries ∙ sym (ap (λ (j : Memory). j.entries) z));
-        counts = ap (λ (c : Came). c.counts) e
+        counts = ap (λ (c : Came). counts_after c m.counts) e
             ∙ (ap₂ (λ (a b : ℕ). record { mailboxes = n; messages = a; filled = b }) (sym (ap (λ (c : Counts). c.messages) lent.counts)) x.heard.filled
             ∙ sym (ap (λ (j : Memory). j.counts) z));
-        session = ap (λ (c : Came). c.session) e ∙ (x.heard.session ∙ sym (ap (λ (j : Memory). j.session) z));
+        session = ap (λ (c : Came). session_after c m.session) e ∙ (x.heard.session ∙ sym (ap (λ (j : Memory). j.session) z));
         queue = x.heard.queue ∙ sym (ap (λ (j : Memory). j.queue) z);
       }

@@ -4,29 +4,33 @@ ghost use Rattle.model.specs.Memory.{Memory};
 ghost use Rattle.model.specs.Records.{subscribe};
 ghost use Rattle.demands.specs.Lasting.Law.{Law};
 ghost use Rattle.laws.specs.Room.{Room};
-ghost use Rattle.record_outcome.specs.Coming.{Lends, Placed, Comes, ladder};
+ghost use Rattle.record_outcome.specs.Coming.{Lends, Found, Comes, ladder};
 
-use model::{Counts, Mailbox, Refusal, Session};
-use record_outcome::Outcome;
+use event_mailbox::subscriptions;
+use model::{Counts, Refusal, Session};
+use record_outcome::{Outcome, Place};
 
-// Mailbox `id`, which is row x at place k, becomes subscribed, or unsubscribed where b is 0.
+// Mailbox `id`, which was found so, becomes subscribed, or unsubscribed where b is 0.
 pub fn subscribe(
     queue: &mut [u8],
     counts: Counts,
-    s: Session,
-    k: usize,
-    x: Mailbox,
+    s: &Session,
+    found: Option<Place>,
     id: u64,
     b: u64,
     quiet: u64,
-) -> Outcome
-    requires { Room (length queue.old) counts.filled s × (b ≤ 1) × (quiet ≤ 1) }
-    ensures { (m : Memory) (ws : List ℕ) → Lends m ws counts s queue.old → Law m → Placed m id k x → Comes m (ladder m (subscribe id b quiet)) result ws ws queue.new }
+) -> Result<Outcome, Refusal>
+    requires { Room (length queue.old) counts.filled s.now × (b ≤ 1) × (quiet ≤ 1) }
+    ensures { (m : Memory) (ws : List ℕ) → Lends m ws counts s.now queue.old → Law m → Found m id found → Comes m (ladder m (subscribe id b quiet)) result ws ws queue.new }
 {
-    if counts.mailboxes <= k as u64 {
-        return record_outcome::refused(Refusal::WrongId, counts, s);
-    }
-    let filled = counts.filled as usize;
-    let done = event_mailbox::subscriptions::subscribe(queue, s, filled, x, b as u8, quiet as u8);
-    crate::put(k, counts.mailboxes, counts, done)
+    let place = found.ok_or(Refusal::WrongId)?;
+    let done = subscriptions::subscribe(
+        queue,
+        s,
+        counts.filled as usize,
+        &place.row,
+        b as u8,
+        quiet as u8,
+    );
+    Ok(crate::put(place.at, counts.mailboxes, counts, done))
 }

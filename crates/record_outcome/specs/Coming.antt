@@ -1,7 +1,7 @@
 -- What the code leaves of lent memory, beside the outcome that the rules give (01, Records, 30 and 31). Assumes nothing.
-use Rattle.std.specs.Prelude.{◌≡◌, cond, List, ℕ, ◌*◌, ◌≤◌, length, set, Option, Some, None, Result, Ok, Err}
+use Rattle.std.specs.Prelude.{◌≡◌, true, false, cond, List, ℕ, ◌*◌, ◌≤◌, length, set, Option, Some, None, Result, Ok, Err}
 use Rattle.model.specs.Records.{Record}
-use Rattle.model.specs.Memory.{Memory, boxes, place, the_mailbox}
+use Rattle.model.specs.Memory.{Memory, boxes, place, known, the_mailbox}
 use Rattle.model.specs.Refusals.{wrong_id, name_held, wrong_uid, wrong_state, table_full}
 use Rattle.model.specs.Rules.{accepted}
 use Rattle.model.specs.Rules.{Outcome as Ruled}
@@ -20,6 +20,7 @@ use Rattle.laws.specs.Room.{Room}
 use Rattle.record_outcome.specs.declared.Change.{Change}
 use Rattle.record_outcome.specs.declared.Change.TheVariants.{Nothing, Put, Taken}
 use Rattle.record_outcome.specs.declared.Outcome.{Outcome}
+use Rattle.record_outcome.specs.declared.Place.{Place}
 
 -- ---- the code's outcomes
 -- no row changes, and a row is put
@@ -80,6 +81,11 @@ pub record Ready (ws : List ℕ) (k : Counts) (s : Session) (q : List ℕ) : Typ
 pub record Placed (m : Memory) (i k : ℕ) (x : Mailbox) : Type 0 where
   pub at : k ≡ place i (boxes m)
   pub is : x ≡ the_mailbox i (boxes m)
+
+-- what is found of mailbox i: it is known and has that place, or it is not known
+abbrev pub Found : Memory → ℕ → Option Place → Type 0
+Found m i (Some p) = (known i (boxes m) ≡ true) × Placed m i p.at p.row
+Found m i None = known i (boxes m) ≡ false
 
 -- ---- what the code leaves is what the rules say
 pub record Comes (m : Memory) (o : Ruled) (r : Came) (ws ws' q' : List ℕ) : Type 0 where

@@ -1,6 +1,8 @@
 -- What every kind of record needs to say that it comes to what the rules say. Assumes nothing.
-use Rattle.std.specs.Prelude.{◌≡◌, refl, Bool, true, false, List, ℕ, ◌<◌, ◌≤◌, ltb, length, get_or, Err}
-use Rattle.std.proofs.Common.{ap, sym, ◌∙◌, leb-true}
+use Rattle.std.specs.Prelude.{◌≡◌, refl, Bool, true, false, List, ℕ, ◌<◌, ◌≤◌, ltb, length, get_or, Option, Some, None, Ok, Err}
+use Rattle.std.proofs.Common.{ap, sym, ◌∙◌, leb-true, ltb-true}
+use Rattle.std.specs.Option.{ok_or}
+use Rattle.std.specs.Result.{IsErrAnd}
 use Rattle.model.specs.Records.{is_record, record_of}
 use Rattle.model.specs.Memory.{Memory, boxes, no_mailbox, place, known}
 use Rattle.model.specs.Lawful.{lawful}
@@ -10,12 +12,13 @@ use Rattle.model.specs.declared.Mailbox.{Mailbox}
 use Rattle.model.specs.declared.Counts.{Counts}
 use Rattle.model.specs.declared.Session.{Session}
 use Rattle.model.specs.declared.Refusal.{Refusal}
-use Rattle.model.specs.declared.Refusal.TheVariants.{UnlawfulMemory, BadRecord}
+use Rattle.model.specs.declared.Refusal.TheVariants.{UnlawfulMemory, BadRecord, WrongId}
 use Rattle.demands.specs.Lasting.Law.{Law}
 use Rattle.table_messages.specs.Laid.{laid, laid_own}
 use Rattle.table_mailboxes.specs.Walks.{row_at_lem}
 use Rattle.table_mailboxes.specs.Rows.{boxes_long}
-use Rattle.record_outcome.specs.Coming.{Lends, Placed, Comes, Came, ladder}
+use Rattle.record_outcome.specs.Coming.{Lends, Placed, Found, Comes, Came, ladder}
+use Rattle.record_outcome.specs.declared.Place.{Place}
 
 -- ---- a call, rung by rung
 module _ (m : Memory) (o : List ℕ) where
@@ -55,3 +58,32 @@ module _ (m : Memory) (law : Law m) (i k : ℕ) (x : Mailbox) (w : Placed m i k 
 
   pub placed_row : k < m.counts.mailboxes → x ≡ get_or m.rows k no_mailbox
   placed_row h = w.is ∙ row_at_lem i m.rows m.counts.mailboxes k fit w.at no_mailbox h
+
+-- ---- what was found of a mailbox
+module _ (m : Memory) (i : ℕ) {o : Option Place} (w : Found m i o) where
+  pub not-known : o ≡ None → known i (boxes m) ≡ false
+  not-known e = rw e at w
+
+  module _ {p : Place} (e : o ≡ Some p) where
+    some : Found m i (Some p)
+    some = rw e at w
+
+    pub is_known : known i (boxes m) ≡ true
+    is_known = some.0
+
+    pub is_placed : Placed m i p.at p.row
+    is_placed = some.1
+
+    pub is_within : Law m → p.at < m.counts.mailboxes
+    is_within law = ltb-true p.at m.counts.mailboxes (placed-known m law i p.at p.row is_placed true is_known)
+
+    pub is_row : Law m → p.row ≡ get_or m.rows p.at no_mailbox
+    is_row law = placed_row m law i p.at p.row is_placed (is_within law)
+
+-- the refusal of a mailbox that was not found, as `ok_or` and `?` give it
+pub none_refused : {o : Option Place} {e : Refusal} (r : Came) → o ≡ None → Err e ≡ ok_or o WrongId → IsErrAnd r (λ (j : Refusal). j ≡ e) → r ≡ Err WrongId
+none_refused {o} {e} (Err x) h d t =
+    let f = d ∙ ap (λ (p : Option Place). ok_or p WrongId) h in
+    let g : e ≡ WrongId = cc in
+    ap (λ (j : Refusal). Err j) (t ∙ g)
+none_refused (Ok x) h d t = absurd t

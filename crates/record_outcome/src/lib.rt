@@ -14,6 +14,13 @@ pub enum Change {
     Taken { at: usize },
 }
 
+// A mailbox that is known: its place among the used rows, and its row. What is looked for is an `Option` of it.
+#[derive(Clone, Copy)]
+pub struct Place {
+    pub at: usize,
+    pub row: Mailbox,
+}
+
 // What a record comes to that is not refused, besides the words of the message table and the octets of the queue. `counted` has the lines that
 // are still owed, for a record that asks.
 #[derive(Clone, Copy)]

@@ -4,4 +4,4 @@ use Rattle.record_mailbox.proofs.creating.add.Goals as goal
 
 pub returns : goal.returns
 returns c =
-    added c.args.queue.now c.args.counts c.args.s c.args.y c.args.x c.args.quiet _ c.create-done.ensures c.put.ensures
+    added c.args.queue.now c.args.counts c.args.s.now c.args.y.now c.args.x c.args.quiet _ c.create-done.ensures c.put.ensures

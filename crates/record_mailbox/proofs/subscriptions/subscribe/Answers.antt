@@ -1,9 +1,14 @@
 -- `subscribe`: a mailbox becomes subscribed or unsubscribed, or it is not known. Assumes nothing.
+use Rattle.std.proofs.Common.{Ok}
+use mathlib.Core.Path.{ap}
+use Rattle.record_outcome.specs.declared.Outcome.{Outcome}
+use Rattle.record_outcome.specs.Laws.{none_refused}
 use Rattle.record_mailbox.specs.Subscriptions.{subscribe_unknown, subscribe_comes}
 use Rattle.record_mailbox.proofs.subscriptions.subscribe.Goals as goal
 
-pub returns-then-counts-k : goal.returns-then-counts-k
-returns-then-counts-k c = λ m ws lent law w. subscribe_unknown m ws c.args.counts c.args.s c.args.queue.now lent law c.args.id c.args.k c.args.x w c.args.b c.args.quiet _ c.if-counts-k.true c.refused.ensures
+pub returns-in_err-place : goal.returns-in_err-place
+returns-in_err-place c = λ m ws lent law w. subscribe_unknown m ws c.args.counts c.args.s.now c.args.queue.now lent law c.args.id w c.args.b c.args.quiet _ c.in_err-place.ensures.ok_part
+    (none_refused _ c.in_err-place.ensures.ok_part c.in_err-place.ensures.value c.from_residual.ensures.1)
 
 pub returns : goal.returns
-returns c = λ m ws lent law w. subscribe_comes m ws c.args.counts c.args.s c.args.queue.now lent law c.args.id c.args.k c.args.x w c.args.b c.args.quiet _ c.if-counts-k.false c.subscribe-done.ensures c.put.ensures
+returns c = λ m ws lent law w. subscribe_comes m ws c.args.counts c.args.s.now c.args.queue.now lent law c.args.id w c.args.b c.args.quiet _ c.in_ok-place.place c.in_ok-place.ensures.ok_part c.subscribe-done.ensures (ap (λ (j : Outcome). Ok j) c.put.ensures)

@@ -1,7 +1,7 @@
 -- What a command line that is a search gives to the code: its keys in the cells, its sources in the list. Assumes nothing.
-use Rattle.std.specs.Prelude.{◌≡◌, refl, Bool, true, false, cond, List, [], ◌∷◌, ℕ, ◌+◌, ◌≤◌, eqb, ltb, length}
+use Rattle.std.specs.Prelude.{◌≡◌, refl, Some, Bool, true, false, cond, List, [], ◌∷◌, ℕ, ◌+◌, ◌≤◌, eqb, ltb, length, take}
 use Rattle.std.proofs.Math.Path.{ap, ap₂}
-use Rattle.std.proofs.Common.{sym, ◌∙◌, subst, arith, ltb-false, length-append}
+use Rattle.std.proofs.Common.{◌∙◌, subst, arith, ltb-false, length-append}
 use Rattle.std.proofs.lemmas.List.Edits.{sets}
 use Rattle.model.specs.Requests.{Filter, names_of, Search, Command, search, esearch}
 use Rattle.model.specs.Limits.{limits, name_count, too_many_filters, too_many_keys, command_too_large}
@@ -10,20 +10,14 @@ use Rattle.model.specs.SearchGrammar.{program_at, search_for, search_at}
 use Rattle.model.specs.Commands.{command_by, whole_line}
 use Rattle.model.specs.Searching.{or_selected}
 use Rattle.model.specs.Laws.{or_l, or_r}
-use Rattle.read_options.specs.declared.Returns.{Returns}
 use Rattle.read_keys.specs.Table.{codes}
 use Rattle.read_search.specs.Parts.{in_at, return_at, charset_part_at}
 use Rattle.read_search.specs.Searched.{Cells, read_search, asked_of}
 use Rattle.read_sources.specs.Listing.{all_names, nothing_listed, add_all, kept_sources}
 use Rattle.read_search.specs.declared.Asked.{Asked}
-use Rattle.read_sources.specs.declared.ListedRead.{ListedRead}
-use Rattle.read_search.specs.declared.SearchRead.{SearchRead}
-use Rattle.read_search.specs.declared.SearchRead.TheVariants.{Is}
 use Rattle.match_keys.specs.Read.{read_proper, read_cells}
 use Rattle.search_find.specs.Finds.{Held}
 use Rattle.match_sources.specs.Admitting.{Few}
-use Rattle.line_found.specs.declared.Wanted.{Wanted}
-use Rattle.line_found.specs.Line.{wanted}
 
 -- one reading after another that was read: what the first gave, and that the second was read behind it
 pub record Both {A B : Type 0} (x : Parsed A) (f : ℕ → A → Parsed B) (p : ℕ) (b : B) : Type 0 where
@@ -80,21 +74,26 @@ module _ (s : List ℕ) (p : ℕ) (q : Search) where
       place : (n : ℕ) (y : Search) → ok n (search y) ≡ ok p (search q) → n ≡ p
       place n y h = cc
 
+  -- what was read is what it asks
+  pub asked_read : (x : Parsed Command) → x ≡ ok p (search q) → (a : Asked) (n : ℕ) → Some (a, n) ≡ read_search x → a ≡ asked_of q
+  asked_read x g a n i = ap (λ (z : Asked × ℕ). z.0) (inside (i ∙ ap read_search g))
+    where
+      inside : {x y : Asked × ℕ} → Some x ≡ Some y → x ≡ y
+      inside z = cc
+
   -- the cells that the reader filled hold its keys, if they had room
-  pub held_read : (at : ℕ) → search_at s at ≡ ok p (search q) → (x : Parsed Command) → x ≡ ok p (search q) → (b b' : List ℕ) → Cells b b' x → (r : SearchRead) → r ≡ read_search x → (a : Asked) (n : ℕ) → r ≡ Is a n → a.used ≤ length b → Held b' a.used q.keys
-  held_read at e x g b b' c r i a n h w =
+  pub held_read : (at : ℕ) → search_at s at ≡ ok p (search q) → (x : Parsed Command) → x ≡ ok p (search q) → (b b' : List ℕ) → Cells b b' x
+      → (a : Asked) (n : ℕ) → Some (a, n) ≡ read_search x → a.used ≤ length b → Held (take a.used b') q.keys
+  held_read at e x g b b' c a n i w =
       let y : b' ≡ sets b 0 (codes q.keys) = subst (Cells b b') g c in
-      let u : a ≡ asked_of q = same (sym h ∙ (i ∙ ap read_search g)) in
+      let u : a ≡ asked_of q = asked_read x g a n i in
       let v : a.used ≡ 0 + length (codes q.keys) = ap (λ (k : Asked). k.used) u ∙ (let z : length (codes q.keys) ≡ 0 + length (codes q.keys) = omega arith in z) in
       let k = parts_of_lem at e in
       (read_cells b b' q.keys y a.used v w, read_proper s k.from p q.keys k.keys)
-    where
-      same : Is a n ≡ Is (asked_of q) p → a ≡ asked_of q
-      same z = cc
 
   -- the list of its sources is that of the definition
-  pub listed_read : (at : ℕ) → search_at s at ≡ ok p (search q) → (r : ListedRead) → r ≡ kept_sources (in_at s at) → r.listed ≡ add_all nothing_listed (or_selected q.sources)
-  listed_read at e r h = let k = parts_of_lem at e in ap (λ (t : ListedRead). t.listed) (h ∙ ap kept_sources k.sources)
+  pub listed_read : (at : ℕ) (e : search_at s at ≡ ok p (search q)) → kept_sources (in_at s at) ≡ Some (add_all nothing_listed (or_selected q.sources), (parts_of_lem at e).behind)
+  listed_read at e = ap kept_sources (parts_of_lem at e).sources
 
 -- ---- within the limits there are few sources and names
 names-count : (fs : List Filter) → length (all_names fs) ≡ name_count fs
@@ -111,13 +110,3 @@ few_of (f ∷ fs) h =
 
 pub few_read : (q : Search) → command_too_large limits (search q) ≡ false → Few (or_selected q.sources)
 few_read q h = few_of q.sources (or_l (too_many_filters limits q.sources) (too_many_keys limits q.keys) h)
-
--- what it is to return
-abbrev pub wanted_by : Returns → Wanted
-wanted_by r = record { least = r.min; most = r.max; every = r.all; count = r.count }
-
-pub wanted_read : (q : Search) (x : Parsed Command) (p : ℕ) → x ≡ ok p (search q) → (r : SearchRead) → r ≡ read_search x → (a : Asked) (n : ℕ) → r ≡ Is a n → wanted_by a.returns ≡ wanted q
-wanted_read q x p g r i a n h = ap (λ (k : Asked). wanted_by k.returns) (same (sym h ∙ (i ∙ ap read_search g)))
-  where
-    same : Is a n ≡ Is (asked_of q) p → a ≡ asked_of q
-    same z = cc

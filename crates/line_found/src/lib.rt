@@ -1,260 +1,186 @@
 // The lines of an ESEARCH: one for each mailbox that it found something in, with MIN, MAX, ALL and COUNT as they were asked for.
 // UIDs come in an array of words; a single UID is a `Uid`.
-#![tactic(auto)]
+#![tactic(auto, using(line_put::specs::Writes::writes_nothing))]
 
 ghost use Rattle.std.specs.Prelude.{◌≡◌, cond, [], ◌∷◌, ◌++◌, ◌+◌, ◌*◌, ◌≤◌, ◌<◌, eqb, length, take, drop};
 ghost use Rattle.model.specs.Text.{octets, decimal};
 ghost use Rattle.model.specs.Lines.{run_text, set_text};
-ghost use Rattle.line_put.specs.Put.{Put};
+ghost use Rattle.line_put.specs.Writes.{Writes};
 ghost use Rattle.line_found.specs.Line.{uids_of, tag_text, box_text, results_text, line_text};
 ghost use Rattle.line_found.specs.Telling.{texts};
-ghost use Rattle.line_found.specs.Commanded.{wanted_by};
-ghost use Rattle.match_sources.specs.Picking.{name_at};
 ghost use Rattle.search_find.specs.Runs.{Bounded};
 
+use line_put::Writer;
 use model::Uid;
 use read_options::Returns;
+use table_mailboxes::Columns;
 
 // u is the number behind `upto`.
 fn follows(u: Uid, upto: Uid) -> bool
     ensures { result ≡ eqb u.0 (upto.0 + 1) }
 {
-    if u.0 == 0 {
-        return false;
-    }
-    u.0 - 1 == upto.0
+    u.0 != 0 && u.0 - 1 == upto.0
 }
 
-fn put_run(queue: &mut [u8], at: usize, limit: usize, from: Uid, upto: Uid) -> usize
-    requires { (limit ≤ length queue.old) × (at ≤ 274877906944) }
-    ensures { (Put queue.old at limit (run_text from.0 upto.0) queue.new result) × (result ≤ at + 41) }
+fn put_run(w: &mut Writer<'_>, from: Uid, upto: Uid)
+    requires { (w.old.limit ≤ length w.old.queue.now) × (w.old.at ≤ 274877906944) }
+    ensures put { Writes w.old (run_text from.0 upto.0) w.new }
+    ensures upper_bound { w.new.at ≤ w.old.at + 41 }
 {
-    let a = line_put::put_number(queue, at, limit, from.0);
-    if from.0 == upto.0 {
-        return a;
+    w.put_number(from.0);
+    if from != upto {
+        w.put_byte(b':');
+        w.put_number(upto.0);
     }
-    let b = line_put::put_byte(queue, a, limit, 58);
-    line_put::put_number(queue, b, limit, upto.0)
 }
 
 // A run and a comma.
-fn put_part(queue: &mut [u8], at: usize, limit: usize, from: Uid, upto: Uid) -> usize
-    requires { (limit ≤ length queue.old) × (at ≤ 274877906944) }
-    ensures { (Put queue.old at limit (run_text from.0 upto.0 ++ (44 ∷ [])) queue.new result) × (result ≤ at + 42) }
+fn put_part(w: &mut Writer<'_>, from: Uid, upto: Uid)
+    requires { (w.old.limit ≤ length w.old.queue.now) × (w.old.at ≤ 274877906944) }
+    ensures put { Writes w.old (run_text from.0 upto.0 ++ (44 ∷ [])) w.new }
+    ensures upper_bound { w.new.at ≤ w.old.at + 42 }
 {
-    let a = put_run(queue, at, limit, from, upto);
-    line_put::put_byte(queue, a, limit, 44)
+    put_run(w, from, upto);
+    w.put_byte(b',');
 }
 
-// The first n UIDs, those that follow each other joined.
-fn put_set(queue: &mut [u8], at: usize, limit: usize, uids: &[u64], n: usize) -> usize
-    requires { ((limit ≤ length queue.old) × (at ≤ 4294967296)) × ((1 ≤ n) × ((n ≤ length uids.now) × (n ≤ 1048576))) }
-    ensures { (Put queue.old at limit (set_text (uids_of (take n uids.now))) queue.new result) × (result ≤ at + 42 * n) }
+// UIDs, those that follow each other joined.
+fn put_set(w: &mut Writer<'_>, uids: &[u64])
+    requires { (w.old.limit ≤ length w.old.queue.now) × (w.old.at ≤ 4294967296) × (1 ≤ length uids.now) × (length uids.now ≤ 1048576) }
+    ensures put { Writes w.old (set_text (uids_of uids.now)) w.new }
+    ensures upper_bound { w.new.at ≤ w.old.at + 42 * length uids.now }
 {
     let mut from = Uid(uids[0]);
     let mut upto = from;
-    let mut o = at;
-    let mut i = 1;
-    while i < n {
-        let u = Uid(uids[i]);
-        i += 1;
-        if follows(u, upto) {
-            upto = u;
-        } else {
-            o = put_part(queue, o, limit, from, upto);
+    for u in &uids[1..] {
+        let u = Uid(*u);
+        if !follows(u, upto) {
+            put_part(w, from, upto);
             from = u;
-            upto = u;
         }
+        upto = u;
     }
-    put_run(queue, o, limit, from, upto)
+    put_run(w, from, upto);
 }
 
 // A number behind its label, where it was asked for.
-fn put_labelled(queue: &mut [u8], at: usize, limit: usize, on: bool, label: &[u8], n: u64) -> usize
-    requires { (limit ≤ length queue.old) × (at ≤ 274877906944) × (length label.now ≤ 8) }
-    ensures { (Put queue.old at limit (cond on (label.now ++ decimal n) []) queue.new result) × (result ≤ at + 28) }
+fn put_labelled(w: &mut Writer<'_>, on: bool, label: &[u8], n: u64)
+    requires { (w.old.limit ≤ length w.old.queue.now) × (w.old.at ≤ 274877906944) × (length label.now ≤ 8) }
+    ensures put { Writes w.old (cond on (label.now ++ decimal n) []) w.new }
+    ensures upper_bound { w.new.at ≤ w.old.at + 28 }
 {
-    if !on {
-        return at;
-    }
-    let a = line_put::put(queue, at, limit, label);
-    line_put::put_number(queue, a, limit, n)
-}
-
-// A UID behind its label.
-fn put_uid(queue: &mut [u8], at: usize, limit: usize, on: bool, label: &[u8], u: Uid) -> usize
-    requires { (limit ≤ length queue.old) × (at ≤ 274877906944) × (length label.now ≤ 8) }
-    ensures { (Put queue.old at limit (cond on (label.now ++ decimal u.0) []) queue.new result) × (result ≤ at + 28) }
-{
-    put_labelled(queue, at, limit, on, label, u.0)
-}
-
-fn put_all(queue: &mut [u8], at: usize, limit: usize, on: bool, uids: &[u64], n: usize) -> usize
-    requires { ((limit ≤ length queue.old) × (at ≤ 2147483648)) × ((1 ≤ n) × ((n ≤ length uids.now) × (n ≤ 1048576))) }
-    ensures { (Put queue.old at limit (cond on (octets " ALL " ++ set_text (uids_of (take n uids.now))) []) queue.new result) × (result ≤ at + 5 + 42 * n) }
-{
-    if !on {
-        return at;
-    }
-    let a = line_put::put(queue, at, limit, b" ALL ");
-    put_set(queue, a, limit, uids, n)
-}
-
-// What an ESEARCH asked for.
-#[derive(Clone, Copy)]
-pub struct Wanted {
-    pub least: bool,
-    pub most: bool,
-    pub every: bool,
-    pub count: bool,
-}
-
-// What a search is to return, as it was read.
-pub fn wanted_of(r: Returns) -> Wanted
-    ensures { result ≡ wanted_by r }
-{
-    Wanted {
-        least: r.min,
-        most: r.max,
-        every: r.all,
-        count: r.count,
+    if on {
+        w.put(label);
+        w.put_number(n);
     }
 }
 
-fn put_results(
-    queue: &mut [u8],
-    at: usize,
-    limit: usize,
-    w: Wanted,
-    uids: &[u64],
-    n: usize,
-) -> usize
-    requires { ((limit ≤ length queue.old) × (at ≤ 1073741824)) × ((1 ≤ n) × ((n ≤ length uids.now) × (n ≤ 1048576))) }
-    ensures { (Put queue.old at limit (results_text w (uids_of (take n uids.now))) queue.new result) × (result ≤ at + 100 + 42 * n) }
+fn put_all(w: &mut Writer<'_>, on: bool, uids: &[u64])
+    requires { (w.old.limit ≤ length w.old.queue.now) × (w.old.at ≤ 2147483648) × (1 ≤ length uids.now) × (length uids.now ≤ 1048576) }
+    ensures put { Writes w.old (cond on (octets " ALL " ++ set_text (uids_of uids.now)) []) w.new }
+    ensures upper_bound { w.new.at ≤ w.old.at + 5 + 42 * length uids.now }
 {
-    let first = Uid(uids[0]);
-    let last = Uid(uids[n - 1]);
-    let a = put_uid(queue, at, limit, w.least, b" MIN ", first);
-    let b = put_uid(queue, a, limit, w.most, b" MAX ", last);
-    let c = put_all(queue, b, limit, w.every, uids, n);
-    put_labelled(queue, c, limit, w.count, b" COUNT ", n as u64)
+    if on {
+        w.put(b" ALL ");
+        put_set(w, uids);
+    }
 }
 
-fn put_tag(queue: &mut [u8], at: usize, limit: usize, tag: &[u8]) -> usize
-    requires { (limit ≤ length queue.old) × (at ≤ 16777216) × (length tag.now ≤ 1048576) }
-    ensures { (Put queue.old at limit (tag_text tag.now) queue.new result) × (result ≤ at + 28 + length tag.now) }
+fn put_results(w: &mut Writer<'_>, wanted: Returns, uids: &[u64])
+    requires { (w.old.limit ≤ length w.old.queue.now) × (w.old.at ≤ 1073741824) × (1 ≤ length uids.now) × (length uids.now ≤ 1048576) }
+    ensures put { Writes w.old (results_text wanted (uids_of uids.now)) w.new }
+    ensures upper_bound { w.new.at ≤ w.old.at + 100 + 42 * length uids.now }
 {
-    let a = line_put::put(queue, at, limit, b"* ESEARCH (TAG \"");
-    let b = line_put::put(queue, a, limit, tag);
-    line_put::put(queue, b, limit, b"\" MAILBOX ")
+    let n = uids.len();
+    put_labelled(w, wanted.min, b" MIN ", uids[0]);
+    put_labelled(w, wanted.max, b" MAX ", uids[n - 1]);
+    put_all(w, wanted.all, uids);
+    put_labelled(w, wanted.count, b" COUNT ", n as u64);
 }
 
-fn put_box(queue: &mut [u8], at: usize, limit: usize, name: &[u8], validity: u64) -> usize
-    requires { (limit ≤ length queue.old) × (at ≤ 33554432) × (length name.now ≤ 1048576) }
-    ensures { (Put queue.old at limit (box_text name.now validity) queue.new result) × (result ≤ at + 50 + 2 * length name.now) }
+fn put_tag(w: &mut Writer<'_>, tag: &[u8])
+    requires { (w.old.limit ≤ length w.old.queue.now) × (w.old.at ≤ 16777216) × (length tag.now ≤ 1048576) }
+    ensures put { Writes w.old (tag_text tag.now) w.new }
+    ensures upper_bound { w.new.at ≤ w.old.at + 28 + length tag.now }
 {
-    let a = line_put::put_quoted(queue, at, limit, name);
-    let b = line_put::put(queue, a, limit, b" UIDVALIDITY ");
-    let c = line_put::put_number(queue, b, limit, validity);
-    line_put::put(queue, c, limit, b") UID")
+    w.put(b"* ESEARCH (TAG \"");
+    w.put(tag);
+    w.put(b"\" MAILBOX ");
 }
 
-// The line of the first n UIDs.
+fn put_box(w: &mut Writer<'_>, name: &[u8], validity: u64)
+    requires { (w.old.limit ≤ length w.old.queue.now) × (w.old.at ≤ 33554432) × (length name.now ≤ 1048576) }
+    ensures put { Writes w.old (box_text name.now validity) w.new }
+    ensures upper_bound { w.new.at ≤ w.old.at + 50 + 2 * length name.now }
+{
+    w.put_quoted(name);
+    w.put(b" UIDVALIDITY ");
+    w.put_number(validity);
+    w.put(b") UID");
+}
+
+// The line of the UIDs that were found.
 pub fn put_found(
-    queue: &mut [u8],
-    at: usize,
-    limit: usize,
+    w: &mut Writer<'_>,
     tag: &[u8],
     name: &[u8],
     validity: u64,
-    w: Wanted,
+    wanted: Returns,
     uids: &[u64],
-    n: usize,
-) -> usize
-    requires { (((limit ≤ length queue.old) × (at ≤ 16777216)) × ((length tag.now ≤ 1048576) × (length name.now ≤ 1048576))) × ((1 ≤ n) × ((n ≤ length uids.now) × (n ≤ 1048576))) }
-    ensures { (Put queue.old at limit (line_text tag.now name.now validity w (uids_of (take n uids.now))) queue.new result) × (result ≤ at + 180 + length tag.now + 2 * length name.now + 42 * n) }
+)
+    requires { ((w.old.limit ≤ length w.old.queue.now) × (w.old.at ≤ 16777216)) × ((length tag.now ≤ 1048576) × (length name.now ≤ 1048576)) × ((1 ≤ length uids.now) × (length uids.now ≤ 1048576)) }
+    ensures put { Writes w.old (line_text tag.now name.now validity wanted (uids_of uids.now)) w.new }
+    ensures upper_bound { w.new.at ≤ w.old.at + 180 + length tag.now + 2 * length name.now + 42 * length uids.now }
 {
-    let a = put_tag(queue, at, limit, tag);
-    let b = put_box(queue, a, limit, name, validity);
-    let c = put_results(queue, b, limit, w, uids, n);
-    line_put::put(queue, c, limit, b"\r\n")
+    put_tag(w, tag);
+    put_box(w, name, validity);
+    put_results(w, wanted, uids);
+    w.put(b"\r\n");
 }
 
-// The line of row k, of which n UIDs were found from a place of the array on; none where nothing was.
+// The line of a row, of the UIDs that were found in it; none where nothing was.
 fn put_row(
-    queue: &mut [u8],
-    at: usize,
-    limit: usize,
+    w: &mut Writer<'_>,
     tag: &[u8],
-    names: &[u8],
-    k: usize,
-    len: u8,
+    name: &[u8],
     validity: u64,
-    w: Wanted,
+    wanted: Returns,
     uids: &[u64],
-    from: usize,
-    n: usize,
-) -> usize
-    requires { ((limit ≤ length queue.old) × ((at ≤ 8388608) × (length tag.now ≤ 32))) × (((k < 64) × (4096 ≤ length names.now)) × ((from + n ≤ length uids.now) × (n ≤ 1024))) }
-    ensures { (Put queue.old at limit (line_text tag.now (name_at names.now k len) validity w (uids_of (take n (drop from uids.now)))) queue.new result) × (result ≤ at + 43500) }
+)
+    requires { (w.old.limit ≤ length w.old.queue.now) × (w.old.at ≤ 8388608) × (length tag.now ≤ 32) × (length name.now ≤ 64) × (length uids.now ≤ 1024) }
+    ensures put { Writes w.old (line_text tag.now name.now validity wanted (uids_of uids.now)) w.new }
+    ensures upper_bound { w.new.at ≤ w.old.at + 43500 }
 {
-    if n == 0 {
-        return at;
+    if !uids.is_empty() {
+        put_found(w, tag, name, validity, wanted, uids);
     }
-    let a = k * 64;
-    let e = a + table_mailboxes::clip(len);
-    let to = from + n;
-    put_found(
-        queue,
-        at,
-        limit,
-        tag,
-        &names[a..e],
-        validity,
-        w,
-        &uids[from..to],
-        n,
-    )
 }
 
-// The lines of the first n places of an order of rows, the top one first, of what was found in each.
+// The lines of the places of an order of rows, the top one first, of what was found in each.
 pub fn put_rows(
-    queue: &mut [u8],
-    at: usize,
-    limit: usize,
+    w: &mut Writer<'_>,
     tag: &[u8],
-    lens: &[u8; 64],
-    names: &[u8; 4096],
-    validities: &[u64; 64],
+    cols: &Columns,
     rows: &[usize],
-    n: usize,
-    w: Wanted,
+    wanted: Returns,
     uids: &[u64],
     starts: &[usize],
     counts: &[usize],
-) -> usize
-    requires { ((limit ≤ length queue.old) × ((at ≤ 65536) × (length tag.now ≤ 32))) × (((n ≤ 64) × (n ≤ length rows.now)) × ((n ≤ length starts.now) × (n ≤ length counts.now))) × ((2048 ≤ length uids.now) × Bounded starts.now counts.now 0 n) }
-    ensures { (Put queue.old at limit (texts tag.now lens.now names.now validities.now rows.now w uids.now starts.now counts.now n) queue.new result) × (result ≤ at + 43500 * n) }
+)
+    requires { ((w.old.limit ≤ length w.old.queue.now) × (w.old.at ≤ 65536) × (length tag.now ≤ 32)) × ((length rows.now ≤ 64) × (length rows.now ≤ length starts.now) × (length rows.now ≤ length counts.now)) × ((2048 ≤ length uids.now) × Bounded starts.now counts.now 0 (length rows.now)) }
+    ensures put { Writes w.old (texts tag.now cols.now rows.now wanted uids.now starts.now counts.now (length rows.now)) w.new }
+    ensures upper_bound { w.new.at ≤ w.old.at + 43500 * length rows.now }
 {
-    let mut i = n;
-    let mut end = at;
-    while 0 < i {
-        i -= 1;
+    for i in (0..rows.len()).rev() {
         let k = rows[i] % 64;
-        end = put_row(
-            queue,
-            end,
-            limit,
-            tag,
-            names,
-            k,
-            lens[k],
-            validities[k],
+        let from = starts[i];
+        put_row(
             w,
-            uids,
-            starts[i],
-            counts[i],
+            tag,
+            cols.name(k),
+            cols.validities[k],
+            wanted,
+            &uids[from..from + counts[i]],
         );
     }
-    end
 }

@@ -1,5 +1,6 @@
 -- The texts of the listing: of one row on plain values, of an order from its top. Assumes nothing.
-use Rattle.std.specs.Prelude.{◌≡◌, Bool, true, false, not, cond, ◌&&◌, length, get_or}
+use Rattle.std.specs.Prelude.{◌≡◌, Bool, true, false, not, cond, ◌&&◌, length, get_or, take, drop, ◌*◌}
+use Rattle.std.proofs.lemmas.List.{length-take}
 use Rattle.std.proofs.Math.Path.{refl, ap₂, sym}
 use Rattle.std.proofs.Common.{ap, ◌∙◌, subst, add-one, arith}
 use mathlib.Core.List.{List, [], ◌∷◌, ◌++◌}
@@ -14,6 +15,7 @@ use Rattle.model.specs.declared.Session.{Session}
 use Rattle.model.specs.Text.{bit}
 use Rattle.model.specs.Rendered.{render-append}
 use Rattle.table_mailboxes.specs.Columns.{Column, Names, name_at, name_at_lem}
+use Rattle.table_mailboxes.specs.declared.Columns.{Columns}
 use Rattle.line_put.specs.declared.Writer.{Writer}
 use Rattle.line_put.specs.Writes.{Writes, writes_nothing, Goes, goes_on}
 use Rattle.order_mailboxes.specs.Named.{chosen, row_at, Below}
@@ -58,28 +60,32 @@ tells-listing m s true l counts asks p q k h = ap₂ (λ (c : ℕ) (b : Bool). l
 tells-listing m s false l counts asks p q k h = ap (λ (b : Bool). line_text (get_or l k no_mailbox) (get_or counts k 0) b) (q k h) ∙ line_is m s false (get_or l k no_mailbox)
 
 -- the columns that lines show
-pub record Shown (l : List Mailbox) (attributes lens validities nexts counters names : List ℕ) : Type 0 where
-  pub attribute : Column (λ (x : Mailbox). x.attributes) l attributes
-  pub len : Column (λ (x : Mailbox). x.namelen) l lens
-  pub validity : Column (λ (x : Mailbox). x.uidvalidity) l validities
-  pub next : Column (λ (x : Mailbox). x.uidnext) l nexts
-  pub counter : Column counter_of l counters
-  pub name : Names l names
+pub record Shown (l : List Mailbox) (c : Columns) : Type 0 where
+  pub attribute : Column (λ (x : Mailbox). x.attributes) l c.attributes
+  pub len : Column (λ (x : Mailbox). x.namelen) l c.lens
+  pub validity : Column (λ (x : Mailbox). x.uidvalidity) l c.validities
+  pub next : Column (λ (x : Mailbox). x.uidnext) l c.nexts
+  pub counter : Column counter_of l c.counters
+  pub name : Names l c.names
+
+-- a name has at most 64 octets
+pub name_short : (lens names : List ℕ) (k : ℕ) → length (name_at lens names k) ≤ 64
+name_short lens names k = let a = length-take (get_or lens k 0) (take 64 (drop (64 * k) names)) in let b = length-take 64 (drop (64 * k) names) in omega arith
 
 -- the line of row k
-abbrev pub line_at : List ℕ → List ℕ → List ℕ → List ℕ → List ℕ → List ℕ → ℕ → ℕ → Bool → List ℕ
-line_at attributes lens validities nexts counters names k messages on = line_by (get_or attributes k 0) (name_at lens names k) (get_or nexts k 0) (get_or validities k 0) (get_or counters k 0) messages on
+abbrev pub line_at : Columns → ℕ → ℕ → Bool → List ℕ
+line_at c k messages on = line_by (get_or c.attributes k 0) (name_at c.lens c.names k) (get_or c.nexts k 0) (get_or c.validities k 0) (get_or c.counters k 0) messages on
 
 pub line-at :
-    (l : List Mailbox) (attributes lens validities nexts counters names : List ℕ) → Shown l attributes lens validities nexts counters names
+    (l : List Mailbox) (c : Columns) → Shown l c
     → (k messages : ℕ) (on : Bool) → k < length l
-    → line_at attributes lens validities nexts counters names k messages on ≡ line_text (get_or l k no_mailbox) messages on
-line-at l attributes lens validities nexts counters names w k messages on h = rw (w.attribute k h, name_at_lem l lens names k w.len w.name h, w.next k h, w.validity k h, w.counter k h)
+    → line_at c k messages on ≡ line_text (get_or l k no_mailbox) messages on
+line-at l c w k messages on h = rw (w.attribute k h, name_at_lem l c.lens c.names k w.len w.name h, w.next k h, w.validity k h, w.counter k h)
 
-module _ (attributes lens validities nexts counters names at counts asks : List ℕ) where
+module _ (c : Columns) (at counts asks : List ℕ) where
   -- the line at a place
   abbrev pub place_text : ℕ → List ℕ
-  place_text k = line_at attributes lens validities nexts counters names (k % 64) (get_or counts (k % 64) 0) (noted (get_or asks (k % 64) 0))
+  place_text k = line_at c (k % 64) (get_or counts (k % 64) 0) (noted (get_or asks (k % 64) 0))
 
   -- the lines of the first n places, the highest first
   unfoldable pub texts : ℕ → List ℕ
@@ -98,13 +104,13 @@ small : (k m : ℕ) → k < m → m ≤ 64 → k % 64 ≡ k
 small k m h w = omega arith
 
 -- they are f's lines
-module _ (f : Mailbox → List Line) (l : List Mailbox) (attributes lens validities nexts counters names at counts asks : List ℕ) (w : length l ≤ 64) (v : Shown l attributes lens validities nexts counters names) (t : Tells f l counts asks) where
-  place_is : (k : ℕ) → k < length l → place_text attributes lens validities nexts counters names at counts asks k ≡ render_all (f (row_at l k))
+module _ (f : Mailbox → List Line) (l : List Mailbox) (c : Columns) (at counts asks : List ℕ) (w : length l ≤ 64) (v : Shown l c) (t : Tells f l counts asks) where
+  place_is : (k : ℕ) → k < length l → place_text c at counts asks k ≡ render_all (f (row_at l k))
   place_is k h =
-      subst (λ (j : ℕ). line_at attributes lens validities nexts counters names j (get_or counts j 0) (noted (get_or asks j 0)) ≡ render_all (f (get_or l j no_mailbox))) (sym (small k (length l) h w))
-      (line-at l attributes lens validities nexts counters names v k (get_or counts k 0) (noted (get_or asks k 0)) h ∙ t k h)
+      subst (λ (j : ℕ). line_at c j (get_or counts j 0) (noted (get_or asks j 0)) ≡ render_all (f (get_or l j no_mailbox))) (sym (small k (length l) h w))
+      (line-at l c v k (get_or counts k 0) (noted (get_or asks k 0)) h ∙ t k h)
 
-  pub texts_are : (n : ℕ) → Below at n (length l) → texts attributes lens validities nexts counters names at counts asks n ≡ render_all (concat_map f (chosen l at n))
+  pub texts_are : (n : ℕ) → Below at n (length l) → texts c at counts asks n ≡ render_all (concat_map f (chosen l at n))
   unfolding texts chosen render_all
   texts_are zero b = refl
   texts_are (suc n) b =
@@ -112,18 +118,18 @@ module _ (f : Mailbox → List Line) (l : List Mailbox) (attributes lens validit
       ∙ sym (render-append (f (row_at l (get_or at n 0))) (concat_map f (chosen l at n)))
 
 -- what is still to be written, when i places are left
-module _ (attributes lens validities nexts counters names order counts asks : List ℕ) {w w' : Writer} {all : List ℕ} where
+module _ (c : Columns) (order counts asks : List ℕ) {w w' : Writer} {all : List ℕ} where
   pub goes_next :
       (i : ℕ) {w₁ : Writer} → 0 < i
-      → Goes w all w' (texts attributes lens validities nexts counters names order counts asks i)
-      → Writes w' (place_text attributes lens validities nexts counters names order counts asks (get_or order (i - 1) 0)) w₁
-      → Goes w all w₁ (texts attributes lens validities nexts counters names order counts asks (i - 1))
+      → Goes w all w' (texts c order counts asks i)
+      → Writes w' (place_text c order counts asks (get_or order (i - 1) 0)) w₁
+      → Goes w all w₁ (texts c order counts asks (i - 1))
   goes_next i h g p =
       let e : i - 1 + 1 ≡ i = omega arith in
-      goes_on (rw (← e, texts-more attributes lens validities nexts counters names order counts asks (i - 1)) at g) p
+      goes_on (rw (← e, texts-more c order counts asks (i - 1)) at g) p
 
-  pub goes_end : w'.limit ≤ length w'.queue.now → Goes w all w' (texts attributes lens validities nexts counters names order counts asks 0) → Writes w all w'
-  goes_end h g = g w' (writes_nothing (texts_none attributes lens validities nexts counters names order counts asks) h)
+  pub goes_end : w'.limit ≤ length w'.queue.now → Goes w all w' (texts c order counts asks 0) → Writes w all w'
+  goes_end h g = g w' (writes_nothing (texts_none c order counts asks) h)
 
 -- the listing of the rules
 pub listing-is :

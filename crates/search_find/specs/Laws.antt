@@ -1,7 +1,7 @@
 -- A list of what was found grows by one, or not: what is left to look at says the rest. Assumes nothing.
 use Rattle.std.specs.Prelude.{◌≡◌, Bool, true, false, not, ◌&&◌, ℕ, zero, suc, ◌+◌, ◌-◌, ◌<◌, ◌≤◌, ltb, length, take, get_or, set}
 use Rattle.std.proofs.Math.Path.{refl, ap, ap₂, sym}
-use Rattle.std.proofs.Common.{◌∙◌, add-one, length-set, take-suc-set, get_or-set_same, take_all}
+use Rattle.std.proofs.Common.{◌∙◌, add-one, length-set, take-suc-set, get_or-set_same}
 use Rattle.std.proofs.Math.Bool.{cond}
 use mathlib.Core.List.{List, [], ◌∷◌, ◌++◌, map, append_assoc, append-nil}
 use native.Mathlib.Omega.{arith}
@@ -41,8 +41,8 @@ module _ (cells : List ℕ) (p : Probe) where
   pub hit_not : expunged p.message ≡ true → Hits cells p false
   hit_not e ks h = ap (λ (t : Bool). not t && holds_all ks (candidate p)) (sym e)
 
-  pub hit_by_lem : expunged p.message ≡ false → (r : Bool) → TestsAll cells (length cells) p r → Hits cells p r
-  hit_by_lem e r t ks h = t ks (take_all (length cells) cells (omega arith) ∙ h.0) h.1 ∙ ap (λ (t : Bool). not t && holds_all ks (candidate p)) (sym e)
+  pub hit_by_lem : expunged p.message ≡ false → (r : Bool) → TestsAll cells p r → Hits cells p r
+  hit_by_lem e r t ks h = t ks h.0 h.1 ∙ ap (λ (t : Bool). not t && holds_all ks (candidate p)) (sym e)
 
 -- ---- an order
 chosen_top : (es : List Message) (order : List ℕ) (k : ℕ) (e : Message) → 0 < k → e ≡ get_or es (get_or order (k - 1) 0) no_message → chosen es order k ≡ e ∷ chosen es order (k - 1)

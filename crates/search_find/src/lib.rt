@@ -33,7 +33,7 @@ pub struct Scratch {
 fn is_hit(cells: &[u64], p: Probe) -> bool
     ensures { Hits cells.now p result }
 {
-    !is_expunged(&p.message) && match_keys::all_hold(cells, cells.len(), p)
+    !is_expunged(&p.message) && match_keys::all_hold(cells, p)
 }
 
 // The UIDs of those that match in an order, rising.

@@ -1,30 +1,29 @@
 -- `put_set`: the open run and what is left are all that is to be written. Assumes nothing.
-use mathlib.Core.Path.{◌∙◌}
-use native.Mathlib.Omega.{arith}
-use Rattle.line_found.specs.Writing.{writing_start, writing_joined, writing-apart, writing_end}
+use Rattle.std.proofs.Common.{◌≡◌, true, false, eqb, ◌+◌, ◌-◌, length, take, drop, get_or, arith, rules, tests}
+use Rattle.line_found.specs.Writing.{set_joined, set-apart, set_end}
+use Rattle.line_found.proofs.put_set.Goals.{then-not-follows, else-not-follows}
 use Rattle.line_found.proofs.put_set.Goals as goal
 
-pub loop-i-init : goal.loop-i-init
-loop-i-init c =
-    writing_start c.args.queue.now c.args.at c.args.limit c.args.uids.now c.args.n c.requires.1.1.0 c.requires.0.0 c.requires.1.0
+pub loop-u-preserved : goal.loop-u-preserved
+loop-u-preserved c =
+    let xs = take (length c.args.uids.now - 1) (drop 1 c.args.uids.now) in
+    elim c.if-not-follows.branch [
+      | then-not-follows w ↦
+          let e : eqb (get_or xs c.loop-u.u-index 0) (c.loop-u.upto.0 + 1) ≡ false = search (rules, tests) in
+          rw (w.w-is, w.from-is, w.upto-is) (record {
+            limit = omega arith;
+            upper_bound = omega arith;
+            put = set-apart c.loop-u.from.0 c.loop-u.upto.0 xs c.loop-u.u-index c.loop-u.invariant.put c.loop-u-test.true e w.put_part.ensures.put;
+          })
+      | else-not-follows w ↦
+          let e : eqb (get_or xs c.loop-u.u-index 0) (c.loop-u.upto.0 + 1) ≡ true = search (rules, tests) in
+          rw (w.w-is, w.from-is, w.upto-is) (record {
+            limit = omega arith;
+            upper_bound = omega arith;
+            put = set_joined c.loop-u.from.0 c.loop-u.upto.0 xs c.loop-u.u-index c.loop-u.invariant.put c.loop-u-test.true e;
+          })
+    ]
 
-pub loop-i-preserved-then-follows : goal.loop-i-preserved-then-follows
-loop-i-preserved-then-follows c =
-    writing_joined c.args.queue.now c.args.at c.args.limit c.args.uids.now c.args.n c.requires.1.1.0 c.loop-i.queue c.loop-i.o c.loop-i.from.0 c.loop-i.upto.0 c.loop-i.i c.loop-i.invariant c.loop-i-test.true c.follows.result c.follows.ensures c.if-follows.true
-
-pub put_part-o-requires : goal.put_part-o-requires
-put_part-o-requires c = (omega arith, omega arith)
-
-pub loop-i-preserved : goal.loop-i-preserved
-loop-i-preserved c =
-    writing-apart c.args.queue.now c.args.at c.args.limit c.args.uids.now c.args.n c.requires.1.1.0 c.loop-i.queue c.loop-i.o c.loop-i.from.0 c.loop-i.upto.0 c.loop-i.i c.loop-i.invariant c.loop-i-test.true c.follows.result c.follows.ensures c.if-follows.false _ c.put_part-o.result c.put_part-o.ensures.0 c.put_part-o.ensures.1
-
-pub put_run-requires : goal.put_run-requires
-put_run-requires c = (omega arith, omega arith)
-
-pub shape_of-queue : goal.shape_of-queue
-shape_of-queue c = c.put_run.ensures.0.same ∙ c.loop-i.invariant.put.same
-
-pub returns : goal.returns
-returns c =
-    writing_end c.args.queue.now c.args.at c.args.limit c.args.uids.now c.args.n c.requires.1.1.0 c.loop-i.queue c.loop-i.o c.loop-i.from.0 c.loop-i.upto.0 c.loop-i.i c.loop-i.invariant c.loop-i-test.false _ c.put_run.result c.put_run.ensures.0 c.put_run.ensures.1
+pub returns-clause-put : goal.returns-clause-put
+returns-clause-put c =
+    set_end c.loop-u.from.0 c.loop-u.upto.0 (take (length c.args.uids.now - 1) (drop 1 c.args.uids.now)) c.loop-u.u-index c.loop-u.invariant.put c.loop-u-test.false c.put_run.ensures.put

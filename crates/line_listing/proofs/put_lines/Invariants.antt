@@ -8,6 +8,6 @@ use Rattle.line_listing.proofs.put_lines.Given as goal
 abbrev pub invariant-loop-i : goal.invariant-loop-i
 invariant-loop-i l = record {
   limit : l.w.limit ≤ length l.w.queue.now;
-  upper_bound : l.w.at + 300 * l.i ≤ l.initial.w.at + 300 * l.n;
-  put : Goes l.initial.w (texts l.attributes l.lens l.validities l.nexts l.counters l.names l.order l.counts l.asks l.n) l.w (texts l.attributes l.lens l.validities l.nexts l.counters l.names l.order l.counts l.asks l.i);
+  upper_bound : l.w.at + 300 * l.i ≤ l.initial.w.at + 300 * (length l.order);
+  put : Goes l.initial.w (texts l.cols l.order l.counts l.asks (length l.order)) l.w (texts l.cols l.order l.counts l.asks l.i);
 }

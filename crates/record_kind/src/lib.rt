@@ -9,7 +9,7 @@ use record_read::Kind;
 // ---- what a record is about
 
 // The records about mailboxes: `MB DL RN SB RT`.
-#[derive(Clone, Copy)]
+#[derive(Clone, Copy, PartialEq, Eq)]
 pub enum OfMailbox {
     Create,
     Delete,
@@ -19,7 +19,7 @@ pub enum OfMailbox {
 }
 
 // The records about messages: `ME XP FL`.
-#[derive(Clone, Copy)]
+#[derive(Clone, Copy, PartialEq, Eq)]
 pub enum OfMessage {
     Arrive,
     Expunge,
@@ -27,7 +27,7 @@ pub enum OfMessage {
 }
 
 // The records about the session: `SE CE DR`.
-#[derive(Clone, Copy)]
+#[derive(Clone, Copy, PartialEq, Eq)]
 pub enum OfSession {
     Select,
     Ended,
@@ -35,7 +35,7 @@ pub enum OfSession {
 }
 
 // A kind by its subject; `CM` is the one command, and a record of no kind is about nothing.
-#[derive(Clone, Copy)]
+#[derive(Clone, Copy, PartialEq, Eq)]
 pub enum Subject {
     Mailbox(OfMailbox),
     Message(OfMessage),
@@ -72,18 +72,7 @@ pub fn sought_id(kind: Kind, id: u64, selected: u16) -> u64
     ensures { result ≡ sought kind id selected }
 {
     match kind {
-        Kind::Create => id,
-        Kind::Delete => id,
-        Kind::Rename => id,
-        Kind::Subscribe => id,
-        Kind::Grant => id,
-        Kind::Arrive => id,
-        Kind::Expunge => id,
-        Kind::Reflag => id,
-        Kind::Select => id,
-        Kind::Ended => table_mailboxes::wide_id(selected),
-        Kind::Command => table_mailboxes::wide_id(selected),
-        Kind::Drained => table_mailboxes::wide_id(selected),
-        Kind::Unknown => id,
+        Kind::Ended | Kind::Command | Kind::Drained => u64::from(selected),
+        _ => id,
     }
 }

@@ -1,7 +1,7 @@
 -- What the code leaves of lent memory, beside the outcome that the rules give (01, Records, 30 and 31). Assumes nothing.
 use Rattle.std.specs.Prelude.{◌≡◌, true, false, cond, List, ℕ, ◌*◌, ◌≤◌, length, set, Option, Some, None, Result, Ok, Err}
 use Rattle.model.specs.Records.{Record}
-use Rattle.model.specs.Memory.{Memory, boxes, place, known, the_mailbox}
+use Rattle.model.specs.Memory.{Memory, boxes, place, known, the_mailbox, no_mailbox}
 use Rattle.model.specs.Refusals.{wrong_id, name_held, wrong_uid, wrong_state, table_full}
 use Rattle.model.specs.Rules.{accepted}
 use Rattle.model.specs.Rules.{Outcome as Ruled}
@@ -86,6 +86,11 @@ pub record Placed (m : Memory) (i k : ℕ) (x : Mailbox) : Type 0 where
 abbrev pub Found : Memory → ℕ → Option Place → Type 0
 Found m i (Some p) = (known i (boxes m) ≡ true) × Placed m i p.at p.row
 Found m i None = known i (boxes m) ≡ false
+
+-- its row; no mailbox's, where none was found
+abbrev pub row_of : Option Place → Mailbox
+row_of (Some p) = p.row
+row_of None = no_mailbox
 
 -- ---- what the code leaves is what the rules say
 pub record Comes (m : Memory) (o : Ruled) (r : Came) (ws ws' q' : List ℕ) : Type 0 where

@@ -1,10 +1,11 @@
 -- What every kind of record needs to say that it comes to what the rules say. Assumes nothing.
 use Rattle.std.specs.Prelude.{◌≡◌, refl, Bool, true, false, List, ℕ, ◌<◌, ◌≤◌, ltb, length, get_or, Option, Some, None, Ok, Err}
-use Rattle.std.proofs.Common.{ap, sym, ◌∙◌, leb-true, ltb-true}
+use Rattle.std.proofs.Common.{ap, sym, ◌∙◌, leb-true, ltb-true, ltb-false}
+use Rattle.std.proofs.lemmas.List.{get_or_past}
 use Rattle.std.specs.Option.{ok_or}
 use Rattle.std.specs.Result.{IsErrAnd}
 use Rattle.model.specs.Records.{is_record, record_of}
-use Rattle.model.specs.Memory.{Memory, boxes, no_mailbox, place, known}
+use Rattle.model.specs.Memory.{Memory, boxes, no_mailbox, place, known, the_mailbox}
 use Rattle.model.specs.Lawful.{lawful}
 use Rattle.model.specs.Rules.{Outcome}
 use Rattle.model.specs.Call.{refuse, call}
@@ -17,7 +18,7 @@ use Rattle.demands.specs.Lasting.Law.{Law}
 use Rattle.table_messages.specs.Laid.{laid, laid_own}
 use Rattle.table_mailboxes.specs.Walks.{row_at_lem}
 use Rattle.table_mailboxes.specs.Rows.{boxes_long}
-use Rattle.record_outcome.specs.Coming.{Lends, Placed, Found, Comes, Came, ladder}
+use Rattle.record_outcome.specs.Coming.{Lends, Placed, Found, row_of, Comes, Came, ladder}
 use Rattle.record_outcome.specs.declared.Place.{Place}
 
 -- ---- a call, rung by rung
@@ -87,3 +88,7 @@ none_refused {o} {e} (Err x) h d t =
     let g : e ≡ WrongId = cc in
     ap (λ (j : Refusal). Err j) (t ∙ g)
 none_refused (Ok x) h d t = absurd t
+
+pub row_is : (m : Memory) (i : ℕ) (o : Option Place) → Found m i o → row_of o ≡ the_mailbox i (boxes m)
+row_is m i (Some p) w = w.1.is
+row_is m i None w = sym (get_or_past (boxes m) (place i (boxes m)) no_mailbox (ltb-false (place i (boxes m)) (length (boxes m)) w))

@@ -3,7 +3,7 @@
 
 ghost use Rattle.std.specs.Prelude.{◌≡◌, ◌<◌};
 ghost use Rattle.model.specs.Answers.{number_of};
-ghost use Rattle.record_outcome.specs.Coming.{calm, putting, answer_of};
+ghost use Rattle.record_outcome.specs.Coming.{row_of, calm, putting, answer_of};
 
 use model::{Answer, Counts, Mailbox, Refusal, Session};
 
@@ -20,6 +20,16 @@ pub enum Change {
 pub struct Place {
     pub at: usize,
     pub row: Mailbox,
+}
+
+// The row of what was found; where nothing was, that of no mailbox.
+pub fn row_of(found: Option<Place>) -> Mailbox
+    ensures { result ≡ row_of found }
+{
+    match found {
+        Some(place) => place.row,
+        None => table_mailboxes::vacant(),
+    }
 }
 
 // What a record comes to that is not refused, besides the words of the message table and the octets of the queue. `counted` has the lines that

@@ -8,7 +8,10 @@ ghost use Rattle.event_message.specs.After.{Leaves, rows_taken_out, drop_after, 
 ghost use Rattle.event_message.specs.Deciding.{expunge_after};
 
 use event_message::Left;
+use line_message::Expunge;
+use line_put::Kept;
 use model::{Mailbox, MessageNumber, Session, Uid};
+use table_mailboxes::row;
 
 // Entry k is gone where its line was written, and else it waits.
 fn take_out(words: &mut [u64], used: usize, k: usize, gone: bool) -> usize
@@ -29,31 +32,20 @@ fn drop_one(
     words: &mut [u64],
     used: usize,
     queue: &mut [u8],
-    s: Session,
+    s: &Session,
     filled: usize,
     k: usize,
-    x: Mailbox,
+    x: &Mailbox,
     on: bool,
 ) -> Left
     requires { (k < used) × (used * 6 ≤ length words.old) × (64 ≤ length queue.old) × (length queue.old ≤ 65536) × (filled ≤ 65536) × (on ≡ true → filled ≤ length queue.old - 64) }
-    ensures { Leaves (drop_after (messages words.old) used queue.old s filled k x on) words.old words.new result.used queue.new result.session result.filled }
+    ensures { Leaves (drop_after (messages words.old) used queue.old s.now filled k x.now on) words.old words.new result.used queue.new result.kept.session result.kept.filled }
 {
     table_messages::remove(words, used, k);
     let rest = used - 1;
-    if !on {
-        return Left {
-            used: rest,
-            session: s,
-            filled: filled as u64,
-        };
-    }
-    let said = event_message::say_row(words, rest, queue, filled, x);
-    let kept = line_put::hear(s, said);
-    let session = kept.session;
     Left {
         used: rest,
-        session,
-        filled: kept.filled,
+        kept: event_message::tell_status(&words[..6 * rest], queue, s, filled, on, x),
     }
 }
 
@@ -62,56 +54,54 @@ fn drop_now(
     words: &mut [u64],
     used: usize,
     queue: &mut [u8],
-    s: Session,
+    s: &Session,
     filled: usize,
     k: usize,
     n: MessageNumber,
 ) -> Left
     requires { (k < used) × (used * 6 ≤ length words.old) × (64 ≤ length queue.old) × (length queue.old ≤ 65536) × (filled ≤ length queue.old - 64) }
-    ensures { Leaves (once_after (messages words.old) used queue.old s filled k n.0) words.old words.new result.used queue.new result.session result.filled }
+    ensures { Leaves (once_after (messages words.old) used queue.old s.now filled k n.0) words.old words.new result.used queue.new result.kept.session result.kept.filled }
 {
-    let said = line_message::say_expunge(queue, filled, n);
+    let said = line_put::say(queue, filled, &Expunge { n });
     let rest = take_out(words, used, k, said.fits);
-    let kept = line_put::hear(s, said);
-    let session = kept.session;
     Left {
         used: rest,
-        session,
-        filled: kept.filled,
+        kept: line_put::hear(*s, said),
     }
 }
 
 // `XP` of entry k, which is a message of mailbox x. The row has the record's counter already, and the entry keeps its own.
+#[tactic(auto, unfolding(event_message::specs::Deciding::expunge_after, event_message::specs::After::remove_after))]
 pub fn expunge(
     words: &mut [u64],
     used: usize,
     queue: &mut [u8],
-    s: Session,
+    s: &Session,
     filled: usize,
-    x: Mailbox,
+    x: &Mailbox,
     k: usize,
 ) -> Left
-    requires { (k < used) × (used * 6 ≤ length words.old) × (64 ≤ length queue.old) × (length queue.old ≤ 65536) × (filled ≤ 65536) × ((s.groupcount ≡ 0 → ⊥) → filled ≤ length queue.old - 64) }
-    ensures { Leaves (expunge_after (messages words.old) used queue.old s filled k x) words.old words.new result.used queue.new result.session result.filled }
+    requires { (k < used) × (used * 6 ≤ length words.old) × (64 ≤ length queue.old) × (length queue.old ≤ 65536) × (filled ≤ 65536) × ((s.now.groupcount ≡ 0 → ⊥) → filled ≤ length queue.old - 64) }
+    ensures { Leaves (expunge_after (messages words.old) used queue.old s.now filled k x.now) words.old words.new result.used queue.new result.kept.session result.kept.filled }
 {
     let e = table_messages::get(words, k);
-    let uid = e.uid;
-    let below = Uid(s.told as u64);
+    let told = Uid(u64::from(s.told));
     let chosen = event_message::is_chosen(s, x);
-    if !event_message::both(chosen, uid.0 < below.0) {
+    let seen = chosen && e.uid < told;
+    if !seen {
         let on = event_message::is_told(s, x, chosen, 1);
         return drop_one(words, used, queue, s, filled, k, x, on);
     }
-    let rights = table_mailboxes::row::has_rights(x.attributes);
-    let asked = match_groups::immediate_asks(s, 1);
-    if event_message::both(rights, asked) {
-        let n = table_messages::place_of(words, used, s.selected as u64, below, uid);
+    if row::has_rights(x.attributes) && match_groups::immediate_asks(s, 1) {
+        let n = table_messages::place_of(&words[..6 * used], u64::from(s.selected), told, e.uid);
         return drop_now(words, used, queue, s, filled, k, n);
     }
     let rest = take_out(words, used, k, false);
     Left {
         used: rest,
-        session: s,
-        filled: filled as u64,
+        kept: Kept {
+            session: *s,
+            filled: filled as u64,
+        },
     }
 }

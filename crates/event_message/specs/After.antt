@@ -37,6 +37,12 @@ status_text x l = render (status (name_of x) (mail_items x.uidnext (length (exis
 abbrev pub change_text : Mailbox → List ℕ
 change_text x = render (status (name_of x) (flag_items x.uidvalidity (counter_of x)))
 
+-- a text counts only where somebody is told
+pub hears_told : (q : List ℕ) (s : Session) (at : ℕ) (on : Bool) (t u : List ℕ) {q' : List ℕ} {s' : Session} {f : ℕ} → (on ≡ true → t ≡ u) → Hears (heard q s at on t) q' s' f → Hears (heard q s at on u) q' s' f
+unfolding heard
+hears_told q s at true t u e h = rw (e refl) at h
+hears_told q s at false t u e h = h
+
 -- entry k gone where its line was written, and else it waits
 abbrev pub rows_taken_out : List Message → ℕ → ℕ → Bool → List Message
 rows_taken_out es used k gone = cond gone (shut k used es) (set es k (with_states (get_or es k no_message) 1))

@@ -1,57 +1,17 @@
--- What the code holds of a state, and the steps as the code takes them. Assumes nothing.
-use Rattle.std.specs.Prelude.{◌≡◌, refl, Bool, true, false, ◌&&◌, ℕ, ◌+◌, ◌-◌, ◌<◌, ◌≤◌, ◌/◌, ◌%◌, get_or}
+-- What the code holds of a state, and its runs entry by entry. Assumes nothing.
+use Rattle.std.specs.Prelude.{◌≡◌, Bool, ℕ, ◌-◌, ◌<◌, get_or}
 use Rattle.std.proofs.Math.Path.{ap, sym}
-use Rattle.std.proofs.Common.{◌∙◌, lt-ltb, le-ltb, eq-eqb, ne_eqb}
+use Rattle.std.proofs.Common.{◌∙◌}
 use mathlib.Core.List.{List}
-use Rattle.model.specs.Memory.{no_message, uid_of, expunged}
+use Rattle.model.specs.Memory.{no_message}
 use Rattle.model.specs.declared.Message.{Message}
 use Rattle.order_messages.specs.Chosen.{chosen}
 use Rattle.order_messages.specs.Counts.{chosen_top}
-use Rattle.line_fetch.specs.Fetch.{fetch_text}
-use Rattle.line_message.specs.Counts.{count_text, expunge_word, exists_word}
-use Rattle.event_view.specs.Saying.{State, say, more, step_e, run_e, step_m, run_m, say_exists}
+use Rattle.event_view.specs.Saying.{State, step_e, run_e, step_m, run_m}
 use Rattle.event_view.specs.declared.Going.{Going}
 
 abbrev pub state_of : List ℕ → Going → State
 state_of q g = record { queue = q; end = g.end; whole = g.whole; rest = g.rest; next = g.next.0; bound = g.bound.0 }
-
-module _ (told lim : ℕ) (e x : Message) (p : e ≡ x) (s : State) where
-  pub e_off : told ≤ uid_of e → s ≡ step_e told lim x s
-  e_off h = rw (← p, le-ltb (uid_of e) told h)
-
-  pub e-gone : uid_of e < told → e.states % 2 ≡ 1 → say lim (count_text s.next expunge_word) (uid_of e) s ≡ step_e told lim x s
-  e-gone h k = rw (← p, lt-ltb (uid_of e) told h, eq-eqb (e.states % 2) 1 k)
-
-  pub e_stay : uid_of e < told → (e.states % 2 ≡ 1 → ⊥) → more s ≡ step_e told lim x s
-  e_stay h k = rw (← p, lt-ltb (uid_of e) told h, ne_eqb (e.states % 2) 1 k)
-
-  module _ (skip : Bool) where
-    pub m_off : told ≤ uid_of e → s ≡ step_m told skip lim x s
-    m_off h = rw (← p, le-ltb (uid_of e) told h)
-
-    pub m_skip : uid_of e < told → (skip && expunged e) ≡ true → s ≡ step_m told skip lim x s
-    m_skip h k = rw (← p, lt-ltb (uid_of e) told h, k)
-
-    pub m-mark : uid_of e < told → (skip && expunged e) ≡ false → e.states / 2 % 2 ≡ 1 → more (say lim (fetch_text s.next (uid_of e) e.flags e.counter) (uid_of e) s) ≡ step_m told skip lim x s
-    m-mark h k m = rw (← p, lt-ltb (uid_of e) told h, k, eq-eqb (e.states / 2 % 2) 1 m)
-
-    pub m_plain : uid_of e < told → (skip && expunged e) ≡ false → (e.states / 2 % 2 ≡ 1 → ⊥) → more s ≡ step_m told skip lim x s
-    m_plain h k m = rw (← p, lt-ltb (uid_of e) told h, k, ne_eqb (e.states / 2 % 2) 1 m)
-
-pub more_as : (s t : State) → s ≡ t → more s ≡ more t
-more_as s t e = ap more e
-
-pub more_is : (s : State) → record { queue = s.queue; end = s.end; whole = s.whole; rest = s.rest; next = s.next + 1; bound = s.bound } ≡ more s
-unfolding more
-more_is s = refl
-
-pub exists_none : (lim k n : ℕ) (s : State) → n ≡ 0 → s ≡ say_exists lim k n s
-unfolding say_exists
-exists_none lim k n s e = rw (eq-eqb n 0 e)
-
-pub exists_some : (lim k n : ℕ) (s t : State) → (n ≡ 0 → ⊥) → t ≡ say lim (count_text (k + n) exists_word) 0 s → t ≡ say_exists lim k n s
-unfolding say_exists
-exists_some lim k n s t h e = rw (ne_eqb n 0 h) e
 
 -- ---- one entry after the other
 module _ (es : List Message) (at : List ℕ) where

@@ -82,7 +82,7 @@ module _ (q q₁ : List ℕ) (lim u : ℕ) (t : List ℕ) (s : State) (e : ℕ) 
       let z : leb (s.end + length t) lim ≡ false = lt-leb (s.end + length t) lim (omega arith) in
       rw (z, and_false s.whole) (ap (λ (l : List ℕ). record { queue = l; end = s.end; whole = false; rest = s.rest + 1; next = s.next; bound = s.bound }) (same_queue ∙ sym b))
 
-  pub say-fits : (q₂ : List ℕ) (f : ℕ) → s.whole ≡ true → Put q₁ s.end lim t q₂ f → e ≤ lim → record { queue = q₂; end = f; whole = true; rest = s.rest; next = s.next; bound = u + 1 } ≡ say lim t u s
+  pub say-fits : (q₂ : List ℕ) (f : ℕ) → s.whole ≡ true → Put q₁ s.end lim t q₂ f → e ≤ lim → record { queue = q₂; end = f; whole = s.whole; rest = s.rest; next = s.next; bound = u + 1 } ≡ say lim t u s
   unfolding say
   say-fits q₂ f o p h =
       let n = a.next in

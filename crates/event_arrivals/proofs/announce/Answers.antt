@@ -1,18 +1,26 @@
 -- `announce`: the mailbox's entries by UID, and all lines of what is new among them. Assumes nothing.
-use borrow.Author.Rules.{rules}
-use mathlib.Core.Path.{ap₂}
-use native.Mathlib.Omega.{arith}
+use Rattle.std.proofs.Common.{arith, sym, ap, ◌∙◌, length-take-le}
 use Rattle.table_messages.specs.Words.{messages}
 use Rattle.line_message.specs.Whole.{news_text}
+use Rattle.order_messages.specs.Chosen.{chosen-take}
 use Rattle.order_messages.specs.Counts.{order_short}
 use Rattle.event_message.specs.After.{announces}
+use Rattle.event_message.specs.Shown.{shows_of}
 use Rattle.event_arrivals.proofs.announce.Goals as goal
 
-pub say_news-said-requires : goal.say_news-said-requires
-say_news-said-requires c =
-    let n = order_short (messages c.args.words.now) _ c.by_uid-n.result c.args.used c.args.s.selected c.by_uid-n.ensures in
-    (search rules, omega arith, c.requires.2, c.requires.3, c.requires.4)
+pub slice_bounds-order-end : goal.slice_bounds-order-end
+slice_bounds-order-end c =
+    let n = order_short (messages c.args.words.now) (messages c.args.words.now) c.by_uid-n.new.order c.by_uid-n.result c.from.result c.by_uid-n.ensures in
+    omega arith
+
+pub slice_bounds-line-end : goal.slice_bounds-line-end
+slice_bounds-line-end c =
+    let n = order_short (messages c.args.words.now) (messages c.args.words.now) c.by_uid-n.new.order c.by_uid-n.result c.from.result c.by_uid-n.ensures in
+    sym (length-take-le c.by_uid-n.result c.by_uid-n.new.order (omega arith))
 
 pub returns : goal.returns
 returns c =
-    announces c.args.queue.now c.args.s c.args.filled c.args.next _ _ _ c.say_news-said.result.fits c.say_news-said.result.end _ (ap₂ (news_text c.args.s.told) c.shows-w.ensures c.by_uid-n.ensures) c.say_news-said.ensures c.announced.ensures
+    let n = order_short (messages c.args.words.now) (messages c.args.words.now) c.by_uid-n.new.order c.by_uid-n.result c.from.result c.by_uid-n.ensures in
+    let listed = chosen-take (messages c.args.words.now) c.by_uid-n.new.order c.by_uid-n.result (omega arith) ∙ (rw c.from.ensures at c.by_uid-n.ensures) in
+    announces c.args.queue.now c.args.s.now c.args.filled c.args.next _ _ _ c.say-said.result.fits c.say-said.result.end _
+    (rw (c.from-2.ensures, c.shows.ensures) (ap (news_text c.args.s.now.told (shows_of c.args.s.now)) listed)) c.say-said.ensures c.announced.ensures

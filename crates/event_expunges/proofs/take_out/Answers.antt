@@ -1,11 +1,7 @@
--- `take_out`: removed, or kept as expunged. Assumes nothing.
+-- `take_out`: the entry is kept as expunged. Assumes nothing.
 use native.Mathlib.Omega.{arith}
-use Rattle.event_message.specs.After.{taken-gone, taken-waits}
+use Rattle.event_message.specs.After.{taken-waits}
 use Rattle.event_expunges.proofs.take_out.Goals as goal
-
-pub returns-then-gone : goal.returns-then-gone
-returns-then-gone c =
-    taken-gone c.args.words.now _ c.args.used c.args.k c.args.gone c.if-gone.true c.remove.ensures
 
 pub returns : goal.returns
 returns c =

@@ -1,41 +1,15 @@
--- `flag`: who is told is found, and the place in the view where a line needs it. Assumes nothing.
-use mathlib.Core.Path.{◌∙◌, ap}
-use mathlib.Core.Bool.{Bool, not, ◌&&◌}
-use native.Mathlib.Omega.{arith}
-use lib.Dec.{eqb}
-use Rattle.model.specs.Memory.{both_rights}
-use Rattle.table_messages.specs.Words.{messages}
-use Rattle.event_message.specs.Deciding.{told_some, reflag-tells, reflag_keeps}
+-- `flag`: the change is told at once, at the message's place in the view. Assumes nothing.
+use Rattle.std.proofs.Common.{rules, tests, ◌≡◌}
+use Rattle.std.specs.Prelude.{◌&&◌, ltb}
+use Rattle.model.specs.Memory.{uid_of}
+use Rattle.table_messages.specs.Words.{messages, messages-take}
+use Rattle.event_message.specs.Deciding.{reflag-tells}
 use Rattle.event_flags.proofs.flag.Goals as goal
-
-pub flag_now-requires : goal.flag_now-requires
-flag_now-requires c = (
-  omega (arith, c.requires.0, c.requires.1),
-  c.requires.2,
-  c.requires.3,
-  c.requires.5 (told_some c.args.s c.is_soon.result c.both-seen.result (both_rights c.args.x) _ c.is_soon.ensures c.if-is_soon.true),
-)
+use Rattle.event_flags.proofs.flag.Goals.{then-chosen, else-chosen}
 
 pub returns-then-is_soon : goal.returns-then-is_soon
 returns-then-is_soon c =
-    reflag-tells (messages c.args.words.now) c.args.used c.args.queue.now c.args.s c.args.filled c.args.k c.args.x c.get-e.result
-    c.get-e.ensures c.is_chosen-chosen.result c.both-seen.result c.is_chosen-chosen.ensures c.both-seen.ensures c.args.words.now _ _ _ _ _
-    c.args.flags c.args.counter c.is_soon.result c.is_soon.ensures c.place_of-n.result.0 c.place_of-n.ensures c.if-is_soon.true c.flag_now.ensures
-
-pub flag_kept-requires : goal.flag_kept-requires
-flag_kept-requires c = (
-  omega (arith, c.requires.0, c.requires.1),
-  c.requires.2,
-  c.requires.3,
-  c.requires.4,
-  λ z. c.requires.5 (told_some c.args.s c.is_told-on.result (not c.is_chosen-chosen.result) (both_rights c.args.x) _ c.is_told-on.ensures z),
-)
-
-pub returns : goal.returns
-returns c =
-    let rights = c.both.ensures ∙ ap (λ (b : Bool). b && eqb c.args.s.notified 0) c.has_rights-rights.ensures in
-    let kept = c.both-waits.ensures ∙ ap (λ (b : Bool). c.both-seen.result && b) rights in
-    reflag_keeps (messages c.args.words.now) c.args.used c.args.queue.now c.args.s c.args.filled c.args.k c.args.x c.get-e.result c.get-e.ensures
-    c.is_chosen-chosen.result c.both-seen.result c.is_chosen-chosen.ensures c.both-seen.ensures c.args.words.now _ _ _ _ _
-    c.args.flags c.args.counter c.is_soon.result c.is_soon.ensures c.both-waits.result c.is_told-on.result c.pick-states.result
-    kept c.is_told-on.ensures c.if-is_soon.false c.pick-states.ensures c.flag_kept.ensures
+    let seen : c.if-chosen.seen ≡ (c.is_chosen-chosen.result && ltb (uid_of c.get-e.result) c.args.s.now.told) = elim c.if-chosen.branch [ then-chosen w ↦ search (rules, tests) | else-chosen w ↦ search (rules, tests) ] in
+    reflag-tells (messages c.args.words.now) c.args.used c.args.queue.now c.args.s.now c.args.filled c.args.k c.args.x.now c.get-e.result
+    c.get-e.ensures c.is_chosen-chosen.result c.if-chosen.seen c.is_chosen-chosen.ensures seen c.args.words.now _ _ _ _ _
+    c.args.flags c.args.counter c.is_soon.result c.is_soon.ensures c.place_of-n.result.0 (rw (c.from-then-is_soon.ensures, c.from.ensures, messages-take c.args.used c.args.words.now) at c.place_of-n.ensures) c.if-is_soon.true c.flag_now.ensures

@@ -9,9 +9,6 @@ use Rattle.event_view.specs.Coded.{state_of}
 use Rattle.event_view.proofs.marks.Given as goal
 
 abbrev pub invariant-loop-j : goal.invariant-loop-j
-invariant-loop-j l = (l.j ≤ l.n) × (length l.queue ≡ length l.initial.queue) × (l.s.end ≤ 65536) × (l.s.rest + l.j ≤ l.initial.s.rest + l.n) × (l.s.next.0 + l.j ≤ l.initial.s.next.0 + l.n)
+invariant-loop-j l = (length l.queue ≡ length l.initial.queue) × (l.s.end ≤ 65536) × (l.s.rest + l.j ≤ l.initial.s.rest + length l.order) × (l.s.next.0 + l.j ≤ l.initial.s.next.0 + length l.order)
     × (run_m l.told.0 l.skip l.limit (chosen (messages l.words) l.order l.j) (state_of l.queue l.s)
-    ≡ run_m l.told.0 l.skip l.limit (chosen (messages l.words) l.order l.n) (state_of l.initial.queue l.initial.s))
-
-abbrev pub decreases-loop-j : goal.decreases-loop-j
-decreases-loop-j l = l.j
+    ≡ run_m l.told.0 l.skip l.limit (chosen (messages l.words) l.order (length l.order)) (state_of l.initial.queue l.initial.s))

@@ -1,9 +1,0 @@
--- `is_chosen`: id 0 is nobody's; any other is compared with the selected one. Assumes nothing.
-use borrow.Author.Tests.{eq-eqb, ne_eqb}
-use Rattle.event_message.proofs.is_chosen.Goals as goal
-
-pub returns-then-x-eq0 : goal.returns-then-x-eq0
-returns-then-x-eq0 c = rw (eq-eqb c.args.x.id 0 c.if-x-eq0.true)
-
-pub returns : goal.returns
-returns c = rw (ne_eqb c.args.x.id 0 c.if-x-eq0.false)

@@ -26,13 +26,13 @@ pub fn drain(queue: &mut [u8], filled: usize, n: usize) -> usize
 }
 
 // ---- `SE`
-pub fn viewed(s: Session, id: u16, told: u32) -> Session
-    ensures { result ≡ with_view s id told }
+pub fn viewed(s: &Session, id: u16, told: u32) -> Session
+    ensures { result ≡ with_view s.now id told }
 {
     Session {
         selected: id,
         told,
-        ..s
+        ..*s
     }
 }
 
@@ -43,9 +43,9 @@ pub struct Chose {
     pub used: usize,
 }
 
-pub fn select(words: &mut [u64], used: usize, s: Session, id: u16, next: u32) -> Chose
+pub fn select(words: &mut [u64], used: usize, s: &Session, id: u16, next: u32) -> Chose
     requires { used * 6 ≤ length words.old }
-    ensures { (words.new ≡ laid words.old (select_entries (messages words.old) used)) × (result.used ≡ length (rests (take used (messages words.old)))) × (result.session ≡ with_view s id next) }
+    ensures { (words.new ≡ laid words.old (select_entries (messages words.old) used)) × (result.used ≡ length (rests (take used (messages words.old)))) × (result.session ≡ with_view s.now id next) }
 {
     let used = table_sweep::settle(words, used, Sweep::Rested);
     Chose {
@@ -70,10 +70,14 @@ pub fn is_owed(words: &[u64], id: u64, told: Uid) -> bool
 }
 
 // The view, if EXISTS was written.
-fn announced(s: Session, news: bool, next: u32) -> Session
-    ensures { result ≡ cond news (with_view s s.selected next) s }
+fn announced(s: &Session, news: bool, next: u32) -> Session
+    ensures { result ≡ cond news (with_view s.now s.now.selected next) s.now }
 {
-    if news { viewed(s, s.selected, next) } else { s }
+    if news {
+        viewed(s, s.selected, next)
+    } else {
+        *s
+    }
 }
 
 // What the end of a command leaves besides the table and the queue's octets, and how many lines are still owed.
@@ -91,18 +95,18 @@ pub fn end_command(
     used: usize,
     queue: &mut [u8],
     order: &mut [usize],
-    s: Session,
+    s: &Session,
     filled: usize,
     class: bool,
     rights: bool,
     next: u32,
 ) -> Closed
     requires { (used * 6 ≤ length words.old) × (used ≤ 1024) × (used ≤ length order.old) × (64 ≤ length queue.old) × (length queue.old ≤ 65536) × (filled ≤ 65536) }
-    ensures { Leaves (end_after (messages words.old) used queue.old s filled class rights next) (end_rest (messages words.old) used queue.old s filled class rights) words.old words.new queue.new result }
+    ensures { Leaves (end_after (messages words.old) used queue.old s.now filled class rights next) (end_rest (messages words.old) used queue.old s.now filled class rights) words.old words.new queue.new result }
 {
     if !rights {
         return Closed {
-            session: s,
+            session: *s,
             used,
             filled,
             rest: 0,
@@ -113,7 +117,7 @@ pub fn end_command(
     let limit = queue.len() - 64;
     let mails = &words[..6 * used];
     let n = order_messages::by_uid(mails, id, order);
-    let t = event_view::speak(mails, order, n, told, class, queue, limit, filled);
+    let t = event_view::speak(mails, &order[..n], told, class, queue, limit, filled);
     let left = table_sweep::settle(words, used, Sweep::Told(id, t.gone, t.shown));
     Closed {
         session: announced(s, t.news, next),

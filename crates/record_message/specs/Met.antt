@@ -1,26 +1,24 @@
 -- What the code finds of a record about a message, in the rules' words: its mailbox, its entry, what its end comes to. Assumes nothing.
-use Rattle.std.specs.Prelude.{◌≡◌, refl, Bool, true, false, not, ◌||◌, List, ℕ, ◌-◌, ◌<◌, ◌≤◌, eqb, leb, ltb, length, take, get_or, set}
+use Rattle.std.specs.Prelude.{◌≡◌, refl, Bool, true, false, not, ◌||◌, List, ℕ, ◌-◌, ◌*◌, ◌<◌, ◌≤◌, eqb, leb, ltb, length, take, get_or, set, Option, Some, None, position, Ok}
 use Rattle.std.proofs.Common.{ap, ap₂, sym, ◌∙◌, arith, get_or-take, lt-ltb, le-ltb, leb-true, eqb-true}
 use Rattle.model.specs.Laws.{and_l, and_r}
-use Rattle.model.specs.Lists.{anyb}
-use Rattle.model.specs.Memory.{Memory, boxes, mails, no_message, known, counter_of, is_message, expunged}
+use Rattle.model.specs.Memory.{Memory, mails, no_message, counter_of, is_message, expunged}
 use Rattle.model.specs.Refusals.{absent, stale}
 use Rattle.model.specs.Rules.{Outcome}
 use Rattle.demands.specs.Lasting.Law.{Law}
 use Rattle.model.specs.declared.Mailbox.{Mailbox}
+use Rattle.model.specs.declared.Message.{Message}
 use Rattle.model.specs.declared.Counts.{Counts}
 use Rattle.model.specs.declared.Session.{Session}
 use Rattle.model.specs.declared.Answer.TheVariants.{Done}
 use Rattle.laws.specs.Changing.{used_long}
-use Rattle.table_messages.specs.Words.{messages}
+use Rattle.table_messages.specs.Words.{messages, messages-take}
 use Rattle.table_messages.specs.Laid.{laid}
-use Rattle.table_messages.specs.Found.{stands, first, first_any, first_passes}
+use Rattle.table_messages.specs.Found.{stands, first, first_any, first_passes, found_none, found_one}
 use Rattle.laws.specs.Room.{Room}
 use Rattle.event_message.specs.After.{After, Leaves}
 use Rattle.event_message.specs.Accepted.{left}
-use Rattle.record_outcome.specs.Coming.{Lends, Placed, Comes, putting}
-use Rattle.record_outcome.specs.Laws.{placed-known}
-use Rattle.record_outcome.specs.declared.Outcome.{Outcome as Came}
+use Rattle.record_outcome.specs.Coming.{Lends, Placed, Comes, Came, putting}
 
 -- the counts after a record about a message
 abbrev pub counts_of : Counts → ℕ → ℕ → Counts
@@ -37,7 +35,7 @@ some_free q f s room some = go (eqb s.groupcount 0) refl (and_r (leb f q) (eqb s
 module _ (m : Memory) (ws : List ℕ) (k : Counts) (s : Session) (q : List ℕ) (lent : Lends m ws k s q) where
   -- ---- done: what was left is what the rule says, and the row at a place is another
   module _ (o : Outcome) (a : After) (ws' : List ℕ) (n : ℕ) (q' : List ℕ) (s' : Session) (f : ℕ) (d : o.answer ≡ Done) (l : Leaves a ws ws' n q' s' f) where
-    pub comes_put : (r : Came) (p : ℕ) (y : Mailbox) → o.after ≡ left m (set m.rows p y) a → r ≡ putting p y (counts_of k n f) s' → Comes m o r ws ws' q'
+    pub comes_put : (r : Came) (p : ℕ) (y : Mailbox) → o.after ≡ left m (set m.rows p y) a → r ≡ Ok (putting p y (counts_of k n f) s') → Comes m o r ws ws' q'
     comes_put r p y e z = rw z (record {
       answer = sym d;
       rows = sym (ap (λ (j : Memory). j.rows) e);
@@ -47,41 +45,36 @@ module _ (m : Memory) (ws : List ℕ) (k : Counts) (s : Session) (q : List ℕ) 
       queue = l.heard.queue ∙ sym (ap (λ (j : Memory). j.queue) e);
     })
 
-  module _ (law : Law m) (i p : ℕ) (x : Mailbox) (w : Placed m i p x) where
-    -- ---- its mailbox
-    many : m.counts.mailboxes ≡ k.mailboxes
-    many = ap (λ (c : Counts). c.mailboxes) lent.counts
+  -- ---- its mailbox's counter beside the record's
+  pub is-stale : (i : ℕ) {p : ℕ} {x : Mailbox} (w : Placed m i p x) (c : ℕ) (b : Bool) → leb c (counter_of x) ≡ b → stale m i c ≡ b
+  is-stale i w c b e = ap (λ (y : Mailbox). leb c (counter_of y)) (sym w.is) ∙ e
 
-    pub is_known : p < k.mailboxes → known i (boxes m) ≡ true
-    is_known h = sym (placed-known m law i p x w (known i (boxes m)) refl) ∙ lt-ltb p m.counts.mailboxes (rw many h)
+  -- ---- its entry
+  module _ (law : Law m) (i u : ℕ) (o : Option ℕ) (found : o ≡ position (stands i u) (messages (take (6 * k.messages) ws))) where
+    here : o ≡ position (stands i u) (mails m)
+    here = found ∙ (ap (position (stands i u)) (messages-take k.messages ws) ∙ ap₂ (λ (n : ℕ) (l : List Message). position (stands i u) (take n l)) (ap (λ (c : Counts). c.messages) (sym lent.counts)) (sym lent.entries))
 
-    pub is_unknown : k.mailboxes ≤ p → known i (boxes m) ≡ false
-    is_unknown h = sym (placed-known m law i p x w (known i (boxes m)) refl) ∙ le-ltb p m.counts.mailboxes (rw many h)
+    used : length (mails m) ≡ k.messages
+    used = used_long m law ∙ ap (λ (c : Counts). c.messages) lent.counts
 
-    -- its counter beside the record's
-    pub is-stale : (c : ℕ) (b : Bool) → leb c (counter_of x) ≡ b → stale m i c ≡ b
-    is-stale c b e = ap (λ (y : Mailbox). leb c (counter_of y)) (sym w.is) ∙ e
+    pub is-absent : o ≡ None → absent m i u ≡ true
+    is-absent e =
+        let z = found_none (stands i u) (mails m) (sym here ∙ e) in
+        ap not (sym (first_any (stands i u) (mails m)) ∙ le-ltb (first (stands i u) (mails m)) (length (mails m)) (omega (arith, z)))
 
-    -- ---- its entry
-    module _ (u at : ℕ) (found : at ≡ first (stands i u) (take k.messages (messages ws))) where
-      here : at ≡ first (stands i u) (mails m)
-      here = rw (lent.entries, lent.counts) found
+    module _ (at : ℕ) (e : o ≡ Some at) where
+      one : (at ≡ first (stands i u) (mails m)) × (at < length (mails m))
+      one = found_one (stands i u) (mails m) at (sym here ∙ e)
 
-      used : length (mails m) ≡ k.messages
-      used = used_long m law ∙ ap (λ (c : Counts). c.messages) lent.counts
+      pub is-there : absent m i u ≡ false
+      is-there = ap not (sym (first_any (stands i u) (mails m)) ∙ lt-ltb (first (stands i u) (mails m)) (length (mails m)) (rw one.0 at one.1))
 
-      some : (b : Bool) → ltb at k.messages ≡ b → anyb (stands i u) (mails m) ≡ b
-      some b e = sym (first_any (stands i u) (mails m)) ∙ (ap₂ ltb (sym here) used ∙ e)
+      pub is_within : at < k.messages
+      is_within = rw used at one.1
 
-      pub is-absent : k.messages ≤ at → absent m i u ≡ true
-      is-absent h = ap not (some false (le-ltb at k.messages h))
-
-      pub is-there : at < k.messages → absent m i u ≡ false
-      is-there h = ap not (some true (lt-ltb at k.messages h))
-
-      pub is_that : at < k.messages → is_message i u (get_or m.entries at no_message) ≡ true
-      is_that h =
-          let g : at < m.counts.messages = rw lent.counts h in
-          let z : first (stands i u) (mails m) < length (mails m) = omega (arith, here, used) in
-          let y : stands i u (get_or (mails m) at no_message) ≡ true = rw here (first_passes (stands i u) (mails m) z) in
+      pub is_that : is_message i u (get_or m.entries at no_message) ≡ true
+      is_that =
+          let g : at < m.counts.messages = rw lent.counts is_within in
+          let z : first (stands i u) (mails m) < length (mails m) = rw one.0 at one.1 in
+          let y : stands i u (get_or (mails m) at no_message) ≡ true = rw one.0 (first_passes (stands i u) (mails m) z) in
           and_l (is_message i u (get_or m.entries at no_message)) (not (expunged (get_or m.entries at no_message))) (ap (stands i u) (sym (get_or-take m.counts.messages m.entries at no_message g)) ∙ y)

@@ -9,9 +9,18 @@ use Rattle.model.specs.Names.{Name, subtree}
 use Rattle.model.specs.Selectors.{taken_by_inboxes, taken_by_personal, taken_by_subscribed}
 use Rattle.model.specs.Groups.{asks_messages, asks_mailbox}
 use Rattle.model.specs.declared.Group.{Group}
+use Rattle.model.specs.declared.LentGroup.{LentGroup}
+use Rattle.model.specs.declared.LentName.{LentName}
 use Rattle.model.specs.declared.Selector.{Selector}
 use Rattle.model.specs.declared.Selector.TheVariants.{Selected, Delayed, Inboxes, Personal, Subscribed, Subtree, Mailboxes}
 use Rattle.model.specs.Laws.{or-false, and_false, or_assoc}
+
+-- a name and a group as they are kept where there is none
+abbrev pub vacant_name : LentName
+vacant_name = record { len = 0; octets = [] }
+
+abbrev pub vacant_group : LentGroup
+vacant_group = record { selector = 0; first = 0; count = 0; events = 0; attributes = 0 }
 
 -- whom a selector takes by attributes alone
 abbrev pub taken_by : Selector → ℕ → Bool

@@ -18,8 +18,8 @@ use model::Session;
 use table_mailboxes::Columns;
 
 // The selected group asks for an event.
-pub fn selected_asks_any(s: Session) -> bool
-    ensures { result ≡ selected_asks s asks_any }
+pub fn selected_asks_any(s: &Session) -> bool
+    ensures { result ≡ selected_asks s.now asks_any }
 {
     match_groups::selected_asks(s, 0)
         || match_groups::selected_asks(s, 1)
@@ -52,9 +52,9 @@ fn is_selected(selected: u16, id: u64) -> bool
 
 // What is noted of all rows, for a session that NOTIFY SET is to set: not 0 where a row is told of, and where its STATUS is; `wanted`: STATUS was
 // asked.
-pub fn note_rows(s: Session, wanted: bool, cols: &Columns, picked: &mut [u8], asks: &mut [u8])
+pub fn note_rows(s: &Session, wanted: bool, cols: &Columns, picked: &mut [u8], asks: &mut [u8])
     requires { (cols.now.n ≤ length picked.old) × (cols.now.n ≤ length asks.old) }
-    ensures { (l : List Mailbox) → length l ≡ cols.now.n → Column (λ (x : Mailbox). x.id) l cols.now.ids → Column (λ (x : Mailbox). x.attributes) l cols.now.attributes → Column (λ (x : Mailbox). x.namelen) l cols.now.lens → Names l cols.now.names → NotesAll s wanted l picked.new asks.new }
+    ensures { (l : List Mailbox) → length l ≡ cols.now.n → Column (λ (x : Mailbox). x.id) l cols.now.ids → Column (λ (x : Mailbox). x.attributes) l cols.now.attributes → Column (λ (x : Mailbox). x.namelen) l cols.now.lens → Names l cols.now.names → NotesAll s.now wanted l picked.new asks.new }
 {
     let mut messages = [false; 64];
     let mut mailbox = [false; 64];

@@ -57,21 +57,19 @@ fn mark_top(top: &[u8], deep: bool, cols: &Columns, marks: &mut [bool; 64])
 }
 
 // Marks the rows that the names of a range take.
-fn mark_range(s: Session, range: NameRange, deep: bool, cols: &Columns, marks: &mut [bool; 64])
-    ensures { Marks cols.now.n (λ (k : ℕ). anyb (taken_by_name deep (name_at cols.now.lens cols.now.names k) (get_or cols.now.attributes k 0)) (names_in s range)) marks.old marks.new }
+fn mark_range(s: &Session, range: NameRange, deep: bool, cols: &Columns, marks: &mut [bool; 64])
+    ensures { Marks cols.now.n (λ (k : ℕ). anyb (taken_by_name deep (name_at cols.now.lens cols.now.names k) (get_or cols.now.attributes k 0)) (names_in s.now range)) marks.old marks.new }
 {
-    let first = match_groups::wide(range.first);
-    let end = match_groups::reach(range.first, range.count);
-    for i in first..end {
-        mark_top(row::kept_name(&s.names[i]), deep, cols, marks);
+    for x in match_groups::range_names(s, range) {
+        mark_top(row::kept_name(x), deep, cols, marks);
     }
 }
 
 // ---- by groups
 
 // Marks the rows that a selector meets.
-fn mark_met(s: Session, selector: Selector, cols: &Columns, marks: &mut [bool; 64])
-    ensures { Marks cols.now.n (λ (k : ℕ). meets s (name_at cols.now.lens cols.now.names k) (get_or cols.now.attributes k 0) selector) marks.old marks.new }
+fn mark_met(s: &Session, selector: Selector, cols: &Columns, marks: &mut [bool; 64])
+    ensures { Marks cols.now.n (λ (k : ℕ). meets s.now (name_at cols.now.lens cols.now.names k) (get_or cols.now.attributes k 0) selector) marks.old marks.new }
 {
     match selector {
         Selector::Selected | Selector::Delayed => {}
@@ -95,8 +93,8 @@ fn asks_of(g: Group, messages: bool) -> bool
 }
 
 // Marks the rows of which a group asks for such events.
-fn mark_group(s: Session, g: Group, messages: bool, cols: &Columns, marks: &mut [bool; 64])
-    ensures { Marks cols.now.n (λ (k : ℕ). meets s (name_at cols.now.lens cols.now.names k) (get_or cols.now.attributes k 0) g.selector && asks_of messages g) marks.old marks.new }
+fn mark_group(s: &Session, g: Group, messages: bool, cols: &Columns, marks: &mut [bool; 64])
+    ensures { Marks cols.now.n (λ (k : ℕ). meets s.now (name_at cols.now.lens cols.now.names k) (get_or cols.now.attributes k 0) g.selector && asks_of messages g) marks.old marks.new }
 {
     if asks_of(g, messages) {
         mark_met(s, g.selector, cols, marks);
@@ -104,11 +102,10 @@ fn mark_group(s: Session, g: Group, messages: bool, cols: &Columns, marks: &mut 
 }
 
 // Marks the rows of which one of the session's groups does.
-pub fn mark_asked(s: Session, messages: bool, cols: &Columns, marks: &mut [bool; 64])
-    ensures { Marks cols.now.n (λ (k : ℕ). asked s (name_at cols.now.lens cols.now.names k) (get_or cols.now.attributes k 0) (asks_of messages)) marks.old marks.new }
+pub fn mark_asked(s: &Session, messages: bool, cols: &Columns, marks: &mut [bool; 64])
+    ensures { Marks cols.now.n (λ (k : ℕ). asked s.now (name_at cols.now.lens cols.now.names k) (get_or cols.now.attributes k 0) (asks_of messages)) marks.old marks.new }
 {
-    let end = match_groups::groups(s.groupcount);
-    for g in &s.groups[..end] {
+    for g in match_groups::groups(s) {
         mark_group(s, lawful_session::group_of(*g), messages, cols, marks);
     }
 }

@@ -1,5 +1,5 @@
 -- An accepted NOTIFY SET: the size of its answer, and what it leaves. Assumes nothing.
-use Rattle.std.specs.Prelude.{◌≡◌, refl, Bool, true, ℕ, ◌+◌, ◌-◌, ◌<◌, ◌≤◌, length}
+use Rattle.std.specs.Prelude.{◌≡◌, refl, Bool, true, None, Ok, ℕ, ◌+◌, ◌-◌, ◌<◌, ◌≤◌, length}
 use Rattle.std.proofs.Math.Path.{ap, sym}
 use Rattle.std.proofs.Common.{ap₂, ◌∙◌, subst, arith, length-append, le-leb}
 use mathlib.Core.List.{List, [], ◌∷◌, ◌++◌, append-nil, append_assoc}
@@ -14,7 +14,6 @@ use Rattle.model.specs.Answering.{verb, accepted_lines, is_accepted, first_reply
 use Rattle.model.specs.declared.Counts.{Counts}
 use Rattle.model.specs.declared.Session.{Session}
 use Rattle.model.specs.declared.Reply.TheVariants.{TooLarge, Accepted}
-use Rattle.model.specs.declared.Answer.TheVariants.{Done}
 use Rattle.model.specs.Records.{command}
 use Rattle.model.specs.Rendered.{render-append, render_some}
 use Rattle.demands.specs.Lasting.Law.{Law}
@@ -25,8 +24,8 @@ use Rattle.event_session.specs.declared.Closed.{Closed}
 use Rattle.line_answer.specs.Sizes.{Whole}
 use Rattle.line_answer.specs.Answered.{left_as, whole_text, no-room_is, text-accepted, set_left}
 use Rattle.table_messages.specs.Words.{messages}
-use Rattle.record_outcome.specs.Coming.{Lends, Comes, ladder, quiet}
-use Rattle.record_outcome.specs.declared.Outcome.{Outcome as Came}
+use Rattle.table_mailboxes.specs.declared.Columns.{Columns}
+use Rattle.record_outcome.specs.Coming.{Lends, Comes, Came, ladder, calm}
 use Rattle.record_reply.specs.Left.{upto, comes_left}
 use Rattle.record_reply.specs.Sized.{small-accepted, large_is, roomless_is}
 use Rattle.record_set.specs.Listed.{Noted}
@@ -99,7 +98,7 @@ module _ (m : Memory) (t : List ℕ) (p : ℕ) (wanted : Bool) (gs : List Asked)
       pub set_comes : (rights : Bool) (next rest : ℕ) → rights ≡ both_rights (selected_box m) → next ≡ (selected_box m).uidnext
           → {ws' q₁ q₂ : List ℕ} {e at : ℕ} (d : Closed) → Leaves (end_after (messages ws) k.messages q s k.filled true rights next) rest ws ws' q₁ d
           → at ≡ k.filled + length O → Put q₁ at (length q - 64) W q₂ e
-          → (s' : Session) → s' ≡ watching d.session gs → (r : Came) → r ≡ quiet Done (upto k d.used e) s' → Comes m (ladder m (command t)) r ws ws' q₂
+          → (s' : Session) → s' ≡ watching d.session gs → (r : Came) → r ≡ Ok (calm None (upto k d.used e) s') → Comes m (ladder m (command t)) r ws ws' q₂
       set_comes rights next rest right uid {ws'} {q₁} {q₂} {e} {at} d x begins y s' sets r is =
           let v : Leaves (ended m law) rest ws ws' q₁ d = subst (λ (a : After). Leaves a rest ws ws' q₁ d) (ended_as m law ws k s q lent rights next right uid) x in
           let z : Put (ended m law).queue (filled m + length O) (length m.queue - 64) W q₂ e =
@@ -118,8 +117,8 @@ asked-view s s' v gs e = ap (λ (o : Session). with_view o v.selected v.told) e
 
 -- the notes are made for the session that is asked for
 pub noted-set : (m : Memory) (ws : List ℕ) (k : Counts) (s : Session) (q : List ℕ) (lent : Lends m ws k s q) (wanted : Bool) (gs : List Asked) (s' : Session) → s' ≡ watching s gs
-    → {attributes lens validities nexts counters names listed : List ℕ} {n : ℕ} {tally asks : List ℕ} → (s'.selected ≡ s.selected → Noted m s' wanted attributes lens validities nexts counters names listed n tally asks)
-    → Noted m (watching m.session gs) wanted attributes lens validities nexts counters names listed n tally asks
-noted-set m ws k s q lent wanted gs s' d {attributes} {lens} {validities} {nexts} {counters} {names} {listed} {n} {tally} {asks} f =
-    subst (λ (o : Session). Noted m o wanted attributes lens validities nexts counters names listed n tally asks)
+    → {c : Columns} {listed tally asks : List ℕ} → (s'.selected ≡ s.selected → Noted m s' wanted c listed tally asks)
+    → Noted m (watching m.session gs) wanted c listed tally asks
+noted-set m ws k s q lent wanted gs s' d {c} {listed} {tally} {asks} f =
+    subst (λ (o : Session). Noted m o wanted c listed tally asks)
     (d ∙ ap (λ (o : Session). watching o gs) (sym lent.session)) (f (ap (λ (o : Session). o.selected) d))

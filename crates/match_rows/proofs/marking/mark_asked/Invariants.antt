@@ -17,5 +17,5 @@ abbrev pub asks : Session → Bool → List ℕ → List ℕ → List ℕ → �
 asks s messages attributes lens names k g = asking s messages attributes lens names k (group_of g)
 
 abbrev pub invariant-loop-g : goal.invariant-loop-g
-invariant-loop-g l = Left l.cols.n (λ (k : ℕ). anyb (asks l.fn.s l.messages l.cols.attributes l.cols.lens l.cols.names k) l.g-items)
-    (λ (k : ℕ). anyb (asks l.fn.s l.messages l.cols.attributes l.cols.lens l.cols.names k) (drop l.g-index l.g-items)) l.initial.marks l.marks
+invariant-loop-g l = Left l.cols.n (λ (k : ℕ). anyb (asks l.s l.messages l.cols.attributes l.cols.lens l.cols.names k) l.g-items)
+    (λ (k : ℕ). anyb (asks l.s l.messages l.cols.attributes l.cols.lens l.cols.names k) (drop l.g-index l.g-items)) l.initial.marks l.marks

@@ -9,5 +9,5 @@ pub returns-in-Subtree : goal.returns-in-Subtree
 returns-in-Subtree c =
     λ k h. c.mark_range.ensures k h
     ∙ ap (λ (b : Bool). get_or c.args.marks.now k false || b)
-    (taken_deep (get_or c.args.cols.now.attributes k 0) (name_at c.args.cols.now.lens c.args.cols.now.names k) (names_in c.args.s c.in-Subtree.range)
-    ∙ sym (ap (meets c.args.s (name_at c.args.cols.now.lens c.args.cols.now.names k) (get_or c.args.cols.now.attributes k 0)) c.in-Subtree.is))
+    (taken_deep (get_or c.args.cols.now.attributes k 0) (name_at c.args.cols.now.lens c.args.cols.now.names k) (names_in c.args.s.now c.in-Subtree.range)
+    ∙ sym (ap (meets c.args.s.now (name_at c.args.cols.now.lens c.args.cols.now.names k) (get_or c.args.cols.now.attributes k 0)) c.in-Subtree.is))

@@ -1,5 +1,5 @@
 -- `mark_range`: the loop keeps that the marks with the names to come are the marks of the range. Assumes nothing.
-use Rattle.std.proofs.Common.{ℕ, List, Bool, take, drop, get_or}
+use Rattle.std.proofs.Common.{ℕ, List, Bool, drop, get_or}
 use Rattle.model.specs.Lists.{anyb}
 use Rattle.model.specs.Groups.{lent_name}
 use Rattle.model.specs.declared.LentName.{LentName}
@@ -11,6 +11,6 @@ use Rattle.match_rows.proofs.marking.mark_range.Given as goal
 abbrev pub taken : Bool → List ℕ → List ℕ → List ℕ → ℕ → LentName → Bool
 taken deep attributes lens names k x = taken_by_name deep (name_at lens names k) (get_or attributes k 0) (lent_name x)
 
-abbrev pub invariant-loop-i : goal.invariant-loop-i
-invariant-loop-i l = Left l.cols.n (λ (k : ℕ). anyb (taken l.deep l.cols.attributes l.cols.lens l.cols.names k) (drop l.first (take l.end l.s.names)))
-    (λ (k : ℕ). anyb (taken l.deep l.cols.attributes l.cols.lens l.cols.names k) (drop l.i (take l.end l.s.names))) l.initial.marks l.marks
+abbrev pub invariant-loop-x : goal.invariant-loop-x
+invariant-loop-x l = Left l.cols.n (λ (k : ℕ). anyb (taken l.deep l.cols.attributes l.cols.lens l.cols.names k) l.x-items)
+    (λ (k : ℕ). anyb (taken l.deep l.cols.attributes l.cols.lens l.cols.names k) (drop l.x-index l.x-items)) l.initial.marks l.marks

@@ -12,7 +12,7 @@ use Rattle.model.specs.declared.Counts.{Counts}
 use Rattle.model.specs.declared.Session.{Session}
 use Rattle.model.specs.declared.Answer.TheVariants.{Done}
 use Rattle.laws.specs.Changing.{used_long}
-use Rattle.table_messages.specs.Words.{messages, messages-take}
+use Rattle.table_messages.specs.Words.{messages, messages-take, messages-used}
 use Rattle.table_messages.specs.Laid.{laid}
 use Rattle.table_messages.specs.Found.{stands, first, first_any, first_passes, found_none, found_one}
 use Rattle.laws.specs.Room.{Room}
@@ -31,6 +31,10 @@ some_free q f s room some = go (eqb s.groupcount 0) refl (and_r (leb f q) (eqb s
     go : (b : Bool) → eqb s.groupcount 0 ≡ b → (b || leb f (q - 64)) ≡ true → f ≤ q - 64
     go true e z = absurd (some (eqb-true s.groupcount 0 e))
     go false e z = leb-true f (q - 64) z
+
+-- an entry that is found is one of those in use
+pub found_low : (ws : List ℕ) (n i u : ℕ) {o : Option ℕ} {at : ℕ} → n * 6 ≤ length ws → o ≡ position (stands i u) (messages (take (6 * n) ws)) → o ≡ Some at → at < n
+found_low ws n i u {at = at} h f e = rw (messages-used n ws h) at (found_one (stands i u) (messages (take (6 * n) ws)) at (sym f ∙ e)).1
 
 module _ (m : Memory) (ws : List ℕ) (k : Counts) (s : Session) (q : List ℕ) (lent : Lends m ws k s q) where
   -- ---- done: what was left is what the rule says, and the row at a place is another

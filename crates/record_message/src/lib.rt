@@ -115,6 +115,8 @@ pub fn arrive(
     }
     let x = table_mailboxes::with_counter(place.row, counter);
     let filled = counts.filled as usize;
-    let came = event_arrivals::receive(words, used, queue, s, filled, &x, uid, flags, size, counter);
+    let came = event_arrivals::receive(
+        words, used, queue, s, filled, &x, uid, flags, size, counter,
+    );
     Ok(put_left(place.at, came.row, counts, came.left))
 }

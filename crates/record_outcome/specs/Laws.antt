@@ -13,7 +13,7 @@ use Rattle.model.specs.declared.Mailbox.{Mailbox}
 use Rattle.model.specs.declared.Counts.{Counts}
 use Rattle.model.specs.declared.Session.{Session}
 use Rattle.model.specs.declared.Refusal.{Refusal}
-use Rattle.model.specs.declared.Refusal.TheVariants.{UnlawfulMemory, BadRecord, WrongId}
+use Rattle.model.specs.declared.Refusal.TheVariants.{UnlawfulMemory, BadRecord}
 use Rattle.demands.specs.Lasting.Law.{Law}
 use Rattle.table_messages.specs.Laid.{laid, laid_own}
 use Rattle.table_mailboxes.specs.Walks.{row_at_lem}
@@ -81,11 +81,11 @@ module _ (m : Memory) (i : ℕ) {o : Option Place} (w : Found m i o) where
     pub is_row : Law m → p.row ≡ get_or m.rows p.at no_mailbox
     is_row law = placed_row m law i p.at p.row is_placed (is_within law)
 
--- the refusal of a mailbox that was not found, as `ok_or` and `?` give it
-pub none_refused : {o : Option Place} {e : Refusal} (r : Came) → o ≡ None → Err e ≡ ok_or o WrongId → IsErrAnd r (λ (j : Refusal). j ≡ e) → r ≡ Err WrongId
-none_refused {o} {e} (Err x) h d t =
-    let f = d ∙ ap (λ (p : Option Place). ok_or p WrongId) h in
-    let g : e ≡ WrongId = cc in
+-- the refusal of what was not found, as `ok_or` and `?` give it
+pub none_refused : {A : Type 0} {o : Option A} {e why : Refusal} (r : Came) → o ≡ None → Err e ≡ ok_or o why → IsErrAnd r (λ (j : Refusal). j ≡ e) → r ≡ Err why
+none_refused {A} {o} {e} {why} (Err x) h d t =
+    let f = d ∙ ap (λ (p : Option A). ok_or p why) h in
+    let g : e ≡ why = cc in
     ap (λ (j : Refusal). Err j) (t ∙ g)
 none_refused (Ok x) h d t = absurd t
 

@@ -7,28 +7,30 @@ ghost use Rattle.record_kind.specs.Subjects.{session_kind};
 ghost use Rattle.record_kind.specs.Serving.{InRange, Serves};
 ghost use Rattle.record_outcome.specs.Coming.{Ready};
 
-use model::{Counts, Mailbox, Session};
+use model::{Counts, Refusal, Session};
 use record_kind::OfSession;
-use record_outcome::Outcome;
+use record_outcome::{Outcome, Place};
 
-// x is the mailbox that the record needs, and k its place; v has the record's numbers.
+// The mailbox that the record needs was found so; v has the record's numbers.
 pub fn serve(
     kind: OfSession,
     v: [u64; 5],
-    k: usize,
-    x: Mailbox,
+    found: Option<Place>,
     words: &mut [u64],
     counts: Counts,
-    s: Session,
+    s: &Session,
     queue: &mut [u8],
-) -> Outcome
-    requires { Ready words.old counts s queue.old × InRange (session_kind kind) v }
-    ensures { (m : Memory) (t : List ℕ) → Serves m (session_kind kind) v t k x words.old counts s queue.old result words.new queue.new }
+) -> Result<Outcome, Refusal>
+    requires { Ready words.old counts s.now queue.old × InRange (session_kind kind) v }
+    ensures { (m : Memory) (t : List ℕ) → Serves m (session_kind kind) v t found words.old counts s.now queue.old result words.new queue.new }
 {
-    let a = v[0];
+    let [a, ..] = v;
     match kind {
-        OfSession::Select => record_session::select(words, counts, s, k, x, a),
-        OfSession::Ended => record_session::end_command(words, queue, counts, s, x, a),
+        OfSession::Select => record_session::select(words, counts, s, found, a),
+        OfSession::Ended => {
+            let x = record_outcome::row_of(found);
+            record_session::end_command(words, queue, counts, s, &x, a)
+        }
         OfSession::Drained => record_session::drain(queue, counts, s, a),
     }
 }

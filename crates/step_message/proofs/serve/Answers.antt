@@ -14,14 +14,14 @@ arrive-requires c =
 pub returns-in-Arrive : goal.returns-in-Arrive
 returns-in-Arrive c =
     let told = ap message_kind c.in-Arrive.is in
-    λ m t. serves_of Arrive told c.args.v t (c.arrive.ensures m)
+    λ m t. serves_of Arrive told c.args.v t c.args.found (c.arrive.ensures m)
 
 pub returns-in-Expunge : goal.returns-in-Expunge
 returns-in-Expunge c =
     let told = ap message_kind c.in-Expunge.is in
-    λ m t. serves_of Expunge told c.args.v t (c.expunge.ensures m)
+    λ m t. serves_of Expunge told c.args.v t c.args.found (c.expunge.ensures m)
 
 pub returns-in-Reflag : goal.returns-in-Reflag
 returns-in-Reflag c =
     let told = ap message_kind c.in-Reflag.is in
-    λ m t. serves_of Reflag told c.args.v t (c.flag.ensures m)
+    λ m t. serves_of Reflag told c.args.v t c.args.found (c.flag.ensures m)

@@ -10,7 +10,7 @@ ghost use Rattle.event_message.specs.Deciding.{expunge_after};
 use event_message::Left;
 use line_message::Expunge;
 use line_put::Kept;
-use model::{Mailbox, MessageNumber, Session, Uid};
+use model::{Mailbox, MessageNumber, Session};
 use table_mailboxes::row;
 
 // Entry k is gone where its line was written, and else it waits.
@@ -85,15 +85,13 @@ pub fn expunge(
     ensures { Leaves (expunge_after (messages words.old) used queue.old s.now filled k x.now) words.old words.new result.used queue.new result.kept.session result.kept.filled }
 {
     let e = table_messages::get(words, k);
-    let told = Uid(u64::from(s.told));
-    let chosen = event_message::is_chosen(s, x);
-    let seen = chosen && e.uid < told;
-    if !seen {
+    if !event_message::has_seen(s, x, e.uid) {
+        let chosen = event_message::is_chosen(s, x);
         let on = event_message::is_told(s, x, chosen, 1);
         return drop_one(words, used, queue, s, filled, k, x, on);
     }
     if row::has_rights(x.attributes) && match_groups::immediate_asks(s, 1) {
-        let n = table_messages::place_of(&words[..6 * used], u64::from(s.selected), told, e.uid);
+        let n = event_message::place_in(words, used, s, e.uid);
         return drop_now(words, used, queue, s, filled, k, n);
     }
     let rest = take_out(words, used, k, false);

@@ -9,7 +9,7 @@ ghost use Rattle.event_message.specs.Deciding.{reflag_after};
 
 use event_message::Left;
 use line_fetch::Fetch;
-use model::{Mailbox, MessageNumber, Session, Uid};
+use model::{Mailbox, MessageNumber, Session};
 use table_mailboxes::row;
 
 // The change is told at once and ends a mark, or else the overflow line is written.
@@ -85,15 +85,14 @@ pub fn flag(
     ensures { Leaves (reflag_after (messages words.old) used queue.old s.now filled k x.now flags counter) words.old words.new result.used queue.new result.kept.session result.kept.filled }
 {
     let e = table_messages::get(words, k);
-    let told = Uid(u64::from(s.told));
-    let chosen = event_message::is_chosen(s, x);
-    let seen = chosen && e.uid < told;
+    let seen = event_message::has_seen(s, x, e.uid);
     if event_message::is_soon(s, x, seen, 2) {
-        let n = table_messages::place_of(&words[..6 * used], u64::from(s.selected), told, e.uid);
+        let n = event_message::place_in(words, used, s, e.uid);
         return flag_now(words, used, queue, s, filled, k, flags, counter, n);
     }
     let waits = seen && row::has_rights(x.attributes) && s.notified == 0;
     let states = if waits { 2 } else { e.states };
+    let chosen = event_message::is_chosen(s, x);
     let on = event_message::is_told(s, x, chosen, 2);
     flag_kept(
         words, used, queue, s, filled, x, k, flags, counter, states, on,

@@ -4,18 +4,18 @@
 
 pub mod showing;
 
-ghost use Rattle.std.specs.Prelude.{◌≡◌, true, not, ◌&&◌, ◌-◌, ◌≤◌, length};
+ghost use Rattle.std.specs.Prelude.{◌≡◌, true, not, ◌&&◌, ◌*◌, ◌-◌, ◌≤◌, length, take};
 ghost use Rattle.model.specs.Memory.{both_rights};
 ghost use Rattle.model.specs.Groups.{asked_of, selected_asks};
 ghost use Rattle.line_put.specs.Heard.{heard, Hears};
 ghost use Rattle.match_groups.specs.Asking.{asks_bit};
 ghost use Rattle.table_messages.specs.Words.{messages};
 ghost use Rattle.event_message.specs.After.{status_text, change_text};
-ghost use Rattle.event_message.specs.Deciding.{is_chosen};
+ghost use Rattle.event_message.specs.Deciding.{is_chosen, has_seen, place_in};
 
 use line_mailbox::{FlagStatus, Status};
 use line_put::Kept;
-use model::{Mailbox, Session};
+use model::{Mailbox, MessageNumber, Session, Uid};
 use table_mailboxes::{counter_of, row};
 
 // What a record leaves besides the words and the queue's octets.
@@ -79,6 +79,22 @@ pub fn is_chosen(s: &Session, x: &Mailbox) -> bool
     ensures { result ≡ is_chosen s.now x.now }
 {
     x.id != 0 && x.id == s.selected
+}
+
+// Whether the client has message uid of the mailbox of row x.
+pub fn has_seen(s: &Session, x: &Mailbox, uid: Uid) -> bool
+    ensures { result ≡ has_seen s.now x.now uid.0 }
+{
+    is_chosen(s, x) && uid < Uid(u64::from(s.told))
+}
+
+// Its place in the view, among the first used entries.
+pub fn place_in(words: &[u64], used: usize, s: &Session, uid: Uid) -> MessageNumber
+    requires { used * 6 ≤ length words.now }
+    ensures { result.0 ≡ place_in s.now uid.0 (take used (messages words.now)) }
+{
+    let mails = &words[..6 * used];
+    table_messages::place_of(mails, u64::from(s.selected), Uid(u64::from(s.told)), uid)
 }
 
 // Who is told of event k of a message in mailbox x: nobody where x is selected, or without both rights.

@@ -1,19 +1,19 @@
 -- The exported step's contract: the step's, over the memory that a host lends, its answer in numbers. Assumes nothing.
-use Rattle.std.specs.Prelude.{◌≡◌, List, ℕ, length, set}
-use Rattle.std.proofs.Common.{ap, ap₂, sym, ◌∙◌, subst}
+use Rattle.std.specs.Prelude.{◌≡◌, ◌≤◌, List, ℕ, length, Ok, Err}
+use Rattle.std.proofs.Common.{ap, sym, ◌∙◌, arith, subst}
 use Rattle.model.specs.declared.Mailbox.{Mailbox}
 use Rattle.model.specs.declared.Counts.{Counts}
 use Rattle.model.specs.declared.Session.{Session}
 use Rattle.model.specs.declared.Answer.{Answer}
-use Rattle.laws.specs.Shift.{over, without}
-use Rattle.record_outcome.specs.declared.Outcome.{Outcome as Came}
-use Rattle.step.specs.Steps.{Lent, Steps}
+use Rattle.model.specs.declared.Refusal.{Refusal}
+use Rattle.record_outcome.specs.Coming.{Came, answer_of, changed, rows_after, counts_after, session_after}
+use Rattle.record_outcome.specs.declared.Outcome.{Outcome}
+use Rattle.step.specs.Steps.{Lent, Steps, memory_of}
 use Rattle.step.specs.Served.{Stepped, lent_as}
 use Rattle.lent_rows.specs.Rows.{loaded, lent_loaded}
 use Rattle.lent_answer.specs.declared.Answered.{Answered}
 use Rattle.lent_answer.specs.Numbers.{numbers_said}
-use Rattle.lent_answer.specs.Places.{put_at, moved_from, left_row}
-use Rattle.exported.specs.Written.{left, written_back}
+use Rattle.exported.specs.Kept.{call_rows}
 
 -- a call with octets o on lent memory a answers the numbers r and leaves b
 pub record Calls (a : Lent) (o : List ℕ) (r : Answered) (b : Lent) : Type 0 where
@@ -22,15 +22,28 @@ pub record Calls (a : Lent) (o : List ℕ) (r : Answered) (b : Lent) : Type 0 wh
   pub steps : Steps a o answer b
 
 -- the parts of the exported step make its contract
-module _ (ys : List Mailbox) (ws : List ℕ) (k : Counts) (s : Session) (q o : List ℕ) (r : Came) (ws' q' : List ℕ) (zs : List Mailbox) (at from : ℕ) (x : Mailbox) (d : Answered) where
-  pub calls_of : Stepped (loaded ys) (length ys) ws k s q o r ws' q' → at ≡ put_at r k.mailboxes (length ys) → from ≡ moved_from r at (length ys) → x ≡ left_row r
-      → zs ≡ set (over (without from ys) ys at) at x → d ≡ numbers_said r.answer → Calls (lent_as ys ws k s q) o d (lent_as zs ws' r.counts r.session q')
-  calls_of step put whence row back number = record {
-    answer = r.answer;
-    numbers = number;
-    steps = subst (λ (l : List Mailbox). Steps (lent_as ys ws k s q) o r.answer (lent_as l ws' r.counts r.session q')) (sym is)
-        (written_back ys ws k s q o r ws' q' (step ys (lent_loaded ys)));
-  }
-    where
-      is : zs ≡ left ys ws k s q o r ws' q'
-      is = back ∙ (ap₂ (λ (j : ℕ) (y : Mailbox). set (over (without j ys) ys at) at y) whence row ∙ ap (λ (i : ℕ). set (over (without (moved_from r i (length ys)) ys) ys i) i (left_row r)) put)
+module _ (ys : List Mailbox) (ws : List ℕ) (k : Counts) (s : Session) (q o : List ℕ) (ws' q' : List ℕ) (r : Came) where
+  -- by what it comes to
+  calls_by : {zs : List Mailbox} (d : Answered) → Stepped (loaded ys) (length ys) ws k s q o r ws' q' → (length (rows_after r k.mailboxes ys) ≤ length ys → zs ≡ rows_after r k.mailboxes ys) → d ≡ numbers_said (answer_of r)
+      → Calls (lent_as ys ws k s q) o d (lent_as zs ws' (counts_after r k) (session_after r s) q')
+  calls_by d step left number =
+      let steps = step ys (lent_loaded ys) in
+      let many : length (rows_after r k.mailboxes ys) ≡ length ys = ap length steps.table ∙ call_rows (memory_of (lent_as ys ws k s q)) o in
+      record {
+        answer = answer_of r;
+        numbers = number;
+        steps = subst (λ (l : List Mailbox). Steps (lent_as ys ws k s q) o (answer_of r) (lent_as l ws' (counts_after r k) (session_after r s) q')) (sym (left (omega arith))) steps;
+      }
+
+  -- an outcome, of whose change the rows are left
+  pub calls_ok : {zs : List Mailbox} {d : Answered} {out : Outcome} → Stepped (loaded ys) (length ys) ws k s q o r ws' q' → r ≡ Ok out
+      → (length (changed out.change k.mailboxes ys) ≤ length ys → zs ≡ changed out.change k.mailboxes ys) → d ≡ numbers_said (answer_of r) → Calls (lent_as ys ws k s q) o d (lent_as zs ws' out.counts out.session q')
+  calls_ok {zs} {d} {out} step e left number =
+      subst (λ (x : Counts × Session). Calls (lent_as ys ws k s q) o d (lent_as zs ws' x.0 x.1 q')) (ap (λ (z : Came). (counts_after z k, session_after z s)) e)
+      (calls_by d step (λ h. left (subst (λ (z : Came). length (rows_after z k.mailboxes ys) ≤ length ys) e h) ∙ sym (ap (λ (z : Came). rows_after z k.mailboxes ys) e)) number)
+
+  -- a refusal: all stays
+  pub calls_err : {d : Answered} {why : Refusal} → Stepped (loaded ys) (length ys) ws k s q o r ws' q' → r ≡ Err why → d ≡ numbers_said (answer_of r) → Calls (lent_as ys ws k s q) o d (lent_as ys ws' k s q')
+  calls_err {d} step e number =
+      subst (λ (x : Counts × Session). Calls (lent_as ys ws k s q) o d (lent_as ys ws' x.0 x.1 q')) (ap (λ (z : Came). (counts_after z k, session_after z s)) e)
+      (calls_by d step (λ h. sym (ap (λ (z : Came). rows_after z k.mailboxes ys) e)) number)

@@ -1,5 +1,4 @@
 pub mod Kept
-pub mod Written
 pub mod Called
 pub mod Hosts
 pub mod Accounted

@@ -36,14 +36,14 @@ pub fn borjavid_step(
 ) -> Answered
     ensures { Calls (lent_as rows.old words.old counts.old session.old queue.old) «record».now result (lent_as rows.new words.new counts.new session.new queue.new) }
 {
-    let n = rows.len();
     let before = *counts;
-    let out = step_lent::served(rows, words, before, *session, queue, record);
-    *counts = out.counts;
-    *session = out.session;
-    let w = lent_answer::to_write(out, before.mailboxes, n);
-    lent_rows::write_back(rows, w.from, w.at, w.row);
-    lent_answer::numbers(out)
+    let came = step_lent::served(rows, words, before, session, queue, record);
+    if let Ok(out) = &came {
+        lent_answer::write_back(rows, before.mailboxes, &out.change);
+        *counts = out.counts;
+        *session = out.session;
+    }
+    lent_answer::numbers(&came)
 }
 
 // ---- the mailbox table
@@ -52,20 +52,14 @@ pub fn borjavid_step(
 pub fn borjavid_find_id(rows: &[Mailbox], used: usize, id: u16) -> usize
     ensures { result ≡ place id (take used (take 64 rows.now)) }
 {
-    let n = rows.len();
-    let m = lent_rows::reach(used, n);
-    let t = lent_rows::load(rows);
-    lent_rows::find_id(t, m, id)
+    lent_rows::find_id(lent_rows::in_use(rows, used as u64), id)
 }
 
 // The place of the first used row with the name, octet for octet, or how many are used; searched likewise.
 pub fn borjavid_find_name(rows: &[Mailbox], used: usize, name: &[u8]) -> usize
     ensures { result ≡ place_named name.now (take used (take 64 rows.now)) }
 {
-    let n = rows.len();
-    let m = lent_rows::reach(used, n);
-    let t = lent_rows::load(rows);
-    lent_rows::find_name(t, m, name)
+    lent_rows::find_name(lent_rows::in_use(rows, used as u64), name)
 }
 
 // Row k becomes x; where there is none, nothing changes.

@@ -25,9 +25,7 @@ pub fn decide(
     if !lawful::is_lawful(cols, lent, words, counts, s, queue.len()) {
         return Err(Refusal::UnlawfulMemory);
     }
-    let Some(r) = record_read::read(octets) else {
-        return Err(Refusal::BadRecord);
-    };
+    let r = record_read::read(octets).ok_or(Refusal::BadRecord)?;
     step_record::serve(lent, cols, words, counts, s, queue, octets, &r)
 }
 

@@ -16,8 +16,7 @@ use Rattle.lawful.specs.Lent.{Lent as Rows}
 use Rattle.table_messages.specs.Words.{messages}
 use Rattle.line_put.specs.Put.{Put, ◌then◌, put_as, put_none, put_wrote, Goes, goes_on}
 use Rattle.line_put.specs.Decimals.{decimal-small}
-use Rattle.record_outcome.specs.Coming.{changed}
-use Rattle.record_outcome.specs.declared.Outcome.{Outcome as Came}
+use Rattle.record_outcome.specs.Coming.{Came, answer_of, rows_after, counts_after, session_after}
 use Rattle.step.specs.Steps.{memory_of, Steps, after_is}
 use Rattle.step.specs.Served.{Stepped, lent_as}
 use Rattle.step_stream.specs.Applying.{rows_few}
@@ -43,26 +42,6 @@ pub record Turns (m : Memory) (o : List ℕ) (q : List ℕ) (at : ℕ) (m' : Mem
 pub puts : {q q' q'' t u : List ℕ} {at m r : ℕ} → Put q at (length q) t q' m → Put q' m (length q') u q'' r → Put q at (length q) (t ++ u) q'' r
 puts a b = ◌then◌ a (rw a.same at b)
 
--- a part that was written to, put back in its place
-part_whole : {p' : List ℕ} (q : List ℕ) (at : ℕ) (t : List ℕ) → at + length t ≤ length q → p' ≡ written (take (length q - at) (drop at q)) 0 t
-    → take at q ++ (p' ++ drop (length q - at) (drop at q)) ≡ written q at t
-unfolding written
-part_whole {p'} q at t h e =
-    let d = length-drop at q in
-    let all : take (length q - at) (drop at q) ≡ drop at q = take_all (length q - at) (drop at q) (omega arith) in
-    let none : drop (length q - at) (drop at q) ≡ [] = drop_of_length-le (drop at q) {i = length q - at} (omega arith) in
-    let z : 0 + length t ≡ length t = omega arith in
-    let is : p' ≡ t ++ drop (at + length t) q =
-    e ∙ (ap (λ (l : List ℕ). t ++ drop (0 + length t) l) all ∙ (ap (λ (n : ℕ). t ++ drop n (drop at q)) z ∙ ap (λ (l : List ℕ). t ++ l) (drop-drop (length t) at q))) in
-    ap (λ (l : List ℕ). take at q ++ (p' ++ l)) none ∙ (ap (λ (l : List ℕ). take at q ++ l) (append-nil p' ∙ is))
-
--- all of a text has room: it was written to what lies from `at` on
-pub put-part : {p' : List ℕ} {r : ℕ} (q : List ℕ) (at : ℕ) (t : List ℕ) → at + length t ≤ length q → Put (take (length q - at) (drop at q)) 0 (length t) t p' r
-    → Put q at (length q) t (take at q ++ (p' ++ drop (length q - at) (drop at q))) (at + length t)
-put-part {p'} {r} q at t h p =
-    let n = p.next in
-    put_wrote (length q) (omega arith) h (record { next = refl; within = h; is = part_whole q at t h (p.done (omega arith)) })
-
 -- a refusal's number is one digit
 pub refusal-text : (n : ℕ) → 0 < n → n < 10 → 33 ∷ 32 ∷ (48 + n) ∷ 13 ∷ 10 ∷ [] ≡ refusal_text n
 refusal-text n h k = rw (ne_eqb n 0 (λ (e : n ≡ 0). let z : ⊥ = omega arith in z), decimal-small n k)
@@ -87,17 +66,20 @@ module _ (t : List Mailbox) (w : length t ≡ 64) (ws : List ℕ) (k : Counts) (
   whole : Rows t t 64
   whole = record { long = w; read = λ _. sym (take_all 64 t (omega arith)) }
 
-  took : Steps (lent_as t ws k s q) o r.answer (lent_as (changed r.change r.at r.row k.mailboxes t) ws' r.counts r.session q')
+  took : Steps (lent_as t ws k s q) o (answer_of r) (lent_as (rows_after r k.mailboxes t) ws' (counts_after r k) (session_after r s) q')
   took = h t whole
 
   -- the table does not grow
-  table_few : length (changed r.change r.at r.row k.mailboxes t) ≤ 64
+  table_few : length (rows_after r k.mailboxes t) ≤ 64
   table_few = rw took.table (rows_few (standing t k s ws q) o (omega arith))
 
   -- what is left of the table is what the step says
-  pub serves : (u : List Mailbox) → (length (changed r.change r.at r.row k.mailboxes t) ≤ 64 → u ≡ changed r.change r.at r.row k.mailboxes t)
-      → Serves (standing t k s ws q) o r.answer (standing u r.counts r.session ws' q')
-  serves u e = record { answer = took.answer; after = ap (λ (x : List Mailbox). standing x r.counts r.session ws' q') (e table_few) ∙ after_is _ o r.answer _ took }
+  pub serves : {u : List Mailbox} {a : Answer} {j : Counts} {v : Session} → (length (rows_after r k.mailboxes t) ≤ 64 → u ≡ rows_after r k.mailboxes t) → a ≡ answer_of r → j ≡ counts_after r k → v ≡ session_after r s
+      → Serves (standing t k s ws q) o a (standing u j v ws' q')
+  serves {u} e f g i = record {
+    answer = f ∙ took.answer;
+    after = ap (λ (x : List Mailbox). standing x _ _ ws' q') (e table_few) ∙ (ap₂ (λ (y : Counts) (z : Session). standing (rows_after r k.mailboxes t) y z ws' q') g i ∙ after_is _ o (answer_of r) _ took);
+  }
 
 -- the refusal, what the queue holds, and what is left
 pub turns : (m : Memory) (o : List ℕ) (a : Answer) (t : List Mailbox) (k : Counts) (s : Session) (ws q : List ℕ) → Serves m o a (standing t k s ws q)

@@ -1,114 +1,57 @@
 // A whole stream: cut by its length fields, each record served on tables of the run's own, and what it shows written out.
 #![tactic(auto)]
 
-ghost use Rattle.std.specs.Prelude.{◌≡◌, ◌+◌, ◌≤◌, ◌<◌, min, length, take, set, replicate};
+ghost use Rattle.std.specs.Prelude.{◌≡◌, ◌+◌, ◌≤◌, ◌<◌, length, take, replicate};
 ghost use Rattle.model.specs.Memory.{no_mailbox};
 ghost use Rattle.model.specs.Hidden.{no_counts, no_session};
 ghost use Rattle.model.specs.Answers.{number_of};
 ghost use Rattle.model.specs.Pushrun.{records_of, refusal_text, printed, pushrun};
-ghost use Rattle.table_mailboxes.specs.Shift.{closed};
 ghost use Rattle.line_put.specs.Put.{Put};
-ghost use Rattle.record_outcome.specs.Coming.{changed};
+ghost use Rattle.record_outcome.specs.Coming.{rows_after};
 ghost use Rattle.step_stream.specs.Cutting.{Cuts};
 ghost use Rattle.step_stream.specs.Printing.{standing, Serves, Turns};
 
 use model::{Answer, Counts, LentGroup, LentName, Mailbox, Refusal, Session};
-use record_outcome::{Change, Outcome};
+use record_outcome::Outcome;
 
 // ---- the table after an outcome
 
-// A count of rows within the 64 that there are.
-pub fn few(used: u64) -> usize
-    ensures { result ≡ min used 64 }
+// The table, of which `used` rows were used, after what a record comes to, wherever that leaves no more than 64 rows: what the step comes to does.
+pub fn applied(table: &[Mailbox; 64], used: u64, came: &Result<Outcome, Refusal>) -> [Mailbox; 64]
+    ensures { length (rows_after came.now used table.now) ≤ 64 → result ≡ rows_after came.now used table.now }
 {
-    if used <= 64 { used as usize } else { 64 }
-}
-
-// A row at its place; there is none past the end.
-fn put_row(table: [Mailbox; 64], at: usize, row: Mailbox) -> [Mailbox; 64]
-    ensures { result ≡ set table at row }
-{
-    if at < 64 {
-        return table_mailboxes::put_row(table, at, row);
+    let mut rows = *table;
+    if let Ok(out) = came {
+        lent_answer::write_back(&mut rows, used, &out.change);
     }
-    table
-}
-
-// A row is taken out, in every case in which 64 rows are left.
-fn take_out(table: [Mailbox; 64], used: u64, at: usize) -> [Mailbox; 64]
-    ensures { length (closed at used table) ≤ 64 → result ≡ closed at used table }
-{
-    let n = few(used);
-    if n == 0 {
-        return table;
-    }
-    if at < n {
-        return table_mailboxes::close_up(table, n, at);
-    }
-    table_mailboxes::close_up(table, n, n - 1)
-}
-
-// The table, of which `used` rows were used, after an outcome: for every outcome that leaves no more than 64 rows, and the step's do.
-pub fn applied(table: [Mailbox; 64], used: u64, o: Outcome) -> [Mailbox; 64]
-    ensures { length (changed o.change o.at o.row used table) ≤ 64 → result ≡ changed o.change o.at o.row used table }
-{
-    let change = o.change;
-    let at = o.at;
-    let row = o.row;
-    match change {
-        Change::Nothing => table,
-        Change::Put => put_row(table, at, row),
-        Change::Taken => take_out(table, used, at),
-    }
+    rows
 }
 
 // ---- writing
 
 // A text from `at` on, where all of it has room. It ends where the answer says.
+// Kept: a stream prints more than a `Writer` may count up to.
 fn put(out: &mut [u8], at: usize, text: &[u8]) -> usize
     requires { (at ≤ 4611686018427387904) × (length text.now ≤ 1048576) }
     ensures { Put out.old at (length out.old) text.now out.new result }
 {
     let end = at + text.len();
-    if out.len() < end {
-        return end;
+    if end <= out.len() {
+        out[at..end].copy_from_slice(text);
     }
-    let long = text.len();
-    line_put::put(&mut out[at..], 0, long, text);
     end
 }
 
-// The number of an answer: 0 where nothing is refused.
-pub fn number_of(answer: Answer) -> u8
-    ensures { (result ≡ number_of answer) × (result < 10) }
-{
-    match answer {
-        Answer::Done => 0,
-        Answer::Counted(_) => 0,
-        Answer::Refused(why) => match why {
-            Refusal::UnlawfulMemory => 1,
-            Refusal::BadRecord => 2,
-            Refusal::WrongId => 3,
-            Refusal::NameHeld => 4,
-            Refusal::WrongUid => 5,
-            Refusal::WrongState => 6,
-            Refusal::TableFull => 7,
-            Refusal::NoRoom => 8,
-        },
-    }
-}
-
 // `! n` for a refusal.
-fn put_refusal(out: &mut [u8], at: usize, answer: Answer) -> usize
+fn put_refusal(out: &mut [u8], at: usize, answer: &Answer) -> usize
     requires { at ≤ 4611686018427387904 }
-    ensures { (Put out.old at (length out.old) (refusal_text (number_of answer)) out.new result) × (result ≤ at + 5) }
+    ensures { (Put out.old at (length out.old) (refusal_text (number_of answer.now)) out.new result) × (result ≤ at + 5) }
 {
-    let n = number_of(answer);
+    let n = record_outcome::number_of(answer);
     if n == 0 {
         return at;
     }
-    let text = [33u8, 32, 48 + n, 13, 10];
-    put(out, at, &text)
+    put(out, at, &[b'!', b' ', b'0' + n, b'\r', b'\n'])
 }
 
 // What the queue holds.
@@ -116,10 +59,7 @@ fn put_held(out: &mut [u8], at: usize, queue: &[u8], filled: u64) -> usize
     requires { (at ≤ 4611686018427387904) × (length queue.now ≡ 8192) }
     ensures { (Put out.old at (length out.old) (take filled queue.now) out.new result) × (result ≤ at + 8192) }
 {
-    if 8192 < filled {
-        return put(out, at, queue);
-    }
-    let n = filled as usize;
+    let n = filled.min(queue.len() as u64) as usize;
     put(out, at, &queue[..n])
 }
 
@@ -161,65 +101,58 @@ pub struct Served {
 
 // A record: the step alone. Nothing is drained.
 pub fn serve(
-    table: [Mailbox; 64],
+    table: &[Mailbox; 64],
     counts: Counts,
-    session: Session,
+    session: &Session,
     words: &mut [u64],
     queue: &mut [u8],
     octets: &[u8],
 ) -> Served
-    ensures { Serves (standing table counts session words.old queue.old) octets.now result.answer (standing result.table result.counts result.session words.new queue.new) }
+    ensures { Serves (standing table.now counts session.now words.old queue.old) octets.now result.answer (standing result.table result.counts result.session words.new queue.new) }
 {
-    let o = step::step(table, 64, words, counts, session, queue, octets);
-    let t = applied(table, counts.mailboxes, o);
-    let after = o.counts;
-    let s = o.session;
-    let answer = o.answer;
-    Served {
-        table: t,
-        counts: after,
-        session: s,
-        answer,
-    }
-}
-
-// The same, with nothing left in the queue; the next octet goes to `end`.
-fn drained(d: Served, end: usize) -> Standing
-    ensures { (result.table ≡ d.table) × (result.counts ≡ record { mailboxes = d.counts.mailboxes; messages = d.counts.messages; filled = 0 }) × (result.session ≡ d.session) × (result.end ≡ end) }
-{
-    let table = d.table;
-    let session = d.session;
-    Standing {
-        table,
-        counts: Counts {
-            mailboxes: d.counts.mailboxes,
-            messages: d.counts.messages,
-            filled: 0,
+    let came = step::step(table, 64, words, counts, session, queue, octets);
+    let table = applied(table, counts.mailboxes, &came);
+    let answer = record_outcome::answer_of(&came);
+    match came {
+        Ok(out) => Served {
+            table,
+            counts: out.counts,
+            session: out.session,
+            answer,
         },
-        session,
-        end,
+        Err(_) => Served {
+            table,
+            counts,
+            session: *session,
+            answer,
+        },
     }
 }
 
 // A record: the step, the refusal if it is one, and all that the queue holds, which is drained.
 pub fn turn(
-    s: Standing,
+    s: &Standing,
     words: &mut [u64],
     queue: &mut [u8],
     octets: &[u8],
     out: &mut [u8],
 ) -> Standing
-    requires { (s.end ≤ 2305843009213693952) × (length queue.old ≡ 8192) }
-    ensures { Turns (standing s.table s.counts s.session words.old queue.old) octets.now out.old s.end (standing result.table result.counts result.session words.new queue.new) out.new result.end }
+    requires { (s.now.end ≤ 2305843009213693952) × (length queue.old ≡ 8192) }
+    ensures { Turns (standing s.now.table s.now.counts s.now.session words.old queue.old) octets.now out.old s.now.end (standing result.table result.counts result.session words.new queue.new) out.new result.end }
 {
-    let table = s.table;
-    let counts = s.counts;
-    let session = s.session;
-    let d = serve(table, counts, session, words, queue, octets);
-    let answer = d.answer;
-    let at = put_refusal(out, s.end, answer);
+    let d = serve(&s.table, s.counts, &s.session, words, queue, octets);
+    let at = put_refusal(out, s.end, &d.answer);
     let end = put_held(out, at, queue, d.counts.filled);
-    drained(d, end)
+    let table = d.table;
+    Standing {
+        table,
+        counts: Counts {
+            filled: 0,
+            ..d.counts
+        },
+        session: d.session,
+        end,
+    }
 }
 
 // ---- the start
@@ -228,7 +161,6 @@ pub fn turn(
 pub fn start() -> Standing
     ensures { (result.table ≡ replicate 64 no_mailbox) × (result.counts ≡ no_counts) × (result.session ≡ no_session) × (result.end ≡ 0) }
 {
-    let row = table_mailboxes::vacant();
     let group = LentGroup {
         selector: 0,
         first: 0,
@@ -236,13 +168,12 @@ pub fn start() -> Standing
         events: 0,
         attributes: 0,
     };
-    let octets = [0u8; 64];
-    let name = LentName { len: 0, octets };
-    let table = [row; 64];
-    let groups = [group; 8];
-    let names = [name; 16];
+    let name = LentName {
+        len: 0,
+        octets: [0; 64],
+    };
     Standing {
-        table,
+        table: [table_mailboxes::vacant(); 64],
         counts: Counts {
             mailboxes: 0,
             messages: 0,
@@ -253,8 +184,8 @@ pub fn start() -> Standing
             notified: 0,
             groupcount: 0,
             told: 0,
-            groups,
-            names,
+            groups: [group; 8],
+            names: [name; 16],
         },
         end: 0,
     }
@@ -267,10 +198,10 @@ fn walk(stream: &[u8], words: &mut [u64], queue: &mut [u8], out: &mut [u8]) -> u
 {
     let mut s = start();
     let mut i = 0;
+    // Kept: how far a record goes stands in its own octets, and no iterator of std cuts by them.
     while i < stream.len() {
-        let n = record_size(stream, i);
-        let e = i + n;
-        s = turn(s, words, queue, &stream[i..e], out);
+        let e = i + record_size(stream, i);
+        s = turn(&s, words, queue, &stream[i..e], out);
         i = e;
     }
     s.end

@@ -7,24 +7,24 @@ use Rattle.step_record.proofs.dispatch.Goals as goal
 
 pub serve-requires : goal.serve-requires
 serve-requires c =
-    let says = says_of _ (by_subject _ c.subject_of.ensures c.in-Mailbox.is) c.requires.2 in
-    (c.requires.0, in_range_lem says, follows (rest c.args.octets.now c.args.tail) says)
+    let says = says_of _ (by_subject _ c.subject_of.ensures c.in-Mailbox.is) c.requires.2.says in
+    (c.requires.0, in_range_lem says, follows (rest c.args.octets.now c.args.r.now.tail) says)
 
 pub serve-requires-in-Message : goal.serve-requires-in-Message
 serve-requires-in-Message c =
-    (c.requires.0, c.requires.1, in_range_lem (says_of _ (by_subject _ c.subject_of.ensures c.in-Message.is) c.requires.2))
+    (c.requires.0, c.requires.1, in_range_lem (says_of _ (by_subject _ c.subject_of.ensures c.in-Message.is) c.requires.2.says))
 
 pub serve-requires-in-Session : goal.serve-requires-in-Session
 serve-requires-in-Session c =
-    (c.requires.0, in_range_lem (says_of _ (by_subject _ c.subject_of.ensures c.in-Session.is) c.requires.2))
+    (c.requires.0, in_range_lem (says_of _ (by_subject _ c.subject_of.ensures c.in-Session.is) c.requires.2.says))
 
 pub answer-requires : goal.answer-requires
 answer-requires c =
-    (c.requires.0, rw (rest c.args.octets.now c.args.tail) (command_bounds (says_of Command (by_subject S.Command c.subject_of.ensures c.in-Command.is) c.requires.2)))
+    (c.requires.0, rw (rest c.args.octets.now c.args.r.now.tail) (command_bounds (says_of Command (by_subject S.Command c.subject_of.ensures c.in-Command.is) c.requires.2.says)))
 
 pub returns-in-Mailbox : goal.returns-in-Mailbox
 returns-in-Mailbox c =
-    placed_by c.requires.2 (rest c.args.octets.now c.args.tail) (by_subject _ c.subject_of.ensures c.in-Mailbox.is) c.serve.ensures
+    placed_by c.requires.2 (rest c.args.octets.now c.args.r.now.tail) (by_subject _ c.subject_of.ensures c.in-Mailbox.is) c.serve.ensures
 
 pub returns-in-Message : goal.returns-in-Message
 returns-in-Message c =
@@ -36,8 +36,8 @@ returns-in-Session c =
 
 pub returns-in-Command : goal.returns-in-Command
 returns-in-Command c =
-    answered c.requires.2 (rest c.args.octets.now c.args.tail) (by_subject S.Command c.subject_of.ensures c.in-Command.is) c.answer.ensures
+    answered c.requires.2 (rest c.args.octets.now c.args.r.now.tail) (by_subject S.Command c.subject_of.ensures c.in-Command.is) c.row_of-x.ensures c.answer.ensures
 
 pub returns-in-Nothing : goal.returns-in-Nothing
 returns-in-Nothing c =
-    nothing c.requires.2 c.requires.3 (by_subject S.Nothing c.subject_of.ensures c.in-Nothing.is)
+    nothing c.requires.2 (by_subject S.Nothing c.subject_of.ensures c.in-Nothing.is)

@@ -10,9 +10,9 @@ use Rattle.step_stream.proofs.put_refusal.Goals as goal
 
 pub returns-then-n-eq0 : goal.returns-then-n-eq0
 returns-then-n-eq0 c =
-    (put_as (put_none c.args.out.now c.args.at (length c.args.out.now) (omega arith)) (ap refusal_text (sym c.if-n-eq0.true ∙ c.number_of-n.ensures.0)), omega arith)
+    (put_as (put_none c.args.out.now c.args.at (length c.args.out.now) (omega arith)) (ap refusal_text (sym c.if-n-eq0.true ∙ c.number_of-n.ensures.number)), omega arith)
 
 pub returns : goal.returns
 returns c =
-    let t : refusal_text c.number_of-n.result ≡ refusal_text (number_of c.args.answer) = ap refusal_text c.number_of-n.ensures.0 in
-    (put_as c.put.ensures (refusal-text c.number_of-n.result (omega arith) c.number_of-n.ensures.1 ∙ t), omega arith)
+    let t : refusal_text c.number_of-n.result ≡ refusal_text (number_of c.args.answer.now) = ap refusal_text c.number_of-n.ensures.number in
+    (put_as c.put.ensures (refusal-text c.number_of-n.result (omega arith) c.number_of-n.ensures.small ∙ t), omega arith)

@@ -9,8 +9,8 @@ pub loop-i-init : goal.loop-i-init
 loop-i-init c =
     (refl, refl, running_start c.args.stream.now c.args.out.now c.args.words.now c.args.queue.now c.start-s.ensures.0 c.start-s.ensures.1 c.start-s.ensures.2 c.start-s.ensures.3)
 
-pub record_size-n-requires : goal.record_size-n-requires
-record_size-n-requires c =
+pub record_size-requires : goal.record_size-requires
+record_size-requires c =
     (c.loop-i-test.true, c.requires.0)
 
 pub turn-s-requires : goal.turn-s-requires
@@ -23,7 +23,7 @@ loop-i-smaller c =
 
 pub loop-i-preserved : goal.loop-i-preserved
 loop-i-preserved c =
-    (search rules, search rules, running_next c.loop-i.invariant.2 c.record_size-n.ensures c.turn-s.ensures)
+    (search rules, search rules, running_next c.loop-i.invariant.2 c.record_size.ensures c.turn-s.ensures)
 
 pub returns : goal.returns
 returns c = running_end c.loop-i.invariant.2 c.loop-i-test.false

@@ -5,8 +5,8 @@ use mathlib.Core.Bool.{Bool, true, false, cond, ◌||◌}
 use Prim.Native.Nat.{ℕ, suc, ◌+◌, ◌-◌, ◌≤◌, ◌<◌}
 use native.Mathlib.Numerals.{add-one}
 use native.Mathlib.Omega.{arith}
-use lib.ListN.{length, get_or, drop, length-drop, drop_of_length-le}
-use lib.Seq.{drop-cons, take_all, take-nil}
+use lib.ListN.{length, get_or, drop_of_length-le}
+use lib.Seq.{drop-cons, take-nil}
 use Rattle.std.specs.Prelude.{Option, Some}
 use Rattle.std.specs.Borrow.{Bor}
 use Rattle.std.specs.List.{position_from}
@@ -23,10 +23,6 @@ module _ (s : List ℕ) (p q : ℕ) where
   -- the text is used up
   pub piece_past : length s ≤ p → piece s p q ≡ []
   piece_past h = rw (drop_of_length-le s h) (take-nil (q - p))
-
-  -- the text ends before it does
-  pub piece-rest : length s ≤ q → piece s p q ≡ drop p s
-  piece-rest h = take_all (q - p) (drop p s) (simp length-drop (omega arith))
 
   -- its first octet
   pub piece-cons : p < q → p < length s → piece s p q ≡ get_or s p 0 ∷ piece s (p + 1) q

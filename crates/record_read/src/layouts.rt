@@ -1,7 +1,8 @@
 // Layouts: which fields the body of a record has, what each may hold, and what follows them.
 ghost use Rattle.std.specs.Prelude.{◌≡◌, ◌&&◌, ◌≤◌, ◌<◌, ◌%◌, eqb, leb};
-ghost use Rattle.model.specs.Records.{width, in_range};
-ghost use Rattle.record_read.specs.Layouts.{field_for, field_of, layout_for};
+ghost use Rattle.model.specs.Records.{layout, width, in_range};
+ghost use Rattle.record_read.specs.Kinds.{kind_for};
+ghost use Rattle.record_read.specs.Layouts.{field_for, Fits};
 
 use super::Kind;
 
@@ -11,32 +12,6 @@ pub enum Tail {
     Nothing,
     Name,
     Command,
-}
-
-// A layout: a letter for each field, how many there are, and what follows them.
-#[derive(Clone, Copy)]
-pub struct Layout(pub [u8; 5], pub usize, pub Tail);
-
-// The layouts: i is an id, o an id or none, a attributes, q quiet, v UIDVALIDITY, s subscribed, r rights, u a UID, f flags, z a size,
-// c a class, n a count, m a change counter.
-pub fn layout_of(k: Kind) -> Layout
-    ensures { result ≡ layout_for k }
-{
-    match k {
-        Kind::Create => Layout([b'i', b'a', b'q', b'v', b'm'], 5, Tail::Name),
-        Kind::Delete => Layout([b'i', b'q', 0, 0, 0], 2, Tail::Nothing),
-        Kind::Rename => Layout([b'i', b'q', 0, 0, 0], 2, Tail::Name),
-        Kind::Subscribe => Layout([b'i', b's', b'q', 0, 0], 3, Tail::Nothing),
-        Kind::Grant => Layout([b'i', b'r', 0, 0, 0], 2, Tail::Nothing),
-        Kind::Arrive => Layout([b'i', b'u', b'f', b'z', b'm'], 5, Tail::Nothing),
-        Kind::Expunge => Layout([b'i', b'u', b'm', 0, 0], 3, Tail::Nothing),
-        Kind::Reflag => Layout([b'i', b'u', b'f', b'm', 0], 4, Tail::Nothing),
-        Kind::Select => Layout([b'o', 0, 0, 0, 0], 1, Tail::Nothing),
-        Kind::Ended => Layout([b'c', 0, 0, 0, 0], 1, Tail::Nothing),
-        Kind::Command => Layout([0, 0, 0, 0, 0], 0, Tail::Command),
-        Kind::Drained => Layout([b'n', 0, 0, 0, 0], 1, Tail::Nothing),
-        Kind::Unknown => Layout([0, 0, 0, 0, 0], 0, Tail::Nothing),
-    }
 }
 
 // The fields that layouts are made of.
@@ -57,25 +32,54 @@ pub enum Field {
     Counter,
 }
 
-// The field of a letter.
-pub fn field_of(letter: u8) -> Field
-    ensures { field_for result ≡ field_of letter }
+// A layout: the fields, at most five, and what follows them.
+#[derive(Clone, Copy)]
+pub struct Layout {
+    pub fields: &'static [Field],
+    pub tail: Tail,
+}
+
+// The layouts.
+pub fn layout_of(k: Kind) -> Layout
+    ensures { Fits result (layout (kind_for k)) }
 {
-    match letter {
-        b'i' => Field::Id,
-        b'o' => Field::IdOrNone,
-        b'a' => Field::Attributes,
-        b'q' => Field::Quiet,
-        b'v' => Field::Uidvalidity,
-        b's' => Field::Subscribed,
-        b'r' => Field::Rights,
-        b'u' => Field::Uid,
-        b'f' => Field::Flags,
-        b'z' => Field::Size,
-        b'c' => Field::Class,
-        b'm' => Field::Counter,
-        _ => Field::Count,
-    }
+    let (fields, tail): (&'static [Field], Tail) = match k {
+        Kind::Create => (
+            &[
+                Field::Id,
+                Field::Attributes,
+                Field::Quiet,
+                Field::Uidvalidity,
+                Field::Counter,
+            ],
+            Tail::Name,
+        ),
+        Kind::Delete => (&[Field::Id, Field::Quiet], Tail::Nothing),
+        Kind::Rename => (&[Field::Id, Field::Quiet], Tail::Name),
+        Kind::Subscribe => (&[Field::Id, Field::Subscribed, Field::Quiet], Tail::Nothing),
+        Kind::Grant => (&[Field::Id, Field::Rights], Tail::Nothing),
+        Kind::Arrive => (
+            &[
+                Field::Id,
+                Field::Uid,
+                Field::Flags,
+                Field::Size,
+                Field::Counter,
+            ],
+            Tail::Nothing,
+        ),
+        Kind::Expunge => (&[Field::Id, Field::Uid, Field::Counter], Tail::Nothing),
+        Kind::Reflag => (
+            &[Field::Id, Field::Uid, Field::Flags, Field::Counter],
+            Tail::Nothing,
+        ),
+        Kind::Select => (&[Field::IdOrNone], Tail::Nothing),
+        Kind::Ended => (&[Field::Class], Tail::Nothing),
+        Kind::Command => (&[], Tail::Command),
+        Kind::Drained => (&[Field::Count], Tail::Nothing),
+        Kind::Unknown => (&[], Tail::Nothing),
+    };
+    Layout { fields, tail }
 }
 
 // How many octets a field has.

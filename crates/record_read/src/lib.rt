@@ -80,8 +80,8 @@ pub fn read(o: &[u8]) -> Option<Received>
     if !is_known(kind) {
         return None;
     }
-    let f = fields_at(o, l.0, l.1)?;
-    if !is_whole(o, f.end, l.2) {
+    let f = fields_at(o, l.fields)?;
+    if !is_whole(o, f.end, l.tail) {
         return None;
     }
     let values = f.values;

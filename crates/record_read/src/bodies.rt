@@ -57,10 +57,11 @@ fn tail_ok(o: &[u8], at: usize, tail: Tail) -> bool
     requires { at ≤ length o.now }
     ensures { result ≡ tail_ok (tail_for tail) (drop at o.now) }
 {
+    let rest = &o[at..];
     match tail {
-        Tail::Nothing => o.len() - at == 0,
-        Tail::Name => names::is_valid(&o[at..]),
-        Tail::Command => o.len() - at <= 1024,
+        Tail::Nothing => rest.is_empty(),
+        Tail::Name => names::is_valid(rest),
+        Tail::Command => rest.len() <= 1024,
     }
 }
 

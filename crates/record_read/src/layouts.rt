@@ -1,5 +1,5 @@
 // Layouts: which fields the body of a record has, what each may hold, and what follows them.
-ghost use Rattle.std.specs.Prelude.{◌≡◌, ◌&&◌, ◌≤◌, ◌<◌, ◌%◌, eqb, leb};
+ghost use Rattle.std.specs.Prelude.{◌≡◌, ◌≤◌, ◌<◌};
 ghost use Rattle.model.specs.Records.{layout, width, in_range};
 ghost use Rattle.record_read.specs.Kinds.{kind_for};
 ghost use Rattle.record_read.specs.Layouts.{field_for, Fits};
@@ -87,34 +87,16 @@ pub fn width_of(f: Field) -> usize
     ensures { (result ≡ width (field_for f)) × (result ≤ 8) × (4 < result → result ≡ 8) }
 {
     match f {
-        Field::Id => 2,
-        Field::IdOrNone => 2,
-        Field::Attributes => 1,
-        Field::Quiet => 1,
-        Field::Uidvalidity => 4,
-        Field::Subscribed => 1,
-        Field::Rights => 1,
-        Field::Uid => 4,
-        Field::Flags => 1,
-        Field::Size => 4,
-        Field::Class => 1,
-        Field::Count => 4,
+        Field::Attributes
+        | Field::Quiet
+        | Field::Subscribed
+        | Field::Rights
+        | Field::Flags
+        | Field::Class => 1,
+        Field::Id | Field::IdOrNone => 2,
+        Field::Uidvalidity | Field::Uid | Field::Size | Field::Count => 4,
         Field::Counter => 8,
     }
-}
-
-// A number lies between two, both included.
-fn between(low: u64, v: u64, high: u64) -> bool
-    ensures { result ≡ (leb low v && leb v high) }
-{
-    low <= v && v <= high
-}
-
-// A number has no bit but 4 and 5.
-fn is_rights(v: u64) -> bool
-    ensures { result ≡ (eqb (v % 16) 0 && leb v 48) }
-{
-    v % 16 == 0 && v <= 48
 }
 
 // A field may have this value.
@@ -122,18 +104,16 @@ pub fn in_range(f: Field, v: u64) -> bool
     ensures { result ≡ in_range (field_for f) v }
 {
     match f {
-        Field::Id => between(1, v, 65535),
+        Field::Id => (1..=65535).contains(&v),
         Field::IdOrNone => v <= 65535,
         Field::Attributes => v <= 63,
-        Field::Quiet => v <= 1,
-        Field::Uidvalidity => between(1, v, 4294967295),
-        Field::Subscribed => v <= 1,
-        Field::Rights => is_rights(v),
-        Field::Uid => between(1, v, 4294967294),
+        Field::Quiet | Field::Subscribed | Field::Class => v <= 1,
+        Field::Uidvalidity => (1..=4294967295).contains(&v),
+        // A right has no bit but 4 and 5.
+        Field::Rights => v % 16 == 0 && v <= 48,
+        Field::Uid => (1..=4294967294).contains(&v),
         Field::Flags => v <= 31,
-        Field::Size => v <= 4294967295,
-        Field::Class => v <= 1,
-        Field::Count => v <= 4294967295,
-        Field::Counter => between(1, v, 9223372036854775807),
+        Field::Size | Field::Count => v <= 4294967295,
+        Field::Counter => (1..=9223372036854775807).contains(&v),
     }
 }

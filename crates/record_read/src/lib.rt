@@ -9,7 +9,7 @@ ghost use Rattle.model.specs.Records.{kind_of, is_known, starts_with_id, layout,
 ghost use Rattle.record_read.specs.Kinds.{kind_for};
 ghost use Rattle.record_read.specs.Reading.{Reads};
 
-use bodies::{fields_at, is_whole};
+use bodies::{Fields, fields_at, is_whole};
 use layouts::layout_of;
 
 // ---- marks
@@ -80,15 +80,14 @@ pub fn read(o: &[u8]) -> Option<Received>
     if !is_known(kind) {
         return None;
     }
-    let f = fields_at(o, l.fields)?;
-    if !is_whole(o, f.end, l.tail) {
+    let Fields { values, end } = fields_at(o, l.fields)?;
+    if !is_whole(o, end, l.tail) {
         return None;
     }
-    let values = f.values;
     Some(Received {
         kind,
         values,
-        tail: f.end,
+        tail: end,
     })
 }
 

@@ -1,5 +1,5 @@
 -- The loop over the fields of a layout: what is read of the fields passed, and of those to come. Assumes nothing.
-use mathlib.Core.Path.{◌≡◌, refl, sym, ap, ◌∙◌}
+use mathlib.Core.Path.{◌≡◌, sym, ap, ◌∙◌}
 use mathlib.Core.Bool.{Bool, true, false, ◌&&◌, and-true, and_assoc}
 use mathlib.Core.List.{List, [], ◌∷◌, ◌++◌, append-nil, append_assoc}
 use Prim.Native.Nat.{ℕ, ◌+◌, ◌*◌, ◌≤◌, ◌<◌}
@@ -21,10 +21,6 @@ pub record Passed (o : List ℕ) (fields : List CodeField) (all : Bool) (vs : Li
   pub ranges : all_in_range (fields_for fields) (drop 4 o) ≡ (all && all_in_range (fields_for (drop i fields)) (drop end o))
   pub filled : values (fields_for fields) (drop 4 o) ≡ take i vs ++ values (fields_for (drop i fields)) (drop end o)
   pub ends : 4 + widths (fields_for fields) ≡ end + widths (fields_for (drop i fields))
-
--- at the start
-pub passed_none : (o : List ℕ) (fields : List CodeField) → Passed o fields true (0 ∷ 0 ∷ 0 ∷ 0 ∷ 0 ∷ []) 4 0
-passed_none o fields = record { some = omega arith; low = omega arith; places = refl; ranges = refl; filled = refl; ends = refl }
 
 -- the value that is stored comes behind those before it
 taken_more : (vs : List ℕ) (i v : ℕ) → i < length vs → take (i + 1) (set vs i v) ≡ take i vs ++ (v ∷ [])

@@ -29,6 +29,7 @@ pub enum Kind {
     Ended,
     Command,
     Drained,
+    // Kept: crates above say what octets of no kind do too, and match on it.
     Unknown,
 }
 

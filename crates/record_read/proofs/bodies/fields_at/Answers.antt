@@ -2,14 +2,8 @@
 use native.Mathlib.Omega.{arith}
 use mathlib.Core.Path.{◌≡◌, refl, sym, ◌∙◌}
 use lib.ListN.{length}
-use Rattle.record_read.proofs.Turns.{passed_none, passed-more, passed_out, passed_all}
+use Rattle.record_read.proofs.Turns.{passed-more, passed_out, passed_all}
 use Rattle.record_read.proofs.bodies.fields_at.Goals as goal
-
-pub loop-i-init : goal.loop-i-init
-loop-i-init c = passed_none c.args.o.now c.args.fields.now
-
-pub number_at-v-requires : goal.number_at-v-requires
-number_at-v-requires c = (omega arith, c.width_of-w.ensures.2)
 
 pub returns-then-not-in_range : goal.returns-then-not-in_range
 returns-then-not-in_range c =

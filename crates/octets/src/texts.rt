@@ -79,6 +79,7 @@ pub fn text_at(text: &[u8], at: usize, c: Class) -> Option<usize>
 fn store(out: &mut [u8], n: usize, b: u8)
     ensures { out.new ≡ set out.old n b }
 {
+    // Kept: what the library promises of `get_mut` doesn't say what the slice holds after the write.
     if n < out.len() {
         out[n] = b;
     }

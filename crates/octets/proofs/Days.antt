@@ -1,36 +1,18 @@
 -- The parts of a date. Assumes nothing.
-use mathlib.Core.Path.{◌≡◌, refl, ap}
+use mathlib.Core.Path.{◌≡◌, refl}
 use mathlib.Core.List.{List, [], ◌∷◌, map}
 use mathlib.Core.Bool.{false}
-use Prim.Native.Nat.{ℕ, ◌+◌, ◌-◌, ◌≤◌, ◌<◌}
+use Prim.Native.Nat.{ℕ, ◌+◌, ◌<◌}
 use native.Mathlib.Omega.{arith}
-use lib.ListN.{length, get_or, drop, length-map, length-take, length-drop}
-use borrow.Author.Tests.{le-leb, lt-leb, eq-eqb, ne_eqb}
+use lib.ListN.{length, get_or, length-map, length-take, length-drop}
+use borrow.Author.Tests.{eq-eqb, ne_eqb}
 use Rattle.model.specs.Lists.{same}
 use Rattle.model.specs.Text.{upper}
 use Rattle.model.specs.Laws.{same_lengths}
-use Rattle.model.specs.Octets.{digit}
-use Rattle.model.specs.Reading.{run_length, end_of, piece, digits_at, month_at, bare_date_at, date_at}
+use Rattle.model.specs.Reading.{piece, digits_at, month_at, bare_date_at, date_at}
 use Rattle.octets.specs.Found.{next_of}
 use Rattle.std.specs.Prelude.{Option, Some, None}
 use Rattle.octets.proofs.Chains.{then-bad, then_ok, after_none, after_some}
-
--- so many digits
-module _ (least most : ℕ) (s : List ℕ) (at q : ℕ) (e : q ≡ end_of digit s at) where
-  pub digits_few : q - at < least → None ≡ next_of (digits_at least most s at)
-  digits_few h = let m : run_length digit (drop at s) < least = omega arith in rw (lt-leb _ _ m)
-
-  pub digits_many : least ≤ q - at → most < q - at → None ≡ next_of (digits_at least most s at)
-  digits_many h l =
-      let m : least ≤ run_length digit (drop at s) = omega arith in
-      let n : most < run_length digit (drop at s) = omega arith in
-      rw (le-leb _ _ m, lt-leb _ _ n)
-
-  pub digits_are : least ≤ q - at → q - at ≤ most → Some q ≡ next_of (digits_at least most s at)
-  digits_are h l =
-      let m : least ≤ run_length digit (drop at s) = omega arith in
-      let n : run_length digit (drop at s) ≤ most = omega arith in
-      rw (le-leb _ _ m, le-leb _ _ n) (ap Some e)
 
 -- a shorter text is no word of three letters, and so no month
 module _ (w : List ℕ) (h : length w < 3) (x y z : ℕ) where

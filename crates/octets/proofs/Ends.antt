@@ -7,10 +7,7 @@ use native.Mathlib.Numerals.{add-one}
 use native.Mathlib.Omega.{arith}
 use lib.ListN.{length, get_or, drop_of_length-le}
 use lib.Seq.{drop-cons}
-use borrow.Author.Tests.{lt-ltb, le-ltb}
-use Rattle.model.specs.Reading.{run_length, end_of, run_at}
-use Rattle.octets.specs.Found.{next_of}
-use Rattle.std.specs.Prelude.{Some, None}
+use Rattle.model.specs.Reading.{run_length, end_of}
 
 module _ (class : ℕ → Bool) (s : List ℕ) (p : ℕ) where
   -- behind the text
@@ -27,11 +24,3 @@ module _ (class : ℕ → Bool) (s : List ℕ) (p : ℕ) where
   pub run-goes : p < length s → class (get_or s p 0) ≡ true → end_of class s p ≡ end_of class s (p + 1)
   unfolding run_length
   run-goes h e = rw (drop-cons s p 0 h, e, add-one p) (omega arith)
-
--- the answer of `run_at`, by the end of the run
-module _ (class : ℕ → Bool) (s : List ℕ) (p q : ℕ) (e : q ≡ end_of class s p) where
-  pub run-found : p < q → Some q ≡ next_of (run_at class s p)
-  run-found h = rw (← e, lt-ltb _ _ h)
-
-  pub run_none : q ≤ p → None ≡ next_of (run_at class s p)
-  run_none h = rw (← e, le-ltb _ _ h)

@@ -51,9 +51,6 @@ copied-kept {v} {out₀} {rest} {out} {n} k b rest' c e = record {
   is = rw (c.is, c.long) (fill_more out₀ c.front k b);
 }
 
-pub copied_one : {v out₀ rest out : List ℕ} {n : ℕ} (b : ℕ) (rest' : List ℕ) → Copied v out₀ rest out n → rest ≡ b ∷ rest' → Copied v out₀ rest' (set out n b) (n + 1)
-copied_one b rest' c e = copied-kept Kept b rest' c e
-
 copied_all : {v out₀ rest out : List ℕ} {n : ℕ} (c : Copied v out₀ rest out n) → rest ≡ [] → v ≡ c.front
 copied_all c e = rw (e, append-nil) at c.all
 

@@ -1,12 +1,9 @@
--- A piece of a text, one octet at a time, and a table, one word at a time. Assumes nothing.
+-- A piece of a text with nothing in it, and a table, one word at a time. Assumes nothing.
 use mathlib.Core.Path.{◌≡◌, refl}
 use mathlib.Core.List.{List, [], ◌∷◌, map}
 use mathlib.Core.Bool.{Bool, true, false, cond, ◌||◌}
-use Prim.Native.Nat.{ℕ, suc, ◌+◌, ◌-◌, ◌≤◌, ◌<◌}
-use native.Mathlib.Numerals.{add-one}
+use Prim.Native.Nat.{ℕ, ◌+◌, ◌-◌, ◌≤◌}
 use native.Mathlib.Omega.{arith}
-use lib.ListN.{length, get_or, drop, length-drop, drop_of_length-le}
-use lib.Seq.{drop-cons, take_all, take-nil}
 use Rattle.std.specs.Prelude.{Option, Some}
 use Rattle.std.specs.Borrow.{Bor}
 use Rattle.std.specs.List.{position_from}
@@ -15,22 +12,9 @@ use Rattle.model.specs.Lists.{anyb}
 use Rattle.model.specs.Text.{same_word}
 use Rattle.model.specs.Reading.{piece}
 
-module _ (s : List ℕ) (p q : ℕ) where
-  -- nothing is left of it
-  pub piece_over : q ≤ p → piece s p q ≡ []
-  piece_over h = let e : q - p ≡ 0 = omega arith in rw e
-
-  -- the text is used up
-  pub piece_past : length s ≤ p → piece s p q ≡ []
-  piece_past h = rw (drop_of_length-le s h) (take-nil (q - p))
-
-  -- the text ends before it does
-  pub piece-rest : length s ≤ q → piece s p q ≡ drop p s
-  piece-rest h = take_all (q - p) (drop p s) (simp length-drop (omega arith))
-
-  -- its first octet
-  pub piece-cons : p < q → p < length s → piece s p q ≡ get_or s p 0 ∷ piece s (p + 1) q
-  piece-cons l h = let e : q - p ≡ suc (q - (p + 1)) = omega arith in rw (drop-cons s p 0 h, e, add-one p)
+-- nothing is left of it
+pub piece_over : (s : List ℕ) (p q : ℕ) → q ≤ p → piece s p q ≡ []
+piece_over s p q h = let e : q - p ≡ 0 = omega arith in rw e
 
 -- the place among references is that among the words
 pub place_referred : (w : List ℕ) (k : ℕ) (ts : List (Bor (List ℕ))) → position_from (λ t. same_word w t.now) k ts ≡ position_from (same_word w) k (map (λ t. t.now) ts)

@@ -8,7 +8,7 @@ use native.Mathlib.Omega.{arith}
 use lib.ListN.{length, get_or, drop, drop_of_length-le}
 use lib.Seq.{drop-cons}
 use borrow.Author.Tests.{eq-eqb, ne_eqb}
-use Rattle.model.specs.Reading.{Parsed, bad, ok, and_then, Quoting, closes, escapes, belongs, fails, quoting, unquote_by, unquote, quoted_at, run_at, text_at}
+use Rattle.model.specs.Reading.{Parsed, bad, ok, and_then, Quoting, closes, escapes, belongs, fails, quoting, unquote_by, unquote, quoted_at}
 use Rattle.octets.specs.Found.{next_of}
 use Rattle.octets.specs.Quotes.{step_of, escaping}
 use Rattle.octets.specs.declared.texts.QuoteStep.{QuoteStep}
@@ -72,11 +72,3 @@ module _ (s : List ℕ) (p : ℕ) (e : Bool) where
 
     pub quote-goes : (k ≡ Closes → ⊥) → (k ≡ Wrong → ⊥) → next_of (unquote (drop p s) e p) ≡ next_of (unquote (drop (p + 1) s) (escaping k) (p + 1))
     quote-goes n m = rw (is) (ap next_of (quote_at h) ∙ step-goes (quoting e (get_or s p 0)) _ _ _ (λ z. n (is ∙ z)) (λ z. m (is ∙ z)))
-
--- a quoted string, or else a run of a class
-module _ (class : ℕ → Bool) (s : List ℕ) (at : ℕ) where
-  pub text-quoted : get_or s at 0 ≡ 34 → text_at class s at ≡ quoted_at s at
-  text-quoted e = rw (eq-eqb _ _ e)
-
-  pub text_run : (get_or s at 0 ≡ 34 → ⊥) → text_at class s at ≡ run_at class s at
-  text_run n = rw (ne_eqb _ _ n)

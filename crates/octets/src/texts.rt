@@ -10,6 +10,7 @@ ghost use Rattle.octets.specs.Values.{value_of, Filled};
 use super::Class;
 use super::classes::{in_class, octet_at};
 use super::runs::{run_at, run_end};
+use super::words::part;
 
 // What an octet between quotes does.
 #[derive(Clone, Copy)]
@@ -78,6 +79,7 @@ pub fn text_at(text: &[u8], at: usize, c: Class) -> Option<usize>
 fn store(out: &mut [u8], n: usize, b: u8)
     ensures { out.new ≡ set out.old n b }
 {
+    // Kept: what the library promises of `get_mut` doesn't say what the slice holds after the write.
     if n < out.len() {
         out[n] = b;
     }
@@ -97,21 +99,14 @@ fn keep(out: &mut [u8], n: usize, b: u8, step: QuoteStep) -> usize
     }
 }
 
-// Writes the octets from one position up to another.
+// Writes the octets from one position up to another, as many of them as fit, and gives how many there are.
 fn copy_piece(text: &[u8], from: usize, upto: usize, out: &mut [u8]) -> usize
     ensures { Filled text.now (piece text.now from upto) out.old out.new result }
 {
-    let mut i = from;
-    let mut n = 0;
-    while i < upto {
-        if text.len() <= i {
-            return n;
-        }
-        store(out, n, text[i]);
-        n += 1;
-        i += 1;
-    }
-    n
+    let piece = part(text, from, upto);
+    let n = piece.len().min(out.len());
+    out[..n].copy_from_slice(&piece[..n]);
+    piece.len()
 }
 
 // Writes a quoted string without its quotes and backslashes.

@@ -10,7 +10,7 @@ use super::Class;
 use super::runs::run_end;
 
 // The octets from one position up to another.
-fn part(text: &[u8], from: usize, upto: usize) -> &[u8]
+pub(crate) fn part(text: &[u8], from: usize, upto: usize) -> &[u8]
     ensures { result.now ≡ piece text.now from upto }
 {
     let end = upto.min(text.len());

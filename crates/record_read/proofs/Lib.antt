@@ -1,5 +1,4 @@
 -- Laws on plain values, for the proofs of this crate.
-mod Marks
 mod Halves
 mod Turns
 mod Whole

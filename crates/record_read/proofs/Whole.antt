@@ -15,9 +15,10 @@ use Rattle.model.specs.Names.{printable, no_part_empty}
 use Rattle.model.specs.Text.{little}
 use Rattle.model.specs.Records.{Kind, MB, DL, RN, SB, RT, ME, XP, FL, SE, CE, CM, DR, unknown, Field, id, id_or_none, attributes, quiet, uidvalidity, subscribed, rights, uid, flags, size, class, count, counter, Tail, nothing, name, command, layout, width, widths, values, in_range, all_in_range, tail_ok, body_ok, body_of, is_known, framed, kind_of, is_record, record_by, record_of}
 use Rattle.record_read.specs.Kinds.{kind_for}
-use Rattle.record_read.specs.Layouts.{field_of, fields_for, tail_for, layout_for, Fits, layout-fits}
+use Rattle.record_read.specs.Layouts.{field_for, fields_for, tail_for, Fits}
 use Rattle.record_read.specs.Reading.{FieldsTaken, Bounds, Bounded, Following, Taken}
 use Rattle.record_read.specs.declared.Kind.{Kind as CodeKind}
+use Rattle.record_read.specs.declared.layouts.Field.{Field as CodeField}
 use Rattle.record_read.specs.declared.layouts.Layout.{Layout}
 use Rattle.record_read.specs.declared.bodies.Fields.{Fields}
 
@@ -109,13 +110,13 @@ record Parts (o : List ℕ) (k : Kind) (all : Bool) (vs : List ℕ) (end : ℕ) 
   filled : take (length (layout k).fields) vs ≡ values (layout k).fields (drop 4 o)
   ends : end ≡ 4 + widths (layout k).fields
 
--- from the letters of the layout
-parts_read : (o letters : List ℕ) (k : Kind) {f : Fields} → FieldsTaken o letters f → fields_for letters ≡ (layout k).fields → Parts o k true f.values f.end
-parts_read o letters k {f} p e =
+-- from the fields that code has
+parts_read : (o : List ℕ) (fields : List CodeField) (k : Kind) {f : Fields} → FieldsTaken o fields f → fields_for fields ≡ (layout k).fields → Parts o k true f.values f.end
+parts_read o fields k {f} p e =
     record {
       ranges = sym p.ranges ∙ ap (λ (fs : List Field). all_in_range fs (drop 4 o)) e;
       filled =
-          ap (λ (n : ℕ). take n f.values) (ap length (sym e) ∙ length-map letters field_of) ∙ p.filled
+          ap (λ (n : ℕ). take n f.values) (ap length (sym e) ∙ length-map fields field_for) ∙ p.filled
           ∙ ap (λ (fs : List Field). values fs (drop 4 o)) e;
       ends = p.ends ∙ ap (λ (fs : List Field). 4 + widths fs) e;
     }
@@ -193,15 +194,7 @@ none_of : (a b c : Bool) → (a && (b && (c && false))) ≡ false
 none_of a b c = rw (and_false c, and_false b) (and_false a)
 
 -- ---- what was read of octets, from what its parts answered
-module _ (k : CodeKind) {l : Layout} (laid : l ≡ layout_for k) where
-  -- the row is that of the kind
-  fits_row : Fits l (layout (kind_for k))
-  fits_row = rw laid (layout-fits k)
-
-  -- the values have room
-  pub few-fields : l.1 ≤ 5
-  few-fields = fits_row.few
-
+module _ (k : CodeKind) {l : Layout} (laid : Fits l (layout (kind_for k))) where
   module _ (o : List ℕ) (marked : kind_for k ≡ kind_of o) where
     -- a record, by the layout of the kind
     abbrev by_kind : Kind → Bool
@@ -212,25 +205,25 @@ module _ (k : CodeKind) {l : Layout} (laid : l ≡ layout_for k) where
     unknown_none e z = sym (ap by_kind marked) ∙ ap (λ (t : Bool). t && (framed o && body_ok (layout (kind_for k)) (body_of o))) (sym e ∙ z)
 
     -- a field out of its range
-    pub range_none : all_in_range (fields_for (take l.1 l.0)) (drop 4 o) ≡ false → is_record o ≡ false
+    pub range_none : all_in_range (fields_for l.fields.now) (drop 4 o) ≡ false → is_record o ≡ false
     range_none e =
         let fields = (layout (kind_for k)).fields in
         sym (ap by_kind marked)
         ∙ ap (λ (t : Bool). is_known (kind_for k) && (framed o && (leb (widths fields) (length (drop 4 o)) && (t && tail_ok (layout (kind_for k)).tail (drop (widths fields) (drop 4 o))))))
-        (ap (λ (fs : List Field). all_in_range fs (drop 4 o)) (sym fits_row.fields) ∙ e)
+        (ap (λ (fs : List Field). all_in_range fs (drop 4 o)) (sym laid.fields) ∙ e)
         ∙ none_of (is_known (kind_for k)) (framed o) (leb (widths fields) (length (drop 4 o)))
 
     -- the fields are in their ranges
-    module _ {f : Fields} (read : FieldsTaken o (take l.1 l.0) f) {known whole : Bool} (is_known' : known ≡ is_known (kind_for k)) (marks : known ≡ true)
-        (ending : whole ≡ (framed o && (leb f.end (length o) && tail_ok (tail_for l.2) (drop f.end o)))) where
+    module _ {f : Fields} (read : FieldsTaken o l.fields.now f) {known whole : Bool} (is_known' : known ≡ is_known (kind_for k)) (marks : known ≡ true)
+        (ending : whole ≡ (framed o && (leb f.end (length o) && tail_ok (tail_for l.tail) (drop f.end o)))) where
       -- the parts, by the layout of the kind
       parts : Parts o (kind_for k) true f.values f.end
-      parts = parts_read o (take l.1 l.0) (kind_for k) read fits_row.fields
+      parts = parts_read o l.fields.now (kind_for k) read laid.fields
 
       -- the tests together
       tests : whole ≡ ((is_known (kind_for k) && true) && (framed o && (leb f.end (length o) && tail_ok (layout (kind_for k)).tail (drop f.end o))))
       tests =
-          ending ∙ ap (λ (t : Tail). framed o && (leb f.end (length o) && tail_ok t (drop f.end o))) fits_row.tail
+          ending ∙ ap (λ (t : Tail). framed o && (leb f.end (length o) && tail_ok t (drop f.end o))) laid.tail
           ∙ ap (λ (t : Bool). (t && true) && (framed o && (leb f.end (length o) && tail_ok (layout (kind_for k)).tail (drop f.end o)))) (sym marks ∙ is_known')
 
       record_is : whole ≡ is_record o

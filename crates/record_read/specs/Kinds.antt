@@ -1,7 +1,4 @@
 -- The kinds of records as code names them. Assumes nothing: these are definitions.
-use Rattle.std.specs.Prelude.{List, cond, ℕ, take}
-use Rattle.model.specs.Lists.{same}
-use Rattle.model.specs.Text.{octets}
 use Rattle.model.specs.Records.{Kind as RecordKind, MB, DL, RN, SB, RT, ME, XP, FL, SE, CE, CM, DR, unknown}
 use Rattle.record_read.specs.declared.Kind.{Kind}
 use Rattle.record_read.specs.declared.Kind.TheVariants.{Create, Delete, Rename, Subscribe, Grant, Arrive, Expunge, Reflag, Select, Ended, Command, Drained, Unknown}
@@ -21,13 +18,3 @@ kind_for Ended = CE
 kind_for Command = CM
 kind_for Drained = DR
 kind_for Unknown = unknown
-
--- the kind that the first two octets say, of the last six
-abbrev pub later_kind : List ℕ → RecordKind
-later_kind o =
-    cond (same (take 2 o) (octets "XP")) XP
-    (cond (same (take 2 o) (octets "FL")) FL
-    (cond (same (take 2 o) (octets "SE")) SE
-    (cond (same (take 2 o) (octets "CE")) CE
-    (cond (same (take 2 o) (octets "CM")) CM
-    (cond (same (take 2 o) (octets "DR")) DR unknown)))))

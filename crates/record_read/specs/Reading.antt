@@ -7,19 +7,20 @@ use Rattle.record_read.specs.Kinds.{kind_for}
 use Rattle.record_read.specs.Layouts.{fields_for}
 use Rattle.record_read.specs.declared.Kind.{Kind}
 use Rattle.record_read.specs.declared.bodies.Fields.{Fields}
+use Rattle.record_read.specs.declared.layouts.Field.{Field as CodeField}
 use Rattle.record_read.specs.declared.Received.{Received}
 
--- the fields of a text of letters, read from the fourth octet on, each in its range: their values stand first
-pub record FieldsTaken (o letters : List ℕ) (r : Fields) : Type 0 where
-  pub ranges : all_in_range (fields_for letters) (drop 4 o) ≡ true
-  pub filled : take (length letters) r.values ≡ values (fields_for letters) (drop 4 o)
+-- the fields of a layout, read from the fourth octet on, each in its range: their values stand first
+pub record FieldsTaken (o : List ℕ) (fields : List CodeField) (r : Fields) : Type 0 where
+  pub ranges : all_in_range (fields_for fields) (drop 4 o) ≡ true
+  pub filled : take (length fields) r.values ≡ values (fields_for fields) (drop 4 o)
   pub places : length r.values ≡ 5
-  pub ends : r.end ≡ 4 + widths (fields_for letters)
+  pub ends : r.end ≡ 4 + widths (fields_for fields)
 
 -- or one is out of its range
-abbrev pub FieldsRead : List ℕ → List ℕ → Option Fields → Type 0
-FieldsRead o letters None = all_in_range (fields_for letters) (drop 4 o) ≡ false
-FieldsRead o letters (Some r) = FieldsTaken o letters r
+abbrev pub FieldsRead : List ℕ → List CodeField → Option Fields → Type 0
+FieldsRead o fields None = all_in_range (fields_for fields) (drop 4 o) ≡ false
+FieldsRead o fields (Some r) = FieldsTaken o fields r
 
 -- the numbers that a field may have
 abbrev pub Bounds : Field → ℕ → Type 0

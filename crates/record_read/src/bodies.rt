@@ -1,11 +1,11 @@
 // Bodies of records: their length, the values of their fields, and what follows these.
-ghost use Rattle.std.specs.Prelude.{◌≡◌, ◌&&◌, ◌≤◌, ◌<◌, leb, length, take, drop};
+ghost use Rattle.std.specs.Prelude.{◌≡◌, ◌&&◌, ◌≤◌, ◌<◌, leb, length, drop};
 ghost use Rattle.model.specs.Text.{little};
 ghost use Rattle.model.specs.Records.{framed, tail_ok};
 ghost use Rattle.record_read.specs.Layouts.{tail_for};
 ghost use Rattle.record_read.specs.Reading.{FieldsRead};
 
-use super::layouts::{Tail, field_of, in_range, width_of};
+use super::layouts::{Field, Tail, in_range, width_of};
 
 // The fields of a body, each in its range: their values, and the place behind them.
 #[derive(Clone, Copy)]
@@ -27,17 +27,16 @@ fn number_at(o: &[u8], at: usize, w: usize) -> u64
 }
 
 // The fields of a layout, read from the fourth octet on, whether or not so many octets are there; None where one is out of its range.
-pub fn fields_at(o: &[u8], letters: [u8; 5], count: usize) -> Option<Fields>
-    requires { count ≤ 5 }
-    ensures { FieldsRead o.now (take count letters) result }
+pub fn fields_at(o: &[u8], fields: &[Field]) -> Option<Fields>
+    requires { length fields.now ≤ 5 }
+    ensures { FieldsRead o.now fields.now result }
 {
     let mut values = [0; 5];
     let mut end: usize = 4;
-    for i in 0..count {
-        let f = field_of(letters[i]);
-        let w = width_of(f);
+    for (i, f) in fields.iter().enumerate() {
+        let w = width_of(*f);
         let v = number_at(o, end, w);
-        if !in_range(f, v) {
+        if !in_range(*f, v) {
             return None;
         }
         values[i] = v;
@@ -58,10 +57,11 @@ fn tail_ok(o: &[u8], at: usize, tail: Tail) -> bool
     requires { at ≤ length o.now }
     ensures { result ≡ tail_ok (tail_for tail) (drop at o.now) }
 {
+    let rest = &o[at..];
     match tail {
-        Tail::Nothing => o.len() - at == 0,
-        Tail::Name => names::is_valid(&o[at..]),
-        Tail::Command => o.len() - at <= 1024,
+        Tail::Nothing => rest.is_empty(),
+        Tail::Name => names::is_valid(rest),
+        Tail::Command => rest.len() <= 1024,
     }
 }
 

@@ -4,13 +4,12 @@
 mod bodies;
 mod layouts;
 
-ghost use Rattle.std.specs.Prelude.{◌≡◌, cond, [], ◌∷◌, take};
-ghost use Rattle.model.specs.Lists.{same};
+ghost use Rattle.std.specs.Prelude.{◌≡◌};
 ghost use Rattle.model.specs.Records.{kind_of, is_known, starts_with_id, layout, about};
-ghost use Rattle.record_read.specs.Kinds.{kind_for, later_kind};
+ghost use Rattle.record_read.specs.Kinds.{kind_for};
 ghost use Rattle.record_read.specs.Reading.{Reads};
 
-use bodies::{fields_at, is_whole};
+use bodies::{Fields, fields_at, is_whole};
 use layouts::layout_of;
 
 // ---- marks
@@ -30,46 +29,30 @@ pub enum Kind {
     Ended,
     Command,
     Drained,
+    // Kept: crates above say what octets of no kind do too, and match on it.
     Unknown,
 }
 
-// The first two octets are these.
-fn is_marked(o: &[u8], a: u8, b: u8) -> bool
-    ensures { result ≡ same (take 2 o.now) (a ∷ b ∷ []) }
-{
-    o.starts_with(&[a, b])
-}
-
-// The kind of a mark where the octets begin with it, or another kind.
-fn by_mark(o: &[u8], a: u8, b: u8, kind: Kind, other: Kind) -> Kind
-    ensures { kind_for result ≡ cond (same (take 2 o.now) (a ∷ b ∷ [])) (kind_for kind) (kind_for other) }
-{
-    if is_marked(o, a, b) { kind } else { other }
-}
-
-// The kind that the mark says, of the last six.
-fn later_kind(o: &[u8]) -> Kind
-    ensures { kind_for result ≡ later_kind o.now }
-{
-    let k = by_mark(o, b'D', b'R', Kind::Drained, Kind::Unknown);
-    let k = by_mark(o, b'C', b'M', Kind::Command, k);
-    let k = by_mark(o, b'C', b'E', Kind::Ended, k);
-    let k = by_mark(o, b'S', b'E', Kind::Select, k);
-    let k = by_mark(o, b'F', b'L', Kind::Reflag, k);
-    by_mark(o, b'X', b'P', Kind::Expunge, k)
-}
-
 // The kind that the mark says.
+#[tactic(auto, unfolding(model::specs::Lists::same))]
 pub fn kind_of(o: &[u8]) -> Kind
     ensures { kind_for result ≡ kind_of o.now }
 {
-    let k = later_kind(o);
-    let k = by_mark(o, b'M', b'E', Kind::Arrive, k);
-    let k = by_mark(o, b'R', b'T', Kind::Grant, k);
-    let k = by_mark(o, b'S', b'B', Kind::Subscribe, k);
-    let k = by_mark(o, b'R', b'N', Kind::Rename, k);
-    let k = by_mark(o, b'D', b'L', Kind::Delete, k);
-    by_mark(o, b'M', b'B', Kind::Create, k)
+    match o {
+        [b'M', b'B', ..] => Kind::Create,
+        [b'D', b'L', ..] => Kind::Delete,
+        [b'R', b'N', ..] => Kind::Rename,
+        [b'S', b'B', ..] => Kind::Subscribe,
+        [b'R', b'T', ..] => Kind::Grant,
+        [b'M', b'E', ..] => Kind::Arrive,
+        [b'X', b'P', ..] => Kind::Expunge,
+        [b'F', b'L', ..] => Kind::Reflag,
+        [b'S', b'E', ..] => Kind::Select,
+        [b'C', b'E', ..] => Kind::Ended,
+        [b'C', b'M', ..] => Kind::Command,
+        [b'D', b'R', ..] => Kind::Drained,
+        _ => Kind::Unknown,
+    }
 }
 
 // The mark is one of the twelve.
@@ -98,15 +81,14 @@ pub fn read(o: &[u8]) -> Option<Received>
     if !is_known(kind) {
         return None;
     }
-    let f = fields_at(o, l.0, l.1)?;
-    if !is_whole(o, f.end, l.2) {
+    let Fields { values, end } = fields_at(o, l.fields)?;
+    if !is_whole(o, end, l.tail) {
         return None;
     }
-    let values = f.values;
     Some(Received {
         kind,
         values,
-        tail: f.end,
+        tail: end,
     })
 }
 

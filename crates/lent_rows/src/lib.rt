@@ -1,165 +1,88 @@
-// The mailbox table as the host lends it, a slice of rows: laid out by columns or read into an array by one pass each, and written back
-// by others. What is searched in between is an array or a column, which the borrow checker follows by itself.
+// The mailbox table as the host lends it, a slice of rows: the rows in use are searched, or laid out by columns, and rows are put and taken out.
 #![tactic(auto)]
 
 pub mod columns;
 
-ghost use Rattle.std.specs.Prelude.{◌≡◌, ◌≤◌, ◌<◌, ltb, length, take, set, replicate};
-ghost use Rattle.model.specs.Lists.{same};
-ghost use Rattle.model.specs.Memory.{no_mailbox, name_of, place};
-ghost use Rattle.laws.specs.Shift.{over, without};
-ghost use Rattle.lent_rows.specs.Rows.{loaded, within, place_named};
-ghost use Rattle.lent_rows.specs.Standing.{Lays};
+ghost use Rattle.std.specs.Prelude.{◌≡◌, List, ◌+◌, ◌<◌, ◌≤◌, length, take, get_or, set};
+ghost use Rattle.model.specs.Memory.{no_mailbox, place};
+ghost use Rattle.model.specs.declared.Mailbox.{Mailbox};
+ghost use Rattle.table_mailboxes.specs.Shift.{closed};
+ghost use Rattle.lent_rows.specs.Rows.{place_named};
+ghost use Rattle.lent_rows.specs.Standing.{Narrow, Fills, Stands};
 
 use model::Mailbox;
+use table_mailboxes::{Columns, row};
 
-// ---- the slice
+// ---- what is read
 
-// The first 64 rows; where there are fewer, zeros stand behind them.
-pub fn load(rows: &[Mailbox]) -> [Mailbox; 64]
-    ensures { result ≡ loaded rows.now }
+// The rows in use, as many as there are, and 64 at the most.
+pub fn in_use(rows: &[Mailbox], used: u64) -> &[Mailbox]
+    ensures rows { result.now ≡ take used (take 64 rows.now) }
+    ensures few { length result.now ≤ 64 }
 {
-    let n = rows.len();
-    let m = reach(64, n);
-    let mut t = blank();
-    let mut i = 0;
-    while i < m {
-        t[i] = rows[i];
-        i += 1;
-    }
-    t
+    let most = used.min(64) as usize;
+    &rows[..most.min(rows.len())]
 }
+
+// One row more goes into the columns. It comes by value, so that its numbers are known to be those of their types.
+fn push(cols: &mut Columns, x: Mailbox)
+    requires { cols.old.n < 64 }
+    ensures one { cols.new.n ≡ cols.old.n + 1 }
+    ensures fills { (rows : List Mailbox) → x ≡ get_or rows cols.old.n no_mailbox → Fills rows cols.old → Fills rows cols.new }
+    ensures narrow { Narrow x }
+{
+    let k = cols.n;
+    cols.n = k + 1;
+    cols.put(k, &x);
+}
+
+// The rows in use, by columns.
+pub fn lay(rows: &[Mailbox], used: u64) -> Columns
+    ensures { Stands (take used (take 64 rows.now)) result }
+{
+    let mut cols = Columns::empty();
+    for x in in_use(rows, used) {
+        push(&mut cols, *x);
+    }
+    cols
+}
+
+// The place of the first row with the id, or how many there are.
+pub fn find_id(rows: &[Mailbox], id: u16) -> usize
+    ensures { result ≡ place id rows.now }
+{
+    rows.iter().position(|x| x.id == id).unwrap_or(rows.len())
+}
+
+// The place of the first row with the name, or how many there are.
+pub fn find_name(rows: &[Mailbox], name: &[u8]) -> usize
+    ensures { result ≡ place_named name.now rows.now }
+{
+    rows.iter()
+        .position(|x| row::name(x) == name)
+        .unwrap_or(rows.len())
+}
+
+// ---- what is written
 
 // Row k becomes x; where there is none, nothing changes.
 pub fn set_row(rows: &mut [Mailbox], k: usize, x: Mailbox)
     ensures { rows.new ≡ set rows.old k x }
 {
-    let n = rows.len();
-    if is_row(k, n) {
+    if k < rows.len() {
         rows[k] = x;
     }
 }
 
-// The first m rows go into the columns.
-pub fn lay(
-    rows: &[Mailbox],
-    m: usize,
-    ids: &mut [u64; 64],
-    attributes: &mut [u8; 64],
-    lens: &mut [u8; 64],
-    validities: &mut [u64; 64],
-    nexts: &mut [u64; 64],
-    counters: &mut [u64; 64],
-    names: &mut [u8; 4096],
-)
-    requires { (m ≤ length rows.now) × (m ≤ 64) }
-    ensures { Lays rows.now m ids.old attributes.old lens.old validities.old nexts.old counters.old names.old ids.new attributes.new lens.new validities.new nexts.new counters.new names.new }
+// Row `at` of those in use is taken out: those behind it move up, and the last becomes zeros. This is so wherever as many rows are left.
+pub fn take_out(rows: &mut [Mailbox], at: usize, used: u64)
+    ensures { length (closed at used rows.old) ≤ length rows.old → rows.new ≡ closed at used rows.old }
 {
-    let mut i = 0;
-    while i < m {
-        columns::keep(
-            rows[i], i, ids, attributes, lens, validities, nexts, counters, names,
-        );
-        i += 1;
+    let n = used.min(rows.len() as u64) as usize;
+    if n > 0 {
+        let last = n - 1;
+        let at = at.min(last);
+        rows.copy_within(at + 1..n, at);
+        rows[last] = table_mailboxes::vacant();
     }
-}
-
-// The rows behind `from` move up by one, as far as row k.
-pub fn move_up(rows: &mut [Mailbox], from: usize, k: usize)
-    requires { (from ≤ k) × (from < k → k < length rows.old) }
-    ensures { rows.new ≡ over (without from rows.old) rows.old k }
-{
-    let mut i = from;
-    while i < k {
-        rows[i] = rows[i + 1];
-        i += 1;
-    }
-}
-
-// The rows behind `from` move up, as far as row k, which becomes x: what a step leaves of the table.
-pub fn write_back(rows: &mut [Mailbox], from: usize, k: usize, x: Mailbox)
-    requires { (from ≤ k) × (from < k → k < length rows.old) }
-    ensures { rows.new ≡ set (over (without from rows.old) rows.old k) k x }
-{
-    move_up(rows, from, k);
-    set_row(rows, k, x);
-}
-
-// ---- the array
-
-// Whether there is a row k, of n.
-pub fn is_row(k: usize, n: usize) -> bool
-    ensures { result ≡ ltb k n }
-{
-    k < n
-}
-
-// How many of the first m rows there are, of a table of n rows, and of 64 at the most.
-pub fn reach(m: usize, n: usize) -> usize
-    ensures { result ≡ within m n }
-{
-    if m < n {
-        if m < 64 {
-            return m;
-        }
-        return 64;
-    }
-    if n < 64 { n } else { 64 }
-}
-
-// How many of the used rows there are, likewise.
-pub fn used_rows(used: u64, n: usize) -> usize
-    ensures { result ≡ within used n }
-{
-    if used < 64 {
-        return reach(used as usize, n);
-    }
-    reach(64, n)
-}
-
-// An array of empty rows.
-pub fn blank() -> [Mailbox; 64]
-    ensures { result ≡ replicate 64 no_mailbox }
-{
-    let empty = table_mailboxes::vacant();
-    [empty; 64]
-}
-
-// The place of the first of the n rows with the id, or n.
-pub fn find_id(t: [Mailbox; 64], n: usize, id: u16) -> usize
-    requires { n ≤ 64 }
-    ensures { result ≡ place id (take n t) }
-{
-    let mut i = 0;
-    while i < n {
-        if t[i].id == id {
-            return i;
-        }
-        i += 1;
-    }
-    n
-}
-
-// Whether the row has the name.
-fn is_named(x: Mailbox, name: &[u8]) -> bool
-    ensures { result ≡ same (name_of x) name.now }
-{
-    let octets = x.name;
-    let e = table_mailboxes::clip(x.namelen);
-    names::same(&octets[..e], name)
-}
-
-// The place of the first of the n rows with the name, or n.
-pub fn find_name(t: [Mailbox; 64], n: usize, name: &[u8]) -> usize
-    requires { n ≤ 64 }
-    ensures { result ≡ place_named name.now (take n t) }
-{
-    let mut i = 0;
-    while i < n {
-        if is_named(t[i], name) {
-            return i;
-        }
-        i += 1;
-    }
-    n
 }

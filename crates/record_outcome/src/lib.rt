@@ -1,7 +1,8 @@
 // What a record comes to: a refusal, or the change of the mailbox table, what is counted, and the counts and the session after it.
 #![tactic(auto)]
 
-ghost use Rattle.std.specs.Prelude.{◌≡◌};
+ghost use Rattle.std.specs.Prelude.{◌≡◌, ◌<◌};
+ghost use Rattle.model.specs.Answers.{number_of};
 ghost use Rattle.record_outcome.specs.Coming.{row_of, calm, putting, answer_of};
 
 use model::{Answer, Counts, Mailbox, Refusal, Session};
@@ -80,5 +81,23 @@ pub fn answer_of(came: &Result<Outcome, Refusal>) -> Answer
         ) => Answer::Counted(*n),
         Ok(_) => Answer::Done,
         Err(why) => Answer::Refused(*why),
+    }
+}
+
+// The number of an answer: 0 where nothing is refused.
+pub fn number_of(answer: &Answer) -> u8
+    ensures number { result ≡ number_of answer.now }
+    ensures small { result < 10 }
+{
+    match answer {
+        Answer::Done | Answer::Counted(_) => 0,
+        Answer::Refused(Refusal::UnlawfulMemory) => 1,
+        Answer::Refused(Refusal::BadRecord) => 2,
+        Answer::Refused(Refusal::WrongId) => 3,
+        Answer::Refused(Refusal::NameHeld) => 4,
+        Answer::Refused(Refusal::WrongUid) => 5,
+        Answer::Refused(Refusal::WrongState) => 6,
+        Answer::Refused(Refusal::TableFull) => 7,
+        Answer::Refused(Refusal::NoRoom) => 8,
     }
 }

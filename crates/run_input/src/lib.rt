@@ -7,7 +7,9 @@ ghost use Rattle.std.specs.Io.KnownBytes.{Appends, Consumes, IsAtEnd, WriteAppen
 ghost use Rattle.model.specs.Text.{little};
 ghost use Rattle.model.specs.Pushrun.{refusal_text};
 ghost use Rattle.line_put.specs.Put.{Put};
+ghost use Rattle.line_put.specs.Writes.{Writes};
 
+use line_put::Writer;
 use std::env::FillError;
 use std::io::Write;
 use std::rt::{Env, Files};
@@ -25,59 +27,37 @@ const PATH: usize = 4096;
 // ---- records
 
 // What was read: how many octets, and whether a read failed, which is not the end of the input.
+// Kept: a Result would not have both, and a read that fails behind others has read something.
 #[derive(Clone, Copy)]
 pub struct Read {
     pub size: usize,
     pub failed: bool,
 }
 
-fn read_once<R: io::Read>(reader: &mut R, octets: &mut [u8]) -> Read
-    ensures size { result.size ≤ length octets.old }
-    ensures bytes { Consumes (R.remaining reader.old) (R.remaining reader.new) (take result.size octets.new) }
-    ensures end { result.failed ≡ false → result.size ≡ 0 → 0 < length octets.old → IsAtEnd (R.remaining reader.new) }
-{
-    match reader.read(octets) {
-        Ok(size) => Read {
-            size,
-            failed: false,
-        },
-        Err(_) => Read {
-            size: 0,
-            failed: true,
-        },
-    }
-}
-
 // Reads until the slice is full, the input ends or a read fails.
+// Kept: a read gives as much as it likes, so no `for` goes by its turns.
 pub fn read_full<R: io::Read>(reader: &mut R, octets: &mut [u8]) -> Read
     ensures size { result.size ≤ length octets.old }
     ensures bytes { Consumes (R.remaining reader.old) (R.remaining reader.new) (take result.size octets.new) }
     ensures end { result.failed ≡ false → result.size < length octets.old → IsAtEnd (R.remaining reader.new) }
 {
     let mut done = 0;
-    let mut failed = false;
     while done < octets.len() {
-        let r = read_once(reader, &mut octets[done..]);
-        failed = r.failed;
-        if r.size == 0 {
-            break;
+        match reader.read(&mut octets[done..]) {
+            Ok(0) => break,
+            Ok(n) => done += n,
+            Err(_) => {
+                return Read {
+                    size: done,
+                    failed: true,
+                };
+            }
         }
-        done += r.size;
     }
-    Read { size: done, failed }
-}
-
-fn wide(x: u8) -> usize
-    ensures { (result ≡ x) × (result < 256) }
-{
-    x as usize
-}
-
-// The octets that follow a record's first four.
-fn body_size(low: u8, high: u8) -> usize
-    ensures { (result ≡ low + 256 * high) × (result ≤ 65535) }
-{
-    wide(low) + 256 * wide(high)
+    Read {
+        size: done,
+        failed: false,
+    }
 }
 
 // Reads so many octets to a place of the slice, or as many as there are.
@@ -104,7 +84,7 @@ pub fn next_record<R: io::Read>(reader: &mut R, octets: &mut [u8]) -> Read
     if head.size < 4 {
         return head;
     }
-    let size = body_size(octets[2], octets[3]);
+    let size = usize::from(u16::from_le_bytes([octets[2], octets[3]]));
     let body = read_at(reader, octets, 4, size);
     Read {
         size: 4 + body.size,
@@ -116,34 +96,26 @@ pub fn next_record<R: io::Read>(reader: &mut R, octets: &mut [u8]) -> Read
 pub fn is_over(read: Read) -> bool
     ensures { result ≡ (eqb read.size 0 || read.failed) }
 {
-    if read.size == 0 {
-        return true;
-    }
-    read.failed
+    read.size == 0 || read.failed
 }
 
 // ---- arguments and files
 
 // How many arguments there are, the program's own name not counted.
 pub fn arguments(env: &impl Env) -> usize {
-    let mut n = 0;
     for k in 1..usize::MAX {
-        if let Err(FillError::NotPresent) = env.arg(k, &mut []) {
-            break;
+        if matches!(env.arg(k, &mut []), Err(FillError::NotPresent)) {
+            return k - 1;
         }
-        n = k;
     }
-    n
+    usize::MAX - 1
 }
 
 // Argument k, from 1, to the front of the slice: its length, 0 where it is missing or too long for the slice.
 pub fn argument(env: &impl Env, k: usize, text: &mut [u8]) -> usize
     ensures { (result ≤ length text.new) × (result ≡ length (take result text.new)) }
 {
-    match env.arg(k, text) {
-        Ok(n) => n,
-        Err(_) => 0,
-    }
+    env.arg(k, text).unwrap_or(0)
 }
 
 // Opens the file that argument k names for reading. An argument that is too long for a path leaves the empty path, which no file has;
@@ -172,6 +144,7 @@ fn write_once<W: Write>(writer: &mut W, text: &[u8]) -> io::Result<usize>
 }
 
 // Writes the text at once. Where a write fails, the first octets of it may have been written.
+// Kept: of a write that fails std's `write_all` does not say what was written.
 pub fn print<W: Write>(writer: &mut W, text: &[u8]) -> io::Result<()>
     ensures ok { OnOk result (Appends (W.contents writer.old) (W.contents writer.new) text.now) }
     ensures err { OnErr result ((n : ℕ) × Appends (W.contents writer.old) (W.contents writer.new) (take n text.now)) }
@@ -184,16 +157,31 @@ pub fn print<W: Write>(writer: &mut W, text: &[u8]) -> io::Result<()>
 }
 
 // `! n`, and nothing for 0.
-fn put_refusal(out: &mut [u8], n: u64) -> usize
-    ensures { (Put out.old 0 (length out.old) (refusal_text n) out.new result) × (result ≤ 24) }
+fn put_refusal(w: &mut Writer<'_>, n: u64)
+    requires { (w.old.limit ≤ length w.old.queue.now) × (w.old.at ≤ 65536) }
+    ensures put { Writes w.old (refusal_text n) w.new }
+    ensures upper_bound { w.new.at ≤ w.old.at + 24 }
 {
-    if n == 0 {
-        return 0;
+    if n != 0 {
+        w.put(b"! ");
+        w.put_number(n);
+        w.put(b"\r\n");
     }
-    let limit = out.len();
-    let a = line_put::put(out, 0, limit, b"! ");
-    let b = line_put::put_number(out, a, limit, n);
-    line_put::put(out, b, limit, b"\r\n")
+}
+
+// To the front of a text; where it ends.
+fn refusal(queue: &mut [u8], n: u64) -> usize
+    ensures put { Put queue.old 0 (length queue.old) (refusal_text n) queue.new result }
+    ensures upper_bound { result ≤ 24 }
+{
+    let limit = queue.len();
+    let mut w = Writer {
+        queue,
+        at: 0,
+        limit,
+    };
+    put_refusal(&mut w, n);
+    w.at
 }
 
 // Prints `! n` alone.
@@ -202,6 +190,6 @@ pub fn refuse<W: Write>(writer: &mut W, n: u64) -> io::Result<()>
     ensures err { OnErr result ((k : ℕ) × Appends (W.contents writer.old) (W.contents writer.new) (take k (refusal_text n))) }
 {
     let mut line = [0u8; 24];
-    let end = put_refusal(&mut line, n);
+    let end = refusal(&mut line, n);
     print(writer, &line[..end])
 }

@@ -1,38 +1,14 @@
--- `find_name`: the loop keeps that no row before i has the name. Assumes nothing.
-use mathlib.Core.Path.{◌≡◌, sym, ◌∙◌, ap}
-use Prim.Native.Nat.{◌+◌}
-use native.Mathlib.Omega.{arith}
-use lib.ListN.{length, take}
-use lib.Seq.{length-take-le, get_or-take}
-use Rattle.model.specs.Lists.{same}
-use Rattle.model.specs.Memory.{name_of}
-use Rattle.model.specs.declared.Mailbox.{Mailbox}
-use Rattle.table_mailboxes.specs.Walks.{vacant, mapped-length}
-use Rattle.lent_rows.specs.Rows.{place_named, named-found, named_on, named_over}
-use borrow.Author.Rules.{rules}
+-- `find_name`: where no row has the name, the place is behind the last. Assumes nothing.
+use Rattle.std.proofs.Common.{rules, ◌∙◌, ap, length}
+use Rattle.std.specs.Prelude.{Option, ℕ}
+use Rattle.std.specs.Option.{unwrap_or}
+use borrow.Author.Tests.{tests}
+use Rattle.std.proofs.lemmas.Iterator.{YieldsList-from_slice}
+use Rattle.std.proofs.lemmas.Iterator.Search.{position_from_yields_List}
+use Rattle.lent_rows.specs.Rows.{is_named, named_or}
 use Rattle.lent_rows.proofs.find_name.Goals as goal
-
-pub loop-i-init : goal.loop-i-init
-loop-i-init c =
-    (search rules, (let z : 0 + place_named c.args.name.now (take c.args.n c.args.t) ≡ place_named c.args.name.now (take c.args.n c.args.t) = omega arith in sym z))
-
-pub returns-then-is_named : goal.returns-then-is_named
-returns-then-is_named c =
-    let long : length c.args.t ≡ 64 = search (rules, mapped-length) in
-    let few = length-take-le c.args.n c.args.t (omega arith) in
-    sym (named-found c.args.name.now (take c.args.n c.args.t) c.loop-i.i vacant (omega arith) (ap (λ (x : Mailbox). same (name_of x) c.args.name.now) (get_or-take c.args.n c.args.t c.loop-i.i vacant (omega arith)) ∙ (sym c.is_named.ensures ∙ c.if-is_named.true)) c.loop-i.invariant.1)
-
-pub loop-i-preserved : goal.loop-i-preserved
-loop-i-preserved c =
-    let long : length c.args.t ≡ 64 = search (rules, mapped-length) in
-    let few = length-take-le c.args.n c.args.t (omega arith) in (
-      search rules,
-      named_on c.args.name.now (take c.args.n c.args.t) c.loop-i.i vacant (omega arith) (ap (λ (x : Mailbox). same (name_of x) c.args.name.now) (get_or-take c.args.n c.args.t c.loop-i.i vacant (omega arith)) ∙ (sym c.is_named.ensures ∙ c.if-is_named.false)) c.loop-i.invariant.1,
-    )
 
 pub returns : goal.returns
 returns c =
-    let long : length c.args.t ≡ 64 = search (rules, mapped-length) in
-    let few = length-take-le c.args.n c.args.t (omega arith) in
-    let e : c.loop-i.i ≡ c.args.n = omega arith in
-    sym (named_over c.args.name.now (take c.args.n c.args.t) c.loop-i.i (omega arith) c.loop-i.invariant.1 ∙ e)
+    let e = position_from_yields_List (is_named c.args.name.now) _ _ c.position.result c.position.ensures.ran (YieldsList-from_slice _ c.iter.ensures.rest) (λ x b q k. search (rules, tests)) in
+    c.unwrap_or.ensures ∙ (ap (λ (o : Option ℕ). unwrap_or o (length c.args.rows.now)) e ∙ named_or c.args.name.now c.args.rows.now)

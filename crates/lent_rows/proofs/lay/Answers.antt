@@ -1,23 +1,35 @@
--- `lay`: each turn puts one row more into the columns. Assumes nothing.
-use native.Mathlib.Omega.{arith}
-use mathlib.Core.Path.{◌≡◌, subst}
-use Rattle.std.proofs.lemmas.List.{get_or_default}
+-- `lay`: a row more is laid out, and at last all of them. Assumes nothing.
+use Rattle.std.proofs.Common.{rules, arith, ◌≡◌, ◌+◌, ap, ℕ, sym, ◌∙◌, length, take_all, get_or}
 use Rattle.model.specs.Memory.{no_mailbox}
-use Rattle.model.specs.declared.Mailbox.{Mailbox}
-use Rattle.lent_rows.specs.Standing.{Keeps, lays_none, lays_next}
+use Rattle.table_mailboxes.specs.Columns.{zero_at, all_below}
+use Rattle.table_mailboxes.specs.Walks.{any_default, vacant}
+use Rattle.table_mailboxes.specs.Filling.{filling_start, filling_end}
+use Rattle.lent_rows.specs.Standing.{Narrow}
 use Rattle.lent_rows.proofs.lay.Goals as goal
 
-pub loop-i-init : goal.loop-i-init
-loop-i-init c = (omega arith, lays_none _ _ _ _ _ _ _ _)
+pub loop-x-init : goal.loop-x-init
+loop-x-init c =
+    let e = c.empty-cols.ensures in
+    (e.n, rw (e.n, e.ids, e.attributes, e.lens, e.validities, e.nexts, e.counters, e.names) (filling_start c.in_use-x-items.result.now _ _ _ _ _ _ _ (search rules) (search rules) (search rules) (search rules) (search rules) (search rules) (search rules) (λ k. zero_at 64 k)), λ k h. absurd (let z : ⊥ = omega arith in z))
 
-pub loop-i-preserved : goal.loop-i-preserved
-loop-i-preserved c =
-    let v = c.loop-i in let n = c.keep.new in
-    let kept = subst (λ (x : Mailbox). Keeps v.i x v.ids v.attributes v.lens v.validities v.nexts v.counters v.names n.ids n.attributes n.lens n.validities n.nexts n.counters n.names)
-    (get_or_default c.args.rows.now v.i _ no_mailbox (omega arith)) c.keep.ensures in
-    (omega arith, lays_next c.args.rows.now v.i (omega arith) (omega arith) v.invariant.1 kept)
+pub loop-x-preserved : goal.loop-x-preserved
+loop-x-preserved c =
+    let rows = c.in_use-x-items.result.now in
+    let i = c.loop-x.x-index in
+    let n = c.loop-x.invariant.0 in
+    let d = any_default rows i vacant no_mailbox (omega arith) in (
+      c.push.ensures.one ∙ ap (λ (k : ℕ). k + 1) n,
+      c.push.ensures.fills rows (d ∙ ap (λ (k : ℕ). get_or rows k no_mailbox) (sym n)) c.loop-x.invariant.1,
+      all_below (λ (k : ℕ). Narrow (get_or rows k no_mailbox)) i c.loop-x.invariant.2 (rw (← d) c.push.ensures.narrow),
+    )
 
 pub returns : goal.returns
 returns c =
-    let e : c.loop-i.i ≡ c.args.m = omega arith in
-    rw (← e) c.loop-i.invariant.1
+    let rows = c.in_use-x-items.result.now in
+    let n = c.loop-x.invariant.0 in
+    let w : c.loop-x.cols.n ≡ length rows = omega arith in
+    let i : c.loop-x.x-index ≡ length rows = omega arith in
+    rw (← c.in_use-x-items.ensures.rows) (record {
+      laid = (sym w, rw (← take_all (length rows) rows (omega arith)) (filling_end rows _ _ _ _ _ _ _ c.loop-x.cols.n c.loop-x.invariant.1 (length rows) w (omega arith)));
+      narrow = λ k h. c.loop-x.invariant.2 k (omega arith);
+    })

@@ -1,12 +1,8 @@
--- `lay`: the columns have the first i rows. Assumes nothing.
-use Rattle.std.proofs.Common.{◌≤◌, ◌-◌}
-use Rattle.lent_rows.specs.Standing.{Lays}
+-- `lay`: the loop keeps that the columns hold the rows before k. Assumes nothing.
+use Rattle.std.proofs.Common.{◌≡◌, ℕ, ◌<◌, get_or}
+use Rattle.model.specs.Memory.{no_mailbox}
+use Rattle.lent_rows.specs.Standing.{Narrow, Fills}
 use Rattle.lent_rows.proofs.lay.Given as goal
 
-abbrev pub invariant-loop-i : goal.invariant-loop-i
-invariant-loop-i l = (l.i ≤ l.m)
-    × Lays l.rows l.i l.initial.ids l.initial.attributes l.initial.lens l.initial.validities l.initial.nexts l.initial.counters l.initial.names
-    l.ids l.attributes l.lens l.validities l.nexts l.counters l.names
-
-abbrev pub decreases-loop-i : goal.decreases-loop-i
-decreases-loop-i l = l.m - l.i
+abbrev pub invariant-loop-x : goal.invariant-loop-x
+invariant-loop-x l = (l.cols.n ≡ l.x-index) × Fills l.x-items l.cols × ((k : ℕ) → k < l.x-index → Narrow (get_or l.x-items k no_mailbox))

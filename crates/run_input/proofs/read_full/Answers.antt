@@ -22,8 +22,8 @@ pub loop-done-preserved : goal.loop-done-preserved
 loop-done-preserved g c =
     let from = c.loop-done.done in
     let room = length c.loop-done.octets - from in
-    let n = c.read_once-r.result.size in
+    let n = c.in-Ok.n in
     let within = c.loop-done.invariant.1 in
-    let part = slice-range-put from room n c.loop-done.octets c.read_once-r.new.octets within (search rules) in
-    let joined = take-split from (from + n) c.loop-done.octets (put_mid from room c.loop-done.octets c.read_once-r.new.octets) (omega arith) (take-put_mid_below _ _ _ _ _ (le_refl _) within) in
-    (search rules, search rules, subst (Consumes _ _) (ap (λ l. take from c.loop-done.octets ++ l) (sym part) ∙ joined) (Consumes-trans _ _ _ _ _ c.loop-done.invariant.2 c.read_once-r.ensures.bytes))
+    let part = slice-range-put from room n c.loop-done.octets c.read.new.buf within c.in-Ok.ensures.bound.0 in
+    let joined = take-split from (from + n) c.loop-done.octets (put_mid from room c.loop-done.octets c.read.new.buf) (omega arith) (take-put_mid_below _ _ _ _ _ (le_refl _) within) in
+    (search rules, search rules, subst (Consumes _ _) (ap (λ l. take from c.loop-done.octets ++ l) (sym part) ∙ joined) (Consumes-trans _ _ _ _ _ c.loop-done.invariant.2 c.in-Ok.ensures.bytes.0))

@@ -11,14 +11,14 @@ written-front q t r e = take_at t (drop (0 + length t) q) r e
 
 pub returns-clause-ok : goal.returns-clause-ok
 returns-clause-ok g c =
-    let put = c.put_refusal-end.ensures.0 in
+    let put = c.refusal-end.ensures.put in
     let next = put.next in
-    let text = ap (take c.put_refusal-end.result) (put.done (omega arith)) ∙ written-front _ (refusal_text c.args.n) _ (omega arith) in
+    let text = ap (take c.refusal-end.result) (put.done (omega arith)) ∙ written-front _ (refusal_text c.args.n) _ (omega arith) in
     rw text at c.print.ensures.ok
 
 pub returns-clause-err : goal.returns-clause-err
 returns-clause-err g c =
-    let put = c.put_refusal-end.ensures.0 in
+    let put = c.refusal-end.ensures.put in
     let next = put.next in
-    let text = ap (take c.put_refusal-end.result) (put.done (omega arith)) ∙ written-front _ (refusal_text c.args.n) _ (omega arith) in
+    let text = ap (take c.refusal-end.result) (put.done (omega arith)) ∙ written-front _ (refusal_text c.args.n) _ (omega arith) in
     rw text at c.print.ensures.err

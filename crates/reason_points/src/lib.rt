@@ -6,7 +6,7 @@ pub mod mailboxes;
 pub mod messages;
 pub mod rows;
 
-ghost use Rattle.std.specs.Prelude.{◌≡◌, false, ◌≤◌, take};
+ghost use Rattle.std.specs.Prelude.{◌≡◌, false, None};
 ghost use Rattle.model.specs.Records.{layout, record_by};
 ghost use Rattle.model.specs.Memory.{Memory, boxes};
 ghost use Rattle.model.specs.Reasons as R;
@@ -17,74 +17,50 @@ ghost use Rattle.reason_points.specs.Showing.{plain, shown};
 use model::{Mailbox, Session};
 use record_read::Kind;
 
-// The points: whether it is quiet, an event, and the rights are held; whether a group matches, and the number of the first that asks, or 0;
-// whether it is about an unannounced message; whether it waits, and for which class.
+// The points: whether it is quiet, an event, and the rights are held; whether a group matches, and the number of the first that asks;
+// whether it is about an unannounced message; the class that it waits for.
 #[derive(Clone, Copy)]
 pub struct Points {
     pub quiet: bool,
     pub event: bool,
     pub rights: bool,
     pub met: bool,
-    pub asking: usize,
+    pub asking: Option<usize>,
     pub unannounced: bool,
-    pub waits: bool,
-    pub class: u64,
-}
-
-// A notice that is told at once or not at all.
-fn plainly(quiet: bool, event: bool, rights: bool, met: bool, asking: usize) -> Points
-    ensures { result ≡ plain quiet event rights met asking }
-{
-    Points {
-        quiet,
-        event,
-        rights,
-        met,
-        asking,
-        unannounced: false,
-        waits: false,
-        class: 0,
-    }
+    pub waiting: Option<u64>,
 }
 
 // No event.
 pub fn none() -> Points
-    ensures { result ≡ plain false false false false 0 }
+    ensures { result ≡ plain false false false false None }
 {
-    plainly(false, false, false, false, 0)
+    Points {
+        quiet: false,
+        event: false,
+        rights: false,
+        met: false,
+        asking: None,
+        unannounced: false,
+        waiting: None,
+    }
 }
 
-// The points of a record of a kind, with its numbers and what follows them; n of the rows are used.
-pub fn points_of(
-    s: Session,
-    table: [Mailbox; 64],
-    n: usize,
-    kind: Kind,
-    v: [u64; 5],
-    name: &[u8],
-) -> Points
-    requires { (n ≤ 64) × Bounded (layout (kind_for kind)).fields 0 v × Following (layout (kind_for kind)).tail name.now }
-    ensures { (m : Memory) → m.session ≡ s → boxes m ≡ take n table → result ≡ shown s (R.points m (record_by (kind_for kind) v name.now)) }
+// The points of a record of a kind, with its numbers and what follows them; the rows are those in use.
+pub fn points_of(s: &Session, rows: &[Mailbox], kind: Kind, v: [u64; 5], name: &[u8]) -> Points
+    requires { Bounded (layout (kind_for kind)).fields 0 v × Following (layout (kind_for kind)).tail name.now }
+    ensures { (m : Memory) → m.session ≡ s.now → boxes m ≡ rows.now → result ≡ shown s.now (R.points m (record_by (kind_for kind) v name.now)) }
 {
-    let a = v[0];
-    let b = v[1];
-    let c = v[2];
-    let d = v[3];
-    let e = v[4];
-    let x = rows::row_of(table, n, a);
+    let [a, b, c, d, e] = v;
+    let x = &rows::row_of(rows, a);
     match kind {
-        Kind::Create => mailboxes::create(s, table, n, a, b, c, d, e, name),
-        Kind::Delete => mailboxes::named(s, table, n, b != 0, true, x),
+        Kind::Create => mailboxes::create(s, rows, a, b, c != 0, d, e, name),
+        Kind::Delete => mailboxes::named(s, rows, b != 0, true, x),
         Kind::Rename => mailboxes::rename(s, b != 0, x, name),
         Kind::Subscribe => mailboxes::subscribe(s, c != 0, x, b),
-        Kind::Grant => mailboxes::grant(s, table, n, x, b),
+        Kind::Grant => mailboxes::grant(s, rows, x, b),
         Kind::Arrive => messages::arrive(s, a, x),
         Kind::Expunge => messages::expunge(s, a, x, b),
         Kind::Reflag => messages::reflag(s, a, x, b),
-        Kind::Select => none(),
-        Kind::Ended => none(),
-        Kind::Command => none(),
-        Kind::Drained => none(),
-        Kind::Unknown => none(),
+        Kind::Select | Kind::Ended | Kind::Command | Kind::Drained | Kind::Unknown => none(),
     }
 }

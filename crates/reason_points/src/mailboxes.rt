@@ -1,115 +1,107 @@
 // The points of records about mailboxes, `MB DL RN SB RT`.
-ghost use Rattle.std.specs.Prelude.{◌≡◌, ◌≤◌, eqb, take, not, true};
-ghost use Rattle.model.specs.Names.{argument, has_parent};
-ghost use Rattle.model.specs.Memory.{name_of, with_name};
-ghost use Rattle.model.specs.Events.{parent_row, new_box};
-ghost use Rattle.demands.specs.Reasons.Numbers.{lesser};
-ghost use Rattle.reason_points.specs.Showing.{either_of, subscribing_of, granting_of};
+ghost use Rattle.std.specs.Prelude.{◌≡◌, ◌≤◌, Some, eqb, not, true};
+ghost use Rattle.model.specs.Names.{argument};
+ghost use Rattle.model.specs.Memory.{with_name};
+ghost use Rattle.model.specs.Events.{new_box};
+ghost use Rattle.reason_points.specs.Showing.{lesser_of, either_of, named_of, subscribing_of, granting_of};
 
 use crate::{Points, rows};
 use model::{Mailbox, Session};
+use table_mailboxes::row;
 
-// The lesser of two groups' numbers that is not 0.
-fn lesser(a: usize, b: usize) -> usize
-    ensures { result ≡ lesser a b }
+// The lesser of two groups' numbers.
+fn lesser(a: Option<usize>, b: Option<usize>) -> Option<usize>
+    ensures { result ≡ lesser_of a b }
 {
-    if a == 0 {
-        return b;
+    match (a, b) {
+        (Some(m), Some(n)) => Some(m.min(n)),
+        (None, other) | (other, None) => other,
     }
-    if b == 0 {
-        return a;
-    }
-    if b < a { b } else { a }
 }
 
-// MailboxName of row x; where `two` says so, a group that is about row y counts too.
-fn either_of(s: Session, quiet: bool, event: bool, x: Mailbox, two: bool, y: Mailbox) -> Points
-    ensures { result ≡ either_of s quiet event x two y }
+// MailboxName of row x; a group that is about the other row counts too.
+fn either_of(s: &Session, quiet: bool, event: bool, x: &Mailbox, other: Option<Mailbox>) -> Points
+    ensures { result ≡ either_of s.now quiet event x.now other }
 {
-    let rights = table_mailboxes::row::has_rights(x.attributes);
     let met = match_groups::matched::is_matched_of(s, x);
     let asking = match_groups::asking_of(s, x, 3);
-    if !two {
-        return crate::plainly(quiet, event, rights, met, asking);
-    }
-    let other = match_groups::matched::is_matched_of(s, y);
-    let number = match_groups::asking_of(s, y, 3);
-    crate::plainly(
+    let (met, asking) = match other {
+        Some(y) => (
+            met || match_groups::matched::is_matched_of(s, &y),
+            lesser(asking, match_groups::asking_of(s, &y, 3)),
+        ),
+        None => (met, asking),
+    };
+    Points {
         quiet,
         event,
-        rights,
-        lawful_session::either(met, other),
-        lesser(asking, number),
-    )
+        rights: row::has_rights(x.attributes),
+        met,
+        asking,
+        ..crate::none()
+    }
 }
 
 // Row x appears or goes: its parent counts too.
-pub fn named(
-    s: Session,
-    table: [Mailbox; 64],
-    n: usize,
-    quiet: bool,
-    event: bool,
-    x: Mailbox,
-) -> Points
-    requires { n ≤ 64 }
-    ensures { result ≡ either_of s quiet event x (has_parent (name_of x)) (parent_row (take n table) x) }
+pub fn named(s: &Session, rows: &[Mailbox], quiet: bool, event: bool, x: &Mailbox) -> Points
+    ensures { result ≡ named_of s.now rows.now quiet event x.now }
 {
-    let p = rows::parent(table, n, x);
-    let y = p.row;
-    either_of(s, quiet, event, x, p.there, y)
+    either_of(s, quiet, event, x, rows::parent(rows, x))
 }
 
 // A mailbox is new.
 pub fn create(
-    s: Session,
-    table: [Mailbox; 64],
-    n: usize,
+    s: &Session,
+    rows: &[Mailbox],
     id: u64,
     a: u64,
-    quiet: u64,
+    quiet: bool,
     validity: u64,
     counter: u64,
     name: &[u8],
 ) -> Points
-    requires { (n ≤ 64) × (id ≤ 65535) × (a ≤ 63) × (validity ≤ 4294967295) }
-    ensures { result ≡ either_of s (not (eqb quiet 0)) true (new_box id a validity counter (argument name.now)) (has_parent (name_of (new_box id a validity counter (argument name.now)))) (parent_row (take n table) (new_box id a validity counter (argument name.now))) }
+    requires { (id ≤ 65535) × (a ≤ 63) × (validity ≤ 4294967295) }
+    ensures { result ≡ named_of s.now rows.now quiet true (new_box id a validity counter (argument name.now)) }
 {
     let x = event_mailbox::creating::new_box(id as u16, a as u8, validity as u32, counter, name);
-    named(s, table, n, quiet != 0, true, x)
+    named(s, rows, quiet, true, &x)
 }
 
 // Row x gets a name: a group that is about the old name or the new one.
-pub fn rename(s: Session, quiet: bool, x: Mailbox, name: &[u8]) -> Points
-    ensures { result ≡ either_of s quiet true x true (with_name x (argument name.now)) }
+pub fn rename(s: &Session, quiet: bool, x: &Mailbox, name: &[u8]) -> Points
+    ensures { result ≡ either_of s.now quiet true x.now (Some (with_name x.now (argument name.now))) }
 {
     let y = event_mailbox::renaming::with_name(x, name);
-    either_of(s, quiet, true, x, true, y)
+    either_of(s, quiet, true, x, Some(y))
 }
 
 // Row x becomes subscribed or unsubscribed, for groups as if it were subscribed.
-pub fn subscribe(s: Session, quiet: bool, x: Mailbox, b: u64) -> Points
+pub fn subscribe(s: &Session, quiet: bool, x: &Mailbox, b: u64) -> Points
     requires { b ≤ 1 }
-    ensures { result ≡ subscribing_of s quiet x b }
+    ensures { result ≡ subscribing_of s.now quiet x.now b }
 {
-    let event = event_mailbox::subscriptions::does_differ(x.attributes, b as u8);
-    let rights = table_mailboxes::row::has_rights(x.attributes);
-    let a = event_mailbox::subscriptions::with_subscribed(x.attributes, 1);
-    let y = event_mailbox::with_attributes(x, a);
-    let met = match_groups::matched::is_matched_of(s, y);
-    let asking = match_groups::asking_of(s, y, 4);
-    crate::plainly(quiet, event, rights, met, asking)
+    let attributes = event_mailbox::subscriptions::with_subscribed(x.attributes, 1);
+    let y = Mailbox { attributes, ..*x };
+    Points {
+        quiet,
+        event: event_mailbox::subscriptions::does_differ(x.attributes, b as u8),
+        rights: row::has_rights(x.attributes),
+        met: match_groups::matched::is_matched_of(s, &y),
+        asking: match_groups::asking_of(s, &y, 4),
+        ..crate::none()
+    }
 }
 
 // The rights of row x change: to lose l is to go, by the rights before, to gain it is to appear, by those after.
-pub fn grant(s: Session, table: [Mailbox; 64], n: usize, x: Mailbox, rights: u64) -> Points
-    requires { (n ≤ 64) × (rights ≤ 48) }
-    ensures { result ≡ granting_of s (take n table) x rights }
+pub fn grant(s: &Session, rows: &[Mailbox], x: &Mailbox, rights: u64) -> Points
+    requires { rights ≤ 48 }
+    ensures { result ≡ granting_of s.now rows.now x.now rights }
 {
-    let y = event_mailbox::rights::with_rights(x, rights as u8);
+    let y = event_mailbox::rights::with_rights(*x, rights as u8);
     let after = table_mailboxes::has(y.attributes, 4);
     if table_mailboxes::has(x.attributes, 4) {
-        return named(s, table, n, false, !after, x);
+        named(s, rows, false, !after, x)
+    } else {
+        named(s, rows, false, after, &y)
     }
-    named(s, table, n, false, after, y)
 }

@@ -1,5 +1,5 @@
 // Rows of the table, by value: the one with an id, and the one that stands for a parent.
-ghost use Rattle.std.specs.Prelude.{◌≡◌, ◌≤◌, take, get_or};
+ghost use Rattle.std.specs.Prelude.{◌≡◌, cond, Some, None, get_or};
 ghost use Rattle.model.specs.Lists.{filterb};
 ghost use Rattle.model.specs.Names.{Name, has_parent};
 ghost use Rattle.model.specs.Memory.{name_of, the_mailbox};
@@ -7,89 +7,60 @@ ghost use Rattle.model.specs.Events.{stand_in, is_listed, parent_row};
 ghost use Rattle.names.specs.Kept.{kept_name};
 
 use model::{LentName, Mailbox};
+use table_mailboxes::row;
 
-// The first of the n rows with the id, or a vacant one.
-pub fn row_of(table: [Mailbox; 64], n: usize, id: u64) -> Mailbox
-    requires { n ≤ 64 }
-    ensures { result ≡ the_mailbox id (take n table) }
+// The first row with the id, or a vacant one.
+#[tactic(auto, unfolding(model::specs::Memory::place))]
+pub fn row_of(rows: &[Mailbox], id: u64) -> Mailbox
+    ensures { result ≡ the_mailbox id rows.now }
 {
-    let mut i: usize = 0;
-    while i < n {
-        let x = table[i];
-        if x.id as u64 == id {
-            return x;
+    for x in rows {
+        if u64::from(x.id) == id {
+            return *x;
         }
-        i += 1;
     }
     table_mailboxes::vacant()
 }
 
 // Whether a row may be listed and has the name.
-fn is_listed(x: Mailbox, name: &[u8]) -> bool
-    ensures { result ≡ is_listed name.now x }
+fn is_listed(x: &Mailbox, name: &[u8]) -> bool
+    ensures { result ≡ is_listed name.now x.now }
 {
-    if !table_mailboxes::has(x.attributes, 4) {
-        return false;
-    }
-    let o = x.name;
-    let end = table_mailboxes::row::name_end(x);
-    names::same(&o[..end], name)
+    table_mailboxes::has(x.attributes, 4) && row::name(x) == name
 }
 
-// The first of the n rows that may be listed and has the name, or another row.
-fn listed_row(table: [Mailbox; 64], n: usize, name: &[u8], other: Mailbox) -> Mailbox
-    requires { n ≤ 64 }
-    ensures { result ≡ get_or (filterb (is_listed name.now) (take n table)) 0 other }
+// The first row that may be listed and has the name, or another row.
+fn listed_row(rows: &[Mailbox], name: &[u8], other: Mailbox) -> Mailbox
+    ensures { result ≡ get_or (filterb (is_listed name.now) rows.now) 0 other }
 {
-    let mut i: usize = 0;
-    while i < n {
-        let x = table[i];
+    for x in rows {
         if is_listed(x, name) {
-            return x;
+            return *x;
         }
-        i += 1;
     }
     other
 }
 
 // What stands for a parent that is not listed, by its name as it is kept.
-fn stand_in(kept: LentName) -> Mailbox
-    ensures { (p : Name) → kept ≡ kept_name p → result ≡ stand_in p }
+fn stand_in(kept: &LentName) -> Mailbox
+    ensures { (p : Name) → kept.now ≡ kept_name p → result ≡ stand_in p }
 {
-    let name = kept.octets;
     Mailbox {
-        id: 0,
         attributes: 1,
         namelen: kept.len,
-        uidvalidity: 0,
         uidnext: 1,
-        counterlow: 0,
-        counterhigh: 0,
-        name,
+        name: kept.octets,
+        ..table_mailboxes::vacant()
     }
 }
 
-// Whether a name has a parent, and the row that stands for it.
-#[derive(Clone, Copy)]
-pub struct Upper {
-    pub there: bool,
-    pub row: Mailbox,
-}
-
-// The parent of row x among the n rows.
-pub fn parent(table: [Mailbox; 64], n: usize, x: Mailbox) -> Upper
-    requires { n ≤ 64 }
-    ensures { (result.there ≡ has_parent (name_of x)) × (result.row ≡ parent_row (take n table) x) }
+// The row that stands for the parent of row x, if the name has one.
+pub fn parent(rows: &[Mailbox], x: &Mailbox) -> Option<Mailbox>
+    ensures { result ≡ cond (has_parent (name_of x.now)) (Some (parent_row rows.now x.now)) None }
 {
-    let name = x.name;
-    let end = table_mailboxes::row::name_end(x);
-    let kept = names::parent_of(&name[..end]);
-    let other = stand_in(kept);
-    let octets = kept.octets;
-    let long = table_mailboxes::clip(kept.len);
-    let row = listed_row(table, n, &octets[..long], other);
-    Upper {
-        there: kept.len != 0,
-        row,
+    let kept = names::parent_of(row::name(x));
+    if kept.len == 0 {
+        return None;
     }
+    Some(listed_row(rows, row::kept_name(&kept), stand_in(&kept)))
 }

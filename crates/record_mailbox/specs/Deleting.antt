@@ -1,5 +1,5 @@
 -- `DL`: what the code leaves is what the rules say of it. Assumes nothing.
-use Rattle.std.specs.Prelude.{◌≡◌, refl, Bool, true, false, not, ◌&&◌, List, ℕ, ◌-◌, ◌≤◌, eqb, length, take, Option, Some, None, Result, Ok, Err}
+use Rattle.std.specs.Prelude.{◌≡◌, refl, Bool, true, false, not, ◌&&◌, List, ℕ, ◌-◌, ◌≤◌, eqb, length, take, Option, Some, None, Ok, Err}
 use Rattle.std.proofs.Common.{ap, ap₂, sym, ◌∙◌}
 use Rattle.model.specs.Memory.{Memory, boxes, filled, name_of, no_message, refill, is_selected}
 use Rattle.model.specs.Records.{delete}

@@ -1,5 +1,5 @@
 -- What the code finds of a record about a message, in the rules' words: its mailbox, its entry, what its end comes to. Assumes nothing.
-use Rattle.std.specs.Prelude.{◌≡◌, refl, Bool, true, false, not, ◌||◌, List, ℕ, ◌-◌, ◌*◌, ◌<◌, ◌≤◌, eqb, leb, ltb, length, take, get_or, set, Option, Some, None, position, Ok}
+use Rattle.std.specs.Prelude.{◌≡◌, refl, Bool, true, false, not, ◌||◌, List, ℕ, ◌-◌, ◌*◌, ◌<◌, ◌≤◌, eqb, leb, length, take, get_or, set, Option, Some, None, position, Ok}
 use Rattle.std.proofs.Common.{ap, ap₂, sym, ◌∙◌, arith, get_or-take, lt-ltb, le-ltb, leb-true, eqb-true}
 use Rattle.model.specs.Laws.{and_l, and_r}
 use Rattle.model.specs.Memory.{Memory, mails, no_message, counter_of, is_message, expunged}

@@ -1,12 +1,7 @@
--- `row_of`: the first row with the id, or a vacant one. Assumes nothing.
-use mathlib.Core.Path.{◌≡◌}
-use Prim.Native.Nat.{◌-◌}
-use lib.ListN.{take, drop}
+-- `row_of`: the row is among those from x on. Assumes nothing.
+use Rattle.std.proofs.Common.{◌≡◌, drop}
 use Rattle.model.specs.Memory.{the_mailbox}
 use Rattle.reason_points.proofs.rows.row_of.Given as goal
 
-abbrev pub invariant-loop-i : goal.invariant-loop-i
-invariant-loop-i l = the_mailbox l.id (take l.n l.table) ≡ the_mailbox l.id (drop l.i (take l.n l.table))
-
-abbrev pub decreases-loop-i : goal.decreases-loop-i
-decreases-loop-i l = l.n - l.i
+abbrev pub invariant-loop-x : goal.invariant-loop-x
+invariant-loop-x l = the_mailbox l.id l.rows ≡ the_mailbox l.id (drop l.x-index l.rows)

@@ -51,9 +51,6 @@ rows_taken_out es used k gone = cond gone (shut k used es) (set es k (with_state
 pub put_one : (ws ws' : List ℕ) (k : ℕ) (y : Message) → ws' ≡ stored ws k y → (k + 1) * 6 ≤ length ws → ws' ≡ laid ws (set (messages ws) k y)
 put_one ws ws' k y e h = e ∙ laid_put ws ws (messages ws) k y (laid_own ws) h
 
-pub taken-gone : (ws ws' : List ℕ) (used k : ℕ) (gone : Bool) → gone ≡ true → ws' ≡ laid ws (shut k used (messages ws)) → (ws' ≡ laid ws (rows_taken_out (messages ws) used k gone)) × (used - 1 ≡ cond gone (used - 1) used)
-taken-gone ws ws' used k gone g e = rw g (e, refl)
-
 pub taken-waits : (ws ws' : List ℕ) (used k : ℕ) (gone : Bool) (e y : Message) → gone ≡ false → ws' ≡ stored ws k y → (k + 1) * 6 ≤ length ws → e ≡ get_or (messages ws) k no_message → y ≡ with_states (with_flags e e.flags e.counter) 1
     → (ws' ≡ laid ws (rows_taken_out (messages ws) used k gone)) × (used ≡ cond gone (used - 1) used)
 taken-waits ws ws' used k gone e y g c h p q = rw g (put_one ws ws' k y c h ∙ ap (λ (x : Message). laid ws (set (messages ws) k x)) (q ∙ ap (λ (x : Message). with_states x 1) p), refl)
@@ -93,22 +90,6 @@ module _ (es : List Message) (used : ℕ) (q : List ℕ) (s : Session) (at k : �
   pub drop_leaves : (x : Mailbox) (on : Bool) (ws ws' q' : List ℕ) (s' : Session) (f : ℕ) → ws' ≡ laid ws (shut k used es)
       → Hears (heard q s at on (status_text x (take (used - 1) (messages ws')))) q' s' f → Leaves (drop_after x on) ws ws' (used - 1) q' s' f
   drop_leaves x on ws ws' q' s' f e h = record { words = e; used = refl; heard = rw (laid-entries ws ws' (shut k used es) e) at h }
-
-  pub wait_leaves : (ws ws' : List ℕ) (n : ℕ) → ws' ≡ laid ws (set es k (with_states the 1)) → n ≡ used → Leaves wait_after ws ws' n q s at
-  wait_leaves ws ws' n e u = record { words = e; used = u; heard = record { queue = refl; session = refl; filled = refl } }
-
-  module _ (x : Mailbox) (n : ℕ) (seen once on : Bool) (ws ws' : List ℕ) (n' : ℕ) (q' : List ℕ) (s' : Session) (f : ℕ) where
-    pub is-once : seen ≡ true → once ≡ true → Leaves (once_after n) ws ws' n' q' s' f → Leaves (remove_after x n seen once on) ws ws' n' q' s' f
-    unfolding remove_after
-    is-once v a l = rw (v, a) l
-
-    pub is_wait : seen ≡ true → once ≡ false → Leaves wait_after ws ws' n' q' s' f → Leaves (remove_after x n seen once on) ws ws' n' q' s' f
-    unfolding remove_after
-    is_wait v a l = rw (v, a) l
-
-    pub is-drop : seen ≡ false → Leaves (drop_after x on) ws ws' n' q' s' f → Leaves (remove_after x n seen once on) ws ws' n' q' s' f
-    unfolding remove_after
-    is-drop v l = rw v l
 
 -- lines that announce all that is new, or else the overflow line
 pub record Announces (q : List ℕ) (s : Session) (at next : ℕ) (t q' : List ℕ) (s' : Session) (f : ℕ) : Type 0 where

@@ -21,8 +21,8 @@ use Rattle.laws.specs.Counting.{countb}
 use Rattle.table_mailboxes.specs.Rows.{rows_are}
 use Rattle.table_messages.specs.Counted.{before}
 use Rattle.match_groups.specs.Asking.{asks_bit}
-use Rattle.event_message.specs.After.{After, Leaves, wait_after, once_after, drop_after, remove_after, is-once, is_wait, is-drop}
-use Rattle.event_message.specs.Flagged.{told_after, kept_after, flag_after, is_told, is-kept}
+use Rattle.event_message.specs.After.{After, wait_after, once_after, remove_after}
+use Rattle.event_message.specs.Flagged.{flag_after}
 use Rattle.event_message.specs.Accepted.{left, away_told, remove_told}
 use Rattle.event_message.specs.Flagging.{change_told}
 use Rattle.event_message.specs.Free.{soon_free, away_free, flags_free, place_is}
@@ -58,9 +58,6 @@ module _ (es : List Message) (used : ℕ) (q : List ℕ) (s : Session) (at k : �
 -- ---- whoever is told has a group
 pub asks_some : (s : Session) (p : Group → Bool) → anyb p (groups_of s) ≡ true → s.groupcount ≡ 0 → ⊥
 asks_some s p h z = tf (anyb p (groups_of s)) h (ap (λ (n : ℕ). anyb p (map group_of (take n s.groups))) z)
-
-pub told_some : (s : Session) (on c b : Bool) (p : Group → Bool) → on ≡ (c && (b && anyb p (groups_of s))) → on ≡ true → s.groupcount ≡ 0 → ⊥
-told_some s on c b p e h = asks_some s p (and_r b (anyb p (groups_of s)) (and_r c (b && anyb p (groups_of s)) (sym e ∙ h)))
 
 -- what is left, from what was found
 each : (f : ℕ → Bool → Bool → Bool → After) {n n' : ℕ} {a a' b b' c c' : Bool} → n ≡ n' → a ≡ a' → b ≡ b' → c ≡ c' → f n a b c ≡ f n' a' b' c'
@@ -122,57 +119,3 @@ module _ (b : Memory) (law : Law b) (rs : List Mailbox) (many i u k : ℕ) (h : 
       (ap (λ (v : Bool). v && (both_rights x && selected_asks m.session (asks_bit 2))) seen)
       (ap (λ (v : Bool). v && (both_rights x && eqb m.session.notified 0)) seen)
       (ap (λ (b : Bool). not b && (both_rights x && asked_of m.session x (asks_bit 2))) chosen)))
-
--- ---- as the code puts it together
-module _ (es : List Message) (used : ℕ) (q : List ℕ) (s : Session) (at k : ℕ) (x : Mailbox) (e : Message) (p : e ≡ get_or es k no_message)
-    (c v : Bool) (i : c ≡ is_chosen s x) (j : v ≡ (c && ltb (uid_of e) s.told)) where
-  abbrev here : ℕ
-  here = place_in s (uid_of e) (take used es)
-
-  here_is : (n : ℕ) → n ≡ here → n ≡ place_in s (uid_of (get_or es k no_message)) (take used es)
-  here_is n place = place ∙ ap (λ (d : Message). place_in s (uid_of d) (take used es)) p
-
-  known_now : v ≡ has_seen s x (uid_of (get_or es k no_message))
-  known_now = j ∙ ap₂ (λ (b : Bool) (d : Message). b && ltb (uid_of d) s.told) i p
-
-  module _ (ws ws' : List ℕ) (n' : ℕ) (q' : List ℕ) (s' : Session) (f' : ℕ) where
-    expunged_as : (n : ℕ) (a o : Bool) → n ≡ here → a ≡ (both_rights x && immediate_asks s (asks_bit 1)) → o ≡ (not c && (both_rights x && asked_of s x (asks_bit 1)))
-        → Leaves (remove_after es used q s at k x n v a o) ws ws' n' q' s' f' → Leaves (expunge_after es used q s at k x) ws ws' n' q' s' f'
-    unfolding expunge_after
-    expunged_as n a o g l w y = rw (each (remove_after es used q s at k x) (here_is n g) known_now l (w ∙ ap (λ (b : Bool). not b && (both_rights x && asked_of s x (asks_bit 1))) i)) at y
-
-    -- the client does not have it
-    pub expunge_drops : (o : Bool) → o ≡ (not c && (both_rights x && asked_of s x (asks_bit 1))) → v ≡ false → Leaves (drop_after es used q s at k x o) ws ws' n' q' s' f'
-        → Leaves (expunge_after es used q s at k x) ws ws' n' q' s' f'
-    expunge_drops o w z y = expunged_as here (both_rights x && immediate_asks s (asks_bit 1)) o refl refl w (is-drop es used q s at k x here v (both_rights x && immediate_asks s (asks_bit 1)) o ws ws' n' q' s' f' z y)
-
-    module _ (a : Bool) (l : a ≡ (both_rights x && immediate_asks s (asks_bit 1))) (z : v ≡ true) where
-      abbrev elsewhere : Bool
-      elsewhere = not c && (both_rights x && asked_of s x (asks_bit 1))
-
-      -- it is told at once
-      pub expunge-tells : (n : ℕ) → n ≡ here → a ≡ true → Leaves (once_after es used q s at k n) ws ws' n' q' s' f' → Leaves (expunge_after es used q s at k x) ws ws' n' q' s' f'
-      expunge-tells n g t y = expunged_as n a elsewhere g l refl (is-once es used q s at k x n v a elsewhere ws ws' n' q' s' f' z t y)
-
-      -- it waits
-      pub expunge-waits : a ≡ false → Leaves (wait_after es used q s at k) ws ws' n' q' s' f' → Leaves (expunge_after es used q s at k x) ws ws' n' q' s' f'
-      expunge-waits t y = expunged_as here a elsewhere refl l refl (is_wait es used q s at k x here v a elsewhere ws ws' n' q' s' f' z t y)
-
-    module _ (f d : ℕ) (g : Bool) (y : g ≡ (v && (both_rights x && selected_asks s (asks_bit 2)))) where
-      reflagged_as : (n : ℕ) (w o : Bool) → n ≡ here → w ≡ (v && (both_rights x && eqb s.notified 0)) → o ≡ (not c && (both_rights x && asked_of s x (asks_bit 2)))
-          → Leaves (flag_after es used q s at x k f d n g w o) ws ws' n' q' s' f' → Leaves (reflag_after es used q s at k x f d) ws ws' n' q' s' f'
-      unfolding reflag_after
-      reflagged_as n w o h z t l =
-          rw (each (flag_after es used q s at x k f d) (here_is n h)
-          (y ∙ ap (λ (b : Bool). b && (both_rights x && selected_asks s (asks_bit 2))) known_now)
-          (z ∙ ap (λ (b : Bool). b && (both_rights x && eqb s.notified 0)) known_now)
-          (t ∙ ap (λ (b : Bool). not b && (both_rights x && asked_of s x (asks_bit 2))) i)) at l
-
-      -- the change is told at once
-      pub reflag-tells : (n : ℕ) → n ≡ here → g ≡ true → Leaves (told_after es used q s at k f d n) ws ws' n' q' s' f' → Leaves (reflag_after es used q s at k x f d) ws ws' n' q' s' f'
-      reflag-tells n h t l = reflagged_as n _ _ h refl refl (is_told es used q s at x k f d n g _ _ ws ws' n' q' s' f' t l)
-
-      -- it is kept as a mark or not, and told by a STATUS or not
-      pub reflag_keeps : (w o : Bool) (st : ℕ) → w ≡ (v && (both_rights x && eqb s.notified 0)) → o ≡ (not c && (both_rights x && asked_of s x (asks_bit 2))) → g ≡ false → st ≡ cond w 2 e.states
-          → Leaves (kept_after es used q s at x k f d st o) ws ws' n' q' s' f' → Leaves (reflag_after es used q s at k x f d) ws ws' n' q' s' f'
-      reflag_keeps w o st z t b m l = reflagged_as here w o refl z t (is-kept es used q s at x k f d here g w o ws ws' n' q' s' f' st b (m ∙ ap (λ (d : Message). cond w 2 d.states) p) l)

@@ -29,16 +29,6 @@ module _ (es : List Message) (used : ℕ) (q : List ℕ) (s : Session) (at : ℕ
   unfoldable pub flag_after : Mailbox → (k f c n : ℕ) → Bool → Bool → Bool → After
   flag_after x k f c n once waits on = cond once (told_after k f c n) (kept_after x k f c (cond waits 2 (get_or es k no_message).states) on)
 
-module _ (es : List Message) (used : ℕ) (q : List ℕ) (s : Session) (at : ℕ) (x : Mailbox) (k f c n : ℕ) (once waits on : Bool) (ws ws' : List ℕ) (n' : ℕ) (q' : List ℕ) (s' : Session) (f' : ℕ) where
-  pub is_told : once ≡ true → Leaves (told_after es used q s at k f c n) ws ws' n' q' s' f' → Leaves (flag_after es used q s at x k f c n once waits on) ws ws' n' q' s' f'
-  unfolding flag_after
-  is_told o l = rw o l
-
-  pub is-kept : (st : ℕ) → once ≡ false → st ≡ cond waits 2 (get_or es k no_message).states → Leaves (kept_after es used q s at x k f c st on) ws ws' n' q' s' f'
-      → Leaves (flag_after es used q s at x k f c n once waits on) ws ws' n' q' s' f'
-  unfolding flag_after
-  is-kept st o z l = rw (o, ← z) l
-
 flagged : (e : Message) (f c : ℕ) (b : Bool) → with_states (with_flags e f c) (cond b 0 e.states) ≡ cond b (with_states (with_flags e f c) 0) (with_flags e f c)
 flagged e f c true = refl
 flagged e f c false = refl

@@ -10,7 +10,7 @@ ghost use Rattle.model.specs.declared.Mailbox.{Mailbox};
 ghost use Rattle.model.specs.declared.Session.{Session};
 ghost use Rattle.line_put.specs.Writes.{Writes};
 ghost use Rattle.order_mailboxes.specs.Named.{chosen, Ordered, Below};
-ghost use Rattle.line_listing.specs.Telling.{line_by, line_at, Shown, Tells};
+ghost use Rattle.line_listing.specs.Telling.{line_by, line_at, texts, Shown, Tells};
 
 use line_mailbox::Mark;
 use line_put::Writer;
@@ -65,6 +65,7 @@ pub fn put_lines(
     asks: &[u8; 64],
 )
     requires { (w.old.limit ≤ length w.old.queue.now) × (w.old.at ≤ 65536) × (length order.now ≤ 64) }
+    ensures text { Writes w.old (texts cols.now order.now counts.now asks.now (length order.now)) w.new }
     ensures put { (f : Mailbox → List Line) (l : List Mailbox) → length l ≤ 64 → Shown l cols.now → Below order.now (length order.now) (length l) → Tells f l counts.now asks.now → Writes w.old (render_all (concat_map f (chosen l order.now (length order.now)))) w.new }
     ensures upper_bound { w.new.at ≤ w.old.at + 300 * length order.now }
 {
@@ -83,6 +84,7 @@ pub fn put_listing(
     asks: &[u8; 64],
 )
     requires { (w.old.limit ≤ length w.old.queue.now) × (w.old.at ≤ 65536) × (length order.now ≤ 64) }
+    ensures text { Writes w.old (texts cols.now order.now counts.now asks.now (length order.now)) w.new }
     ensures put { (m : Memory) (s : Session) (wanted : Bool) → length (boxes m) ≤ 64 → Shown (boxes m) cols.now → Ordered (λ (x : Mailbox). may_list x && concerns m s x) (boxes m) order.now (length order.now) → Tells (listing_line m s wanted) (boxes m) counts.now asks.now → Writes w.old (render_all (listing m s wanted)) w.new }
     ensures upper_bound { w.new.at ≤ w.old.at + 19200 }
 {

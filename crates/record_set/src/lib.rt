@@ -63,9 +63,9 @@ struct Work<'a> {
     text: &'a [u8],
 }
 
-fn put_work(queue: &mut [u8], at: usize, limit: usize, work: Work<'_>) -> usize
-    requires { (limit ≤ length queue.old) × (at ≤ 65536) × (length work.entry.listed.now ≤ 64) }
-    ensures { ((m : Memory) (s : Session) (wanted : Bool) → Noted m s wanted work.entry.cols.now work.entry.listed.now work.entry.tally.now work.entry.asks.now → Put queue.old at limit (work_text m s wanted work.entry.text.now) queue.new result) × (result ≤ at + 19330) }
+fn put_work(queue: &mut [u8], at: usize, limit: usize, work: &Work<'_>) -> usize
+    requires { (limit ≤ length queue.old) × (at ≤ 65536) × (length work.now.listed.now ≤ 64) }
+    ensures { ((m : Memory) (s : Session) (wanted : Bool) → Noted m s wanted work.now.cols.now work.now.listed.now work.now.tally.now work.now.asks.now → Put queue.old at limit (work_text m s wanted work.now.text.now) queue.new result) × (result ≤ at + 19330) }
 {
     let mut w = Writer { queue, at, limit };
     line_listing::put_listing(&mut w, work.cols, work.listed, work.tally, work.asks);
@@ -81,11 +81,11 @@ fn write_set(
     s: &Session,
     x: &Mailbox,
     asked: &Session,
-    work: Work<'_>,
+    work: &Work<'_>,
     at: usize,
 ) -> Outcome
-    requires { (64 ≤ length queue.old) × (length queue.old ≤ 65536) × (counts.filled ≤ 65536) × (counts.messages ≤ 1024) × (counts.messages * 6 ≤ length words.old) × (at ≤ 65536) × (length work.entry.listed.now ≤ 64) }
-    ensures { (m : Memory) (p : ℕ) (wanted : Bool) (gs : List Asked) → Lends m words.old counts s.now queue.old → Law m → x.now ≡ selected_box m → command_of work.entry.text.now ≡ ok p (notify_set wanted gs) → first_reply m work.entry.text.now ≡ Accepted → asked.now ≡ watching s.now gs → Noted m (watching m.session gs) wanted work.entry.cols.now work.entry.listed.now work.entry.tally.now work.entry.asks.now → at ≡ counts.filled + length (render_all (owed m 1)) → counts.filled + length (whole_text m work.entry.text.now) ≤ length queue.old - 64 → Comes m (ladder m (command work.entry.text.now)) (Ok result) words.old words.new queue.new }
+    requires { (64 ≤ length queue.old) × (length queue.old ≤ 65536) × (counts.filled ≤ 65536) × (counts.messages ≤ 1024) × (counts.messages * 6 ≤ length words.old) × (at ≤ 65536) × (length work.now.listed.now ≤ 64) }
+    ensures { (m : Memory) (p : ℕ) (wanted : Bool) (gs : List Asked) → Lends m words.old counts s.now queue.old → Law m → x.now ≡ selected_box m → command_of work.now.text.now ≡ ok p (notify_set wanted gs) → first_reply m work.now.text.now ≡ Accepted → asked.now ≡ watching s.now gs → Noted m (watching m.session gs) wanted work.now.cols.now work.now.listed.now work.now.tally.now work.now.asks.now → at ≡ counts.filled + length (render_all (owed m 1)) → counts.filled + length (whole_text m work.now.text.now) ≤ length queue.old - 64 → Comes m (ladder m (command work.now.text.now)) (Ok result) words.old words.new queue.new }
 {
     let limit = queue.len() - 64;
     let mut order = [0usize; 1024];
@@ -94,7 +94,7 @@ fn write_set(
         counts.messages as usize,
         queue,
         &mut order,
-        *s,
+        s,
         counts.filled as usize,
         true,
         row::has_rights(x.attributes),
@@ -125,10 +125,10 @@ fn set_noted(
     s: &Session,
     x: &Mailbox,
     asked: &Session,
-    work: Work<'_>,
+    work: &Work<'_>,
 ) -> Result<Outcome, Refusal>
-    requires { (64 ≤ length queue.old) × (length queue.old ≤ 65536) × (counts.filled ≤ 65536) × (counts.messages ≤ 1024) × (counts.messages * 6 ≤ length words.old) × (length work.entry.listed.now ≤ 64) }
-    ensures { (m : Memory) (p : ℕ) (wanted : Bool) (gs : List Asked) → Lends m words.old counts s.now queue.old → Law m → x.now ≡ selected_box m → command_of work.entry.text.now ≡ ok p (notify_set wanted gs) → first_reply m work.entry.text.now ≡ Accepted → asked.now ≡ watching s.now gs → Noted m (watching m.session gs) wanted work.entry.cols.now work.entry.listed.now work.entry.tally.now work.entry.asks.now → Comes m (ladder m (command work.entry.text.now)) result words.old words.new queue.new }
+    requires { (64 ≤ length queue.old) × (length queue.old ≤ 65536) × (counts.filled ≤ 65536) × (counts.messages ≤ 1024) × (counts.messages * 6 ≤ length words.old) × (length work.now.listed.now ≤ 64) }
+    ensures { (m : Memory) (p : ℕ) (wanted : Bool) (gs : List Asked) → Lends m words.old counts s.now queue.old → Law m → x.now ≡ selected_box m → command_of work.now.text.now ≡ ok p (notify_set wanted gs) → first_reply m work.now.text.now ≡ Accepted → asked.now ≡ watching s.now gs → Noted m (watching m.session gs) wanted work.now.cols.now work.now.listed.now work.now.tally.now work.now.asks.now → Comes m (ladder m (command work.now.text.now)) result words.old words.new queue.new }
 {
     let filled = counts.filled as usize;
     let limit = queue.len() - 64;
@@ -192,5 +192,5 @@ pub fn set(
         asks: &asks,
         text,
     };
-    set_noted(words, queue, counts, s, x, asked, work)
+    set_noted(words, queue, counts, s, x, asked, &work)
 }

@@ -13,10 +13,12 @@ loop-i-preserved c = record {
   put = goes_next c.args.cols.now c.args.order.now c.args.counts.now c.args.asks.now c.loop-i.i c.loop-i-test.true c.loop-i.invariant.put c.put_row.ensures.put;
 }
 
+pub returns-clause-text : goal.returns-clause-text
+returns-clause-text c =
+    let e : c.loop-i.i ≡ 0 = omega arith in
+    goes_end c.args.cols.now c.args.order.now c.args.counts.now c.args.asks.now (omega arith) (rw e at c.loop-i.invariant.put)
+
 pub returns-clause-put : goal.returns-clause-put
 returns-clause-put c =
-    let e : c.loop-i.i ≡ 0 = omega arith in
     λ f l w v b t.
-    writes_as
-    (goes_end c.args.cols.now c.args.order.now c.args.counts.now c.args.asks.now (omega arith) (rw e at c.loop-i.invariant.put))
-    (texts_are f l c.args.cols.now c.args.order.now c.args.counts.now c.args.asks.now w v t (length c.args.order.now) b)
+    writes_as (returns-clause-text c) (texts_are f l c.args.cols.now c.args.order.now c.args.counts.now c.args.asks.now w v t (length c.args.order.now) b)

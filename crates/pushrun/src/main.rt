@@ -19,40 +19,31 @@ const QUEUE: usize = 8192;
 const SHOWN: usize = 8197;
 
 // Writes what a record shows, which stands at the front of `out`; the next goes there again.
-fn print_shown<W: Write>(writer: &mut W, s: Standing, out: &[u8]) -> io::Result<Standing>
-    requires { s.end ≤ length out.now }
+fn print_shown<W: Write>(writer: &mut W, s: &Standing, out: &[u8]) -> io::Result<Standing>
+    requires { s.now.end ≤ length out.now }
     ensures ok { IfOk result (λ t. t.end ≡ 0) }
-    ensures bytes { OnOk result (Appends (W.contents writer.old) (W.contents writer.new) (take s.end out.now)) }
-    ensures err { OnErr result ((n : ℕ) × Appends (W.contents writer.old) (W.contents writer.new) (take n (take s.end out.now))) }
+    ensures bytes { OnOk result (Appends (W.contents writer.old) (W.contents writer.new) (take s.now.end out.now)) }
+    ensures err { OnErr result ((n : ℕ) × Appends (W.contents writer.old) (W.contents writer.new) (take n (take s.now.end out.now))) }
 {
-    let end = s.end;
-    run_input::print(writer, &out[..end])?;
-    let table = s.table;
-    let counts = s.counts;
-    let session = s.session;
-    Ok(Standing {
-        table,
-        counts,
-        session,
-        end: 0,
-    })
+    run_input::print(writer, &out[..s.end])?;
+    Ok(Standing { end: 0, ..*s })
 }
 
 // One record. What it shows, and what it leaves, the rules say (`step_stream::turn`).
 fn serve_one<W: Write>(
     writer: &mut W,
-    s: Standing,
+    s: &Standing,
     words: &mut [u64],
     queue: &mut [u8],
     octets: &[u8],
     out: &mut [u8],
 ) -> io::Result<Standing>
-    requires { (s.end ≡ 0) × (length queue.old ≡ 8192) × (8197 ≤ length out.old) }
+    requires { (s.now.end ≡ 0) × (length queue.old ≡ 8192) × (8197 ≤ length out.old) }
     ensures ok { IfOk result (λ t. t.end ≡ 0) }
     ensures err { OnErr result ((t : List ℕ) × Appends (W.contents writer.old) (W.contents writer.new) t) }
 {
     let t = step_stream::turn(s, words, queue, octets, out);
-    print_shown(writer, t, out)
+    print_shown(writer, &t, out)
 }
 
 // A loop that is proved has to end: it counts its turns up to a number that no stream reaches.
@@ -68,12 +59,11 @@ fn serve<R: io::Read, W: Write>(
 {
     let mut s = step_stream::start();
     for _ in 0..u64::MAX {
-        let read = run_input::next_record(reader, octets);
-        let n = read.size;
+        let n = run_input::next_record(reader, octets).size;
         if n == 0 {
             break;
         }
-        s = serve_one(writer, s, words, queue, &octets[..n], out)?;
+        s = serve_one(writer, &s, words, queue, &octets[..n], out)?;
     }
     Ok(())
 }

@@ -23,26 +23,30 @@ use Rattle.demands.specs.Reasons.Numbers.{number_any}
 use Rattle.demands.specs.Reasons.First.{chain, chained, refused-reason}
 use Rattle.demands.specs.Reasons.Overflow.{overflow_hushes, number-stands}
 use Rattle.reason_points.specs.declared.Points.{Points}
-use Rattle.reason_points.specs.Showing.{shown}
+use Rattle.match_groups.specs.Asking.{numbered}
+use Rattle.reason_points.specs.Showing.{shown, waiting_for}
 use Rattle.reason_stream.specs.Judging.{first_of}
 
--- ---- they come to the chain, where `hushed` is right of a record that a group asks for; s says that none does
-links : (q e r w g s u over hushed : Bool) (c n : ℕ) → (s ≡ false → e ≡ true → over ≡ hushed)
-    → cond q Quiet (cond (not e) NoEvent (cond (not r) RightMissing (cond (not w && not g) Unmet (cond (not w && not (not s)) Unasked (cond u Unannounced (cond w (Waiting c) (cond over Overflow (Written n))))))))
-    ≡ cond q Quiet (cond (not e) NoEvent (cond (not r) RightMissing (cond w (cond u Unannounced (Waiting c)) (cond (not g) Unmet (cond s Unasked (cond u Unannounced (cond hushed Overflow (Written n))))))))
-links true e r w g s u over hushed c n h = refl
-links false false r w g s u over hushed c n h = refl
-links false true false w g s u over hushed c n h = refl
-links false true true true g s u over hushed c n h = refl
-links false true true false false s u over hushed c n h = refl
-links false true true false true true u over hushed c n h = refl
-links false true true false true false true over hushed c n h = refl
-links false true true false true false false over hushed c n h = rw (h refl refl)
+-- ---- they come to the chain, where `hushed` is right of a record that a group asks for
+abbrev as_points : (q e r w g u : Bool) (c n : ℕ) → Points
+as_points q e r w g u c n = record { quiet = q; event = e; rights = r; met = g; asking = numbered n; unannounced = u; waiting = waiting_for w c }
+
+links : (q e r w g u over hushed : Bool) (c n : ℕ) → (eqb n 0 ≡ false → e ≡ true → over ≡ hushed)
+    → cond q Quiet (cond (not e) NoEvent (cond (not r) RightMissing (cond (not w && not g) Unmet (cond (not w && not (not (eqb n 0))) Unasked (cond u Unannounced (cond w (Waiting c) (cond over Overflow (Written n))))))))
+    ≡ first_of (as_points q e r w g u c n) hushed
+links true e r w g u over hushed c n h = refl
+links false false r w g u over hushed c n h = refl
+links false true false w g u over hushed c n h = refl
+links false true true true g u over hushed c n h = refl
+links false true true false false u over hushed c n h = refl
+links false true true false true u over hushed c zero h = refl
+links false true true false true true over hushed c (suc n) h = refl
+links false true true false true false over hushed c (suc n) h = rw (h refl refl)
 
 chain_is : (s : Session) (p : R.Points) (over hushed : Bool) → (eqb (number p.asks (groups_of s)) 0 ≡ false → p.event ≡ true → over ≡ hushed) → chain (groups_of s) p over ≡ first_of (shown s p) hushed
 chain_is s p over hushed h =
     let n = number p.asks (groups_of s) in
-    rw (← number_any p.asks (groups_of s)) (links p.quiet p.event p.rights p.waits (anyb p.meets (groups_of s)) (eqb n 0) p.unannounced over hushed p.class n h)
+    rw (← number_any p.asks (groups_of s)) (links p.quiet p.event p.rights p.waits (anyb p.meets (groups_of s)) p.unannounced over hushed p.class n h)
 
 -- an event is a change
 event-changes : (m : Memory) (r : Record) → (points m r).event ≡ true → changes r ≡ true

@@ -20,79 +20,74 @@ use step_stream::Served;
 
 // ---- the first reason that holds
 
-// Of what waits.
-fn waiting(p: Points) -> Reason
-    ensures { result ≡ waiting_of p }
+// Of what waits for a command end of this class.
+fn waiting(p: &Points, class: u64) -> Reason
+    ensures { result ≡ waiting_of p.now class }
 {
     if p.unannounced {
-        return Reason::Unannounced;
+        Reason::Unannounced
+    } else {
+        Reason::Waiting(class)
     }
-    Reason::Waiting(p.class)
 }
 
 // By the groups; `hushed` says that none stands behind the record.
-fn by_groups(p: Points, hushed: bool) -> Reason
-    ensures { result ≡ groups_say p hushed }
+fn by_groups(p: &Points, hushed: bool) -> Reason
+    ensures { result ≡ groups_say p.now hushed }
 {
-    if p.waits {
-        return waiting(p);
+    if let Some(class) = p.waiting {
+        return waiting(p, class);
     }
     if !p.met {
         return Reason::Unmet;
     }
-    if p.asking == 0 {
-        return Reason::Unasked;
+    match p.asking {
+        None => Reason::Unasked,
+        Some(_) if p.unannounced => Reason::Unannounced,
+        Some(_) if hushed => Reason::Overflow,
+        Some(group) => Reason::Written(group as u64),
     }
-    if p.unannounced {
-        return Reason::Unannounced;
-    }
-    if hushed {
-        return Reason::Overflow;
-    }
-    Reason::Written(p.asking as u64)
 }
 
 // Of a record that was taken.
-fn first_of(p: Points, hushed: bool) -> Reason
-    ensures { result ≡ first_of p hushed }
+fn first_of(p: &Points, hushed: bool) -> Reason
+    ensures { result ≡ first_of p.now hushed }
 {
     if p.quiet {
-        return Reason::Quiet;
+        Reason::Quiet
+    } else if !p.event {
+        Reason::NoEvent
+    } else if !p.rights {
+        Reason::RightMissing
+    } else {
+        by_groups(p, hushed)
     }
-    if !p.event {
-        return Reason::NoEvent;
-    }
-    if !p.rights {
-        return Reason::RightMissing;
-    }
-    by_groups(p, hushed)
 }
 
 // Of any record, n being the number of its answer.
-fn reason_by(n: u8, p: Points, hushed: bool) -> Reason
-    ensures { result ≡ cond (eqb n 0) (first_of p hushed) (Refused n) }
+fn reason_by(n: u8, p: &Points, hushed: bool) -> Reason
+    ensures { result ≡ cond (eqb n 0) (first_of p.now hushed) (Refused n) }
 {
     if n == 0 {
-        return first_of(p, hushed);
+        first_of(p, hushed)
+    } else {
+        Reason::Refused(u64::from(n))
     }
-    Reason::Refused(n as u64)
 }
 
 // ---- of a record
 
 // What it asks of the rules, if it is a record.
-fn points_before(table: [Mailbox; 64], used: u64, s: Session, octets: &[u8]) -> Points
-    ensures { (m : Memory) → m.session ≡ s → boxes m ≡ take used table → is_record octets.now ≡ true → result ≡ shown s (points m (record_of octets.now)) }
+fn points_before(table: &[Mailbox; 64], used: u64, s: &Session, octets: &[u8]) -> Points
+    ensures { (m : Memory) → m.session ≡ s.now → boxes m ≡ take used table.now → is_record octets.now ≡ true → result ≡ shown s.now (points m (record_of octets.now)) }
 {
-    let r = record_read::read(octets);
-    if !r.valid {
-        return reason_points::none();
+    match record_read::read(octets) {
+        Some(r) => {
+            let rows = lent_rows::in_use(table, used);
+            reason_points::points_of(s, rows, r.kind, r.values, &octets[r.tail..])
+        }
+        None => reason_points::none(),
     }
-    let n = step_stream::few(used);
-    let kind = r.kind;
-    let values = r.values;
-    let tail = r.tail;
-    reason_points::points_of(s, table, n, kind, values, &octets[tail..])
 }
 
 // A record was served: the table, counts and session behind it, and the reason.
@@ -106,27 +101,24 @@ pub struct Judged {
 
 // A record is served, and it is said why it was told or not. Nothing is drained.
 pub fn why_at(
-    table: [Mailbox; 64],
+    table: &[Mailbox; 64],
     counts: Counts,
-    session: Session,
+    session: &Session,
     words: &mut [u64],
     queue: &mut [u8],
     octets: &[u8],
 ) -> Judged
-    ensures { Judges (standing table counts session words.old queue.old) octets.now result.reason (standing result.table result.counts result.session words.new queue.new) }
+    ensures { Judges (standing table.now counts session.now words.old queue.old) octets.now result.reason (standing result.table result.counts result.session words.new queue.new) }
 {
     let p = points_before(table, counts.mailboxes, session, octets);
     let d = step_stream::serve(table, counts, session, words, queue, octets);
-    let t = d.table;
-    let after = d.counts;
-    let s = d.session;
-    let answer = d.answer;
-    let n = step_stream::number_of(answer);
-    let reason = reason_by(n, p, s.groupcount == 0);
+    let n = record_outcome::number_of(&d.answer);
+    let reason = reason_by(n, &p, d.session.groupcount == 0);
+    let table = d.table;
     Judged {
-        table: t,
-        counts: after,
-        session: s,
+        table,
+        counts: d.counts,
+        session: d.session,
         reason,
     }
 }
@@ -139,12 +131,10 @@ pub fn begun() -> Served
 {
     let s = step_stream::start();
     let table = s.table;
-    let counts = s.counts;
-    let session = s.session;
     Served {
         table,
-        counts,
-        session,
+        counts: s.counts,
+        session: s.session,
         answer: Answer::Done,
     }
 }
@@ -157,18 +147,13 @@ fn walk(stream: &[u8], place: u64, words: &mut [u64], queue: &mut [u8]) -> Reaso
     let mut s = begun();
     let mut left = place;
     let mut i = 0;
+    // Kept: how far a record goes stands in its own octets, and no iterator of std cuts by them.
     while i < stream.len() {
-        let n = step_stream::record_size(stream, i);
-        let e = i + n;
-        let table = s.table;
-        let counts = s.counts;
-        let session = s.session;
+        let e = i + step_stream::record_size(stream, i);
         if left == 1 {
-            let d = why_at(table, counts, session, words, queue, &stream[i..e]);
-            let reason = d.reason;
-            return reason;
+            return why_at(&s.table, s.counts, &s.session, words, queue, &stream[i..e]).reason;
         }
-        s = step_stream::serve(table, counts, session, words, queue, &stream[i..e]);
+        s = step_stream::serve(&s.table, s.counts, &s.session, words, queue, &stream[i..e]);
         left -= 1;
         i = e;
     }

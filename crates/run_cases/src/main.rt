@@ -9,11 +9,10 @@ mod differences;
 mod reading;
 mod turns;
 
-ghost use Rattle.std.specs.Prelude.{◌≤◌, List, ℕ, IfOk, OnErr};
+ghost use Rattle.std.specs.Prelude.{◌≤◌, List, ℕ, OnErr};
 ghost use Rattle.std.specs.Io.KnownBytes.{Consumes};
 
-use differences::known_after;
-use reading::{little, little_size};
+use reading::length_of;
 use std::io;
 use std::io::{Read, Write};
 use turns::next_turn;
@@ -27,13 +26,17 @@ const QUEUE: usize = 65600;
 
 const WORDS: usize = 6240;
 
-fn print<W: Write>(writer: &mut W, text: &[u8]) -> io::Result<()> {
-    writer.write_all(text)
-}
-
 // ---- a case
 
-// Runs the calls of a case on empty memory: 0 where all are as expected, 1 where one is not, 2 where the input ends.
+// What becomes of a case: all is as expected, something is not, or no more of the input can be read.
+#[derive(Clone, Copy, PartialEq, Eq)]
+enum Verdict {
+    Right,
+    Wrong,
+    Ended,
+}
+
+// Runs the calls of a case on empty memory. Its first difference is written, and what ends the input.
 fn run_calls<R: Read, W: Write>(
     reader: &mut R,
     writer: &mut W,
@@ -43,23 +46,27 @@ fn run_calls<R: Read, W: Write>(
     queue: &mut [u8],
     octets: &mut [u8],
     wanted: &mut [u8],
-) -> io::Result<u64>
-    ensures ok { IfOk result (λ n. n ≤ 2) }
+) -> io::Result<Verdict>
     ensures reader { (t : List ℕ) × Consumes (R.remaining reader.old) (R.remaining reader.new) t }
 {
     let mut m = step_stream::start();
-    let mut verdict: u64 = 0;
-    let mut i: u64 = 0;
-    while i < calls {
-        i += 1;
-        let t = next_turn(reader, m, lent, words, queue, octets, wanted);
-        let difference = t.difference;
-        verdict = known_after(writer, verdict, i, difference)?;
-        if verdict == 2 {
-            return Ok(2);
+    let mut verdict = Verdict::Right;
+    for i in 1..=calls {
+        match next_turn(reader, &m, lent, words, queue, octets, wanted) {
+            Ok(t) => {
+                if let Some(d) = t.difference {
+                    if verdict == Verdict::Right {
+                        write!(writer, "call {i}: {d}\n")?;
+                        verdict = Verdict::Wrong;
+                    }
+                }
+                m = t.state;
+            }
+            Err(e) => {
+                write!(writer, "call {i}: {e}\n")?;
+                return Ok(Verdict::Ended);
+            }
         }
-        let state = t.state;
-        m = state;
     }
     Ok(verdict)
 }
@@ -80,11 +87,11 @@ fn next_case<R: Read>(reader: &mut R) -> Case {
     let read = run_input::read_full(reader, &mut o);
     Case {
         read: read.size,
-        name: little_size(o[0], o[1], o[2], o[3]),
-        queue: little_size(o[4], o[5], o[6], o[7]),
-        mailboxes: little_size(o[8], o[9], o[10], o[11]),
-        messages: little_size(o[12], o[13], o[14], o[15]),
-        calls: little(o[16], o[17], o[18], o[19]),
+        name: length_of([o[0], o[1], o[2], o[3]]),
+        queue: length_of([o[4], o[5], o[6], o[7]]),
+        mailboxes: length_of([o[8], o[9], o[10], o[11]]),
+        messages: length_of([o[12], o[13], o[14], o[15]]),
+        calls: u64::from(u32::from_le_bytes([o[16], o[17], o[18], o[19]])),
     }
 }
 
@@ -93,7 +100,7 @@ fn copy_name<R: Read, W: Write>(reader: &mut R, writer: &mut W, name: &mut [u8])
     ensures { (t : List ℕ) × Consumes (R.remaining reader.old) (R.remaining reader.new) t }
 {
     run_input::read_full(reader, name);
-    print(writer, name)
+    writer.write_all(name)
 }
 
 fn print_name<R: Read, W: Write>(reader: &mut R, writer: &mut W, n: usize) -> io::Result<()>
@@ -112,9 +119,8 @@ fn run_case<R: Read, W: Write>(
     entries: usize,
     room: usize,
     calls: u64,
-) -> io::Result<u64>
+) -> io::Result<Verdict>
     requires { (entries ≤ 1040) × (room ≤ 65600) }
-    ensures ok { IfOk result (λ n. n ≤ 2) }
     ensures reader { (t : List ℕ) × Consumes (R.remaining reader.old) (R.remaining reader.new) t }
 {
     let mut words = [0u64; WORDS];
@@ -148,19 +154,18 @@ fn print_head<R: Read, W: Write>(
     write!(writer, ": {calls} calls, ")
 }
 
-fn try_case<R: Read, W: Write>(reader: &mut R, writer: &mut W, c: Case) -> io::Result<u64>
+fn try_case<R: Read, W: Write>(reader: &mut R, writer: &mut W, c: Case) -> io::Result<Verdict>
     requires { c.name ≤ 256 }
-    ensures ok { IfOk result (λ n. n ≤ 2) }
     ensures err { OnErr result ((t : List ℕ) × Consumes (R.remaining reader.old) (R.remaining reader.new) t) }
 {
     print_head(reader, writer, c.name, c.calls)?;
     if c.messages > 1040 || c.queue > 65600 {
-        print(writer, b"larger than can be run\n")?;
-        return Ok(2);
+        write!(writer, "larger than can be run\n")?;
+        return Ok(Verdict::Ended);
     }
     let verdict = run_case(reader, writer, c.mailboxes, c.messages, c.queue, c.calls)?;
-    if verdict == 0 {
-        print(writer, b"ok\n")?;
+    if verdict == Verdict::Right {
+        write!(writer, "ok\n")?;
     }
     Ok(verdict)
 }
@@ -172,45 +177,36 @@ struct Tally {
     cases: u64,
     calls: u64,
     wrong: u64,
-    going: bool,
 }
 
-// No more cases, and this many more that are wrong.
-fn ended(t: Tally, off: u64) -> Tally {
-    Tally {
-        cases: t.cases,
-        calls: t.calls,
-        wrong: t.wrong.wrapping_add(off),
-        going: false,
+impl Tally {
+    // One case more.
+    fn count(&mut self, calls: u64, verdict: Verdict) {
+        self.cases = self.cases.wrapping_add(1);
+        self.calls = self.calls.wrapping_add(calls);
+        if verdict != Verdict::Right {
+            self.wrong = self.wrong.wrapping_add(1);
+        }
     }
 }
 
-// One case more.
-fn counted(t: Tally, calls: u64, verdict: u64) -> Tally {
-    let off = if verdict == 0 { 0 } else { 1 };
-    Tally {
-        cases: t.cases.wrapping_add(1),
-        calls: t.calls.wrapping_add(calls),
-        wrong: t.wrong.wrapping_add(off),
-        going: verdict != 2,
-    }
-}
-
-// The next case, if there is one.
-fn next_tally<R: Read, W: Write>(reader: &mut R, writer: &mut W, t: Tally) -> io::Result<Tally> {
+// The next case, if there is one. Whether another may follow it is the answer.
+fn next_tally<R: Read, W: Write>(reader: &mut R, writer: &mut W, t: &mut Tally) -> io::Result<bool> {
     let c = next_case(reader);
     if c.read == 0 {
-        return Ok(ended(t, 0));
+        return Ok(false);
     }
     if c.read != 20 || c.name > 256 {
-        print(writer, b"no case stands here\n")?;
-        return Ok(ended(t, 1));
+        write!(writer, "no case stands here\n")?;
+        t.wrong = t.wrong.wrapping_add(1);
+        return Ok(false);
     }
     let verdict = try_case(reader, writer, c)?;
-    Ok(counted(t, c.calls, verdict))
+    t.count(c.calls, verdict);
+    Ok(verdict != Verdict::Ended)
 }
 
-fn print_total<W: Write>(writer: &mut W, t: Tally) -> io::Result<()> {
+fn print_total<W: Write>(writer: &mut W, t: &Tally) -> io::Result<()> {
     write!(
         writer,
         "{} cases, {} calls, {} wrong\n",
@@ -226,13 +222,11 @@ fn main(rt: HostRuntime) -> io::Result<()> {
         cases: 0,
         calls: 0,
         wrong: 0,
-        going: true,
     };
     for _ in 0..u64::MAX {
-        t = next_tally(&mut reader, &mut writer, t)?;
-        if !t.going {
+        if !next_tally(&mut reader, &mut writer, &mut t)? {
             break;
         }
     }
-    print_total(&mut writer, t)
+    print_total(&mut writer, &t)
 }

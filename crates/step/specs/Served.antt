@@ -1,9 +1,7 @@
 -- The step's contract on the arrays that it is given, and what its parts need. Assumes nothing.
-use Rattle.std.specs.Prelude.{◌≡◌, refl, Bool, true, false, List, ℕ, ◌/◌, ◌≤◌, leb, length, take, replicate, Option, Some, None, Ok, Err}
+use Rattle.std.specs.Prelude.{◌≡◌, refl, Bool, true, false, List, ℕ, ◌/◌, ◌≤◌, leb, length, take, replicate, Option, Some, Err}
 use Rattle.std.proofs.Common.{ap, sym, ◌∙◌, arith, length-take-le, take_all, take-take, subst, leb-true, leb-false}
 use Rattle.std.proofs.lemmas.List.{length-replicate}
-use Rattle.std.specs.Option.{ok_or}
-use Rattle.std.specs.Result.{IsErrAnd}
 use Rattle.model.specs.Records.{is_record, record_of}
 use Rattle.model.specs.Memory.{Memory, boxes, no_mailbox}
 use Rattle.model.specs.Lawful.{lawful}
@@ -11,7 +9,6 @@ use Rattle.model.specs.Call.{call}
 use Rattle.model.specs.declared.Mailbox.{Mailbox}
 use Rattle.model.specs.declared.Counts.{Counts}
 use Rattle.model.specs.declared.Session.{Session}
-use Rattle.model.specs.declared.Refusal.{Refusal}
 use Rattle.model.specs.declared.Refusal.TheVariants.{UnlawfulMemory, BadRecord}
 use Rattle.demands.specs.Lasting.Law.{Law, law_out}
 use Rattle.table_messages.specs.Words.{messages, messages-count}
@@ -25,16 +22,7 @@ use Rattle.record_outcome.specs.Coming.{Came, Lends, Ready, Comes, answer_of, ro
 use Rattle.record_outcome.specs.Laws.{call_unlawful, call-bad, call_ladder, comes-refused}
 use Rattle.step.specs.Steps.{Lent, Steps}
 
--- ---- what the reader says
--- none, as `ok_or` and `?` make a refusal of it
-pub none_refused : {A : Type 0} {a : Option A} {why e : Refusal} (r : Came) → a ≡ None → Err e ≡ ok_or a why → IsErrAnd r (λ (j : Refusal). j ≡ e) → r ≡ Err why
-none_refused {A} {a} {why} {e} (Err x) h d t =
-    let f = d ∙ ap (λ (b : Option A). ok_or b why) h in
-    let g : e ≡ why = cc in
-    ap (λ (j : Refusal). Err j) (t ∙ g)
-none_refused (Ok x) h d t = absurd t
-
--- or a record
+-- ---- what the reader says: a record
 pub is_of : (o : List ℕ) {a : Option Received} (r : Received) → a ≡ Some r → Reads o a → is_record o ≡ true
 is_of o r e h = let w : Reads o (Some r) = rw e at h in w.says.is
 

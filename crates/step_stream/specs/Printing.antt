@@ -76,9 +76,9 @@ module _ (t : List Mailbox) (w : length t ≡ 64) (ws : List ℕ) (k : Counts) (
   -- what is left of the table is what the step says
   pub serves : {u : List Mailbox} {a : Answer} {j : Counts} {v : Session} → (length (rows_after r k.mailboxes t) ≤ 64 → u ≡ rows_after r k.mailboxes t) → a ≡ answer_of r → j ≡ counts_after r k → v ≡ session_after r s
       → Serves (standing t k s ws q) o a (standing u j v ws' q')
-  serves {u} e f g i = record {
+  serves {u} {a} {j} {v} e f g i = record {
     answer = f ∙ took.answer;
-    after = ap (λ (x : List Mailbox). standing x _ _ ws' q') (e table_few) ∙ (ap₂ (λ (y : Counts) (z : Session). standing (rows_after r k.mailboxes t) y z ws' q') g i ∙ after_is _ o (answer_of r) _ took);
+    after = ap (λ (x : List Mailbox). standing x j v ws' q') (e table_few) ∙ (ap₂ (λ (y : Counts) (z : Session). standing (rows_after r k.mailboxes t) y z ws' q') g i ∙ after_is _ o (answer_of r) _ took);
   }
 
 -- the refusal, what the queue holds, and what is left

@@ -48,18 +48,12 @@ fn reach<R: io::Read>(
 {
     let mut s = reason_stream::begun();
     let mut read = run_input::next_record(reader, octets);
-    let mut left = place;
-    while 1 < left {
+    for _ in 1..place {
         if run_input::is_over(read) {
             break;
         }
-        let n = read.size;
-        let table = s.table;
-        let counts = s.counts;
-        let session = s.session;
-        s = step_stream::serve(table, counts, session, words, queue, &octets[..n]);
+        s = step_stream::serve(&s.table, s.counts, &s.session, words, queue, &octets[..read.size]);
         read = run_input::next_record(reader, octets);
-        left -= 1;
     }
     Reached { state: s, read }
 }
@@ -75,17 +69,13 @@ fn print_reason<W: Write>(writer: &mut W, reason: Reason) -> io::Result<()> {
 // Of the record that was reached. What its reason is, the rules say (`reason_stream::why_at`).
 fn print_judged<W: Write>(
     writer: &mut W,
-    s: Served,
+    s: &Served,
     words: &mut [u64],
     queue: &mut [u8],
     octets: &[u8],
 ) -> io::Result<()> {
-    let table = s.table;
-    let counts = s.counts;
-    let session = s.session;
-    let j = reason_stream::why_at(table, counts, session, words, queue, octets);
-    let reason = j.reason;
-    print_reason(writer, reason)
+    let j = reason_stream::why_at(&s.table, s.counts, &s.session, words, queue, octets);
+    print_reason(writer, j.reason)
 }
 
 fn answer<R: io::Read, W: Write>(reader: &mut R, writer: &mut W, place: u64) -> io::Result<()> {
@@ -100,8 +90,7 @@ fn answer<R: io::Read, W: Write>(reader: &mut R, writer: &mut W, place: u64) -> 
     if place == 0 || n == 0 {
         return print_reason(writer, Reason::NoRecord);
     }
-    let s = r.state;
-    print_judged(writer, s, &mut words, &mut queue, &octets[..n])
+    print_judged(writer, &r.state, &mut words, &mut queue, &octets[..n])
 }
 
 fn main(rt: HostRuntime) -> io::Result<()> {

@@ -1,6 +1,7 @@
 -- `decide`: the exact test is refusal 1 and the reader's verdict is refusal 2; behind both the memory is lawful, and `serve` says the rest of the ladder. Assumes nothing.
 use mathlib.Core.Path.{refl, sym, ◌∙◌}
-use Rattle.step.specs.Served.{law_ready, steps_unlawful, steps-bad, steps_served, none_refused, is_of}
+use Rattle.record_outcome.specs.Laws.{none_refused}
+use Rattle.step.specs.Served.{law_ready, steps_unlawful, steps-bad, steps_served, is_of}
 use Rattle.step.proofs.decide.Goals as goal
 
 pub returns-then-not-is_lawful : goal.returns-then-not-is_lawful

@@ -1,10 +1,7 @@
--- `reach`: each turn leaves one record less to the place; no slice changes its length, and a record is no longer than its slice.
+-- `reach`: no slice changes its length, and a record is no longer than its slice.
 use Rattle.std.proofs.Common.{◌≡◌, ◌≤◌, length}
 use Rattle.why.proofs.reach.Given as goal
 
-abbrev pub invariant-loop-left : goal.invariant-loop-left
-invariant-loop-left g l =
+abbrev pub invariant-loop : goal.invariant-loop
+invariant-loop g l =
     (length l.words ≡ length l.initial.words) × (length l.queue ≡ length l.initial.queue) × (length l.octets ≡ length l.initial.octets) × (65539 ≤ length l.octets) × (l.read.size ≤ 65539)
-
-abbrev pub decreases-loop-left : goal.decreases-loop-left
-decreases-loop-left g l = l.left

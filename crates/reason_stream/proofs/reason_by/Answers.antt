@@ -1,9 +1,0 @@
--- `reason_by`: the reason of any record. Assumes nothing.
-use borrow.Author.Tests.{eq-eqb, ne_eqb}
-use Rattle.reason_stream.proofs.reason_by.Goals as goal
-
-pub returns-then-n-eq0 : goal.returns-then-n-eq0
-returns-then-n-eq0 c = rw (eq-eqb c.args.n 0 c.if-n-eq0.true) c.first_of.ensures
-
-pub returns : goal.returns
-returns c = rw (ne_eqb c.args.n 0 c.if-n-eq0.false)

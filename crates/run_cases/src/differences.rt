@@ -81,9 +81,7 @@ impl fmt::Display for Difference {
             Difference::Count(is, wanted) => {
                 write!(f, "count {}, not {}", Count(is), Count(wanted))
             }
-            Difference::Held(is, wanted) => {
-                write!(f, "octets in the queue: {is}, not {wanted}")
-            }
+            Difference::Held(is, wanted) => { write!(f, "octets in the queue: {is}, not {wanted}") }
             Difference::Octet(at) => write!(f, "another octet in the queue at {at}"),
         }
     }

@@ -191,7 +191,11 @@ impl Tally {
 }
 
 // The next case, if there is one. Whether another may follow it is the answer.
-fn next_tally<R: Read, W: Write>(reader: &mut R, writer: &mut W, t: &mut Tally) -> io::Result<bool> {
+fn next_tally<R: Read, W: Write>(
+    reader: &mut R,
+    writer: &mut W,
+    t: &mut Tally,
+) -> io::Result<bool> {
     let c = next_case(reader);
     if c.read == 0 {
         return Ok(false);

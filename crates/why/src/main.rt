@@ -52,7 +52,14 @@ fn reach<R: io::Read>(
         if run_input::is_over(read) {
             break;
         }
-        s = step_stream::serve(&s.table, s.counts, &s.session, words, queue, &octets[..read.size]);
+        s = step_stream::serve(
+            &s.table,
+            s.counts,
+            &s.session,
+            words,
+            queue,
+            &octets[..read.size],
+        );
         read = run_input::next_record(reader, octets);
     }
     Reached { state: s, read }

@@ -9,8 +9,8 @@ put_reply-requires c = (omega arith, omega arith)
 pub returns : goal.returns
 returns c = (
   λ m s wanted d.
-  let p = ◌then◌ (c.put_listing.ensures.put m s wanted d.long d.shown d.ordered d.tells) c.put_reply.ensures.put in
-  let q = p.put in
-  search (rules, q),
+      let p = ◌then◌ (c.put_listing.ensures.put m s wanted d.long d.shown d.ordered d.tells) c.put_reply.ensures.put in
+      let q = p.put in
+      search (rules, q),
   omega arith,
 )

@@ -1,5 +1,5 @@
 -- `owed_size`: writing at 0 with the limit 0 leaves the queue and ends at the text's length, and that text is what is owed; without both rights nothing is. Assumes nothing.
-use Rattle.std.proofs.Common.{◌≡◌, ◌≤◌, ◌*◌, ◌∙◌, sym, refl, ap, arith, length, take, length-take-le}
+use Rattle.std.proofs.Common.{rules, ◌≡◌, ◌≤◌, ◌*◌, ◌∙◌, sym, refl, ap, arith, length, take, length-take-le}
 use Rattle.model.specs.Memory.{messages_of}
 use Rattle.table_messages.specs.Words.{messages, messages-take, messages-used}
 use Rattle.order_messages.specs.Chosen.{chosen-take}
@@ -37,5 +37,5 @@ returns c =
     let all = chosen-take (messages (take (6 * k) ws)) c.by_uid-n.new.order c.by_uid-n.result (omega arith) ∙ rw c.from.ensures at c.by_uid-n.ensures ∙ ap (messages_of c.args.s.now.selected) (messages-take k ws) in (
       λ m lent law e. owed_measured m ws c.args.counts c.args.s.now c.args.queue.now lent law (sym e ∙ c.if-not-rights.false) all (rw c.from-2.ensures at c.put_owed.ensures.put.put),
       omega arith,
-      search rules,
+      (let q = c.put_owed.ensures.put.put.kept (omega arith) in search (rules, q)),
     )

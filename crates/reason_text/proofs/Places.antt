@@ -11,49 +11,21 @@ use lib.Seq.{drop-cons}
 use borrow.Author.Tests.{ne_eqb, leb-true, leb-false}
 use Rattle.model.specs.Lists.{allb}
 use Rattle.model.specs.Octets.{digit}
-use Rattle.model.specs.Reading.{run_length, value_from}
+use Rattle.model.specs.Reading.{value_from}
 use Rattle.model.specs.Reasons.{place_of}
 
 -- ---- a text of digits
--- a run that goes to the end is all of the text, and one that stops before is not
-module _ (class : ℕ → Bool) where
-  all_at : (b : Bool) (x : ℕ) (l : List ℕ) → class x ≡ b → (length l ≤ run_length class l → allb class l ≡ true)
-      → length (x ∷ l) ≤ run_length class (x ∷ l) → allb class (x ∷ l) ≡ true
-  unfolding run_length
-  all_at true x l e ih h = rw e (ih (let k = rw e at h in omega arith))
-  all_at false x l e ih h = let k = rw e at h in absurd (omega arith)
-
-  run_all : (l : List ℕ) → length l ≤ run_length class l → allb class l ≡ true
-  run_all [] h = refl
-  run_all (x ∷ l) h = all_at (class x) x l refl (run_all l) h
-
-  not_at : (b : Bool) (x : ℕ) (l : List ℕ) → class x ≡ b → (run_length class l < length l → allb class l ≡ false)
-      → run_length class (x ∷ l) < length (x ∷ l) → allb class (x ∷ l) ≡ false
-  unfolding run_length
-  not_at true x l e ih h = rw e (ih (let k = rw e at h in omega arith))
-  not_at false x l e ih h = rw e
-
-  run_not : (l : List ℕ) → run_length class l < length l → allb class l ≡ false
-  unfolding run_length
-  run_not [] h = absurd (omega arith)
-  run_not (x ∷ l) h = not_at (class x) x l refl (run_not l) h
-
 place_by : (b a : Bool) (n : ℕ) → a ≡ false → cond (b && a) n 0 ≡ 0
 place_by true a n e = rw e
 place_by false a n e = refl
 
-pub place_none : (s : List ℕ) → run_length digit s < length s → place_of s ≡ 0
-place_none s h = place_by (not (eqb (length s) 0)) (allb digit s) (value_from 0 s) (run_not digit s h)
+pub place_none : (s : List ℕ) → allb digit s ≡ false → place_of s ≡ 0
+place_none s h = place_by (not (eqb (length s) 0)) (allb digit s) (value_from 0 s) h
 
-place_all : (e a : Bool) (n : ℕ) → e ≡ false → a ≡ true → cond (not e && a) n 0 ≡ n
-place_all e a n h k = rw (h, k)
-
-pub place_some : (s : List ℕ) → length s ≤ run_length digit s → place_of s ≡ value_from 0 s
+pub place_some : (s : List ℕ) → allb digit s ≡ true → place_of s ≡ value_from 0 s
 unfolding value_from
 place_some [] h = refl
-place_some (x ∷ s) h =
-    let some = ne_eqb (length (x ∷ s)) 0 λ e. omega arith in
-    place_all (eqb (length (x ∷ s)) 0) (allb digit (x ∷ s)) (value_from 0 (x ∷ s)) some (run_all digit (x ∷ s) h)
+place_some (x ∷ s) h = rw (ne_eqb (length (x ∷ s)) 0 (λ e. omega arith), h)
 
 -- ---- its number
 abbrev pub top : ℕ

@@ -24,6 +24,7 @@ pub struct Wanted<'a> {
 }
 
 // Room for an order of entries, and for those of them that are in the view.
+#[derive(Drop)]
 pub struct Scratch {
     pub order: [usize; 1024],
     pub view: [usize; 1024],

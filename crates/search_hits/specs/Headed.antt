@@ -1,7 +1,7 @@
 -- The head of a line that is a search: where its tag and its word end. Assumes nothing.
 use Rattle.std.proofs.Math.Path.{◌≡◌, refl, ap}
 use Rattle.std.proofs.Common.{sym, ◌∙◌, subst, eqb-true}
-use Rattle.std.specs.Prelude.{Bool, ◌&&◌, List, ℕ, ◌+◌, ◌≤◌, eqb, leb, length, take}
+use Rattle.std.specs.Prelude.{Option, Some, None, Bool, ◌&&◌, List, ℕ, ◌+◌, ◌≤◌, eqb, leb, length, take}
 use Rattle.std.proofs.Math.Bool.{true, false, cond}
 use native.Mathlib.Omega.{arith}
 use Rattle.model.specs.Laws.{and_r}
@@ -12,10 +12,8 @@ use Rattle.model.specs.NotifyGrammar.{groups_at, set_by, Form, cancel, replace, 
 use Rattle.model.specs.SearchGrammar.{search_at}
 use Rattle.model.specs.Commands.{tag_end, tagged, tag_of, verb_at, command_by, command_at, command_of}
 use Rattle.octets.specs.Rows.{in-text}
-use Rattle.read_options.specs.Heads.{read_verb, VerbWithin, ReadsVerb}
+use Rattle.read_options.specs.Heads.{read_verb, ReadsVerb}
 use Rattle.read_options.specs.declared.Verb.{Verb}
-use Rattle.read_options.specs.declared.VerbRead.{VerbRead}
-use Rattle.read_options.specs.declared.VerbRead.TheVariants.{Is, Bad as Verbless}
 use Rattle.read_commands.specs.Judging.{whole, whole_by}
 use Rattle.line_answer.specs.Tagged.{tag_short, tag_some}
 use Rattle.line_found.specs.Commanded.{search-behind}
@@ -24,6 +22,14 @@ use Rattle.line_found.specs.Commanded.{search-behind}
 pub record Behind (s : List ℕ) (r : ℕ) : Type 0 where
   pub within : r ≤ length s
   pub exact : (p : ℕ) (q : Search) → command_of s ≡ ok p (search q) → search_at s (r + 1) ≡ ok p (search q)
+
+-- it is no search
+abbrev pub Never : List ℕ → Type 0
+Never s = (p : ℕ) (q : Search) → command_of s ≡ ok p (search q) → ⊥
+
+abbrev pub BehindWord : List ℕ → Option ℕ → Type 0
+BehindWord s (Some r) = Behind s r
+BehindWord s None = Never s
 
 -- the tag as code cuts it out: none, where the line has none
 abbrev pub tag_by : List ℕ → List ℕ
@@ -94,11 +100,17 @@ module _ (s : List ℕ) where
   by_word esearch at p q e = e
   by_word other_verb at p q e = absurd (other-bad p q e)
 
-  by_atom : (x : Parsed (List ℕ)) (p : ℕ) (q : Search) → whole s (and_then x (λ r w. command_by (verb_at w) s r)) ≡ ok p (search q) → (v : Verb) (at : ℕ) → Is v at ≡ read_verb x → whole_by esearch s at ≡ ok p (search q)
-  by_atom bad p q e v at f = absurd (other-bad p q e)
-  by_atom (ok r w) p q e v at f = let z : at ≡ r = cc in by_word (verb_at w) at p q (ap (λ (n : ℕ). whole_by (verb_at w) s n) z ∙ e)
+  behind_is : {x y : Verb × ℕ} → Some x ≡ Some y → x.1 ≡ y.1
+  behind_is f = ap (λ (z : Verb × ℕ). z.1) (inside f)
+    where
+      inside : {x y : Verb × ℕ} → Some x ≡ Some y → x ≡ y
+      inside z = cc
 
-  no_atom : (x : Parsed (List ℕ)) (p : ℕ) (q : Search) → whole s (and_then x (λ r w. command_by (verb_at w) s r)) ≡ ok p (search q) → Verbless ≡ read_verb x → ⊥
+  by_atom : (x : Parsed (List ℕ)) (p : ℕ) (q : Search) → whole s (and_then x (λ r w. command_by (verb_at w) s r)) ≡ ok p (search q) → (v : Verb) (at : ℕ) → Some (v, at) ≡ read_verb x → whole_by esearch s at ≡ ok p (search q)
+  by_atom bad p q e v at f = absurd (other-bad p q e)
+  by_atom (ok r w) p q e v at f = let z : at ≡ r = behind_is f in by_word (verb_at w) at p q (ap (λ (n : ℕ). whole_by (verb_at w) s n) z ∙ e)
+
+  no_atom : (x : Parsed (List ℕ)) (p : ℕ) (q : Search) → whole s (and_then x (λ r w. command_by (verb_at w) s r)) ≡ ok p (search q) → None ≡ read_verb x → ⊥
   no_atom bad p q e f = other-bad p q e
   no_atom (ok r w) p q e f = let z : ◌≡◌ {A = ℕ} 0 1 = cc in omega arith
 
@@ -107,14 +119,14 @@ module _ (s : List ℕ) (end : ℕ) (e : end ≡ tag_end s) where
   behind_end : (p : ℕ) (q : Search) → command_of s ≡ ok p (search q) → whole s (command_at s (end + 1)) ≡ ok p (search q)
   behind_end p q c = ap (λ (n : ℕ). whole s (command_at s (n + 1))) e ∙ behind_tag s p (search q) c
 
-  pub behind-found : {r : VerbRead} {v : Verb} {at : ℕ} → ReadsVerb s (end + 1) r → r ≡ Is v at → Behind s at
-  behind-found {r} {v} {at} x f = record {
-    within = (subst (VerbWithin s (end + 1)) f x.within).1;
-    exact = λ p q c. search-behind s p q at (by_atom s (atom_at s (end + 1)) p q (behind_end p q c) v at (sym f ∙ x.exact));
+  pub behind-found : {v : Verb} {at : ℕ} → ReadsVerb s (end + 1) (Some (v, at)) → Behind s at
+  behind-found {v} {at} x = record {
+    within = x.within.1;
+    exact = λ p q c. search-behind s p q at (by_atom s (atom_at s (end + 1)) p q (behind_end p q c) v at x.exact);
   }
 
-  pub behind_none : {r : VerbRead} → ReadsVerb s (end + 1) r → r ≡ Verbless → Behind s 0
-  behind_none x f = record { within = omega arith; exact = λ p q c. absurd (no_atom s (atom_at s (end + 1)) p q (behind_end p q c) (sym f ∙ x.exact)) }
+  pub behind_none : ReadsVerb s (end + 1) None → Never s
+  behind_none x p q c = no_atom s (atom_at s (end + 1)) p q (behind_end p q c) x.exact
 
 -- ---- the tag
 pub tags_by : (s : List ℕ) (r : ℕ) → r ≡ cond (tagged s) (tag_end s) 0 → Tags s r

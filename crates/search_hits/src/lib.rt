@@ -4,92 +4,82 @@
 pub mod reading;
 
 ghost use Rattle.std.specs.Prelude.{◌*◌, ◌≤◌, length};
-ghost use Rattle.search_hits.specs.Finding.{Chooses, Gathers};
+ghost use Rattle.table_messages.specs.Words.{messages};
+ghost use Rattle.search_hits.specs.Finding.{Chooses, GathersOf};
 
-use line_found::Wanted;
 use model::Uid;
+use read_options::Returns;
 use read_sources::Listed;
 use reading::read;
+use search_find::{Scratch, Wanted, find_runs};
+use table_mailboxes::Columns;
 
 // What a search asks: its sources, what it is to return, and how many cells its keys fill.
 #[derive(Clone, Copy)]
 pub struct Question {
     pub listed: Listed,
-    pub wanted: Wanted,
+    pub wanted: Returns,
     pub filled: usize,
 }
 
 // What was found: what is to be said of it, and in how many rows it was looked for.
 #[derive(Clone, Copy)]
 pub struct Hits {
-    pub wanted: Wanted,
+    pub wanted: Returns,
     pub rows: usize,
 }
 
 // The rows that are searched, by name.
-fn choose(
-    listed: Listed,
-    selected: u64,
-    ids: &[u64; 64],
-    attributes: &[u8; 64],
-    lens: &[u8; 64],
-    names: &[u8; 4096],
-    n: usize,
-    picked: &mut [u8],
-    rows: &mut [usize],
-) -> usize
-    requires { (n ≤ 64) × (n ≤ length picked.old) × (n ≤ length rows.old) }
-    ensures { Chooses listed selected ids.now attributes.now lens.now names.now n rows.new result }
+fn choose(listed: &Listed, selected: u64, cols: &Columns, rows: &mut [usize]) -> usize
+    requires { 64 ≤ length rows.old }
+    ensures { Chooses listed.now selected cols.now rows.new result }
 {
-    match_sources::pick(listed, selected, ids, attributes, lens, names, n, picked);
-    order_mailboxes::by_name(lens, names, n, picked, rows)
+    let mut picked = [0u8; 64];
+    match_sources::pick(listed, selected, cols, &mut picked);
+    order_mailboxes::by_name(cols, &picked, rows)
 }
 
-// What a line finds in the tables: the rows that it searches, by name, the first on top, and a run of UIDs for each.
+// What a line that is a search finds in the tables: the rows that it searches, by name, the first on top, and a run of UIDs for each.
 pub fn find(
     text: &[u8],
     words: &[u64],
-    used: usize,
     selected: u64,
     told: Uid,
-    ids: &[u64; 64],
-    attributes: &[u8; 64],
-    lens: &[u8; 64],
-    names: &[u8; 4096],
-    n: usize,
-    cells: &mut [u64],
-    picked: &mut [u8],
+    cols: &Columns,
     rows: &mut [usize],
-    order: &mut [usize],
-    view: &mut [usize],
     uids: &mut [u64],
     starts: &mut [usize],
     counts: &mut [usize],
-) -> Hits
-    requires { ((length text.now ≤ 1024) × (used * 6 ≤ length words.now) × (used ≤ 1024) × (n ≤ 64)) × ((4096 ≤ length cells.old) × (64 ≤ length picked.old) × (64 ≤ length rows.old) × (1024 ≤ length order.old)) × ((1024 ≤ length view.old) × (2048 ≤ length uids.old) × (64 ≤ length starts.old) × (64 ≤ length counts.old)) }
-    ensures { Gathers text.now words.now used selected told.0 ids.now attributes.now lens.now names.now n rows.new uids.new starts.new counts.new result }
+) -> Option<Hits>
+    requires { (length text.now ≤ 1024) × (length (messages words.now) ≤ 1024) × (64 ≤ length rows.old) × (2048 ≤ length uids.old) × (64 ≤ length starts.old) × (64 ≤ length counts.old) }
+    ensures { GathersOf text.now words.now selected told.0 cols.now rows.new uids.new starts.new counts.new result }
 {
-    let asked = read(text, cells);
-    let listed = asked.listed;
-    let k = choose(
-        listed, selected, ids, attributes, lens, names, n, picked, rows,
-    );
-    search_find::find_runs(
-        words,
-        used,
+    let mut cells = [0u64; 4096];
+    let mut scratch = Scratch {
+        order: [0; 1024],
+        view: [0; 1024],
+    };
+    let Some(asked) = read(text, &mut cells) else {
+        return None;
+    };
+    let k = choose(&asked.listed, selected, cols, rows);
+    let wanted = Wanted {
+        cells: &cells[..asked.filled],
         selected,
-        told,
-        ids,
-        rows,
-        k,
-        cells,
-        asked.filled,
-        order,
-        view,
+        below: told,
+    };
+    find_runs(
+        words,
+        wanted,
+        &cols.ids,
+        &rows[..k],
+        &mut scratch,
         uids,
         starts,
         counts,
     );
-    let wanted = asked.wanted;
-    Hits { wanted, rows: k }
+    Some(Hits {
+        wanted: asked.wanted,
+        rows: k,
+    })
 }

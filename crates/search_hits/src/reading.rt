@@ -1,22 +1,18 @@
 // What a command line that is a search asks.
 ghost use Rattle.std.specs.Prelude.{◌≤◌, length};
-ghost use Rattle.search_hits.specs.Headed.{Behind, Tags};
-ghost use Rattle.search_hits.specs.Finding.{Asks};
+ghost use Rattle.search_hits.specs.Headed.{BehindWord, Tags};
+ghost use Rattle.search_hits.specs.Finding.{AsksOf};
 
 use super::Question;
-use line_found::Wanted;
-use read_options::VerbRead;
-use read_search::SearchRead;
 
 // The position behind the word ESEARCH.
-fn behind_word(text: &[u8]) -> usize
-    ensures { Behind text.now result }
+fn behind_word(text: &[u8]) -> Option<usize>
+    ensures { BehindWord text.now result }
 {
-    let end = read_options::tag_end(text);
-    match read_options::verb_at(text, end + 1) {
-        VerbRead::Is(_, at) => at,
-        VerbRead::Bad => 0,
-    }
+    let Some((_, at)) = read_options::verb_at(text, read_options::tag_end(text) + 1) else {
+        return None;
+    };
+    Some(at)
 }
 
 // The length of the tag; 0 where there is none.
@@ -27,34 +23,22 @@ pub fn tag_length(text: &[u8]) -> usize
 }
 
 // What the line asks; its keys go into the cells.
-pub fn read(text: &[u8], cells: &mut [u64]) -> Question
+pub fn read(text: &[u8], cells: &mut [u64]) -> Option<Question>
     requires { (length text.now ≤ 1024) × (4096 ≤ length cells.old) }
-    ensures { Asks text.now cells.new result }
+    ensures { AsksOf text.now cells.new result }
 {
-    let at = behind_word(text) + 1;
-    let kept = read_sources::keep_sources(text, at);
-    let listed = kept.listed;
-    match read_search::search_at(text, at, cells) {
-        SearchRead::Is(asked, _) => {
-            let wanted = line_found::wanted_of(asked.returns);
-            Question {
-                listed,
-                wanted,
-                filled: asked.used,
-            }
-        }
-        SearchRead::Bad => {
-            let wanted = Wanted {
-                least: false,
-                most: false,
-                every: false,
-                count: false,
-            };
-            Question {
-                listed,
-                wanted,
-                filled: 0,
-            }
-        }
-    }
+    let Some(word) = behind_word(text) else {
+        return None;
+    };
+    let Some((listed, _)) = read_sources::keep_sources(text, word + 1) else {
+        return None;
+    };
+    let Some((asked, _)) = read_search::search_at(text, word + 1, cells) else {
+        return None;
+    };
+    Some(Question {
+        listed,
+        wanted: asked.returns,
+        filled: asked.used,
+    })
 }

@@ -3,6 +3,4 @@ use Rattle.search_hits.specs.Finding.{chooses}
 use Rattle.search_hits.proofs.choose.Goals as goal
 
 pub returns : goal.returns
-returns c =
-    chooses c.args.listed c.args.selected c.args.ids.now c.args.attributes.now c.args.lens.now c.args.names.now c.args.n
-    c.pick.new.picked c.pick.ensures _ c.by_name.result c.by_name.ensures.1 c.by_name.ensures.0
+returns c = chooses c.args.listed.now c.args.selected c.args.cols.now c.pick.new.picked c.pick.ensures _ c.by_name.result c.by_name.ensures.1 c.by_name.ensures.0

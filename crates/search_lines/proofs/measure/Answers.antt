@@ -8,4 +8,4 @@ use Rattle.search_lines.proofs.measure.Goals as goal
 
 pub returns : goal.returns
 returns c =
-    measured_both (answer (tag_of c.args.text.now) esearch Accepted) c.put_lines-a.ensures.0 c.put_reply-b.ensures.0
+    measured_both (answer (tag_of c.args.text.now) esearch Accepted) c.write_lines-a.ensures.0 c.write_tagged-b.ensures.0

@@ -1,12 +1,9 @@
 -- `put_lines`: the part of the line that is cut out is its tag, so the rows' lines are those of the rules. Assumes nothing.
-use mathlib.Core.Path.{ap, sym}
-use mathlib.Core.List.{List}
-use Prim.Native.Nat.{ℕ, ◌≤◌}
-use native.Mathlib.Omega.{arith}
-use lib.ListN.{length, take}
-use lib.Seq.{length-take-le}
-use Rattle.line_put.specs.Put.{put_as}
+use Rattle.std.proofs.Common.{◌≡◌, ◌≤◌, ◌∙◌, ℕ, List, ap, sym, arith, length, take, length-take-le}
+use Rattle.line_put.specs.Writes.{writes_as}
+use Rattle.search_find.specs.Runs.{Bounded}
 use Rattle.line_found.specs.Telling.{texts}
+use Rattle.search_lines.specs.Lines.{texts_cut}
 use Rattle.search_lines.proofs.put_lines.Goals as goal
 
 pub slice_bounds-put_rows-end : goal.slice_bounds-put_rows-end
@@ -15,11 +12,21 @@ slice_bounds-put_rows-end c = sym (length-take-le _ _ c.tag_length-end.ensures.w
 pub put_rows-requires : goal.put_rows-requires
 put_rows-requires c =
     let l = length-take-le c.tag_length-end.result c.args.text.now c.tag_length-end.ensures.within in
-    let w : length (take c.tag_length-end.result c.args.text.now) ≤ 32 = omega arith in
-    ((c.requires.0.0, (c.requires.0.1, w)), ((c.requires.1.few, c.requires.1.in_rows), (c.requires.1.in-starts, c.requires.1.in-counts)), (c.requires.1.room, c.requires.1.bounded))
+    let r : length (take c.args.hits.rows c.args.rows.now) ≡ c.args.hits.rows = length-take-le c.args.hits.rows c.args.rows.now c.requires.1.in_rows in
+    let few = c.requires.1.few in
+    let s = c.requires.1.in-starts in
+    let k = c.requires.1.in-counts in
+    ((c.requires.0.0, c.requires.0.1, omega arith), (omega arith, omega arith, omega arith), (c.requires.1.room, rw r c.requires.1.bounded))
 
-pub returns : goal.returns
-returns c =
-    let lines : List ℕ → List ℕ = λ t.
-    texts t c.args.lens.now c.args.names.now c.args.validities.now c.args.rows.now c.args.hits.wanted c.args.uids.now c.args.starts.now c.args.counts.now c.args.hits.rows in
-    (put_as c.put_rows.ensures.0 (ap lines c.tag_length-end.ensures.exact), omega arith)
+pub returns-clause-put : goal.returns-clause-put
+returns-clause-put c =
+    let r : length (take c.args.hits.rows c.args.rows.now) ≡ c.args.hits.rows = length-take-le c.args.hits.rows c.args.rows.now c.requires.1.in_rows in
+    let lines : List ℕ → List ℕ = λ t. texts t c.args.cols.now c.args.rows.now c.args.hits.wanted c.args.uids.now c.args.starts.now c.args.counts.now c.args.hits.rows in
+    writes_as (rw r at c.put_rows.ensures.put) (texts_cut _ c.args.cols.now c.args.rows.now c.args.hits.wanted c.args.uids.now c.args.starts.now c.args.counts.now c.args.hits.rows c.args.hits.rows (omega arith) ∙ ap lines c.tag_length-end.ensures.exact)
+
+pub returns-clause-upper_bound : goal.returns-clause-upper_bound
+returns-clause-upper_bound c =
+    let r : length (take c.args.hits.rows c.args.rows.now) ≡ c.args.hits.rows = length-take-le c.args.hits.rows c.args.rows.now c.requires.1.in_rows in
+    let few = c.requires.1.few in
+    let u = c.put_rows.ensures.upper_bound in
+    omega arith

@@ -1,11 +1,11 @@
 -- `say`: the measured length is that of the whole answer, by which it is too large, finds no room or is written. Assumes nothing.
 use mathlib.Core.Path.{refl, sym, ◌∙◌}
 use native.Mathlib.Omega.{arith}
-use lib.ListN.{length-append}
 use Rattle.model.specs.Requests.{esearch}
 use Rattle.model.specs.Commands.{tag_of}
 use Rattle.model.specs.Lines.{answer}
 use Rattle.model.specs.declared.Reply.TheVariants.{Accepted}
+use Rattle.line_put.specs.Put.{◌then◌}
 use Rattle.search_lines.specs.Lines.{lines_by, tagged_line, whole_some}
 use Rattle.search_lines.specs.Said.{said_large, said_whole, said_not}
 use Rattle.search_lines.proofs.say.Goals as goal
@@ -17,18 +17,12 @@ returns-then-not-is_accepted c =
 
 pub returns-then-limit-end : goal.returns-then-limit-end
 returns-then-limit-end c =
-    let lines = lines_by c.args.text.now c.args.lens.now c.args.names.now c.args.validities.now c.args.rows.now c.args.uids.now c.args.starts.now c.args.counts.now c.args.hits in
+    let lines = lines_by c.args.text.now c.args.cols.now c.args.rows.now c.args.uids.now c.args.starts.now c.args.counts.now c.args.hits in
     said_not c.args.text.now c.measure-end.ensures c.reply_within-reply.result c.reply_within-reply.ensures
     (sym c.is_accepted.ensures ∙ c.if-not-is_accepted.false)
     (whole_some lines (answer (tag_of c.args.text.now) esearch Accepted)) refl (omega arith)
 
-pub put_whole-e-requires : goal.put_whole-e-requires
-put_whole-e-requires c =
-    let lines = lines_by c.args.text.now c.args.lens.now c.args.names.now c.args.validities.now c.args.rows.now c.args.uids.now c.args.starts.now c.args.counts.now c.args.hits in
-    let l = length-append lines (tagged_line c.args.text.now) in
-    ((omega arith, c.requires.0.2), c.requires.1, omega arith)
-
 pub returns : goal.returns
 returns c =
     said_whole c.args.text.now c.measure-end.ensures c.reply_within-reply.result c.reply_within-reply.ensures
-    (sym c.is_accepted.ensures ∙ c.if-not-is_accepted.false) c.put_whole-e.ensures refl (omega arith)
+    (sym c.is_accepted.ensures ∙ c.if-not-is_accepted.false) (◌then◌ c.write_lines-a.ensures.0 c.write_tagged-end.ensures.0) refl (omega arith)

@@ -2,10 +2,8 @@
 use Rattle.search_hits.specs.Headed.{behind-found, behind_none}
 use Rattle.search_hits.proofs.reading.behind_word.Goals as goal
 
-pub returns-in-Is : goal.returns-in-Is
-returns-in-Is c =
-    behind-found c.args.text.now c.tag_end-end.result c.tag_end-end.ensures.exact c.verb_at.ensures c.in-Is.is
+pub returns-in_default : goal.returns-in_default
+returns-in_default c = behind_none c.args.text.now c.tag_end.result c.tag_end.ensures.exact c.in_default.ensures
 
-pub returns-in-Bad : goal.returns-in-Bad
-returns-in-Bad c =
-    behind_none c.args.text.now c.tag_end-end.result c.tag_end-end.ensures.exact c.verb_at.ensures c.in-Bad.is
+pub returns : goal.returns
+returns c = behind-found c.args.text.now c.tag_end.result c.tag_end.ensures.exact c.in-Some.ensures

@@ -1,14 +1,15 @@
--- `read`: sources and keys are read behind the word, where a line that is a search has them; of another line nothing is asked. Assumes nothing.
-use Rattle.search_hits.specs.Finding.{asks_is, asks_none}
+-- `read`: sources and keys are read behind the word, where a line that is a search has them; another line is none. Assumes nothing.
+use Rattle.search_hits.specs.Finding.{sources_none, search_none, asks_is}
 use Rattle.search_hits.proofs.reading.read.Goals as goal
 
-pub returns-in-Is : goal.returns-in-Is
-returns-in-Is c =
-    asks_is c.args.text.now c.behind_word-at.result c.behind_word-at.ensures c.keep_sources-kept.result c.keep_sources-kept.ensures
-    c.args.cells.now _ c.search_at.result c.search_at.ensures _ _ c.in-Is.is
-    c.requires.0 c.requires.1 c.search_at.auto.cells _ c.wanted_of-wanted.ensures
+pub returns-in_default-keep_sources : goal.returns-in_default-keep_sources
+returns-in_default-keep_sources c = sources_none c.args.text.now c.in-Some.word c.in-Some.ensures c.in_default-keep_sources.ensures
 
-pub returns-in-Bad : goal.returns-in-Bad
-returns-in-Bad c =
-    asks_none c.args.text.now c.behind_word-at.result c.behind_word-at.ensures c.keep_sources-kept.result c.keep_sources-kept.ensures
-    c.args.cells.now _ c.search_at.result c.search_at.ensures c.in-Bad.is _
+pub returns-in_default-search_at : goal.returns-in_default-search_at
+returns-in_default-search_at c = search_none c.args.text.now c.in-Some.word c.in-Some.ensures c.args.cells.now _ c.in_default-search_at.ensures
+
+pub returns : goal.returns
+returns c =
+    asks_is c.args.text.now c.in-Some.word c.in-Some.ensures c.in-Some-keep_sources.listed c.in-Some-keep_sources.field-0-1 c.in-Some-keep_sources.ensures
+    c.args.cells.now c.search_at.new.cells c.in-Some-search_at.asked c.in-Some-search_at.field-0-1 c.in-Some-search_at.ensures
+    c.requires.0 c.requires.1 c.search_at.auto.cells

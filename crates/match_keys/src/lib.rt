@@ -204,6 +204,7 @@ fn keys_hold(cells: &[u64], at: usize, stop: usize, any: bool, facts: Facts) -> 
     let mut i = at;
     let mut some = any;
     let mut on = true;
+    // Kept: a step is as long as a key, and a last key that holds keys goes on here without a call, for speed.
     while i < stop {
         if last_nest(cells, i, stop) {
             let kind = cell(cells, i);

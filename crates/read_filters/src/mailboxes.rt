@@ -69,6 +69,7 @@ fn keep_row(text: &[u8], at: usize, kept: Kept) -> Option<(Kept, usize)>
 {
     let mut more = kept;
     let mut p = at;
+    // Kept: how far a name reaches is known when it is read.
     loop {
         let q = octets::text_at(text, p, Class::Astring)?;
         more = keep_one(more, name_at(text, p));

@@ -80,6 +80,7 @@ fn gather(text: &[u8], at: usize, status: bool) -> Option<(Notify, usize)>
     let mut watch = no_watch();
     let mut kept = read_filters::keep_nothing();
     let mut p = at;
+    // Kept: how far a group reaches is known when it is read.
     loop {
         let (lent, next) = lent_at(text, p, kept.count)?;
         kept = keep_more(text, p + 1, lent.tally.names, kept);

@@ -95,6 +95,7 @@ fn list_row(text: &[u8], at: usize, listed: Listed) -> Option<(Listed, usize)>
 {
     let mut more = listed;
     let mut p = at;
+    // Kept: how far a source reaches is known when it is read.
     loop {
         let (longer, q) = list_one(text, p, more)?;
         more = longer;

@@ -34,6 +34,7 @@ fn print<W: Write>(writer: &mut W, text: &[u8]) -> io::Result<()>
     ensures err { OnErr result ((n : ℕ) × Appends (W.contents writer.old) (W.contents writer.new) (take n text.now)) }
 {
     let mut done = 0;
+    // Kept: a write takes as much as it likes.
     while done < text.len() {
         done += write_once(writer, &text[done..])?;
     }

@@ -1,6 +1,6 @@
 // What programs read: records from a reader, arguments, the files that they name; and the refusal that a program prints alone.
 // Which octets a file or a stream gives and takes no contract can say: those of a reader and a writer whose octets are known do.
-#![tactic(auto)]
+#![tactic(auto, using(line_put::specs::Writes::writes_nothing))]
 
 ghost use Rattle.std.specs.Prelude.{◌≡◌, ◌⊎◌, false, ◌||◌, ◌+◌, ◌*◌, ◌≤◌, ◌<◌, eqb, ℕ, length, take, drop, IfOk, OnOk, OnErr};
 ghost use Rattle.std.specs.Io.KnownBytes.{Appends, Consumes, IsAtEnd, WriteAppends};

@@ -1,9 +1,9 @@
 -- `lay`: a row more is laid out, and at last all of them. Assumes nothing.
-use Rattle.std.proofs.Common.{rules, arith, ◌≡◌, ◌+◌, ap, ℕ, sym, ◌∙◌, length, take_all, get_or}
+use Rattle.std.proofs.Common.{rules, arith, ◌+◌, ap, ℕ, sym, ◌∙◌, get_or}
 use Rattle.model.specs.Memory.{no_mailbox}
 use Rattle.table_mailboxes.specs.Columns.{zero_at, all_below}
 use Rattle.table_mailboxes.specs.Walks.{any_default, vacant}
-use Rattle.table_mailboxes.specs.Filling.{filling_start, filling_end}
+use Rattle.table_mailboxes.specs.Filling.{filling_start}
 use Rattle.lent_rows.specs.Standing.{Narrow}
 use Rattle.lent_rows.proofs.lay.Goals as goal
 
@@ -22,14 +22,3 @@ loop-x-preserved c =
       c.push.ensures.fills rows (d ∙ ap (λ (k : ℕ). get_or rows k no_mailbox) (sym n)) c.loop-x.invariant.1,
       all_below (λ (k : ℕ). Narrow (get_or rows k no_mailbox)) i c.loop-x.invariant.2 (rw (← d) c.push.ensures.narrow),
     )
-
-pub returns : goal.returns
-returns c =
-    let rows = c.in_use-x-items.result.now in
-    let n = c.loop-x.invariant.0 in
-    let w : c.loop-x.cols.n ≡ length rows = omega arith in
-    let i : c.loop-x.x-index ≡ length rows = omega arith in
-    rw (← c.in_use-x-items.ensures.rows) (record {
-      laid = (sym w, rw (← take_all (length rows) rows (omega arith)) (filling_end rows _ _ _ _ _ _ _ c.loop-x.cols.n c.loop-x.invariant.1 (length rows) w (omega arith)));
-      narrow = λ k h. c.loop-x.invariant.2 k (omega arith);
-    })

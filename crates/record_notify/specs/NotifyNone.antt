@@ -12,17 +12,14 @@ use Rattle.model.specs.Answering.{accepted_lines, is_accepted, first_reply, repl
 use Rattle.model.specs.declared.Counts.{Counts}
 use Rattle.model.specs.declared.Session.{Session}
 use Rattle.model.specs.declared.Reply.TheVariants.{Accepted}
-use Rattle.model.specs.declared.Refusal.TheVariants.{NoRoom}
-use Rattle.model.specs.declared.Answer.TheVariants.{Done}
 use Rattle.model.specs.Records.{command}
 use Rattle.laws.specs.Room.{Room, sizes}
 use Rattle.read_notify.specs.Watched.{watched_by}
 use Rattle.line_answer.specs.Sizes.{Whole}
 use Rattle.line_answer.specs.Tagged.{tag_none, tag_some, tag_short, answer-text}
 use Rattle.line_answer.specs.Answered.{left_as, whole_text, no-room_is, text-accepted, none_left}
-use Rattle.record_outcome.specs.Coming.{Lends, Comes, ladder, refusal, quiet}
-use Rattle.record_outcome.specs.declared.Outcome.{Outcome as Came}
-use Rattle.record_reply.specs.Left.{upto, of_memory, comes-roomless, comes_left, same-words}
+use Rattle.record_outcome.specs.Coming.{Lends, Comes, Came, ladder}
+use Rattle.record_reply.specs.Left.{came_by, of_memory, comes-roomless, comes_left, same-words}
 use Rattle.record_reply.specs.Sized.{small-accepted}
 
 -- a tag has at most 32 octets
@@ -65,19 +62,19 @@ module _ (m : Memory) (ws : List ℕ) (k : Counts) (s : Session) (q t : List ℕ
   none_is : render (answer (tag_of t) notify Accepted) ≡ render_all (answer_lines m t)
   none_is = sym none-text ∙ text-accepted m t none-accepted
 
-  pub none-fits : {q' : List ℕ} {b : Bool} {end : ℕ} → Whole q k.filled (render (answer (tag_of t) notify Accepted)) q' b end → b ≡ true
-      → (s' : Session) → s' ≡ watched_by (command_of t) s → (r : Came) → r ≡ quiet Done (upto k k.messages end) s' → Comes m (ladder m (command t)) r ws ws q'
-  none-fits {q'} {b} {end} w f s' d r e =
-      let v = of_memory m ws k s q t lent w in
-      let i : s' ≡ silenced s = d ∙ ap (λ (x : Parsed Command). watched_by x s) c in
-      comes_left m ws k s q t lent (no-room_is m t none_is v ∙ ap not f) m.entries k.messages s' ws q' end
-      (none_left m t none_is v f none-accepted p c
-      ∙ (ap₂ (λ (j : Counts) (o : Session). left_as m m.entries j.messages (silenced o) q' end) lent.counts lent.session
-      ∙ ap (λ (o : Session). left_as m m.entries k.messages o q' end) (sym i)))
-      (same-words m ws k s q t lent) r e
-
-  pub none_not : {q' : List ℕ} {b : Bool} {end : ℕ} → Whole q k.filled (render (answer (tag_of t) notify Accepted)) q' b end → b ≡ false
-      → (r : Came) → r ≡ refusal NoRoom k s → Comes m (ladder m (command t)) r ws ws q'
-  none_not {q'} {b} {end} w f r e =
-      let o : q' ≡ q = w.queue ∙ rw f in
-      rw o (comes-roomless m ws k s q t lent (no-room_is m t none_is (of_memory m ws k s q t lent w) ∙ ap not f) r e)
+  pub none_comes : {q' : List ℕ} {b : Bool} {end : ℕ} → Whole q k.filled (render (answer (tag_of t) notify Accepted)) q' b end
+      → (s' : Session) → s' ≡ watched_by (command_of t) s → (r : Came) → r ≡ came_by b end k s' → Comes m (ladder m (command t)) r ws ws q'
+  none_comes {q'} {b} {end} w s' d r e = go b refl
+    where
+      go : (f : Bool) → b ≡ f → Comes m (ladder m (command t)) r ws ws q'
+      go true f =
+          let v = of_memory m ws k s q t lent w in
+          let i : s' ≡ silenced s = d ∙ ap (λ (x : Parsed Command). watched_by x s) c in
+          comes_left m ws k s q t lent (no-room_is m t none_is v ∙ ap not f) m.entries k.messages s' ws q' end
+          (none_left m t none_is v f none-accepted p c
+          ∙ (ap₂ (λ (j : Counts) (o : Session). left_as m m.entries j.messages (silenced o) q' end) lent.counts lent.session
+          ∙ ap (λ (o : Session). left_as m m.entries k.messages o q' end) (sym i)))
+          (same-words m ws k s q t lent) r (e ∙ rw f)
+      go false f =
+          let o : q' ≡ q = w.queue ∙ rw f in
+          rw o (comes-roomless m ws k s q t lent (no-room_is m t none_is (of_memory m ws k s q t lent w) ∙ ap not f) r (e ∙ rw f))

@@ -1,5 +1,5 @@
 -- What an accepted search comes to, from the memory that is lent and what was said of it. Assumes nothing.
-use Rattle.std.specs.Prelude.{◌≡◌, refl, Bool, true, false, not, cond, List, ℕ, ◌-◌, ◌≤◌, length, take}
+use Rattle.std.specs.Prelude.{◌≡◌, refl, Bool, true, false, not, cond, List, ℕ, None, Ok, Err, ◌-◌, ◌*◌, ◌≤◌, length, take}
 use Rattle.std.proofs.Math.Path.{ap, sym}
 use Rattle.std.proofs.Common.{ap₂, ◌∙◌, subst, arith, leb-true, length-take-le}
 use Rattle.model.specs.Requests.{Command, Search, search}
@@ -20,17 +20,16 @@ use Rattle.model.specs.declared.Session.{Session}
 use Rattle.model.specs.declared.Reply.{Reply}
 use Rattle.model.specs.declared.Reply.TheVariants.{Bad, BadEvent, Unsupported, BadCharset, TooLarge, Accepted}
 use Rattle.model.specs.declared.Refusal.TheVariants.{NoRoom}
-use Rattle.model.specs.declared.Answer.TheVariants.{Done}
 use Rattle.demands.specs.Lasting.Law.{Law}
-use Rattle.table_messages.specs.Words.{messages}
+use Rattle.table_messages.specs.Words.{messages, messages-take}
 use Rattle.table_messages.specs.Laid.{laid, laid_own}
-use Rattle.table_mailboxes.specs.Columns.{Laid}
-use Rattle.table_mailboxes.specs.Rows.{boxes_long}
+use Rattle.table_mailboxes.specs.Whole.{LaidIn}
+use Rattle.table_mailboxes.specs.declared.Columns.{Columns}
+use Rattle.search_hits.specs.Headed.{Never}
 use Rattle.line_answer.specs.Sizes.{reply_by, Whole}
 use Rattle.line_answer.specs.Answered.{whole_text, text-accepted, text-refused, no-room_is, refused_left, search_left, left_as}
-use Rattle.record_outcome.specs.Coming.{refusal, quiet, Lends, Comes, ladder}
+use Rattle.record_outcome.specs.Coming.{calm, Came, Lends, Comes, ladder}
 use Rattle.record_outcome.specs.Laws.{comes-refused}
-use Rattle.record_outcome.specs.declared.Outcome.{Outcome as Came}
 use Rattle.search_hits.specs.Finding.{Searches, Gathers}
 use Rattle.search_hits.specs.declared.Hits.{Hits}
 use Rattle.search_lines.specs.Lines.{whole_by, whole_is}
@@ -42,7 +41,7 @@ filled_to k f = record { mailboxes = k.mailboxes; messages = k.messages; filled 
 
 -- what it comes to: done, or refused for want of room
 abbrev pub came_by : Bool → ℕ → Counts → Session → Came
-came_by fits end k s = cond fits (quiet Done (filled_to k end) s) (refusal NoRoom k s)
+came_by fits end k s = cond fits (Ok (calm None (filled_to k end) s)) (Err NoRoom)
 
 -- ---- an accepted search is within the limits
 small_of : (a b c d e : Bool) → cond a Bad (cond b BadEvent (cond c Unsupported (cond d BadCharset (cond e TooLarge Accepted)))) ≡ Accepted → e ≡ false
@@ -88,7 +87,7 @@ module _ (m : Memory) (t : List ℕ) (p : ℕ) (q : Search) (c : command_of t �
     room_is = no-room_is m t text_is whole
 
     module _ (ws : List ℕ) (k : Counts) (s : Session) (q₀ : List ℕ) (lent : Lends m ws k s q₀) where
-      done_is : fits ≡ true → Comes m (accepted m (command t)) (quiet Done (filled_to k end) s) ws ws q₁
+      done_is : fits ≡ true → Comes m (accepted m (command t)) (Ok (calm None (filled_to k end) s)) ws ws q₁
       unfolding accepted
       done_is f =
           let e = sym (after_is f) in
@@ -112,46 +111,48 @@ module _ (m : Memory) (t : List ℕ) (p : ℕ) (q : Search) (c : command_of t �
 
 -- ---- the memory that is lent is the one that is searched
 pub lent_searches : (m : Memory) (ws : List ℕ) (k : Counts) (s : Session) (q : List ℕ) → Lends m ws k s q → Law m
-    → (ids attributes lens validities nexts counters names : List ℕ) → Laid (boxes m) ids attributes lens validities nexts counters names
-    → Searches m ws k.messages s.selected s.told ids attributes lens validities nexts counters names k.mailboxes
-lent_searches m ws k s q lent law ids attributes lens validities nexts counters names columns =
+    → (c : Columns) → LaidIn (boxes m) c → Searches m (take (6 * k.messages) ws) s.selected s.told c
+lent_searches m ws k s q lent law c columns =
     let fit : m.counts.messages ≤ length m.entries = leb-true _ _ law.taken in
     let all : length m.entries ≤ 1024 = leb-true _ _ law.entries in
     let taken : length (mails m) ≡ m.counts.messages = length-take-le m.counts.messages m.entries fit in
     record {
-      messages = ap₂ (λ (n : ℕ) (l : List Message). take n l) (ap (λ (j : Counts). j.messages) lent.counts) lent.entries;
+      messages = ap₂ (λ (n : ℕ) (l : List Message). take n l) (ap (λ (j : Counts). j.messages) lent.counts) lent.entries ∙ sym (messages-take k.messages ws);
       selected = ap (λ (j : Session). j.selected) lent.session;
       view = ap (λ (j : Session). j.told) lent.session;
-      long = boxes_long m (leb-true _ _ law.used) ∙ ap (λ (j : Counts). j.mailboxes) lent.counts;
       columns = columns;
       few = omega arith;
       distinct = law.apartness;
     }
 
 -- ---- a search that was found and said, for the memory that was searched
-pub record Tells (text words : List ℕ) (used s told : ℕ) (ids attributes lens validities names : List ℕ) (n : ℕ) (q : List ℕ) (at : ℕ) (q₁ : List ℕ) (fits : Bool) (end : ℕ) : Type 0 where
-  pub exact : (m : Memory) (nexts counters : List ℕ) → Searches m words used s told ids attributes lens validities nexts counters names n
+pub record Tells (text words : List ℕ) (s told : ℕ) (c : Columns) (q : List ℕ) (at : ℕ) (q₁ : List ℕ) (fits : Bool) (end : ℕ) : Type 0 where
+  pub exact : (m : Memory) → Searches m words s told c
       → (p : ℕ) (a : Search) → command_of text ≡ ok p (search a) → command_too_large limits (search a) ≡ false
       → Whole q at (answer_by text (whole_text m text) (length q - 64)) q₁ fits end
 
-pub tells : (text words : List ℕ) (used s told : ℕ) (ids attributes lens validities names : List ℕ) (n : ℕ) (rows uids starts counts : List ℕ) (h : Hits)
-    → Gathers text words used s told ids attributes lens names n rows uids starts counts h
-    → (q : List ℕ) (at : ℕ) (q₁ : List ℕ) (fits : Bool) (end : ℕ) → Whole q at (answer_by text (whole_by text lens names validities rows uids starts counts h) (length q - 64)) q₁ fits end
-    → Tells text words used s told ids attributes lens validities names n q at q₁ fits end
-tells text words used s told ids attributes lens validities names n rows uids starts counts h g q at q₁ fits end w = record {
-  exact = λ m nexts counters is p a c small.
+pub tells : (text words : List ℕ) (s told : ℕ) (c : Columns) (rows uids starts counts : List ℕ) (h : Hits)
+    → Gathers text words s told c rows uids starts counts h
+    → (q : List ℕ) (at : ℕ) (q₁ : List ℕ) (fits : Bool) (end : ℕ) → Whole q at (answer_by text (whole_by text c rows uids starts counts h) (length q - 64)) q₁ fits end
+    → Tells text words s told c q at q₁ fits end
+tells text words s told c rows uids starts counts h g q at q₁ fits end w = record {
+  exact = λ m is p a e small.
       subst (λ (x : List ℕ). Whole q at (answer_by text x (length q - 64)) q₁ fits end)
-      (whole_is text words used s told ids attributes lens names n rows uids starts counts h g m validities nexts counters is p a c small) w;
+      (whole_is text words s told c rows uids starts counts h g m is p a e small) w;
 }
 
+-- no search was found
+pub tells_none : (text words : List ℕ) (s told : ℕ) (c : Columns) → Never text → (q : List ℕ) (at : ℕ) (q₁ : List ℕ) (fits : Bool) (end : ℕ) → Tells text words s told c q at q₁ fits end
+tells_none text words s told c never q at q₁ fits end = record { exact = λ m is p a e small. absurd (never p a e) }
+
 -- what the code answers, from what it was lent
-pub answer_comes : (text : List ℕ) (ids attributes lens validities names ws : List ℕ) (k : Counts) (s : Session) (q q₁ : List ℕ) (fits : Bool) (end : ℕ) (r : Came)
-    → Tells text ws k.messages s.selected s.told ids attributes lens validities names k.mailboxes q k.filled q₁ fits end → r ≡ came_by fits end k s
-    → (m : Memory) (nexts counters : List ℕ) (p : ℕ) (a : Search) → Lends m ws k s q → Law m → Laid (boxes m) ids attributes lens validities nexts counters names
+pub answer_comes : (text ws : List ℕ) (c : Columns) (k : Counts) (s : Session) (q q₁ : List ℕ) (fits : Bool) (end : ℕ) (r : Came)
+    → Tells text (take (6 * k.messages) ws) s.selected s.told c q k.filled q₁ fits end → r ≡ came_by fits end k s
+    → (m : Memory) (p : ℕ) (a : Search) → Lends m ws k s q → Law m → LaidIn (boxes m) c
     → command_of text ≡ ok p (search a) → first_reply m text ≡ Accepted → Comes m (ladder m (command text)) r ws ws q₁
-answer_comes text ids attributes lens validities names ws k s q q₁ fits end r told e m nexts counters p a lent law columns c first =
-    let w = told.exact m nexts counters (lent_searches m ws k s q lent law ids attributes lens validities nexts counters names columns) p a c (accepted-small m text p a c first) in
+answer_comes text ws c k s q q₁ fits end r told e m p a lent law columns d first =
+    let w = told.exact m (lent_searches m ws k s q lent law c columns) p a d (accepted-small m text p a d first) in
     let x : Whole m.queue (filled m) (answer_by text (whole_text m text) (length m.queue - 64)) q₁ fits end =
     subst (λ (j : List ℕ). Whole j (filled m) (answer_by text (whole_text m text) (length j - 64)) q₁ fits end) (sym lent.queue)
     (subst (λ (j : Counts). Whole q j.filled (answer_by text (whole_text m text) (length q - 64)) q₁ fits end) (sym lent.counts) w) in
-    search_comes m text p a c first q₁ fits end x ws k s q lent r e
+    search_comes m text p a d first q₁ fits end x ws k s q lent r e

@@ -13,16 +13,16 @@ use Rattle.record_command.proofs.answer.Goals as goal
 
 pub refuse-requires : goal.refuse-requires
 refuse-requires c =
-    let z = sizes _ _ c.args.s c.requires.0.room in (omega arith, omega arith)
+    let z = sizes _ _ c.args.s.now c.requires.0.room in (omega arith, omega arith)
 
-pub returns-in-Is : goal.returns-in-Is
-returns-in-Is c =
-    λ m lent law laid sel. c.answer_by.ensures m lent law laid sel (rw c.in-Is.is at c.head.ensures)
+pub returns-in-Some : goal.returns-in-Some
+returns-in-Some c =
+    λ m lent law laid sel. c.answer_by.ensures m lent law laid sel c.in-Some.ensures
 
-pub returns-in-Bad : goal.returns-in-Bad
-returns-in-Bad c =
+pub returns-in-None : goal.returns-in-None
+returns-in-None c =
     λ m lent law laid sel.
-    let e = ap (judged_of limits (not (eqb c.args.s.selected 0))) (rw c.in-Bad.is at c.head.ensures) in
+    let e = ap (judged_of limits (not (eqb c.args.s.now.selected 0))) c.in-None.ensures in
     c.refuse.ensures m c.args.words.now lent
-    (verb_judged m c.args.words.now c.args.counts c.args.s c.args.queue.now c.args.text.now lent (answer_of Other Bad) e)
-    (reply_judged m c.args.words.now c.args.counts c.args.s c.args.queue.now c.args.text.now lent (answer_of Other Bad) e refl) refl
+    (verb_judged m c.args.words.now c.args.counts c.args.s.now c.args.queue.now c.args.text.now lent (answer_of Other Bad) e)
+    (reply_judged m c.args.words.now c.args.counts c.args.s.now c.args.queue.now c.args.text.now lent (answer_of Other Bad) e refl) refl

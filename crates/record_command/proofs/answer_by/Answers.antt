@@ -14,7 +14,7 @@ use Rattle.record_command.proofs.answer_by.Goals as goal
 
 pub refuse-requires : goal.refuse-requires
 refuse-requires c =
-    let z = sizes _ _ c.args.s c.requires.0.room in (omega arith, omega arith)
+    let z = sizes _ _ c.args.s.now c.requires.0.room in (omega arith, omega arith)
 
 pub returns-in-Notify : goal.returns-in-Notify
 returns-in-Notify c =
@@ -23,13 +23,13 @@ returns-in-Notify c =
 pub returns-in-Esearch : goal.returns-in-Esearch
 returns-in-Esearch c =
     λ m lent law laid sel head.
-    c.search.ensures m c.args.nexts.now c.args.counters.now lent law laid (rw c.in-Esearch.is at head)
+    c.search.ensures m lent law laid (rw c.in-Esearch.is at head)
 
 pub returns-in-Other : goal.returns-in-Other
 returns-in-Other c =
     λ m lent law laid sel head.
     let told = ap (λ (v : Verb). judged_by v c.args.text.now c.args.at) (sym c.in-Other.is) in
-    let e = ap (judged_of limits (not (eqb c.args.s.selected 0))) (told ∙ head) in
+    let e = ap (judged_of limits (not (eqb c.args.s.now.selected 0))) (told ∙ head) in
     c.refuse.ensures m c.args.words.now lent
-    (verb_judged m c.args.words.now c.args.counts c.args.s c.args.queue.now c.args.text.now lent (answer_of Other Bad) e)
-    (reply_judged m c.args.words.now c.args.counts c.args.s c.args.queue.now c.args.text.now lent (answer_of Other Bad) e refl) refl
+    (verb_judged m c.args.words.now c.args.counts c.args.s.now c.args.queue.now c.args.text.now lent (answer_of Other Bad) e)
+    (reply_judged m c.args.words.now c.args.counts c.args.s.now c.args.queue.now c.args.text.now lent (answer_of Other Bad) e refl) refl

@@ -48,6 +48,7 @@ pub fn guesses(d: &[u64; 64], n: usize) -> [u8; 1024]
 }
 
 // The first row with the id, or the last row of all.
+// Kept: a row to try, of which there always is one; its caller tests it.
 pub fn seek(ids: &[u64; 64], id: u64) -> usize
     ensures { result < 64 }
 {

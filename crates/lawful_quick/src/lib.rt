@@ -84,6 +84,7 @@ pub fn all_fit(words: &[u64], cols: &Columns, g: &SlotTable, view: View) -> bool
         size: 0,
     };
     let mut p = run(words, end, cols, g, &mut last, view, start);
+    // Kept: it goes on from where a run stopped.
     while p.at < end {
         let at = p.at;
         let k = owner(g, cols, words[at]);

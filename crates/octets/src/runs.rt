@@ -30,5 +30,9 @@ pub fn run_at(text: &[u8], at: usize, c: Class) -> Option<usize>
 pub fn behind_space(text: &[u8], at: usize) -> Option<usize>
     ensures { Reads text.now at (space_at text.now at) result }
 {
-    if octet_at(text, at) == b' ' { Some(at + 1) } else { None }
+    if octet_at(text, at) == b' ' {
+        Some(at + 1)
+    } else {
+        None
+    }
 }

@@ -1,15 +1,16 @@
 -- The names of charsets. Assumes nothing.
-use Rattle.std.proofs.Common.{◌≡◌, ℕ, ◌<◌, length, Some, None, Bool, true, false, cond, leb, List, map, refl, sym, ◌∙◌, arith}
+use Rattle.std.proofs.Common.{◌≡◌, ℕ, ◌-◌, ◌≤◌, ◌<◌, length, Some, None, Bool, true, false, cond, leb, List, map, refl, sym, ap, ◌∙◌, arith}
 use Rattle.std.proofs.lemmas.Bool.{lt-leb}
-use lib.ListN.{length-map}
+use lib.ListN.{drop, length-map}
+use lib.Seq.{take_all, take_at}
 use Rattle.model.specs.Text.{octets, upper, same_word}
 use Rattle.model.specs.Octets.{atom_octet}
 use Rattle.model.specs.Requests.{known, unknown}
-use Rattle.model.specs.Reading.{Parsed, bad, ok, and_then, text_at}
+use Rattle.model.specs.Reading.{Parsed, bad, ok, and_then, piece, text_at}
 use Rattle.model.specs.SearchGrammar.{charset_of, charset_at}
 use Rattle.model.specs.Laws.{same_lengths}
 use Rattle.octets.specs.Found.{next_of}
-use Rattle.octets.specs.Values.{value_of}
+use Rattle.octets.specs.Values.{value_of, fill}
 use Rattle.read_options.specs.Charsets.{is_known, known_of, read_charset}
 
 -- a name that is longer than those that are known
@@ -40,3 +41,10 @@ module _ (s : List ℕ) (at : ℕ) where
   pub charset_missing : None ≡ next_of (text_at atom_octet s at) → None ≡ read_charset (charset_at s at)
   unfolding charset_at
   charset_missing h = missing_by (text_at atom_octet s at) h
+
+-- a buffer that a name fits
+name-filled : (v out : List ℕ) (n : ℕ) → n ≡ length v → n ≤ length out → piece (fill out v) 0 n ≡ v
+name-filled v out n e h = let z : n - 0 ≡ n = omega arith in rw (take_all (length out) v (omega arith), z) (take_at v (drop (length v) out) n (sym e))
+
+pub name-known : (v out : List ℕ) {out' : List ℕ} (n : ℕ) {r : Bool} → r ≡ is_known (piece out' 0 n) → out' ≡ fill out v → n ≡ length v → n ≤ length out → r ≡ is_known v
+name-known v out n g e l h = g ∙ ap (λ (x : List ℕ). is_known (piece x 0 n)) e ∙ ap is_known (name-filled v out n l h)

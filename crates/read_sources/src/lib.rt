@@ -65,9 +65,7 @@ fn put_listed(listed: Listed, one: Source, kept: Kept) -> Listed
     ensures { result ≡ put_listed listed one kept }
 {
     let mut sources = listed.sources;
-    if listed.count < 8 {
-        sources[listed.count as usize] = one;
-    }
+    read_filters::put_at(&mut sources, listed.count, one);
     Listed {
         count: listed.count + 1,
         sources,

@@ -7,29 +7,19 @@ ghost use Rattle.std.specs.Prelude.{◌<◌, length};
 
 use model::{LentGroup, LentName, Reply, Session};
 use read_commands::Judged;
-use read_notify::NotifyRead;
+use read_notify::Notify;
 use read_options::{Returns, Verb};
-use read_search::SearchRead;
-use read_sources::{Listed, Source};
+use read_sources::Source;
 use std::io;
 use std::io::{Read, Write};
 
-fn print<W: Write>(writer: &mut W, text: &[u8]) -> io::Result<()> {
-    writer.write_all(text)
-}
-
-fn print_verb<W: Write>(writer: &mut W, verb: Verb) -> io::Result<()> {
+// The letter of a command.
+fn letter_of(verb: Verb) -> char {
     match verb {
-        Verb::Notify => print(writer, b" N "),
-        Verb::Esearch => print(writer, b" S "),
-        Verb::Other => print(writer, b" - "),
+        Verb::Notify => 'N',
+        Verb::Esearch => 'S',
+        Verb::Other => '-',
     }
-}
-
-fn wide(x: u8) -> usize
-    ensures { result < 256 }
-{
-    x as usize
 }
 
 // The number of a reply's line.
@@ -46,33 +36,19 @@ fn number_of(reply: Reply) -> u64 {
 
 // ---- names
 
-fn print_octet<W: Write>(writer: &mut W, octet: u8) -> io::Result<()> {
-    write!(writer, "{octet:02x}")
-}
-
 // A name, each octet as two digits.
 fn print_name<W: Write>(writer: &mut W, name: LentName) -> io::Result<()> {
-    print(writer, b" /")?;
-    let octets = name.octets;
-    let len = wide(name.len);
-    let mut i = 0;
-    while i < 64 {
-        if i < len {
-            print_octet(writer, octets[i])?;
-        }
-        i += 1;
+    write!(writer, " /")?;
+    for octet in name.octets.iter().take(usize::from(name.len)) {
+        write!(writer, "{octet:02x}")?;
     }
     Ok(())
 }
 
 // The names that are in use.
-fn print_names<W: Write>(writer: &mut W, names: [LentName; 16], count: u64) -> io::Result<()> {
-    let mut i = 0;
-    while i < 16 {
-        if (i as u64) < count {
-            print_name(writer, names[i])?;
-        }
-        i += 1;
+fn print_names<W: Write>(writer: &mut W, names: &[LentName], count: u64) -> io::Result<()> {
+    for name in names.iter().take(count as usize) {
+        print_name(writer, *name)?;
     }
     Ok(())
 }
@@ -87,107 +63,51 @@ fn print_source<W: Write>(writer: &mut W, source: Source) -> io::Result<()> {
     )
 }
 
-// The sources that are in use.
-fn print_listed<W: Write>(writer: &mut W, listed: Listed) -> io::Result<()> {
-    let sources = listed.sources;
-    let count = listed.count;
-    let mut i = 0;
-    while i < 8 {
-        if (i as u64) < count {
-            print_source(writer, sources[i])?;
-        }
-        i += 1;
-    }
-    Ok(())
-}
-
 // The sources as they are searched, and their names; they stand behind the space that follows the word.
 fn print_sources<W: Write>(writer: &mut W, text: &[u8], at: usize) -> io::Result<()> {
-    let read = read_sources::keep_sources(text, at);
-    let listed = read.listed;
-    print_listed(writer, listed)?;
-    let kept = listed.kept;
-    let names = kept.names;
-    print_names(writer, names, kept.count)
-}
-
-fn print_flag<W: Write>(writer: &mut W, on: bool) -> io::Result<()> {
-    if on {
-        print(writer, b"1")
-    } else {
-        print(writer, b"0")
+    let Some((listed, _)) = read_sources::keep_sources(text, at) else {
+        return Ok(());
+    };
+    for source in listed.sources.iter().take(listed.count as usize) {
+        print_source(writer, *source)?;
     }
+    print_names(writer, &listed.kept.names, listed.kept.count)
 }
 
 fn print_returns<W: Write>(writer: &mut W, r: Returns) -> io::Result<()> {
-    print(writer, b" ")?;
-    print_flag(writer, r.min)?;
-    print_flag(writer, r.max)?;
-    print_flag(writer, r.all)?;
-    print_flag(writer, r.count)
+    write!(
+        writer,
+        " {}{}{}{}",
+        u8::from(r.min),
+        u8::from(r.max),
+        u8::from(r.all),
+        u8::from(r.count)
+    )
 }
 
-fn print_cell<W: Write>(writer: &mut W, cell: u64) -> io::Result<()> {
-    write!(writer, " {cell}")
-}
-
-// The cells that are in use.
-fn print_cells<W: Write>(writer: &mut W, cells: &[u64], used: usize) -> io::Result<()> {
-    let mut i = 0;
-    while i < cells.len() {
-        if i < used {
-            print_cell(writer, cells[i])?;
-        }
-        i += 1;
-    }
-    Ok(())
-}
-
+// What it is to return, and its keys.
 fn print_search<W: Write>(writer: &mut W, text: &[u8], at: usize) -> io::Result<()>
     requires { length text.now < 4294967296 }
 {
     let mut cells = [0u64; 4096];
-    match read_commands::search_at(text, at, &mut cells) {
-        SearchRead::Is(asked, _) => {
-            let returns = asked.returns;
-            print_returns(writer, returns)?;
-            print_cells(writer, &cells, asked.used)
-        }
-        SearchRead::Bad => print(writer, b" ?"),
+    let Some((asked, _)) = read_commands::search_at(text, at, &mut cells) else {
+        return write!(writer, " ?");
+    };
+    print_returns(writer, asked.returns)?;
+    for cell in cells.iter().take(asked.used) {
+        write!(writer, " {cell}")?;
     }
+    Ok(())
 }
 
 // ---- what a NOTIFY asks
 
-fn print_number<W: Write>(writer: &mut W, number: u8) -> io::Result<()> {
-    write!(writer, "{number}")
-}
-
-fn print_group<W: Write>(writer: &mut W, group: LentGroup) -> io::Result<()> {
-    print(writer, b" ")?;
-    print_number(writer, group.selector)?;
-    print(writer, b",")?;
-    print_number(writer, group.first)?;
-    print(writer, b",")?;
-    print_number(writer, group.count)?;
-    print(writer, b",")?;
-    print_number(writer, group.events)?;
-    print(writer, b",")?;
-    print_number(writer, group.attributes)
-}
-
-// The groups that are in use.
-fn print_groups<W: Write>(writer: &mut W, session: Session) -> io::Result<()> {
-    let groups = session.groups;
-    let count = wide(session.groupcount);
-    let mut i = 0;
-    while i < 8 {
-        if i < count {
-            print_group(writer, groups[i])?;
-        }
-        i += 1;
-    }
-    Ok(())
+fn print_group<W: Write>(writer: &mut W, g: LentGroup) -> io::Result<()> {
+    write!(
+        writer,
+        " {},{},{},{},{}",
+        g.selector, g.first, g.count, g.events, g.attributes
+    )
 }
 
 // A session without groups.
@@ -199,32 +119,33 @@ fn silent() -> Session {
         events: 0,
         attributes: 0,
     };
-    let octets = [0u8; 64];
-    let nobody = LentName { len: 0, octets };
-    let groups = [none; 8];
-    let names = [nobody; 16];
+    let nobody = LentName {
+        len: 0,
+        octets: [0; 64],
+    };
     Session {
         selected: 0,
         notified: 0,
         groupcount: 0,
         told: 0,
-        groups,
-        names,
+        groups: [none; 8],
+        names: [nobody; 16],
     }
 }
 
+// Its groups as the session has them that it sets, and their names.
 fn print_notify<W: Write>(writer: &mut W, text: &[u8], at: usize) -> io::Result<()> {
-    match read_commands::notify_at(text, at) {
-        NotifyRead::Nothing(_) => print(writer, b" none"),
-        NotifyRead::Groups(status, tally, _) => {
-            print(writer, b" ")?;
-            print_flag(writer, status)?;
+    match read_commands::keep_notify(text, at) {
+        Some((Notify::Nothing, _)) => write!(writer, " none"),
+        Some((Notify::Groups(g), _)) => {
+            write!(writer, " {}", u8::from(g.status))?;
             let session = read_commands::watched(text, silent());
-            print_groups(writer, session)?;
-            let names = session.names;
-            print_names(writer, names, tally.names)
+            for group in session.groups.iter().take(usize::from(session.groupcount)) {
+                print_group(writer, *group)?;
+            }
+            print_names(writer, &session.names, g.tally.names)
         }
-        NotifyRead::Bad => print(writer, b" ?"),
+        None => write!(writer, " ?"),
     }
 }
 
@@ -234,21 +155,17 @@ fn print_notify<W: Write>(writer: &mut W, text: &[u8], at: usize) -> io::Result<
 fn print_asked<W: Write>(writer: &mut W, verb: Verb, text: &[u8], tag: usize) -> io::Result<()>
     requires { length text.now < 4294967296 }
 {
-    match verb {
-        Verb::Notify => {
-            if tag <= 32 {
-                print_notify(writer, text, tag + 7)?;
-            }
-        }
-        Verb::Esearch => {
-            if tag <= 32 {
-                print_sources(writer, text, tag + 9)?;
-                print_search(writer, text, tag + 8)?;
-            }
-        }
-        Verb::Other => {}
+    if 32 < tag {
+        return Ok(());
     }
-    Ok(())
+    match verb {
+        Verb::Notify => print_notify(writer, text, tag + 7),
+        Verb::Esearch => {
+            print_sources(writer, text, tag + 9)?;
+            print_search(writer, text, tag + 8)
+        }
+        Verb::Other => Ok(()),
+    }
 }
 
 fn judged(text: &[u8], selected: bool) -> Judged
@@ -261,29 +178,18 @@ fn judged(text: &[u8], selected: bool) -> Judged
 fn show<W: Write>(writer: &mut W, text: &[u8]) -> io::Result<()>
     requires { length text.now < 4294967296 }
 {
-    let none = judged(text, false);
-    let some = judged(text, true);
     let tag = read_commands::tag_length(text);
-    let verb = some.verb;
-    let first = none.reply;
-    let second = some.reply;
-    write!(writer, "{tag}")?;
-    print_verb(writer, verb)?;
-    write!(writer, "{}", number_of(first))?;
-    print_cell(writer, number_of(second))?;
-    if number_of(second) == 6 {
-        print_asked(writer, verb, text, tag)?;
+    let without = number_of(judged(text, false).reply);
+    let judged = judged(text, true);
+    let with = number_of(judged.reply);
+    write!(writer, "{tag} {} {without} {with}", letter_of(judged.verb))?;
+    if with == 6 {
+        print_asked(writer, judged.verb, text, tag)?;
     }
-    print(writer, b"\n")
+    writeln!(writer)
 }
 
 // ---- the input
-
-// A number of four octets, the lowest first.
-fn little(octets: &[u8; 4]) -> usize {
-    let high = wide(octets[2]) + 256 * wide(octets[3]);
-    wide(octets[0]) + 256 * wide(octets[1]) + 65536 * high
-}
 
 // The octets of a line, which are read, and its answer; false where they are not all there.
 fn answer<R: Read, W: Write>(reader: &mut R, writer: &mut W, text: &mut [u8]) -> io::Result<bool>
@@ -302,7 +208,7 @@ fn step<R: Read, W: Write>(reader: &mut R, writer: &mut W) -> io::Result<bool> {
     if reader.read_exact(&mut head).is_err() {
         return Ok(false);
     }
-    let n = little(&head);
+    let n = u32::from_le_bytes(head) as usize;
     if 1024 < n {
         return Ok(false);
     }

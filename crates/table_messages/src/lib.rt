@@ -173,6 +173,7 @@ pub fn place_of(words: &[u64], mailbox: u64, told: Uid, uid: Uid) -> MessageNumb
 
 // ---- an entry taken out
 // Entry k leaves: those behind it move up, and the last becomes nothing.
+// Kept: who writes needs the words behind those in use too, so that `used` stands beside them.
 pub fn remove(words: &mut [u64], used: usize, k: usize)
     requires { (k < used) × (used * 6 ≤ length words.old) }
     ensures { words.new ≡ laid words.old (shut k used (messages words.old)) }

@@ -58,14 +58,16 @@ pub fn notify(
     if !line_answer::is_accepted(first.reply) {
         return record_reply::refuse(queue, counts, s, text, first.verb, first.reply);
     }
-    match read {
-        Some((Notify::Nothing, _)) => none(queue, counts, s, text),
-        Some((Notify::Groups(g), _)) => {
-            let asked = read_notify::settled(*s, g.watch, g.kept);
+    let Some((asked, _)) = read else {
+        return Err(Refusal::NoRoom);
+    };
+    match asked {
+        Notify::Nothing => none(queue, counts, s, text),
+        Notify::Groups(g) => {
+            let watching = read_notify::settled(*s, g.watch, g.kept);
             record_set::set(
-                words, queue, counts, s, cols, x, g.status, &asked, text,
+                words, queue, counts, s, cols, x, g.status, &watching, text,
             )
         }
-        None => Err(Refusal::NoRoom),
     }
 }

@@ -1,5 +1,5 @@
 -- What an accepted search comes to, from the memory that is lent and what was said of it. Assumes nothing.
-use Rattle.std.specs.Prelude.{◌≡◌, refl, Bool, true, false, not, cond, List, ℕ, None, Ok, Err, ◌-◌, ◌*◌, ◌≤◌, length, take}
+use Rattle.std.specs.Prelude.{◌≡◌, refl, Bool, true, false, not, cond, List, ℕ, None, Ok, ◌-◌, ◌*◌, ◌≤◌, length, take}
 use Rattle.std.proofs.Math.Path.{ap, sym}
 use Rattle.std.proofs.Common.{ap₂, ◌∙◌, subst, arith, leb-true, length-take-le}
 use Rattle.model.specs.Requests.{Command, Search, search}
@@ -21,7 +21,7 @@ use Rattle.model.specs.declared.Reply.{Reply}
 use Rattle.model.specs.declared.Reply.TheVariants.{Bad, BadEvent, Unsupported, BadCharset, TooLarge, Accepted}
 use Rattle.model.specs.declared.Refusal.TheVariants.{NoRoom}
 use Rattle.demands.specs.Lasting.Law.{Law}
-use Rattle.table_messages.specs.Words.{messages, messages-take}
+use Rattle.table_messages.specs.Words.{messages-take}
 use Rattle.table_messages.specs.Laid.{laid, laid_own}
 use Rattle.table_mailboxes.specs.Whole.{LaidIn}
 use Rattle.table_mailboxes.specs.declared.Columns.{Columns}
@@ -30,18 +30,11 @@ use Rattle.line_answer.specs.Sizes.{reply_by, Whole}
 use Rattle.line_answer.specs.Answered.{whole_text, text-accepted, text-refused, no-room_is, refused_left, search_left, left_as}
 use Rattle.record_outcome.specs.Coming.{calm, Came, Lends, Comes, ladder}
 use Rattle.record_outcome.specs.Laws.{comes-refused}
+use Rattle.record_reply.specs.Left.{upto, came_by}
 use Rattle.search_hits.specs.Finding.{Searches, Gathers}
 use Rattle.search_hits.specs.declared.Hits.{Hits}
 use Rattle.search_lines.specs.Lines.{whole_by, whole_is}
 use Rattle.search_lines.specs.Said.{answer_by, answer_whole, answer_large}
-
--- counts with another F
-abbrev pub filled_to : Counts → ℕ → Counts
-filled_to k f = record { mailboxes = k.mailboxes; messages = k.messages; filled = f }
-
--- what it comes to: done, or refused for want of room
-abbrev pub came_by : Bool → ℕ → Counts → Session → Came
-came_by fits end k s = cond fits (Ok (calm None (filled_to k end) s)) (Err NoRoom)
 
 -- ---- an accepted search is within the limits
 small_of : (a b c d e : Bool) → cond a Bad (cond b BadEvent (cond c Unsupported (cond d BadCharset (cond e TooLarge Accepted)))) ≡ Accepted → e ≡ false
@@ -87,7 +80,7 @@ module _ (m : Memory) (t : List ℕ) (p : ℕ) (q : Search) (c : command_of t �
     room_is = no-room_is m t text_is whole
 
     module _ (ws : List ℕ) (k : Counts) (s : Session) (q₀ : List ℕ) (lent : Lends m ws k s q₀) where
-      done_is : fits ≡ true → Comes m (accepted m (command t)) (Ok (calm None (filled_to k end) s)) ws ws q₁
+      done_is : fits ≡ true → Comes m (accepted m (command t)) (Ok (calm None (upto k k.messages end) s)) ws ws q₁
       unfolding accepted
       done_is f =
           let e = sym (after_is f) in
@@ -95,7 +88,7 @@ module _ (m : Memory) (t : List ℕ) (p : ℕ) (q : Search) (c : command_of t �
             answer = refl;
             rows = ap (λ (j : Memory). j.rows) e;
             words = laid_own ws ∙ ap (laid ws) (sym lent.entries ∙ ap (λ (j : Memory). j.entries) e);
-            counts = ap (λ (j : Counts). filled_to j end) (sym lent.counts) ∙ ap (λ (j : Memory). j.counts) e;
+            counts = ap (λ (j : Counts). upto j j.messages end) (sym lent.counts) ∙ ap (λ (j : Memory). j.counts) e;
             session = sym lent.session ∙ ap (λ (j : Memory). j.session) e;
             queue = ap (λ (j : Memory). j.queue) e;
           }

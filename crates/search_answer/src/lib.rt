@@ -14,7 +14,7 @@ ghost use Rattle.demands.specs.Lasting.Law.{Law};
 ghost use Rattle.table_mailboxes.specs.Whole.{LaidIn};
 ghost use Rattle.table_messages.specs.Words.{messages};
 ghost use Rattle.record_outcome.specs.Coming.{Lends, Ready, Comes, ladder};
-ghost use Rattle.search_answer.specs.Coming.{came_by, Tells};
+ghost use Rattle.search_answer.specs.Coming.{Tells};
 
 use line_put::Said;
 use model::{Counts, Refusal, Session, Uid};
@@ -22,20 +22,6 @@ use record_outcome::Outcome;
 use search_hits::find;
 use search_lines::say;
 use table_mailboxes::Columns;
-
-// What an answer that was said, or found no room, comes to.
-fn outcome(said: Said, counts: Counts, s: &Session) -> Result<Outcome, Refusal>
-    ensures { result ≡ came_by said.fits said.end counts s.now }
-{
-    if !said.fits {
-        return Err(Refusal::NoRoom);
-    }
-    let counts = Counts {
-        filled: said.end as u64,
-        ..counts
-    };
-    Ok(Outcome::unmoved(None, counts, *s))
-}
 
 // What a line finds, said. `words`: the entries in use.
 fn tell(
@@ -97,5 +83,5 @@ pub fn answer(
         Uid(table_mailboxes::wide_number(s.told)),
         cols,
     );
-    outcome(said, counts, s)
+    record_reply::outcome(said, counts, s)
 }

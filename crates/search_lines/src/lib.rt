@@ -5,7 +5,7 @@ ghost use Rattle.std.specs.Prelude.{◌+◌, ◌-◌, ◌≤◌, length};
 ghost use Rattle.line_put.specs.Put.{Put};
 ghost use Rattle.line_put.specs.Writes.{Writes};
 ghost use Rattle.line_answer.specs.Sizes.{Whole};
-ghost use Rattle.search_lines.specs.Lines.{Runs, lines_by, whole_by, tagged_line};
+ghost use Rattle.search_lines.specs.Lines.{Runs, lines_by, whole_by};
 ghost use Rattle.search_lines.specs.Said.{answer_by};
 
 use line_put::{Said, Writer};
@@ -43,7 +43,8 @@ pub fn put_lines(
     );
 }
 
-// Where the lines and the tagged line would end; nothing is written.
+// Where the lines and the tagged line would end; nothing is written. Both are measured from one place, since a tagged line is not put as far out as
+// the lines of 64 rows could end.
 fn measure(
     queue: &mut [u8],
     at: usize,
@@ -58,13 +59,20 @@ fn measure(
     requires { (at ≤ 65536) × Runs rows.now uids.now starts.now counts.now hits.rows }
     ensures { Put queue.old at 0 (whole_by text.now cols.now rows.now uids.now starts.now counts.now hits) queue.new result }
 {
-    let a = write_lines(queue, at, 0, text, cols, rows, uids, starts, counts, hits);
-    let b = write_tagged(queue, at, 0, text);
-    a + (b - at)
+    let mut w = Writer {
+        queue,
+        at,
+        limit: 0,
+    };
+    put_lines(&mut w, text, cols, rows, uids, starts, counts, hits);
+    let end = w.at;
+    w.at = at;
+    line_answer::put_reply(&mut w, text, Verb::Esearch, Reply::Accepted);
+    end + (w.at - at)
 }
 
-// The lines, from a place on and up to a limit.
-fn write_lines(
+// The lines and the tagged line.
+fn put_whole(
     queue: &mut [u8],
     at: usize,
     limit: usize,
@@ -76,20 +84,11 @@ fn write_lines(
     counts: &[usize],
     hits: Hits,
 ) -> usize
-    requires { ((limit ≤ length queue.old) × (at ≤ 65536)) × Runs rows.now uids.now starts.now counts.now hits.rows }
-    ensures { (Put queue.old at limit (lines_by text.now cols.now rows.now uids.now starts.now counts.now hits) queue.new result) × (result ≤ at + 2784000) }
+    requires { ((limit ≤ length queue.old) × (at ≤ 65536)) × Runs rows.now uids.now starts.now counts.now hits.rows × (at + length (lines_by text.now cols.now rows.now uids.now starts.now counts.now hits) ≤ 65536) }
+    ensures { Put queue.old at limit (whole_by text.now cols.now rows.now uids.now starts.now counts.now hits) queue.new result }
 {
     let mut w = Writer { queue, at, limit };
     put_lines(&mut w, text, cols, rows, uids, starts, counts, hits);
-    w.at
-}
-
-// The tagged line.
-fn write_tagged(queue: &mut [u8], at: usize, limit: usize, text: &[u8]) -> usize
-    requires { (limit ≤ length queue.old) × (at ≤ 2097152) }
-    ensures { (Put queue.old at limit (tagged_line text.now) queue.new result) × (result ≤ at + 130) }
-{
-    let mut w = Writer { queue, at, limit };
     line_answer::put_reply(&mut w, text, Verb::Esearch, Reply::Accepted);
     w.at
 }
@@ -110,9 +109,7 @@ pub fn say(
     ensures { Whole queue.old filled (answer_by text.now (whole_by text.now cols.now rows.now uids.now starts.now counts.now hits) (length queue.old - 64)) queue.new result.fits result.end }
 {
     let limit = queue.len() - 64;
-    let end = measure(
-        queue, filled, text, cols, rows, uids, starts, counts, hits,
-    );
+    let end = measure(queue, filled, text, cols, rows, uids, starts, counts, hits);
     let reply = line_answer::reply_within(Reply::Accepted, end - filled, limit);
     if !line_answer::is_accepted(reply) {
         return line_answer::say_reply(queue, filled, text, Verb::Esearch, reply);
@@ -123,9 +120,8 @@ pub fn say(
             end: filled,
         };
     }
-    let a = write_lines(
+    let end = put_whole(
         queue, filled, limit, text, cols, rows, uids, starts, counts, hits,
     );
-    let end = write_tagged(queue, a, limit, text);
     Said { fits: true, end }
 }

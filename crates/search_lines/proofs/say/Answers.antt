@@ -5,7 +5,7 @@ use Rattle.model.specs.Requests.{esearch}
 use Rattle.model.specs.Commands.{tag_of}
 use Rattle.model.specs.Lines.{answer}
 use Rattle.model.specs.declared.Reply.TheVariants.{Accepted}
-use Rattle.line_put.specs.Put.{◌then◌}
+use Rattle.std.proofs.Common.{length-append}
 use Rattle.search_lines.specs.Lines.{lines_by, tagged_line, whole_some}
 use Rattle.search_lines.specs.Said.{said_large, said_whole, said_not}
 use Rattle.search_lines.proofs.say.Goals as goal
@@ -22,7 +22,12 @@ returns-then-limit-end c =
     (sym c.is_accepted.ensures ∙ c.if-not-is_accepted.false)
     (whole_some lines (answer (tag_of c.args.text.now) esearch Accepted)) refl (omega arith)
 
+pub put_whole-end-requires : goal.put_whole-end-requires
+put_whole-end-requires c =
+    let l = length-append (lines_by c.args.text.now c.args.cols.now c.args.rows.now c.args.uids.now c.args.starts.now c.args.counts.now c.args.hits) (tagged_line c.args.text.now) in
+    ((omega arith, c.requires.0.2), c.requires.1, omega arith)
+
 pub returns : goal.returns
 returns c =
     said_whole c.args.text.now c.measure-end.ensures c.reply_within-reply.result c.reply_within-reply.ensures
-    (sym c.is_accepted.ensures ∙ c.if-not-is_accepted.false) (◌then◌ c.write_lines-a.ensures.0 c.write_tagged-end.ensures.0) refl (omega arith)
+    (sym c.is_accepted.ensures ∙ c.if-not-is_accepted.false) c.put_whole-end.ensures refl (omega arith)

@@ -1,6 +1,6 @@
 -- The reason that the code finds is the rules' reason. Assumes nothing.
 use Rattle.std.specs.Prelude.{◌≡◌, refl, Bool, true, false, not, cond, ◌&&◌, List, ℕ, zero, suc, ◌-◌, ◌≤◌, eqb}
-use Rattle.std.proofs.Common.{ap, sym, ◌∙◌, arith, eqb-true, eq-eqb}
+use Rattle.std.proofs.Common.{ap, sym, ◌∙◌, arith, eqb-true, eq-eqb, ne_eqb}
 use Rattle.model.specs.Lists.{anyb}
 use Rattle.model.specs.Laws.{tf}
 use Rattle.model.specs.Records.{Record, create, delete, rename, subscribe, grant, arrive, expunge, reflag, select, ended, command, drained, record_of_none, is_record, record_of}
@@ -31,6 +31,9 @@ use Rattle.reason_stream.specs.Judging.{first_of}
 abbrev as_points : (q e r w g u : Bool) (c n : ℕ) → Points
 as_points q e r w g u c n = record { quiet = q; event = e; rights = r; met = g; asking = numbered n; unannounced = u; waiting = waiting_for w c }
 
+some-number : (n : ℕ) → eqb (suc n) 0 ≡ false
+some-number n = ne_eqb (suc n) 0 (λ (e : suc n ≡ 0). let z : ⊥ = omega arith in z)
+
 links : (q e r w g u over hushed : Bool) (c n : ℕ) → (eqb n 0 ≡ false → e ≡ true → over ≡ hushed)
     → cond q Quiet (cond (not e) NoEvent (cond (not r) RightMissing (cond (not w && not g) Unmet (cond (not w && not (not (eqb n 0))) Unasked (cond u Unannounced (cond w (Waiting c) (cond over Overflow (Written n))))))))
     ≡ first_of (as_points q e r w g u c n) hushed
@@ -40,8 +43,8 @@ links false true false w g u over hushed c n h = refl
 links false true true true g u over hushed c n h = refl
 links false true true false false u over hushed c n h = refl
 links false true true false true u over hushed c zero h = refl
-links false true true false true true over hushed c (suc n) h = refl
-links false true true false true false over hushed c (suc n) h = rw (h refl refl)
+links false true true false true true over hushed c (suc n) h = rw (some-number n)
+links false true true false true false over hushed c (suc n) h = rw (some-number n, h (some-number n) refl)
 
 chain_is : (s : Session) (p : R.Points) (over hushed : Bool) → (eqb (number p.asks (groups_of s)) 0 ≡ false → p.event ≡ true → over ≡ hushed) → chain (groups_of s) p over ≡ first_of (shown s p) hushed
 chain_is s p over hushed h =

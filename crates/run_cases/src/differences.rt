@@ -63,10 +63,11 @@ pub fn compared(
 // ---- what is printed
 
 // A count, or that there is none.
+#[derive(Clone, Copy)]
 struct Count(Option<u64>);
 
 impl fmt::Display for Count {
-    fn fmt(&self, f: &mut fmt::Formatter<'_>) -> fmt::Result {
+    fn fmt<W: fmt::Write>(&self, f: &mut fmt::Formatter<W>) -> fmt::Result {
         match self.0 {
             Some(n) => write!(f, "{n}"),
             None => write!(f, "none"),
@@ -75,11 +76,13 @@ impl fmt::Display for Count {
 }
 
 impl fmt::Display for Difference {
-    fn fmt(&self, f: &mut fmt::Formatter<'_>) -> fmt::Result {
+    fn fmt<W: fmt::Write>(&self, f: &mut fmt::Formatter<W>) -> fmt::Result {
         match *self {
             Difference::Refusal(is, wanted) => write!(f, "refusal {is}, not {wanted}"),
             Difference::Count(is, wanted) => {
-                write!(f, "count {}, not {}", Count(is), Count(wanted))
+                let is = Count(is);
+                let wanted = Count(wanted);
+                write!(f, "count {is}, not {wanted}")
             }
             Difference::Held(is, wanted) => { write!(f, "octets in the queue: {is}, not {wanted}") }
             Difference::Octet(at) => write!(f, "another octet in the queue at {at}"),
@@ -88,7 +91,7 @@ impl fmt::Display for Difference {
 }
 
 impl fmt::Display for Ending {
-    fn fmt(&self, f: &mut fmt::Formatter<'_>) -> fmt::Result {
+    fn fmt<W: fmt::Write>(&self, f: &mut fmt::Formatter<W>) -> fmt::Result {
         match *self {
             Ending::TooLong(size) => write!(f, "longer than can be run: {size}"),
             Ending::Torn => write!(f, "the input ends"),

@@ -47,7 +47,7 @@ fn run_calls<R: Read, W: Write>(
     octets: &mut [u8],
     wanted: &mut [u8],
 ) -> io::Result<Verdict>
-    ensures reader { (t : List ℕ) × Consumes (R.remaining reader.old) (R.remaining reader.new) t }
+    ensures { (t : List ℕ) × Consumes (R.remaining reader.old) (R.remaining reader.new) t }
 {
     let mut m = step_stream::start();
     let mut verdict = Verdict::Right;
@@ -121,7 +121,7 @@ fn run_case<R: Read, W: Write>(
     calls: u64,
 ) -> io::Result<Verdict>
     requires { (entries ≤ 1040) × (room ≤ 65600) }
-    ensures reader { (t : List ℕ) × Consumes (R.remaining reader.old) (R.remaining reader.new) t }
+    ensures { (t : List ℕ) × Consumes (R.remaining reader.old) (R.remaining reader.new) t }
 {
     let mut words = [0u64; WORDS];
     let mut queue = [0u8; QUEUE];
@@ -156,7 +156,7 @@ fn print_head<R: Read, W: Write>(
 
 fn try_case<R: Read, W: Write>(reader: &mut R, writer: &mut W, c: Case) -> io::Result<Verdict>
     requires { c.name ≤ 256 }
-    ensures err { OnErr result ((t : List ℕ) × Consumes (R.remaining reader.old) (R.remaining reader.new) t) }
+    ensures { OnErr result ((t : List ℕ) × Consumes (R.remaining reader.old) (R.remaining reader.new) t) }
 {
     print_head(reader, writer, c.name, c.calls)?;
     if c.messages > 1040 || c.queue > 65600 {

@@ -63,7 +63,7 @@ in_range_lem s = s.bounds
 pub follows : {k : Kind} {o v t : List ℕ} {tail : ℕ} → t ≡ drop tail o → Says k o v tail → Follows k t
 follows r s = rw r s.following
 
-module _ {r : Received} {found : Option Place} {lent : ℕ} {cols : Columns} {ws : List ℕ} {counts : Counts} {s : Session} {q o : List ℕ} {z : Came} (taken : Taken o r) where
+module _ {r : Received} (found : Option Place) {lent : ℕ} (cols : Columns) {ws : List ℕ} {counts : Counts} {s : Session} {q o : List ℕ} {z : Came} (taken : Taken o r) where
   -- about messages, or about the session
   pub served : {j : Kind} {ws' q' : List ℕ} → r.kind ≡ j → ((m : Memory) (t : List ℕ) → Kindly m j r.values t found ws counts s q z ws' q')
       → Serves r found lent cols ws counts s q o z ws' q'

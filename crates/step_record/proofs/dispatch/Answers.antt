@@ -24,20 +24,20 @@ answer-requires c =
 
 pub returns-in-Mailbox : goal.returns-in-Mailbox
 returns-in-Mailbox c =
-    placed_by c.requires.2 (rest c.args.octets.now c.args.r.now.tail) (by_subject _ c.subject_of.ensures c.in-Mailbox.is) c.serve.ensures
+    placed_by c.args.found c.args.cols.now c.requires.2 (rest c.args.octets.now c.args.r.now.tail) (by_subject _ c.subject_of.ensures c.in-Mailbox.is) c.serve.ensures
 
 pub returns-in-Message : goal.returns-in-Message
 returns-in-Message c =
-    served c.requires.2 (by_subject _ c.subject_of.ensures c.in-Message.is) c.serve-in-Message.ensures
+    served c.args.found c.args.cols.now c.requires.2 (by_subject _ c.subject_of.ensures c.in-Message.is) c.serve-in-Message.ensures
 
 pub returns-in-Session : goal.returns-in-Session
 returns-in-Session c =
-    served c.requires.2 (by_subject _ c.subject_of.ensures c.in-Session.is) c.serve-in-Session.ensures
+    served c.args.found c.args.cols.now c.requires.2 (by_subject _ c.subject_of.ensures c.in-Session.is) c.serve-in-Session.ensures
 
 pub returns-in-Command : goal.returns-in-Command
 returns-in-Command c =
-    answered c.requires.2 (rest c.args.octets.now c.args.r.now.tail) (by_subject S.Command c.subject_of.ensures c.in-Command.is) c.row_of-x.ensures c.answer.ensures
+    answered c.args.found c.args.cols.now c.requires.2 (rest c.args.octets.now c.args.r.now.tail) (by_subject S.Command c.subject_of.ensures c.in-Command.is) c.row_of-x.ensures c.answer.ensures
 
 pub returns-in-Nothing : goal.returns-in-Nothing
 returns-in-Nothing c =
-    nothing c.requires.2 (by_subject S.Nothing c.subject_of.ensures c.in-Nothing.is)
+    nothing c.args.found c.args.cols.now c.requires.2 (by_subject S.Nothing c.subject_of.ensures c.in-Nothing.is)

@@ -5,6 +5,6 @@ use Rattle.run_cases.proofs.turns.next_turn.Goals as goal
 
 pub returns : goal.returns
 returns g c =
-    let a = c.next_expected-want.ensures in
-    let b = c.run_held.ensures in
+    let a = c.next_expected.ensures in
+    let b = c.run.ensures in
     (a.0 ++ b.0, Consumes-trans _ _ _ a.0 b.0 a.1 b.1)

@@ -21,7 +21,7 @@ use Rattle.model.specs.declared.Reply.{Reply}
 use Rattle.model.specs.declared.Reply.TheVariants.{Bad, BadEvent, Unsupported, BadCharset, TooLarge, Accepted}
 use Rattle.model.specs.declared.Refusal.TheVariants.{NoRoom}
 use Rattle.demands.specs.Lasting.Law.{Law}
-use Rattle.table_messages.specs.Words.{messages, messages-take}
+use Rattle.table_messages.specs.Words.{messages-take}
 use Rattle.table_messages.specs.Laid.{laid, laid_own}
 use Rattle.table_mailboxes.specs.Whole.{LaidIn}
 use Rattle.table_mailboxes.specs.declared.Columns.{Columns}

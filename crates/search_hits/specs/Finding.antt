@@ -1,6 +1,6 @@
 -- What a search asks, which rows it searches, and what it finds in them. Assumes nothing.
 use Rattle.std.specs.Prelude.{◌≡◌, refl, Option, Some, None, Bool, true, false, ◌&&◌, List, ℕ, ◌+◌, ◌≤◌, length, take}
-use Rattle.std.proofs.Common.{ap, sym, ◌∙◌, subst, arith}
+use Rattle.std.proofs.Common.{ap, ◌∙◌, arith}
 use Rattle.model.specs.Lists.{anyb, apart}
 use Rattle.model.specs.Requests.{Filter, Search, search}
 use Rattle.model.specs.Reading.{ok}
@@ -13,7 +13,7 @@ use Rattle.model.specs.Memory.{Memory, boxes, mails, may_read}
 use Rattle.model.specs.Searching.{admits, or_selected, found_lines}
 use Rattle.model.specs.declared.Mailbox.{Mailbox}
 use Rattle.read_search.specs.Parts.{in_at}
-use Rattle.read_search.specs.Searched.{read_search, returns_for, Within, ReadsSearch}
+use Rattle.read_search.specs.Searched.{read_search, returns_for, ReadsSearch}
 use Rattle.read_sources.specs.Listing.{nothing_listed, add_all, kept_sources}
 use Rattle.read_search.specs.declared.Asked.{Asked}
 use Rattle.read_sources.specs.declared.Listed.{Listed}
@@ -28,7 +28,7 @@ use Rattle.order_mailboxes.specs.Named.{Ordered, Picks}
 use Rattle.search_find.specs.Finds.{Held}
 use Rattle.search_find.specs.Runs.{Bounded, Found, found_rows}
 use Rattle.line_found.specs.Telling.{texts, lines_are}
-use Rattle.line_found.specs.Commanded.{parts_of_lem, asked_read, held_read, listed_read, few_read}
+use Rattle.line_found.specs.Commanded.{asked_read, held_read, listed_read, few_read}
 use Rattle.search_hits.specs.Headed.{Behind, Never}
 use Rattle.search_hits.specs.declared.Question.{Question}
 use Rattle.search_hits.specs.declared.Hits.{Hits}

@@ -1,6 +1,6 @@
 -- The head of a line that is a search: where its tag and its word end. Assumes nothing.
 use Rattle.std.proofs.Math.Path.{◌≡◌, refl, ap}
-use Rattle.std.proofs.Common.{sym, ◌∙◌, subst, eqb-true}
+use Rattle.std.proofs.Common.{sym, ◌∙◌, eqb-true}
 use Rattle.std.specs.Prelude.{Option, Some, None, Bool, ◌&&◌, List, ℕ, ◌+◌, ◌≤◌, eqb, leb, length, take}
 use Rattle.std.proofs.Math.Bool.{true, false, cond}
 use native.Mathlib.Omega.{arith}

@@ -110,9 +110,7 @@ pub fn say(
     ensures { Whole queue.old filled (answer_by text.now (whole_by text.now cols.now rows.now uids.now starts.now counts.now hits) (length queue.old - 64)) queue.new result.fits result.end }
 {
     let limit = queue.len() - 64;
-    let end = measure(
-        queue, filled, text, cols, rows, uids, starts, counts, hits,
-    );
+    let end = measure(queue, filled, text, cols, rows, uids, starts, counts, hits);
     let reply = line_answer::reply_within(Reply::Accepted, end - filled, limit);
     if !line_answer::is_accepted(reply) {
         return line_answer::say_reply(queue, filled, text, Verb::Esearch, reply);

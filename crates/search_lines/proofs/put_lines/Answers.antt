@@ -1,7 +1,6 @@
 -- `put_lines`: the part of the line that is cut out is its tag, so the rows' lines are those of the rules. Assumes nothing.
-use Rattle.std.proofs.Common.{◌≡◌, ◌≤◌, ◌∙◌, ℕ, List, ap, sym, arith, length, take, length-take-le}
+use Rattle.std.proofs.Common.{◌≡◌, ◌∙◌, ℕ, List, ap, sym, arith, length, take, length-take-le}
 use Rattle.line_put.specs.Writes.{writes_as}
-use Rattle.search_find.specs.Runs.{Bounded}
 use Rattle.line_found.specs.Telling.{texts}
 use Rattle.search_lines.specs.Lines.{texts_cut}
 use Rattle.search_lines.proofs.put_lines.Goals as goal

@@ -6,7 +6,7 @@ use Rattle.model.specs.Commands.{tag_of}
 use Rattle.model.specs.Lines.{answer}
 use Rattle.model.specs.declared.Reply.TheVariants.{Accepted}
 use Rattle.line_put.specs.Put.{◌then◌}
-use Rattle.search_lines.specs.Lines.{lines_by, tagged_line, whole_some}
+use Rattle.search_lines.specs.Lines.{lines_by, whole_some}
 use Rattle.search_lines.specs.Said.{said_large, said_whole, said_not}
 use Rattle.search_lines.proofs.say.Goals as goal
 

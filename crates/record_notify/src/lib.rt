@@ -22,12 +22,7 @@ use table_mailboxes::Columns;
 // ---- NOTIFY NONE
 
 // Its tagged line, which is too large for no queue, and a session with no group.
-pub fn none(
-    queue: &mut [u8],
-    counts: Counts,
-    s: &Session,
-    text: &[u8],
-) -> Result<Outcome, Refusal>
+pub fn none(queue: &mut [u8], counts: Counts, s: &Session, text: &[u8]) -> Result<Outcome, Refusal>
     requires { Room (length queue.old) counts.filled s.now }
     ensures { (m : Memory) (ws : List ℕ) → Lends m ws counts s.now queue.old → (p : ℕ) → command_of text.now ≡ ok p notify_none → Comes m (ladder m (command text.now)) result ws ws queue.new }
 {
@@ -65,9 +60,7 @@ pub fn notify(
         Notify::Nothing => none(queue, counts, s, text),
         Notify::Groups(g) => {
             let watching = read_notify::settled(*s, g.watch, g.kept);
-            record_set::set(
-                words, queue, counts, s, cols, x, g.status, &watching, text,
-            )
+            record_set::set(words, queue, counts, s, cols, x, g.status, &watching, text)
         }
     }
 }

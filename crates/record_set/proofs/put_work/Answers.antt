@@ -1,6 +1,6 @@
 -- `put_work`: the tagged line is put where the listing ends, so both stand behind each other; each part is bounded, and so is their sum. Assumes nothing.
-use Rattle.std.proofs.Common.{rules, arith, ◌≤◌, length, List, ℕ}
-use Rattle.line_put.specs.Writes.{◌then◌, Writes}
+use Rattle.std.proofs.Common.{rules, arith}
+use Rattle.line_put.specs.Writes.{◌then◌}
 use Rattle.record_set.proofs.put_work.Goals as goal
 
 pub put_reply-requires : goal.put_reply-requires

@@ -59,9 +59,7 @@ pub fn find(
         order: [0; 1024],
         view: [0; 1024],
     };
-    let Some(asked) = read(text, &mut cells) else {
-        return None;
-    };
+    let asked = read(text, &mut cells)?;
     let k = choose(&asked.listed, selected, cols, rows);
     let wanted = Wanted {
         cells: &cells[..asked.filled],

@@ -9,9 +9,7 @@ use super::Question;
 fn behind_word(text: &[u8]) -> Option<usize>
     ensures { BehindWord text.now result }
 {
-    let Some((_, at)) = read_options::verb_at(text, read_options::tag_end(text) + 1) else {
-        return None;
-    };
+    let (_, at) = read_options::verb_at(text, read_options::tag_end(text) + 1)?;
     Some(at)
 }
 
@@ -27,15 +25,9 @@ pub fn read(text: &[u8], cells: &mut [u64]) -> Option<Question>
     requires { (length text.now ≤ 1024) × (4096 ≤ length cells.old) }
     ensures { AsksOf text.now cells.new result }
 {
-    let Some(word) = behind_word(text) else {
-        return None;
-    };
-    let Some((listed, _)) = read_sources::keep_sources(text, word + 1) else {
-        return None;
-    };
-    let Some((asked, _)) = read_search::search_at(text, word + 1, cells) else {
-        return None;
-    };
+    let at = behind_word(text)? + 1;
+    let (listed, _) = read_sources::keep_sources(text, at)?;
+    let (asked, _) = read_search::search_at(text, at, cells)?;
     Some(Question {
         listed,
         wanted: asked.returns,

@@ -2,8 +2,8 @@
 use Rattle.search_hits.specs.Headed.{behind-found, behind_none}
 use Rattle.search_hits.proofs.reading.behind_word.Goals as goal
 
-pub returns-in_default : goal.returns-in_default
-returns-in_default c = behind_none c.args.text.now c.tag_end.result c.tag_end.ensures.exact c.in_default.ensures
+pub returns-in_err-at : goal.returns-in_err-at
+returns-in_err-at c = rw c.from_residual.ensures (behind_none c.args.text.now c.tag_end.result c.tag_end.ensures.exact c.in_err-at.ensures)
 
 pub returns : goal.returns
-returns c = behind-found c.args.text.now c.tag_end.result c.tag_end.ensures.exact c.in-Some.ensures
+returns c = behind-found c.args.text.now c.tag_end.result c.tag_end.ensures.exact c.in_ok-at.ensures

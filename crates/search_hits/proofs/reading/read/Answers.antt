@@ -2,14 +2,17 @@
 use Rattle.search_hits.specs.Finding.{sources_none, search_none, asks_is}
 use Rattle.search_hits.proofs.reading.read.Goals as goal
 
-pub returns-in_default-keep_sources : goal.returns-in_default-keep_sources
-returns-in_default-keep_sources c = sources_none c.args.text.now c.in-Some.word c.in-Some.ensures c.in_default-keep_sources.ensures
+pub returns-in_err-at : goal.returns-in_err-at
+returns-in_err-at c = rw c.from_residual.ensures c.in_err-at.ensures
 
-pub returns-in_default-search_at : goal.returns-in_default-search_at
-returns-in_default-search_at c = search_none c.args.text.now c.in-Some.word c.in-Some.ensures c.args.cells.now _ c.in_default-search_at.ensures
+pub returns-in_err-listed : goal.returns-in_err-listed
+returns-in_err-listed c = rw c.from_residual-in_err-listed.ensures (sources_none c.args.text.now _ c.in_ok-at.ensures c.in_err-listed.ensures)
+
+pub returns-in_err-asked : goal.returns-in_err-asked
+returns-in_err-asked c = rw c.from_residual-in_err-asked.ensures (search_none c.args.text.now _ c.in_ok-at.ensures c.args.cells.now _ c.in_err-asked.ensures)
 
 pub returns : goal.returns
 returns c =
-    asks_is c.args.text.now c.in-Some.word c.in-Some.ensures c.in-Some-keep_sources.listed c.in-Some-keep_sources.field-0-1 c.in-Some-keep_sources.ensures
-    c.args.cells.now c.search_at.new.cells c.in-Some-search_at.asked c.in-Some-search_at.field-0-1 c.in-Some-search_at.ensures
+    asks_is c.args.text.now _ c.in_ok-at.ensures _ _ c.in_ok-listed.ensures
+    c.args.cells.now c.search_at.new.cells _ _ c.in_ok-asked.ensures
     c.requires.0 c.requires.1 c.search_at.auto.cells

@@ -8,7 +8,6 @@ use Rattle.model.specs.Limits.{limits, name_count}
 use Rattle.model.specs.Replies.{reply_of}
 use Rattle.model.specs.Memory.{Memory}
 use Rattle.model.specs.Answering.{some_selected, first_reply}
-use Rattle.model.specs.declared.Limits.{Limits}
 use Rattle.model.specs.declared.Reply.TheVariants.{Accepted}
 use Rattle.read_notify.specs.Tallies.{filters_of}
 use Rattle.read_notify.specs.Readings.{read_notify}

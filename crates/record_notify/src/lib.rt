@@ -22,12 +22,7 @@ use table_mailboxes::Columns;
 // ---- NOTIFY NONE
 
 // Its tagged line, which is too large for no queue, and a session with no group.
-pub fn none(
-    queue: &mut [u8],
-    counts: Counts,
-    s: &Session,
-    text: &[u8],
-) -> Result<Outcome, Refusal>
+pub fn none(queue: &mut [u8], counts: Counts, s: &Session, text: &[u8]) -> Result<Outcome, Refusal>
     requires { Room (length queue.old) counts.filled s.now }
     ensures { (m : Memory) (ws : List ℕ) → Lends m ws counts s.now queue.old → (p : ℕ) → command_of text.now ≡ ok p notify_none → Comes m (ladder m (command text.now)) result ws ws queue.new }
 {
@@ -58,14 +53,14 @@ pub fn notify(
     if !line_answer::is_accepted(first.reply) {
         return record_reply::refuse(queue, counts, s, text, first.verb, first.reply);
     }
-    match read {
-        Some((Notify::Nothing, _)) => none(queue, counts, s, text),
-        Some((Notify::Groups(g), _)) => {
-            let asked = read_notify::settled(*s, g.watch, g.kept);
-            record_set::set(
-                words, queue, counts, s, cols, x, g.status, &asked, text,
-            )
+    let Some((asked, _)) = read else {
+        return Err(Refusal::NoRoom);
+    };
+    match asked {
+        Notify::Nothing => none(queue, counts, s, text),
+        Notify::Groups(g) => {
+            let watching = read_notify::settled(*s, g.watch, g.kept);
+            record_set::set(words, queue, counts, s, cols, x, g.status, &watching, text)
         }
-        None => Err(Refusal::NoRoom),
     }
 }

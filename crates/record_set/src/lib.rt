@@ -29,8 +29,7 @@ use line_put::Writer;
 use model::{Counts, Mailbox, Refusal, Reply, Session, Uid};
 use read_options::Verb;
 use record_outcome::Outcome;
-use table_mailboxes::Columns;
-use table_mailboxes::row;
+use table_mailboxes::{Columns, row};
 
 // How many octets a command of class 1 would owe at its end. Nothing is written.
 fn owed_size(words: &[u64], queue: &mut [u8], counts: Counts, s: &Session, rights: bool) -> usize
@@ -140,16 +139,7 @@ fn set_noted(
     if limit < filled + (a + b) {
         return Err(Refusal::NoRoom);
     }
-    Ok(write_set(
-        words,
-        queue,
-        counts,
-        s,
-        x,
-        asked,
-        work,
-        filled + a,
-    ))
+    Ok(write_set(words, queue, counts, s, x, asked, work, filled + a))
 }
 
 // How many messages of each row exist: counted only where a STATUS is to say so.

@@ -12,4 +12,4 @@ pub returns : goal.returns
 returns c =
     λ m ws lent p e.
     none_comes m ws c.args.counts c.args.s.now c.args.queue.now c.args.text.now lent c.requires p e
-    c.say_reply-said.ensures _ c.watched.ensures _ c.outcome.ensures
+    c.say_reply-said.ensures _ c.watched-watched.ensures _ c.outcome.ensures

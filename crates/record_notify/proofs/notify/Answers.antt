@@ -34,7 +34,7 @@ pub returns-in-Nothing : goal.returns-in-Nothing
 returns-in-Nothing c =
     λ m lent law laid sel head.
     c.none.ensures m c.args.words.now lent _
-    (nothing_is (command_of c.args.text.now) (c.in-Nothing.ensures.exact ∙ ap read_notify head))
+    (nothing_is (command_of c.args.text.now) ((rw (c.in-Some.is, c.in-Nothing.is) at c.keep_notify-read.ensures).exact ∙ ap read_notify head))
 
 pub returns-in-Groups : goal.returns-in-Groups
 returns-in-Groups c =
@@ -44,11 +44,11 @@ returns-in-Groups c =
     let yes = sym c.is_accepted.ensures ∙ c.if-not-is_accepted.false in
     λ m lent law laid sel head.
     let first = accepted_judged m c.args.words.now c.args.counts c.args.s.now c.args.queue.now c.args.text.now lent c.notify_reply-first.result (e head) yes in
-    groups_are (command_of c.args.text.now) (c.in-Groups.ensures.exact ∙ ap read_notify head) _
+    groups_are (command_of c.args.text.now) ((rw (c.in-Some.is, c.in-Groups.is) at c.keep_notify-read.ensures).exact ∙ ap read_notify head) _
     (λ gs is. let few = set_few m c.args.text.now _ _ gs is first in
-    c.set.ensures m _ gs lent law laid sel is first (c.settled-asked.ensures ∙ c.in-Groups.ensures.keeps _ _ gs (head ∙ is) few.0 few.1 c.args.s.now))
+    c.set.ensures m _ gs lent law laid sel is first (c.settled-watching.ensures ∙ (rw (c.in-Some.is, c.in-Groups.is) at c.keep_notify-read.ensures).keeps _ _ gs (head ∙ is) few.0 few.1 c.args.s.now))
 
-pub returns-in-None : goal.returns-in-None
-returns-in-None c =
+pub returns-in_default : goal.returns-in_default
+returns-in_default c =
     let yes = sym c.is_accepted.ensures ∙ c.if-not-is_accepted.false in
-    λ m lent law laid sel head. tf _ yes (ap (λ (j : Judged). is_accepted j.reply) c.notify_reply-first.ensures ∙ rw c.in-None.is)
+    λ m lent law laid sel head. tf _ yes (ap (λ (j : Judged). is_accepted j.reply) c.notify_reply-first.ensures ∙ rw c.in_default.is)

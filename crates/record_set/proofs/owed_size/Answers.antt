@@ -1,5 +1,5 @@
 -- `owed_size`: writing at 0 with the limit 0 leaves the queue and ends at the text's length, and that text is what is owed; without both rights nothing is. Assumes nothing.
-use Rattle.std.proofs.Common.{rules, ◌≡◌, ◌≤◌, ◌*◌, ◌∙◌, sym, refl, ap, arith, length, take, length-take-le}
+use Rattle.std.proofs.Common.{rules, ◌*◌, ◌∙◌, sym, refl, ap, arith, take, length-take-le}
 use Rattle.model.specs.Memory.{messages_of}
 use Rattle.table_messages.specs.Words.{messages, messages-take, messages-used}
 use Rattle.order_messages.specs.Chosen.{chosen-take}

@@ -1,5 +1,5 @@
 -- `set`: the notes and the order are made of the rows as they stand, so the listing that goes by them is that of the session that is asked for. Assumes nothing.
-use Rattle.std.proofs.Common.{arith, length}
+use Rattle.std.proofs.Common.{arith}
 use Rattle.record_set.specs.Listed.{noted-rows}
 use Rattle.record_set.specs.Setting.{noted-set}
 use Rattle.record_set.proofs.set.Goals as goal

@@ -2,9 +2,10 @@
 #![tactic(auto)]
 
 ghost use Rattle.std.specs.Prelude.{◌≡◌, ◌+◌, ◌*◌, ◌≤◌, length};
-ghost use Rattle.line_put.specs.Put.{Put};
+ghost use Rattle.line_put.specs.Writes.{Writes};
 ghost use Rattle.line_name.specs.Bare.{bare, bare_text};
 
+use line_put::Writer;
 use octets::Class;
 
 // Whether a name may stand without quotes.
@@ -15,13 +16,14 @@ fn is_bare(name: &[u8]) -> bool
 }
 
 // A mailbox name: as it is where it may be, else in quotes.
-pub fn put_name(queue: &mut [u8], at: usize, limit: usize, name: &[u8]) -> usize
-    requires { (limit ≤ length queue.old) × (at ≤ 274877906944) × (length name.now ≤ 1048576) }
-    ensures put { Put queue.old at limit (bare_text name.now) queue.new result }
-    ensures upper_bound { result ≤ at + 2 * length name.now + 2 }
+pub fn put_name(w: &mut Writer<'_>, name: &[u8])
+    requires { (w.old.limit ≤ length w.old.queue.now) × (w.old.at ≤ 274877906944) × (length name.now ≤ 1048576) }
+    ensures put { Writes w.old (bare_text name.now) w.new }
+    ensures upper_bound { w.new.at ≤ w.old.at + 2 * length name.now + 2 }
 {
     if is_bare(name) {
-        return line_put::put(queue, at, limit, name);
+        w.put(name);
+    } else {
+        w.put_quoted(name);
     }
-    line_put::put_quoted(queue, at, limit, name)
 }

@@ -56,11 +56,8 @@ fn print_names<W: Write>(writer: &mut W, names: &[LentName], count: u64) -> io::
 // ---- what a search asks
 
 fn print_source<W: Write>(writer: &mut W, source: Source) -> io::Result<()> {
-    write!(
-        writer,
-        " {},{},{}",
-        source.scope, source.first, source.count
-    )
+    let scope = read_sources::scope_number(source.scope);
+    write!(writer, " {scope},{},{}", source.first, source.count)
 }
 
 // The sources as they are searched, and their names; they stand behind the space that follows the word.

@@ -130,10 +130,10 @@ pub fn events_at(text: &[u8], at: usize) -> Option<(Events, usize)>
     ensures { ReadsOne text.now at (read_events (events_at text.now at)) result }
 {
     if octets::octet_at(text, at) == b'(' {
-        return octets::list_at(text, at);
+        octets::list_at(text, at)
+    } else if octets::word_at(text, at, b"NONE") {
+        Some((Events::default(), octets::run_end(text, at, Class::Atom)))
+    } else {
+        None
     }
-    if octets::word_at(text, at, b"NONE") {
-        return Some((Events::default(), octets::run_end(text, at, Class::Atom)));
-    }
-    None
 }

@@ -4,6 +4,7 @@ use Rattle.std.proofs.Math.Bool.{not}
 use Rattle.match_keys.specs.Laws.{as_asked, other, going_start, going_decided, going_next, going_in, going_end, answers_nest}
 use mathlib.Core.Path.{sym, ◌∙◌}
 use native.Mathlib.Omega.{arith}
+use borrow.Author.Rules.{rules}
 use Rattle.match_keys.proofs.+key_at_keys_hold.Goals as goal
 
 pub key_at-keys_hold-r-requires : goal.key_at-keys_hold-r-requires
@@ -19,7 +20,7 @@ keys_hold-loop-i-init t c =
 
 pub keys_hold-loop-i-preserved-then-last_nest : goal.keys_hold-loop-i-preserved-then-last_nest
 keys_hold-loop-i-preserved-then-last_nest t c =
-    let n = c.last_nest.ensures c.if-last_nest.true in (omega arith, going_in c.args.cells.now c.args.at c.args.stop c.args.any c.args.facts c.loop-i.i c.loop-i.some c.loop-i.on c.loop-i.invariant.1 c.loop-i-test.true c.cell-kind.result c.cell-kind.ensures (omega (arith, n.0)) n.1 _ (as_asked _ c.loop-i.on))
+    let n = c.last_nest.ensures c.if-last_nest.true in (omega arith, going_in c.args.cells.now c.args.at c.args.stop c.args.any c.args.facts c.loop-i.i c.loop-i.some c.loop-i.on c.loop-i.invariant.1 c.loop-i-test.true c.cell-kind.result c.cell-kind.ensures (omega (arith, n.0)) n.1 _ (search (rules, as_asked)))
 
 pub keys_hold-key_at-k-requires : goal.keys_hold-key_at-k-requires
 keys_hold-key_at-k-requires t c = (omega arith, (omega arith, omega arith))

@@ -19,4 +19,4 @@ tell-said-requires c =
 pub returns : goal.returns
 returns c =
     answer_comes c.args.text.now c.args.words.now c.args.cols.now c.args.counts c.args.s.now c.args.queue.now _ _ _ _
-    (rw (c.wide_id.ensures, c.wide_number.ensures) at c.tell-said.ensures) cc
+    (rw (c.wide_id.ensures, c.wide_number.ensures) at c.tell-said.ensures) c.outcome.ensures

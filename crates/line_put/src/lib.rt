@@ -1,7 +1,7 @@
 // Writers into a queue, up to a limit. Each moves the place on to where its text ends. It writes only where that is within the limit.
 #![tactic(auto)]
 
-ghost use Rattle.std.specs.Prelude.{◌≡◌, [], ◌∷◌, List, ℕ, cond, true, ◌+◌, ◌*◌, ◌-◌, ◌≤◌, ◌<◌, length};
+ghost use Rattle.std.specs.Prelude.{◌≡◌, [], ◌∷◌, List, ℕ, cond, true, false, ◌+◌, ◌*◌, ◌-◌, ◌≤◌, ◌<◌, length};
 ghost use Rattle.line_put.specs.Put.{Put};
 ghost use Rattle.line_put.specs.Writes.{Writes};
 ghost use Rattle.line_put.specs.Says.{Says};
@@ -100,9 +100,9 @@ pub struct Said {
 }
 
 // The overflow line, where another does not fit: the last 64 octets are kept for it.
-struct Overflow;
+struct Stopped;
 
-impl Line for Overflow {
+impl Line for Stopped {
     ghost text = { λ _. render overflow };
 
     fn put(&self, w: &mut Writer<'_>) {
@@ -120,20 +120,28 @@ pub fn write<L: Line>(queue: &mut [u8], at: usize, limit: usize, line: &L) -> us
     w.at
 }
 
+// The overflow line, in the octets that are kept for it.
+pub fn overflow(queue: &mut [u8], at: usize) -> Said
+    requires { (64 ≤ length queue.old) × (length queue.old ≤ 65536) × (at ≤ length queue.old - 64) }
+    ensures { (result.fits ≡ false) × (Put queue.old at (length queue.old) (render overflow) queue.new result.end) }
+{
+    let full = queue.len();
+    let end = write(queue, at, full, &Stopped);
+    Said { fits: false, end }
+}
+
 // A line, if it leaves the last 64 octets free, else the overflow line.
 pub fn say<L: Line>(queue: &mut [u8], at: usize, line: &L) -> Said
     requires { (64 ≤ length queue.old) × (length queue.old ≤ 65536) × (at ≤ length queue.old - 64) }
     ensures { Says queue.old at (L.text line.now) queue.new result.fits result.end }
 {
-    let full = queue.len();
-    let limit = full - 64;
+    let limit = queue.len() - 64;
     let end = write(queue, at, 0, line);
     if end <= limit {
         let end = write(queue, at, limit, line);
         return Said { fits: true, end };
     }
-    let end = write(queue, at, full, &Overflow);
-    Said { fits: false, end }
+    overflow(queue, at)
 }
 
 // As after NOTIFY NONE.

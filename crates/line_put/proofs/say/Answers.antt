@@ -8,4 +8,4 @@ pub returns-then-end-limit : goal.returns-then-end-limit
 returns-then-end-limit g c = says-fits c.write-end.ensures c.write-end-then-end-limit.ensures refl (omega arith)
 
 pub returns : goal.returns
-returns g c = says_over c.write-end.ensures c.write-end-2.ensures refl (omega arith) (omega arith) (omega arith)
+returns g c = rw c.overflow.ensures.0 (says_over c.write-end.ensures c.overflow.ensures.1 c.write-end.ensures.same (omega arith) (omega arith) (omega arith))

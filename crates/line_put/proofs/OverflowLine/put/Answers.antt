@@ -1,7 +1,0 @@
--- `put` of `Overflow`: the line itself. Assumes nothing.
-use Rattle.model.specs.Lines.{render}
-use Rattle.line_put.proofs.OverflowLine.put.Goals as goal
-
-pub returns : goal.returns
-unfolding render
-returns c = c.put.ensures

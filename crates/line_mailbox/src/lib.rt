@@ -92,18 +92,41 @@ pub struct Pair<'a> {
     pub parent: ListLine<'a>,
 }
 
+fn put_pair(w: &mut Writer<'_>, lines: &Pair<'_>)
+    requires { (w.old.limit ≤ length w.old.queue.now) × (w.old.at ≤ 131072) }
+    ensures put { Writes w.old
+        (render_all
+        (pair lines.now.own (list (mark_of lines.now.line.mark) lines.now.line.name.now) lines.now.upper (list (mark_of lines.now.parent.mark) lines.now.parent.name.now)))
+        w.new }
+    ensures upper_bound { w.new.at ≤ w.old.at + 316 }
+{
+    put_wanted(w, lines.own, &lines.line);
+    put_wanted(w, lines.upper, &lines.parent);
+}
+
 impl Line for Pair<'_> {
     ghost text = { λ p.
         render_all
         (pair p.own (list (mark_of p.line.mark) p.line.name.now) p.upper (list (mark_of p.parent.mark) p.parent.name.now)) };
 
     fn put(&self, w: &mut Writer<'_>) {
-        put_wanted(w, self.own, &self.line);
-        put_wanted(w, self.upper, &self.parent);
+        put_pair(w, self);
     }
 }
 
 // The LIST line of a mailbox with the name that it had before.
+pub fn put_renamed(w: &mut Writer<'_>, mark: Mark, new: &[u8], old: &[u8])
+    requires { (w.old.limit ≤ length w.old.queue.now) × (w.old.at ≤ 262144) × (length new.now ≤ 64) × (length old.now ≤ 64) }
+    ensures put { Writes w.old (render (renamed (mark_of mark) new.now old.now)) w.new }
+    ensures upper_bound { w.new.at ≤ w.old.at + 303 }
+{
+    put_listed(w, mark, new);
+    w.put(b" (\"OLDNAME\" (");
+    w.put_quoted(old);
+    w.put(b"))\r\n");
+}
+
+// That LIST line as one that is told whole.
 #[derive(Clone, Copy)]
 pub struct Renamed<'a> {
     pub mark: Mark,
@@ -116,10 +139,7 @@ impl Line for Renamed<'_> {
     ghost text = { λ r. render (renamed (mark_of r.mark) r.new.now r.old.now) };
 
     fn put(&self, w: &mut Writer<'_>) {
-        put_listed(w, self.mark, self.new);
-        w.put(b" (\"OLDNAME\" (");
-        w.put_quoted(self.old);
-        w.put(b"))\r\n");
+        put_renamed(w, self.mark, self.new, self.old);
     }
 }
 
@@ -156,6 +176,18 @@ fn put_highest(w: &mut Writer<'_>, highest: u64)
 }
 
 // The STATUS of a mailbox that is not selected, where messages come or go.
+pub fn put_status(w: &mut Writer<'_>, name: &[u8], next: u64, messages: u64, highest: u64)
+    requires { (w.old.limit ≤ length w.old.queue.now) × (w.old.at ≤ 262144) × (length name.now ≤ 64) }
+    ensures put { Writes w.old (render (status name.now (mail_items next messages highest))) w.new }
+    ensures upper_bound { w.new.at ≤ w.old.at + 252 }
+{
+    put_opening(w, name);
+    put_counted(w, b"UIDNEXT ", next);
+    put_counted(w, b" MESSAGES ", messages);
+    put_highest(w, highest);
+}
+
+// That STATUS as a line that is told whole.
 #[derive(Clone, Copy)]
 pub struct Status<'a> {
     pub name: &'a [u8],
@@ -169,14 +201,22 @@ impl Line for Status<'_> {
     ghost text = { λ s. render (status s.name.now (mail_items s.next s.messages s.highest)) };
 
     fn put(&self, w: &mut Writer<'_>) {
-        put_opening(w, self.name);
-        put_counted(w, b"UIDNEXT ", self.next);
-        put_counted(w, b" MESSAGES ", self.messages);
-        put_highest(w, self.highest);
+        put_status(w, self.name, self.next, self.messages, self.highest);
     }
 }
 
 // The same, where flags change.
+pub fn put_flag_status(w: &mut Writer<'_>, name: &[u8], validity: u64, highest: u64)
+    requires { (w.old.limit ≤ length w.old.queue.now) × (w.old.at ≤ 262144) × (length name.now ≤ 64) }
+    ensures put { Writes w.old (render (status name.now (flag_items validity highest))) w.new }
+    ensures upper_bound { w.new.at ≤ w.old.at + 216 }
+{
+    put_opening(w, name);
+    put_counted(w, b"UIDVALIDITY ", validity);
+    put_highest(w, highest);
+}
+
+// That STATUS as a line that is told whole.
 #[derive(Clone, Copy)]
 pub struct FlagStatus<'a> {
     pub name: &'a [u8],
@@ -189,9 +229,7 @@ impl Line for FlagStatus<'_> {
     ghost text = { λ s. render (status s.name.now (flag_items s.validity s.highest)) };
 
     fn put(&self, w: &mut Writer<'_>) {
-        put_opening(w, self.name);
-        put_counted(w, b"UIDVALIDITY ", self.validity);
-        put_highest(w, self.highest);
+        put_flag_status(w, self.name, self.validity, self.highest);
     }
 }
 

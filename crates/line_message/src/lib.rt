@@ -85,6 +85,27 @@ pub fn put_owed(w: &mut Writer<'_>, words: &[u64], order: &[usize], told: Uid)
 }
 
 // What announces all that is new: EXISTS, and a FETCH of each where one is asked.
+pub fn put_news(w: &mut Writer<'_>, words: &[u64], order: &[usize], told: Uid, shows: Shows)
+    requires { (length order.now ≤ 1024) × (w.old.limit ≤ length w.old.queue.now) × (w.old.at ≤ 65536) }
+    ensures put { Writes w.old (news_text told.0 shows (chosen (messages words.now) order.now (length order.now))) w.new }
+    ensures upper_bound { w.new.at ≤ w.old.at + 237000 }
+{
+    let has = order_messages::staying(words, order, told, false);
+    let new = order_messages::unseen(words, order, told);
+    put_exists(w, has, new);
+    if shows.any {
+        put_part(
+            w,
+            words,
+            order,
+            Part::New(shows),
+            told,
+            MessageNumber(has + 1),
+        );
+    }
+}
+
+// All that is new as lines that are told whole.
 #[derive(Clone, Copy)]
 pub struct News<'a> {
     pub words: &'a [u64],
@@ -98,25 +119,6 @@ impl Line for News<'_> {
     ghost text = { λ l. news_text l.told.0 l.shows (chosen (messages l.words.now) l.order.now (length l.order.now)) };
 
     fn put(&self, w: &mut Writer<'_>) {
-        let News {
-            words,
-            order,
-            told,
-            shows,
-            ..
-        } = *self;
-        let has = order_messages::staying(words, order, told, false);
-        let new = order_messages::unseen(words, order, told);
-        put_exists(w, has, new);
-        if shows.any {
-            put_part(
-                w,
-                words,
-                order,
-                Part::New(shows),
-                told,
-                MessageNumber(has + 1),
-            );
-        }
+        put_news(w, self.words, self.order, self.told, self.shows);
     }
 }

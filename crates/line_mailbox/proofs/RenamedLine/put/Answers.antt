@@ -1,7 +1,0 @@
--- `put` of `Renamed`: the line of the new name with the old one in OLDNAME. Assumes nothing.
-use Rattle.line_put.specs.Writes.{◌then◌, writes_as}
-use Rattle.line_mailbox.specs.Texts.{renamed-text}
-use Rattle.line_mailbox.proofs.RenamedLine.put.Goals as goal
-
-pub returns : goal.returns
-returns c = writes_as (◌then◌ (◌then◌ (◌then◌ c.put_listed.ensures.put c.put.ensures) c.put_quoted.ensures.put) c.put-2.ensures) (renamed-text _ _ _)

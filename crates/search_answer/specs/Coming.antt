@@ -23,9 +23,8 @@ use Rattle.model.specs.declared.Refusal.TheVariants.{NoRoom}
 use Rattle.demands.specs.Lasting.Law.{Law}
 use Rattle.table_messages.specs.Words.{messages-take}
 use Rattle.table_messages.specs.Laid.{laid, laid_own}
-use Rattle.table_mailboxes.specs.Whole.{LaidIn}
+use Rattle.table_mailboxes.specs.Columns.{Laid}
 use Rattle.table_mailboxes.specs.declared.Columns.{Columns}
-use Rattle.search_hits.specs.Headed.{Never}
 use Rattle.line_answer.specs.Sizes.{reply_by, Whole}
 use Rattle.line_answer.specs.Answered.{whole_text, text-accepted, text-refused, no-room_is, refused_left, search_left, left_as}
 use Rattle.record_outcome.specs.Coming.{calm, Came, Lends, Comes, ladder}
@@ -104,8 +103,9 @@ module _ (m : Memory) (t : List ℕ) (p : ℕ) (q : Search) (c : command_of t �
 
 -- ---- the memory that is lent is the one that is searched
 pub lent_searches : (m : Memory) (ws : List ℕ) (k : Counts) (s : Session) (q : List ℕ) → Lends m ws k s q → Law m
-    → (c : Columns) → LaidIn (boxes m) c → Searches m (take (6 * k.messages) ws) s.selected s.told c
-lent_searches m ws k s q lent law c columns =
+    → (c : Columns) (validities nexts counters : List ℕ) → length (boxes m) ≡ c.n → Laid (boxes m) c.ids c.attributes c.lens validities nexts counters c.names
+    → Searches m (take (6 * k.messages) ws) s.selected s.told c validities nexts counters
+lent_searches m ws k s q lent law c validities nexts counters long columns =
     let fit : m.counts.messages ≤ length m.entries = leb-true _ _ law.taken in
     let all : length m.entries ≤ 1024 = leb-true _ _ law.entries in
     let taken : length (mails m) ≡ m.counts.messages = length-take-le m.counts.messages m.entries fit in
@@ -113,6 +113,7 @@ lent_searches m ws k s q lent law c columns =
       messages = ap₂ (λ (n : ℕ) (l : List Message). take n l) (ap (λ (j : Counts). j.messages) lent.counts) lent.entries ∙ sym (messages-take k.messages ws);
       selected = ap (λ (j : Session). j.selected) lent.session;
       view = ap (λ (j : Session). j.told) lent.session;
+      long = long;
       columns = columns;
       few = omega arith;
       distinct = law.apartness;
@@ -120,7 +121,7 @@ lent_searches m ws k s q lent law c columns =
 
 -- ---- a search that was found and said, for the memory that was searched
 pub record Tells (text words : List ℕ) (s told : ℕ) (c : Columns) (q : List ℕ) (at : ℕ) (q₁ : List ℕ) (fits : Bool) (end : ℕ) : Type 0 where
-  pub exact : (m : Memory) → Searches m words s told c
+  pub exact : (m : Memory) (nexts counters : List ℕ) → Searches m words s told c c.validities nexts counters
       → (p : ℕ) (a : Search) → command_of text ≡ ok p (search a) → command_too_large limits (search a) ≡ false
       → Whole q at (answer_by text (whole_text m text) (length q - 64)) q₁ fits end
 
@@ -129,22 +130,19 @@ pub tells : (text words : List ℕ) (s told : ℕ) (c : Columns) (rows uids star
     → (q : List ℕ) (at : ℕ) (q₁ : List ℕ) (fits : Bool) (end : ℕ) → Whole q at (answer_by text (whole_by text c rows uids starts counts h) (length q - 64)) q₁ fits end
     → Tells text words s told c q at q₁ fits end
 tells text words s told c rows uids starts counts h g q at q₁ fits end w = record {
-  exact = λ m is p a e small.
+  exact = λ m nexts counters is p a e small.
       subst (λ (x : List ℕ). Whole q at (answer_by text x (length q - 64)) q₁ fits end)
-      (whole_is text words s told c rows uids starts counts h g m is p a e small) w;
+      (whole_is text words s told c rows uids starts counts h g m c.validities nexts counters is p a e small) w;
 }
-
--- no search was found
-pub tells_none : (text words : List ℕ) (s told : ℕ) (c : Columns) → Never text → (q : List ℕ) (at : ℕ) (q₁ : List ℕ) (fits : Bool) (end : ℕ) → Tells text words s told c q at q₁ fits end
-tells_none text words s told c never q at q₁ fits end = record { exact = λ m is p a e small. absurd (never p a e) }
 
 -- what the code answers, from what it was lent
 pub answer_comes : (text ws : List ℕ) (c : Columns) (k : Counts) (s : Session) (q q₁ : List ℕ) (fits : Bool) (end : ℕ) (r : Came)
     → Tells text (take (6 * k.messages) ws) s.selected s.told c q k.filled q₁ fits end → r ≡ came_by fits end k s
-    → (m : Memory) (p : ℕ) (a : Search) → Lends m ws k s q → Law m → LaidIn (boxes m) c
+    → (m : Memory) (nexts counters : List ℕ) (p : ℕ) (a : Search) → Lends m ws k s q → Law m → length (boxes m) ≡ c.n
+    → Laid (boxes m) c.ids c.attributes c.lens c.validities nexts counters c.names
     → command_of text ≡ ok p (search a) → first_reply m text ≡ Accepted → Comes m (ladder m (command text)) r ws ws q₁
-answer_comes text ws c k s q q₁ fits end r told e m p a lent law columns d first =
-    let w = told.exact m (lent_searches m ws k s q lent law c columns) p a d (accepted-small m text p a d first) in
+answer_comes text ws c k s q q₁ fits end r told e m nexts counters p a lent law long columns d first =
+    let w = told.exact m nexts counters (lent_searches m ws k s q lent law c c.validities nexts counters long columns) p a d (accepted-small m text p a d first) in
     let x : Whole m.queue (filled m) (answer_by text (whole_text m text) (length m.queue - 64)) q₁ fits end =
     subst (λ (j : List ℕ). Whole j (filled m) (answer_by text (whole_text m text) (length j - 64)) q₁ fits end) (sym lent.queue)
     (subst (λ (j : Counts). Whole q j.filled (answer_by text (whole_text m text) (length q - 64)) q₁ fits end) (sym lent.counts) w) in

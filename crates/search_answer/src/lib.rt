@@ -11,7 +11,7 @@ ghost use Rattle.model.specs.Records.{command};
 ghost use Rattle.model.specs.Answering.{first_reply};
 ghost use Rattle.model.specs.declared.Reply.TheVariants.{Accepted};
 ghost use Rattle.demands.specs.Lasting.Law.{Law};
-ghost use Rattle.table_mailboxes.specs.Whole.{LaidIn};
+ghost use Rattle.table_mailboxes.specs.Columns.{Laid};
 ghost use Rattle.table_messages.specs.Words.{messages};
 ghost use Rattle.record_outcome.specs.Coming.{Lends, Ready, Comes, ladder};
 ghost use Rattle.search_answer.specs.Coming.{Tells};
@@ -40,7 +40,7 @@ fn tell(
     let mut uids = [0u64; 2048];
     let mut starts = [0usize; 64];
     let mut counts = [0usize; 64];
-    let found = find(
+    let hits = find(
         text,
         words,
         selected,
@@ -51,12 +51,6 @@ fn tell(
         &mut starts,
         &mut counts,
     );
-    let Some(hits) = found else {
-        return Said {
-            fits: false,
-            end: filled,
-        };
-    };
     say(
         queue, filled, text, cols, &rows, &uids, &starts, &counts, hits,
     )
@@ -72,7 +66,7 @@ pub fn answer(
     text: &[u8],
 ) -> Result<Outcome, Refusal>
     requires { Ready words.now counts s.now queue.old × (length text.now ≤ 1024) }
-    ensures { (m : Memory) (p : ℕ) (a : Search) → Lends m words.now counts s.now queue.old → Law m → LaidIn (boxes m) cols.now → command_of text.now ≡ ok p (search a) → first_reply m text.now ≡ Accepted → Comes m (ladder m (command text.now)) result words.now words.now queue.new }
+    ensures { (m : Memory) (nexts counters : List ℕ) (p : ℕ) (a : Search) → Lends m words.now counts s.now queue.old → Law m → length (boxes m) ≡ cols.now.n → Laid (boxes m) cols.now.ids cols.now.attributes cols.now.lens cols.now.validities nexts counters cols.now.names → command_of text.now ≡ ok p (search a) → first_reply m text.now ≡ Accepted → Comes m (ladder m (command text.now)) result words.now words.now queue.new }
 {
     let said = tell(
         queue,

@@ -25,9 +25,9 @@ pub struct Wanted<'a> {
 
 // Room for an order of entries, and for those of them that are in the view.
 #[derive(Drop)]
-pub struct Scratch {
-    pub order: [usize; 1024],
-    pub view: [usize; 1024],
+pub struct Scratch<'a> {
+    pub order: &'a mut [usize],
+    pub view: &'a mut [usize],
 }
 
 // A message that is not expunged, and of which all the keys hold.
@@ -104,15 +104,16 @@ pub fn search_view(
     next: &[usize],
     below: Uid,
     cells: &[u64],
-    scratch: &mut Scratch,
+    scratch: Scratch<'_>,
     uids: &mut [u64],
 ) -> usize
-    requires { (length (messages words.now) ≤ 1024) × (length (messages words.now) ≤ length uids.old) × (length (messages words.now) ≤ length next.now) × Linked (messages words.now) (length (messages words.now)) heads.now next.now }
+    requires { (length (messages words.now) ≤ length scratch.order.now) × (length (messages words.now) ≤ length scratch.view.now) × (length (messages words.now) ≤ length uids.old) × (length (messages words.now) ≤ length next.now) × Linked (messages words.now) (length (messages words.now)) heads.now next.now }
     ensures { Searched (length (messages words.now)) (told below.0 (messages_of id (messages words.now))) cells.now uids.new result }
 {
-    let n = by_uid(words, id, heads, next, &mut scratch.order);
-    let v = told_of(words, &scratch.order[..n], below, &mut scratch.view);
-    find(words, &scratch.view[..v], cells, uids)
+    let Scratch { order, view } = scratch;
+    let n = by_uid(words, id, heads, next, order);
+    let v = told_of(words, &order[..n], below, view);
+    find(words, &view[..v], cells, uids)
 }
 
 // A mailbox by its id: the selected one by the client's view, any other by all its entries.
@@ -122,10 +123,11 @@ fn search_row(
     heads: &[usize; 256],
     next: &[usize],
     wanted: Wanted<'_>,
-    scratch: &mut Scratch,
+    order: &mut [usize],
+    view: &mut [usize],
     uids: &mut [u64],
 ) -> usize
-    requires { (length (messages words.now) ≤ 1024) × (length (messages words.now) ≤ length uids.old) × (length (messages words.now) ≤ length next.now) × Linked (messages words.now) (length (messages words.now)) heads.now next.now }
+    requires { (length (messages words.now) ≤ length order.old) × (length (messages words.now) ≤ length view.old) × (length (messages words.now) ≤ length uids.old) × (length (messages words.now) ≤ length next.now) × Linked (messages words.now) (length (messages words.now)) heads.now next.now }
     ensures { (RowSearched (messages words.now) id wanted.entry.selected wanted.entry.below.0 wanted.entry.cells.now uids.new result) × (result ≤ length (messages words.now)) }
 {
     if match_sources::is_selected(id, wanted.selected) {
@@ -136,19 +138,11 @@ fn search_row(
             next,
             wanted.below,
             wanted.cells,
-            scratch,
+            Scratch { order, view },
             uids,
         );
     }
-    search_box(
-        words,
-        id,
-        heads,
-        next,
-        wanted.cells,
-        &mut scratch.order,
-        uids,
-    )
+    search_box(words, id, heads, next, wanted.cells, order, uids)
 }
 
 // What is found in the mailboxes of an order of rows, the top one first: the UIDs one after the other, and for each place where its run
@@ -158,14 +152,15 @@ pub fn find_runs(
     wanted: Wanted<'_>,
     ids: &[u64; 64],
     rows: &[usize],
-    scratch: &mut Scratch,
+    scratch: Scratch<'_>,
     uids: &mut [u64],
     starts: &mut [usize],
     counts: &mut [usize],
 )
-    requires { (length (messages words.now) ≤ 1024) × (2048 ≤ length uids.old) × (length rows.now ≤ length starts.old) × (length rows.now ≤ length counts.old) × (length rows.now ≤ 64) }
+    requires { (length (messages words.now) ≤ 1024) × (length (messages words.now) ≤ length scratch.order.now) × (length (messages words.now) ≤ length scratch.view.now) × (2048 ≤ length uids.old) × (length rows.now ≤ length starts.old) × (length rows.now ≤ length counts.old) × (length rows.now ≤ 64) }
     ensures { Found (messages words.now) ids.now rows.now (length rows.now) wanted.entry.selected wanted.entry.below.0 wanted.entry.cells.now uids.new starts.new counts.new }
 {
+    let Scratch { order, view } = scratch;
     let mut heads = [0usize; 256];
     let mut next = [0usize; 1024];
     link(words, &mut heads, &mut next);
@@ -173,7 +168,16 @@ pub fn find_runs(
     for i in (0..rows.len()).rev() {
         let id = ids[rows[i] % 64];
         let from = total.min(1024);
-        let r = search_row(words, id, &heads, &next, wanted, scratch, &mut uids[from..]);
+        let r = search_row(
+            words,
+            id,
+            &heads,
+            &next,
+            wanted,
+            order,
+            view,
+            &mut uids[from..],
+        );
         starts[i] = from;
         counts[i] = r;
         total = from + r;

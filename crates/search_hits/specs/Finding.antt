@@ -18,8 +18,7 @@ use Rattle.read_sources.specs.Listing.{nothing_listed, add_all, kept_sources}
 use Rattle.read_search.specs.declared.Asked.{Asked}
 use Rattle.read_sources.specs.declared.Listed.{Listed}
 use Rattle.table_messages.specs.Words.{messages}
-use Rattle.table_mailboxes.specs.Columns.{Column, Names}
-use Rattle.table_mailboxes.specs.Whole.{LaidIn}
+use Rattle.table_mailboxes.specs.Columns.{Column, Names, Laid}
 use Rattle.table_mailboxes.specs.declared.Columns.{Columns}
 use Rattle.read_options.specs.declared.Returns.{Returns}
 use Rattle.match_sources.specs.Admitting.{Few}
@@ -48,6 +47,10 @@ pub record Asks (s cells : List ℕ) (r : Question) : Type 0 where
 abbrev pub AsksOf : List ℕ → List ℕ → Option Question → Type 0
 AsksOf s cells (Some r) = Asks s cells r
 AsksOf s cells None = Never s
+
+-- no search: then nothing is owed but room
+pub asks_none : (s cells : List ℕ) (r : Question) → r.filled ≡ 0 → Never s → Asks s cells r
+asks_none s cells r e never = record { room = omega arith; exact = λ p q h. absurd (never p q h) }
 
 some-none : {A : Type 0} {x : A} → None ≡ Some x → ⊥
 some-none f = let z : ◌≡◌ {A = ℕ} 0 1 = cc in omega arith
@@ -83,16 +86,14 @@ Sought m fs x = may_read x && anyb (admits m x) fs
 
 pub record Chooses (t : Listed) (s : ℕ) (c : Columns) (rows : List ℕ) (r : ℕ) : Type 0 where
   pub few : r ≤ c.n
-  pub exact : (m : Memory) (fs : List Filter) → LaidIn (boxes m) c → m.session.selected ≡ s → Few fs → t ≡ add_all nothing_listed fs
-      → Ordered (Sought m fs) (boxes m) rows r
+  pub exact : (m : Memory) (validities nexts counters : List ℕ) (fs : List Filter) → length (boxes m) ≡ c.n → Laid (boxes m) c.ids c.attributes c.lens validities nexts counters c.names
+      → m.session.selected ≡ s → Few fs → t ≡ add_all nothing_listed fs → Ordered (Sought m fs) (boxes m) rows r
 
 module _ (t : Listed) (s : ℕ) (c : Columns) (picked : List ℕ) (noted : Noted t s c.ids c.attributes c.lens c.names c.n picked) (rows : List ℕ) (r : ℕ) (few : r ≤ c.n) where
   pub chooses : ((p : Mailbox → Bool) (l : List Mailbox) → length l ≡ c.n → Column (λ (x : Mailbox). x.namelen) l c.lens → Names l c.names → Picks p l c.n picked → Ordered p l rows r) → Chooses t s c rows r
   chooses o = record {
     few = few;
-    exact = λ m fs laid same small is.
-        let long = laid.0 in
-        let w = laid.1 in
+    exact = λ m validities nexts counters fs long w same small is.
         let notes : Noted t m.session.selected c.ids c.attributes c.lens c.names (length (boxes m)) picked = rw (same, long) noted in
         let picks = picks-searched fs small t is m (boxes m) c.ids c.attributes c.lens c.names picked w.id w.attribute w.len w.name notes in
         o (Sought m fs) (boxes m) long w.len w.name (λ k h. picks k (omega arith));
@@ -100,25 +101,26 @@ module _ (t : Listed) (s : ℕ) (c : Columns) (picked : List ℕ) (noted : Noted
 
 -- ---- what it finds
 -- memory m is the one that is searched: its messages, its session and its mailboxes, and what lawful memory says of them
-pub record Searches (m : Memory) (words : List ℕ) (s told : ℕ) (c : Columns) : Type 0 where
+pub record Searches (m : Memory) (words : List ℕ) (s told : ℕ) (c : Columns) (validities nexts counters : List ℕ) : Type 0 where
   pub messages : mails m ≡ messages words
   pub selected : m.session.selected ≡ s
   pub view : m.session.told ≡ told
-  pub columns : LaidIn (boxes m) c
+  pub long : length (boxes m) ≡ c.n
+  pub columns : Laid (boxes m) c.ids c.attributes c.lens validities nexts counters c.names
   pub few : length (mails m) ≤ 1024
   pub distinct : apart clash (boxes m) ≡ true
+
+-- the columns with these UIDVALIDITYs
+abbrev pub dated : Columns → List ℕ → Columns
+dated c validities = record { n = c.n; ids = c.ids; attributes = c.attributes; lens = c.lens; validities = validities; nexts = c.nexts; counters = c.counters; names = c.names; few = c.few }
 
 -- for a line that is a search and no too large one, the runs at the first places of an order of rows give its lines
 pub record Gathers (text words : List ℕ) (s told : ℕ) (c : Columns) (rows uids starts counts : List ℕ) (r : Hits) : Type 0 where
   pub few : r.rows ≤ c.n
   pub bounded : Bounded starts counts 0 r.rows
-  pub exact : (m : Memory) → Searches m words s told c
+  pub exact : (m : Memory) (validities nexts counters : List ℕ) → Searches m words s told c validities nexts counters
       → (p : ℕ) (q : Search) → command_of text ≡ ok p (search q) → command_too_large limits (search q) ≡ false
-      → (tag : List ℕ) → texts tag c rows r.wanted uids starts counts r.rows ≡ render_all (found_lines m tag q)
-
-abbrev pub GathersOf : List ℕ → List ℕ → ℕ → ℕ → Columns → List ℕ → List ℕ → List ℕ → List ℕ → Option Hits → Type 0
-GathersOf text words s told c rows uids starts counts (Some r) = Gathers text words s told c rows uids starts counts r
-GathersOf text words s told c rows uids starts counts None = Never text
+      → (tag : List ℕ) → texts tag (dated c validities) rows r.wanted uids starts counts r.rows ≡ render_all (found_lines m tag q)
 
 module _ (text words : List ℕ) (s told : ℕ) (c : Columns) (w : c.n ≤ 64) (cells : List ℕ) (a : Question) (asks : Asks text cells a)
     (rows : List ℕ) (k : ℕ) (chose : Chooses a.listed s c rows k) (room : k ≤ length rows)
@@ -129,13 +131,13 @@ module _ (text words : List ℕ) (s told : ℕ) (c : Columns) (w : c.n ≤ 64) (
       record {
         few = chose.few;
         bounded = found.bounded;
-        exact = λ m is p q e small tag.
+        exact = λ m validities nexts counters is p q e small tag.
             let meant = asks.exact p q e in
-            let o = chose.exact m (or_selected q.sources) is.columns is.selected (few_read q small) meant.sources in
-            let l = is.columns.0 in
-            let v = is.columns.1 in
+            let o = chose.exact m validities nexts counters (or_selected q.sources) is.long is.columns is.selected (few_read q small) meant.sources in
+            let l = is.long in
+            let v = is.columns in
             let f : Found (mails m) c.ids rows k m.session.selected m.session.told (take a.filled cells) uids starts counts = rw (is.messages, is.selected, is.view) found in
-            ap (λ (v : Returns). texts tag c rows v uids starts counts k) meant.returns
-            ∙ lines_are m q tag (boxes m) (omega arith) c rows v.id v.len v.name v.validity uids starts counts
+            ap (λ (v : Returns). texts tag (dated c validities) rows v uids starts counts k) meant.returns
+            ∙ lines_are m q tag (boxes m) (omega arith) (dated c validities) rows v.id v.len v.name v.validity uids starts counts
             k (take a.filled cells) refl is.few is.distinct o.low o.order meant.keys f;
       }

@@ -5,7 +5,7 @@ pub mod reading;
 
 ghost use Rattle.std.specs.Prelude.{◌*◌, ◌≤◌, length};
 ghost use Rattle.table_messages.specs.Words.{messages};
-ghost use Rattle.search_hits.specs.Finding.{Chooses, GathersOf};
+ghost use Rattle.search_hits.specs.Finding.{Chooses, Gathers};
 
 use model::Uid;
 use read_options::Returns;
@@ -39,7 +39,7 @@ fn choose(listed: &Listed, selected: u64, cols: &Columns, rows: &mut [usize]) ->
     order_mailboxes::by_name(cols, &picked, rows)
 }
 
-// What a line that is a search finds in the tables: the rows that it searches, by name, the first on top, and a run of UIDs for each.
+// What a line finds in the tables: the rows that it searches, by name, the first on top, and a run of UIDs for each.
 pub fn find(
     text: &[u8],
     words: &[u64],
@@ -50,16 +50,14 @@ pub fn find(
     uids: &mut [u64],
     starts: &mut [usize],
     counts: &mut [usize],
-) -> Option<Hits>
+) -> Hits
     requires { (length text.now ≤ 1024) × (length (messages words.now) ≤ 1024) × (64 ≤ length rows.old) × (2048 ≤ length uids.old) × (64 ≤ length starts.old) × (64 ≤ length counts.old) }
-    ensures { GathersOf text.now words.now selected told.0 cols.now rows.new uids.new starts.new counts.new result }
+    ensures { Gathers text.now words.now selected told.0 cols.now rows.new uids.new starts.new counts.new result }
 {
     let mut cells = [0u64; 4096];
-    let mut scratch = Scratch {
-        order: [0; 1024],
-        view: [0; 1024],
-    };
-    let asked = read(text, &mut cells)?;
+    let mut order = [0usize; 1024];
+    let mut view = [0usize; 1024];
+    let asked = read(text, &mut cells);
     let k = choose(&asked.listed, selected, cols, rows);
     let wanted = Wanted {
         cells: &cells[..asked.filled],
@@ -71,13 +69,16 @@ pub fn find(
         wanted,
         &cols.ids,
         &rows[..k],
-        &mut scratch,
+        Scratch {
+            order: &mut order,
+            view: &mut view,
+        },
         uids,
         starts,
         counts,
     );
-    Some(Hits {
+    Hits {
         wanted: asked.wanted,
         rows: k,
-    })
+    }
 }

@@ -22,7 +22,7 @@ use Rattle.line_found.specs.Line.{line_text}
 use Rattle.line_found.specs.Telling.{texts}
 use Rattle.line_answer.specs.Answered.{whole_text}
 use Rattle.search_hits.specs.Headed.{tag_by, tag_is}
-use Rattle.search_hits.specs.Finding.{Searches, Gathers}
+use Rattle.search_hits.specs.Finding.{Searches, dated, Gathers}
 use Rattle.search_hits.specs.declared.Hits.{Hits}
 
 -- n rows, and the runs of what was found in them, all inside their arrays
@@ -68,12 +68,12 @@ texts_cut tag c rows w uids starts counts (suc n) k h =
 -- ---- they are those of the rule
 module _ (text words : List ℕ) (s told : ℕ) (c : Columns) (rows uids starts counts : List ℕ) (h : Hits)
     (g : Gathers text words s told c rows uids starts counts h)
-    (m : Memory) (is : Searches m words s told c)
+    (m : Memory) (validities nexts counters : List ℕ) (is : Searches m words s told c validities nexts counters)
     (p : ℕ) (q : Search) (e : command_of text ≡ ok p (search q)) (small : command_too_large limits (search q) ≡ false) where
-  pub lines-found : lines_by text c rows uids starts counts h ≡ render_all (found_lines m (tag_of text) q)
-  lines-found = g.exact m is p q e small (tag_by text) ∙ ap (λ (t : List ℕ). render_all (found_lines m t q)) (tag_is text p (search q) e)
+  pub lines-found : lines_by text (dated c validities) rows uids starts counts h ≡ render_all (found_lines m (tag_of text) q)
+  lines-found = g.exact m validities nexts counters is p q e small (tag_by text) ∙ ap (λ (t : List ℕ). render_all (found_lines m t q)) (tag_is text p (search q) e)
 
-  pub whole_is : whole_by text c rows uids starts counts h ≡ whole_text m text
+  pub whole_is : whole_by text (dated c validities) rows uids starts counts h ≡ whole_text m text
   unfolding render_all
   whole_is =
       let l : Line = answer (tag_of text) esearch Accepted in

@@ -38,4 +38,4 @@ returns c =
     let yes = sym c.is_accepted.ensures ∙ c.if-not-is_accepted.false in
     λ m lent law laid head.
     let first = accepted_judged m c.args.words.now c.args.counts c.args.s.now c.args.queue.now c.args.text.now lent c.judge_search-first.result (e head) yes in
-    search_are m c.args.text.now c.args.at head first _ (λ p q is. c.answer.ensures m p q lent law laid is first)
+    search_are m c.args.text.now c.args.at head first _ (λ p q is. c.answer.ensures m c.args.cols.now.nexts c.args.cols.now.counters p q lent law laid.0 laid.1 is first)

@@ -1,5 +1,6 @@
 -- `answer`: the memory that is lent is the one that is searched, so what was said of it is the rules' answer. Assumes nothing.
 use native.Mathlib.Omega.{arith}
+use Rattle.std.proofs.Common.{rules}
 use lib.ListN.{length}
 use Rattle.laws.specs.Room.{sizes}
 use Rattle.table_messages.specs.Words.{messages-used}
@@ -19,4 +20,4 @@ tell-said-requires c =
 pub returns : goal.returns
 returns c =
     answer_comes c.args.text.now c.args.words.now c.args.cols.now c.args.counts c.args.s.now c.args.queue.now _ _ _ _
-    (rw (c.wide_id.ensures, c.wide_number.ensures) at c.tell-said.ensures) c.outcome.ensures
+    (rw (c.wide_id.ensures, c.wide_number.ensures) at c.tell-said.ensures) (search rules)

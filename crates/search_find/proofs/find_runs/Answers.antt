@@ -16,7 +16,7 @@ search_row-r-requires c =
     let f = c.loop-i.invariant.few in
     let low : c.min-from.result ≤ 1024 = search rules in
     let m = mid_len c.min-from.result (length c.loop-i.uids) c.loop-i.uids (omega arith) in
-    (omega arith, omega arith, search rules, c.link.ensures)
+    (omega arith, omega arith, omega arith, search rules, c.link.ensures)
 
 pub loop-i-preserved : goal.loop-i-preserved
 loop-i-preserved c =

@@ -1,14 +1,39 @@
 -- `search_view`: the order by UID, cut to the view, and what matches along it. Assumes nothing.
-use Rattle.std.proofs.Common.{arith, length-take-le}
+use Rattle.std.proofs.Common.{arith, length-take-le, sym}
 use Rattle.order_messages.specs.Counts.{order_short}
 use Rattle.search_find.specs.Searched.{view-searched, found_cut, kept_cut}
 use Rattle.table_messages.specs.Words.{messages}
 use Rattle.search_find.proofs.search_view.Goals as goal
 
-pub shared_ref_as_front-told_of : goal.shared_ref_as_front-told_of
-shared_ref_as_front-told_of c =
+pub slice_bounds-told_of-end : goal.slice_bounds-told_of-end
+slice_bounds-told_of-end c =
     let f = order_short (messages c.args.words.now) (messages c.args.words.now) _ c.by_uid-n.result c.args.id c.by_uid-n.ensures in
     omega arith
+
+pub slice_bounds-told_of-end-2 : goal.slice_bounds-told_of-end-2
+slice_bounds-told_of-end-2 c =
+    let f = order_short (messages c.args.words.now) (messages c.args.words.now) _ c.by_uid-n.result c.args.id c.by_uid-n.ensures in
+    sym (length-take-le c.by_uid-n.result c.by_uid-n.new.order (omega arith))
+
+pub told_of-v-requires : goal.told_of-v-requires
+told_of-v-requires c =
+    let f = order_short (messages c.args.words.now) (messages c.args.words.now) _ c.by_uid-n.result c.args.id c.by_uid-n.ensures in
+    let l = length-take-le c.by_uid-n.result c.by_uid-n.new.order (omega arith) in
+    omega arith
+
+pub slice_bounds-find-end : goal.slice_bounds-find-end
+slice_bounds-find-end c =
+    let f = order_short (messages c.args.words.now) (messages c.args.words.now) _ c.by_uid-n.result c.args.id c.by_uid-n.ensures in
+    let l = length-take-le c.by_uid-n.result c.by_uid-n.new.order (omega arith) in
+    let k = c.told_of-v.ensures.few in
+    omega arith
+
+pub slice_bounds-find-end-2 : goal.slice_bounds-find-end-2
+slice_bounds-find-end-2 c =
+    let f = order_short (messages c.args.words.now) (messages c.args.words.now) _ c.by_uid-n.result c.args.id c.by_uid-n.ensures in
+    let l = length-take-le c.by_uid-n.result c.by_uid-n.new.order (omega arith) in
+    let k = c.told_of-v.ensures.few in
+    sym (length-take-le c.told_of-v.result c.told_of-v.new.view (omega arith))
 
 pub find-requires : goal.find-requires
 find-requires c =

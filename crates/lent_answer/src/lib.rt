@@ -1,7 +1,7 @@
 // What a step leaves of the lent table, and its answer in numbers.
 #![tactic(auto)]
 
-ghost use Rattle.std.specs.Prelude.{◌≡◌, ◌≤◌, length};
+ghost use Rattle.std.specs.Prelude.{◌≡◌, ◌≤◌, ◌<◌, length};
 ghost use Rattle.record_outcome.specs.Coming.{answer_of, changed};
 ghost use Rattle.lent_answer.specs.Numbers.{numbers_said};
 
@@ -33,9 +33,11 @@ pub fn numbers(came: &Result<Outcome, Refusal>) -> Answered
     }
 }
 
-// The table, of which `used` rows were in use, after a change that leaves no more rows than there are: a step's changes do.
+// The table, of which `used` rows were in use, after a change that leaves no more rows than there are: a step's changes do. Any other
+// changes nothing.
 pub fn write_back(rows: &mut [Mailbox], used: u64, change: &Change)
-    ensures { length (changed change.now used rows.old) ≤ length rows.old → rows.new ≡ changed change.now used rows.old }
+    ensures after { length (changed change.now used rows.old) ≤ length rows.old → rows.new ≡ changed change.now used rows.old }
+    ensures kept { length rows.old < length (changed change.now used rows.old) → rows.new ≡ rows.old }
 {
     match change {
         Change::Nothing => {}

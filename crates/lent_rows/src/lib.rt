@@ -8,7 +8,8 @@ ghost use Rattle.model.specs.Memory.{no_mailbox, place};
 ghost use Rattle.model.specs.declared.Mailbox.{Mailbox};
 ghost use Rattle.table_mailboxes.specs.Shift.{closed};
 ghost use Rattle.lent_rows.specs.Rows.{place_named};
-ghost use Rattle.lent_rows.specs.Standing.{Narrow, Fills, Stands};
+ghost use Rattle.table_mailboxes.specs.Whole.{Put};
+ghost use Rattle.lent_rows.specs.Standing.{Narrow, Stands};
 
 use model::Mailbox;
 use table_mailboxes::{Columns, row};
@@ -24,27 +25,31 @@ pub fn in_use(rows: &[Mailbox], used: u64) -> &[Mailbox]
     &rows[..most.min(rows.len())]
 }
 
-// One row more goes into the columns. It comes by value, so that its numbers are known to be those of their types.
-fn push(cols: &mut Columns, x: Mailbox)
-    requires { cols.old.n < 64 }
-    ensures one { cols.new.n ≡ cols.old.n + 1 }
-    ensures fills { (rows : List Mailbox) → x ≡ get_or rows cols.old.n no_mailbox → Fills rows cols.old → Fills rows cols.new }
-    ensures narrow { Narrow x }
+// The numbers of a row, which comes by value, are those of their types. Nothing is done.
+fn is_narrow(x: Mailbox)
+    ensures { Narrow x }
+{}
+
+// Row k becomes x.
+fn put_row(cols: &mut Columns, k: usize, x: &Mailbox)
+    requires { k < 64 }
+    ensures put { Put k x.now cols.old cols.new }
+    ensures narrow { Narrow x.now }
 {
-    let k = cols.n;
-    cols.n = k + 1;
-    cols.put(k, &x);
+    is_narrow(*x);
+    cols.put(k, x);
 }
 
-// The rows in use, by columns.
-pub fn lay(rows: &[Mailbox], used: u64) -> Columns
-    ensures { Stands (take used (take 64 rows.now)) result }
+// The rows in use, by columns. These are filled where they stand: as a result they would be copied twice, 6 KB each time.
+pub fn lay(rows: &[Mailbox], used: u64, cols: &mut Columns)
+    ensures { Stands (take used (take 64 rows.now)) cols.new }
 {
-    let mut cols = Columns::empty();
-    for x in in_use(rows, used) {
-        push(&mut cols, *x);
+    let taken = in_use(rows, used);
+    cols.n = taken.len();
+    cols.nexts.fill(0);
+    for (k, x) in taken.iter().enumerate() {
+        put_row(cols, k, x);
     }
-    cols
 }
 
 // The place of the first row with the id, or how many there are.
@@ -74,15 +79,18 @@ pub fn set_row(rows: &mut [Mailbox], k: usize, x: Mailbox)
     }
 }
 
-// Row `at` of those in use is taken out: those behind it move up, and the last becomes zeros. This is so wherever as many rows are left.
+// Row `at` of those in use is taken out: those behind it move up, and the last becomes zeros. Where no more rows than there are
+// could be left so, all stay as they are: no row is in use, or more are than there are and `at` is behind these.
 pub fn take_out(rows: &mut [Mailbox], at: usize, used: u64)
-    ensures { length (closed at used rows.old) ≤ length rows.old → rows.new ≡ closed at used rows.old }
+    ensures taken { length (closed at used rows.old) ≤ length rows.old → rows.new ≡ closed at used rows.old }
+    ensures kept { length rows.old < length (closed at used rows.old) → rows.new ≡ rows.old }
 {
     let n = used.min(rows.len() as u64) as usize;
-    if n > 0 {
-        let last = n - 1;
-        let at = at.min(last);
-        rows.copy_within(at + 1..n, at);
-        rows[last] = table_mailboxes::vacant();
+    if n == 0 || (at >= rows.len() && used > rows.len() as u64) {
+        return;
     }
+    let last = n - 1;
+    let at = at.min(last);
+    rows.copy_within(at + 1..n, at);
+    rows[last] = table_mailboxes::vacant();
 }

@@ -41,6 +41,7 @@ pub fn step(
 ) -> Result<Outcome, Refusal>
     ensures { Stepped table.now lent words.old counts s.now queue.old octets.now result words.new queue.new }
 {
-    let cols = lent_rows::lay(table, counts.mailboxes);
+    let mut cols = Columns::empty();
+    lent_rows::lay(table, counts.mailboxes, &mut cols);
     decide(lent, &cols, words, counts, s, queue, octets)
 }

@@ -7,6 +7,7 @@ ghost use Rattle.step.specs.Served.{Stepped};
 
 use model::{Counts, Mailbox, Refusal, Session};
 use record_outcome::Outcome;
+use table_mailboxes::Columns;
 
 // One record, served: the used rows are laid out by columns, and what becomes of the table is in the outcome.
 pub fn served(
@@ -19,6 +20,7 @@ pub fn served(
 ) -> Result<Outcome, Refusal>
     ensures { Stepped (loaded rows.now) (length rows.now) words.old counts s.now queue.old «record».now result words.new queue.new }
 {
-    let cols = lent_rows::lay(rows, counts.mailboxes);
+    let mut cols = Columns::empty();
+    lent_rows::lay(rows, counts.mailboxes, &mut cols);
     step::decide(rows.len(), &cols, words, counts, s, queue, record)
 }

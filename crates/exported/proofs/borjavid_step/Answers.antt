@@ -6,6 +6,6 @@ use Rattle.exported.proofs.borjavid_step.Goals.{in-Ok, in_default}
 pub returns : goal.returns
 returns c =
     elim c.match-came.branch [
-      | in-Ok w ↦ rw (w.rows-is, w.counts-is, w.session-is) (calls_ok _ _ _ _ _ _ _ _ _ c.served-came.ensures w.in-Ok.is w.write_back.ensures c.numbers.ensures)
+      | in-Ok w ↦ rw (w.rows-is, w.counts-is, w.session-is) (calls_ok _ _ _ _ _ _ _ _ _ c.served-came.ensures w.in-Ok.is w.write_back.ensures.after c.numbers.ensures)
       | in_default w ↦ rw (w.rows-is, w.counts-is, w.session-is) (calls_err _ _ _ _ _ _ _ _ _ c.served-came.ensures w.in_default.is c.numbers.ensures)
     ]

@@ -37,7 +37,7 @@ pub fn borjavid_step(
     ensures { Calls (lent_as rows.old words.old counts.old session.old queue.old) «record».now result (lent_as rows.new words.new counts.new session.new queue.new) }
 {
     let before = *counts;
-    let came = step_lent::served(rows, words, before, session, queue, record);
+    let came = step_lent::served(rows, words, before, *session, queue, record);
     if let Ok(out) = &came {
         lent_answer::write_back(rows, before.mailboxes, &out.change);
         *counts = out.counts;

@@ -22,7 +22,7 @@ fn stepped(
     queue: &mut [u8],
     octets: &[u8],
 ) -> Served {
-    let came = step::step(&m.table, lent, words, m.counts, &m.session, queue, octets);
+    let came = step::step(&m.table, lent, words, m.counts, m.session, queue, octets);
     let table = step_stream::applied(&m.table, m.counts.mailboxes, &came);
     let answer = record_outcome::answer_of(&came);
     match came {

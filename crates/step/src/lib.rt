@@ -15,18 +15,18 @@ pub fn decide(
     cols: &Columns,
     words: &mut [u64],
     counts: Counts,
-    s: &Session,
+    s: Session,
     queue: &mut [u8],
     octets: &[u8],
 ) -> Result<Outcome, Refusal>
     requires { (rows : List Mailbox) × Seen rows lent counts cols.now }
-    ensures { (rows : List Mailbox) → Seen rows lent counts cols.now → Stepped rows lent words.old counts s.now queue.old octets.now result words.new queue.new }
+    ensures { (rows : List Mailbox) → Seen rows lent counts cols.now → Stepped rows lent words.old counts s queue.old octets.now result words.new queue.new }
 {
-    if !lawful::is_lawful(cols, lent, words, counts, s, queue.len()) {
+    if !lawful::is_lawful(cols, lent, words, counts, &s, queue.len()) {
         return Err(Refusal::UnlawfulMemory);
     }
     let r = record_read::read(octets).ok_or(Refusal::BadRecord)?;
-    step_record::serve(lent, cols, words, counts, s, queue, octets, &r)
+    step_record::serve(lent, cols, words, counts, &s, queue, octets, &r)
 }
 
 // One record on lent memory. `lent` rows are lent, and `table` has the first 64 of them; what becomes of them is in the outcome.
@@ -35,11 +35,11 @@ pub fn step(
     lent: usize,
     words: &mut [u64],
     counts: Counts,
-    s: &Session,
+    s: Session,
     queue: &mut [u8],
     octets: &[u8],
 ) -> Result<Outcome, Refusal>
-    ensures { Stepped table.now lent words.old counts s.now queue.old octets.now result words.new queue.new }
+    ensures { Stepped table.now lent words.old counts s queue.old octets.now result words.new queue.new }
 {
     let mut cols = Columns::empty();
     lent_rows::lay(table, counts.mailboxes, &mut cols);

@@ -14,11 +14,11 @@ pub fn served(
     rows: &[Mailbox],
     words: &mut [u64],
     counts: Counts,
-    s: &Session,
+    s: Session,
     queue: &mut [u8],
     record: &[u8],
 ) -> Result<Outcome, Refusal>
-    ensures { Stepped (loaded rows.now) (length rows.now) words.old counts s.now queue.old «record».now result words.new queue.new }
+    ensures { Stepped (loaded rows.now) (length rows.now) words.old counts s queue.old «record».now result words.new queue.new }
 {
     let mut cols = Columns::empty();
     lent_rows::lay(rows, counts.mailboxes, &mut cols);

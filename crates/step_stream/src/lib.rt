@@ -110,7 +110,7 @@ pub fn serve(
 ) -> Served
     ensures { Serves (standing table.now counts session.now words.old queue.old) octets.now result.answer (standing result.table result.counts result.session words.new queue.new) }
 {
-    let came = step::step(table, 64, words, counts, session, queue, octets);
+    let came = step::step(table, 64, words, counts, *session, queue, octets);
     let table = applied(table, counts.mailboxes, &came);
     let answer = record_outcome::answer_of(&came);
     match came {

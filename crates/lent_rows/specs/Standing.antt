@@ -3,7 +3,6 @@ use Rattle.std.specs.Prelude.{List, ℕ, ◌<◌, length, get_or}
 use Rattle.model.specs.Memory.{no_mailbox}
 use Rattle.model.specs.declared.Mailbox.{Mailbox}
 use Rattle.table_mailboxes.specs.declared.Columns.{Columns}
-use Rattle.table_mailboxes.specs.Filling.{Filling}
 use Rattle.table_mailboxes.specs.Whole.{LaidIn}
 
 -- the numbers of a row are those of its fields' types
@@ -18,7 +17,3 @@ pub record Narrow (x : Mailbox) : Type 0 where
 pub record Stands (l : List Mailbox) (c : Columns) : Type 0 where
   pub laid : LaidIn l c
   pub narrow : (k : ℕ) → k < length l → Narrow (get_or l k no_mailbox)
-
--- the first rows of a table, as many as they are, are in the columns
-abbrev pub Fills : List Mailbox → Columns → Type 0
-Fills rows c = Filling rows c.n c.ids c.attributes c.lens c.validities c.nexts c.counters c.names

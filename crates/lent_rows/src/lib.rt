@@ -3,8 +3,8 @@
 
 pub mod columns;
 
-ghost use Rattle.std.specs.Prelude.{◌≡◌, List, ◌+◌, ◌<◌, ◌≤◌, length, take, get_or, set};
-ghost use Rattle.model.specs.Memory.{no_mailbox, place};
+ghost use Rattle.std.specs.Prelude.{◌≡◌, ◌<◌, ◌≤◌, length, take, set};
+ghost use Rattle.model.specs.Memory.{place};
 ghost use Rattle.model.specs.declared.Mailbox.{Mailbox};
 ghost use Rattle.table_mailboxes.specs.Shift.{closed};
 ghost use Rattle.lent_rows.specs.Rows.{place_named};
@@ -79,8 +79,8 @@ pub fn set_row(rows: &mut [Mailbox], k: usize, x: Mailbox)
     }
 }
 
-// Row `at` of those in use is taken out: those behind it move up, and the last becomes zeros. Where no more rows than there are
-// could be left so, all stay as they are: no row is in use, or more are than there are and `at` is behind these.
+// Row `at` of those in use is taken out: those behind it move up, and the last becomes zeros. Where more rows than there are would be
+// left, all stay as they are: no row is in use, or more are than there are and `at` is behind these.
 pub fn take_out(rows: &mut [Mailbox], at: usize, used: u64)
     ensures taken { length (closed at used rows.old) ≤ length rows.old → rows.new ≡ closed at used rows.old }
     ensures kept { length rows.old < length (closed at used rows.old) → rows.new ≡ rows.old }

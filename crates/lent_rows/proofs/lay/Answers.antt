@@ -10,8 +10,12 @@ use Rattle.lent_rows.proofs.lay.Goals as goal
 
 pub loop-k-init : goal.loop-k-init
 loop-k-init c =
-    let z : c.fill.new.self ≡ replicate (length c.args.cols.now.nexts) 0 = search rules in
-    (refl, filling_start c.in_use-taken.result.now _ _ _ _ _ _ _ (search rules) (search rules) (search rules) (search rules) (c.fill.ensures.len ∙ search rules) (search rules) (search rules) (λ k. rw z (zero_at (length c.args.cols.now.nexts) k)), λ k h. absurd (let z : ⊥ = omega arith in z))
+    let z : c.fill.new.self ≡ replicate (length c.args.cols.now.nexts) 0 = search rules in (
+      refl,
+      filling_start c.in_use-taken.result.now _ _ _ _ _ _ _ (search rules) (search rules) (search rules) (search rules) (c.fill.ensures.len ∙ search rules)
+          (search rules) (search rules) (λ k. rw z (zero_at (length c.args.cols.now.nexts) k)),
+      λ k h. absurd (let z : ⊥ = omega arith in z),
+    )
 
 pub loop-k-preserved : goal.loop-k-preserved
 loop-k-preserved c =

@@ -9,9 +9,9 @@ use Rattle.step.proofs.step.Goals as goal
 pub decide-requires : goal.decide-requires
 decide-requires c =
     let w : length c.args.table.now ≡ 64 = search (rules, mapped-length) in
-    (c.args.table.now, seen_whole c.args.table.now c.args.lent w c.lay-cols.ensures)
+    (c.args.table.now, seen_whole c.args.table.now c.args.lent w c.lay.ensures)
 
 pub returns : goal.returns
 returns c =
     let w : length c.args.table.now ≡ 64 = search (rules, mapped-length) in
-    c.decide.ensures c.args.table.now (seen_whole c.args.table.now c.args.lent w c.lay-cols.ensures)
+    c.decide.ensures c.args.table.now (seen_whole c.args.table.now c.args.lent w c.lay.ensures)

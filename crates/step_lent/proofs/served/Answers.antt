@@ -8,9 +8,9 @@ use Rattle.step_lent.proofs.served.Goals as goal
 pub decide-requires : goal.decide-requires
 decide-requires c =
     let rows = c.args.rows.now in
-    (take 64 rows, record { lends = (rows, lent_first rows rows (lent_loaded rows)); stands = c.lay-cols.ensures })
+    (take 64 rows, record { lends = (rows, lent_first rows rows (lent_loaded rows)); stands = c.lay.ensures })
 
 pub returns : goal.returns
 returns c =
     let rows = c.args.rows.now in
-    λ t w. c.decide.ensures (take 64 rows) (record { lends = (rows, lent_first rows rows (lent_loaded rows)); stands = c.lay-cols.ensures }) t (lent_first rows t w)
+    λ t w. c.decide.ensures (take 64 rows) (record { lends = (rows, lent_first rows rows (lent_loaded rows)); stands = c.lay.ensures }) t (lent_first rows t w)

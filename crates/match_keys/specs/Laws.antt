@@ -10,7 +10,7 @@ use Rattle.std.proofs.Math.Nat.{div-div-eq-div-mul, pow-succ', pow-le-pow_right}
 use Rattle.std.proofs.lemmas.Bool.{lt-leb, not-true, not-false}
 use Rattle.std.proofs.Math.ListN.{length, drop, length-append}
 use Rattle.std.proofs.Math.Seq.{take-append_seam, drop-append_seam}
-use Rattle.std.proofs.lemmas.List.{take_all}
+use Rattle.std.proofs.lemmas.List.{take_all, get_or-drop}
 use Rattle.model.specs.Text.{bit}
 use Rattle.model.specs.Requests.{Bound, number, star, Part, Test, all, unsupported, flagged, larger, smaller, uids, numbers, Key, test, non, either, group, Keys, end, more}
 use Rattle.model.specs.Searching.{Candidate, agrees, bound_of, in_part, in_set, passes, holds, holds_all}
@@ -87,6 +87,23 @@ module _ (last n : ℕ) where
       ∙ ap (λ (x : List ℕ). set_by last n (take (length (part_cells ps)) x)) e
       ∙ ap (set_by last n) (take-append_seam (part_cells ps) rest)
       ∙ set_is ps g
+
+-- the part from a place on, and the parts behind it
+module _ (last n : ℕ) (l : List ℕ) (k : ℕ) (h : k + 2 ≤ length l) (b : Bool) (q : b ≡ part_holds (get_or l k 0) (get_or l (k + 1) 0) last n) where
+  part_long : 2 ≤ length (drop k l)
+  part_long = let c = length-drop k l in omega arith
+
+  part_first : b ≡ part_holds (get_or (drop k l) 0 0) (get_or (drop k l) 1 0) last n
+  part_first = q ∙ sym (ap₂ (λ (x y : ℕ). part_holds x y last n) (get_or-drop k l 0 0 ∙ ap (λ (j : ℕ). get_or l j 0) (omega arith)) (get_or-drop k l 1 0))
+
+  pub hit_at : b ≡ true → true ≡ set_by last n (drop k l)
+  hit_at t = set_hit last n (drop k l) part_long b part_first t
+
+  pub next_at : b ≡ false → set_by last n (drop k l) ≡ set_by last n (drop (k + 2) l)
+  next_at t =
+      let c = length-drop k l in
+      let d = length-drop 2 (drop k l) in
+      set_next last n (drop k l) part_long b part_first t ∙ ap (set_by last n) (take_all (length (drop k l) - 2) (drop 2 (drop k l)) (omega arith) ∙ drop-drop 2 k l)
 
 -- ---- tests
 -- what holds is as it is asked for

@@ -81,7 +81,9 @@ fn in_part(from: u64, upto: u64, last: u64, n: u64) -> bool
 }
 
 // A number is of the set with these parts, two cells each.
-// Kept: by a slice pattern, which takes two cells off what is left, a long set takes nearly twice as long.
+// Kept: by a slice pattern, which takes two cells off what is left, a long set takes nearly twice as long; so does a loop that is
+// joined to those of the keys.
+#[inline(never)]
 fn in_set(parts: &[u64], last: u64, n: u64) -> bool
     ensures { result ≡ set_by last n parts.now }
 {

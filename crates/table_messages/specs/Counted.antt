@@ -1,13 +1,18 @@
 -- Counts along the table: how many messages of a mailbox exist, and a place in the view. Assumes nothing.
-use Rattle.std.specs.Prelude.{◌≡◌, refl, Bool, true, false, not, cond, ◌&&◌, List, ℕ, ◌+◌, ltb, length}
+use Rattle.std.specs.Prelude.{◌≡◌, refl, Bool, true, false, not, cond, ◌&&◌, List, [], ◌∷◌, ℕ, ◌+◌, ◌%◌, ◌<◌, ltb, length, map, drop, get_or}
 use Rattle.std.specs.List.{filter}
-use Rattle.std.proofs.Common.{sym, ◌∙◌, arith}
+use Rattle.std.specs.Int.Bits.{bit_or}
+use Rattle.std.proofs.Common.{ap, sym, ◌∙◌, arith, ne_eqb}
+use Rattle.std.proofs.Math.ListN.{get_or-map}
+use Rattle.std.proofs.lemmas.List.{at_drop_more, length-map}
 use Rattle.std.proofs.lemmas.List.Recursion.{is_count_by}
 use Rattle.std.proofs.lemmas.List.Sums.{length-filter}
 use Rattle.model.specs.Lists.{filterb}
-use Rattle.model.specs.Memory.{uid_of, expunged, in_mailbox, by_uid, messages_of, existing}
+use Rattle.model.specs.Memory.{no_message, uid_of, expunged, in_mailbox, by_uid, messages_of, existing}
 use Rattle.model.specs.declared.Message.{Message}
 use Rattle.laws.specs.Counting.{countb, filter-count, filter_both, count-sorted}
+use Rattle.table_messages.specs.Words.{of_row}
+use Rattle.table_messages.specs.Joined.{join_l, join_r}
 
 abbrev pub lives : ℕ → Message → Bool
 lives id e = in_mailbox id e && not (expunged e)
@@ -26,6 +31,32 @@ count_as p l = length-filter p l ∙ sym (is_count_by (countb p) p refl (λ x l.
     go : (b : Bool) (n : ℕ) → cond b 1 0 + n ≡ cond b (1 + n) n
     go true n = refl
     go false n = omega arith
+
+-- ---- the quick pass: the mailbox's entries, and all states joined bit by bit
+-- an entry without a state is not expunged
+at_rest : (id : ℕ) (x : Message) → x.states ≡ 0 → in_mailbox id x ≡ lives id x
+at_rest id x h = let k : x.states % 2 ≡ 1 → ⊥ = λ z. omega arith in rw (ne_eqb (x.states % 2) 1 k) (all (in_mailbox id x))
+  where
+    all : (b : Bool) → b ≡ (b && true)
+    all true = refl
+    all false = refl
+
+-- where the join is zero, so are the states so far and those of the entry
+pub tally_next : (id : ℕ) (rs : List (List ℕ)) (i n s r : ℕ) → i < length rs
+    → (s ≡ 0 → countb (lives id) (map of_row rs) ≡ n + countb (lives id) (drop i (map of_row rs)))
+    → r ≡ cond (in_mailbox id (of_row (get_or rs i []))) 1 0 → bit_or s (of_row (get_or rs i [])).states ≡ 0
+    → countb (lives id) (map of_row rs) ≡ n + r + countb (lives id) (drop (i + 1) (map of_row rs))
+tally_next id rs i n s r h e q z =
+    let p : Message → Bool = lives id in
+    let x = of_row (get_or rs i []) in
+    let a = join_l s x.states in
+    let b = join_r s x.states in
+    let f : countb p (drop i (map of_row rs)) ≡ countb p (get_or (map of_row rs) i no_message ∷ drop (i + 1) (map of_row rs)) = at_drop_more (countb p) (map of_row rs) i no_message (rw (length-map rs of_row) h) in
+    let k : get_or (map of_row rs) i no_message ≡ x = get_or-map of_row rs i [] in
+    let g : r ≡ cond (p x) 1 0 = q ∙ ap (λ (c : Bool). cond c 1 0) (at_rest id x (omega arith)) in
+    let m : countb p (drop i (map of_row rs)) ≡ cond (p x) 1 0 + countb p (drop (i + 1) (map of_row rs)) = f ∙ ap (λ (y : Message). countb p (y ∷ drop (i + 1) (map of_row rs))) k in
+    let t = e (omega arith) in
+    omega arith
 
 -- ---- a place in the view: one more than the mailbox's entries that are announced and have a lower UID
 abbrev pub before : ℕ → ℕ → ℕ → Message → Bool

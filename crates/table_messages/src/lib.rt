@@ -10,7 +10,7 @@ ghost use Rattle.table_messages.specs.Words.{messages, of_row, stored};
 ghost use Rattle.table_messages.specs.Laid.{laid};
 ghost use Rattle.table_messages.specs.Taken.{shut};
 ghost use Rattle.table_messages.specs.Found.{stands};
-ghost use Rattle.table_messages.specs.Counted.{before};
+ghost use Rattle.table_messages.specs.Counted.{lives, before};
 
 use model::{Message, MessageNumber, Uid};
 
@@ -148,8 +148,29 @@ pub fn find(words: &[u64], mailbox: u64, uid: Uid) -> Option<usize>
         .position(|row| stands(&of_row(row), mailbox, uid))
 }
 
-// How many messages of a mailbox exist.
-pub fn count(words: &[u64], mailbox: u64) -> u64
+// How many entries a mailbox has, and the states of all entries, joined bit by bit.
+#[derive(Clone, Copy)]
+struct Tally {
+    count: u64,
+    states: u64,
+}
+
+// In one pass without a test of states.
+fn tally_all(words: &[u64], mailbox: u64) -> Tally
+    ensures { result.states ≡ 0 → result.count ≡ countb (lives mailbox) (messages words.now) }
+{
+    let all = rows(words);
+    let mut count = 0;
+    let mut states = 0;
+    for row in all {
+        count += u64::from(row[0] == mailbox);
+        states |= row[4];
+    }
+    Tally { count, states }
+}
+
+// How many messages of a mailbox exist, each tested.
+fn count_each(words: &[u64], mailbox: u64) -> u64
     ensures { result ≡ length (existing mailbox (messages words.now)) }
 {
     rows(words)
@@ -157,6 +178,18 @@ pub fn count(words: &[u64], mailbox: u64) -> u64
         .map(of_row)
         .filter(|e| e.mailbox == mailbox && !is_expunged(e))
         .count() as u64
+}
+
+// How many messages of a mailbox exist. Where no entry has a state none is expunged, and the quick pass has the number.
+pub fn count(words: &[u64], mailbox: u64) -> u64
+    ensures { result ≡ length (existing mailbox (messages words.now)) }
+{
+    let t = tally_all(words, mailbox);
+    if t.states == 0 {
+        t.count
+    } else {
+        count_each(words, mailbox)
+    }
 }
 
 // The place of message uid in the view, which is all below `told`.

@@ -1,5 +1,6 @@
 -- Counts along the table: how many messages of a mailbox exist, and a place in the view. Assumes nothing.
-use Rattle.std.specs.Prelude.{◌≡◌, refl, Bool, true, false, not, cond, ◌&&◌, List, [], ◌∷◌, ℕ, ◌+◌, ◌%◌, ◌<◌, ltb, length, map, drop, get_or}
+use mir.Val.{bool_byte}
+use Rattle.std.specs.Prelude.{◌≡◌, refl, Bool, true, false, not, cond, ◌&&◌, List, [], ◌∷◌, ℕ, ◌+◌, ◌%◌, ◌<◌, ◌≤◌, ltb, length, map, drop, get_or}
 use Rattle.std.specs.List.{filter}
 use Rattle.std.specs.Int.Bits.{bit_or}
 use Rattle.std.proofs.Common.{ap, sym, ◌∙◌, arith, ne_eqb}
@@ -25,12 +26,30 @@ existing-count id l =
     ∙ filter_both p (in_mailbox id) l)
 
 -- ---- as code counts them
+one_if : (b : Bool) → bool_byte b ≡ cond b 1 0
+one_if true = refl
+one_if false = refl
+
+pub one_most : (b : Bool) → bool_byte b ≤ 1
+one_most true = omega arith
+one_most false = omega arith
+
 pub count_as : (p : Message → Bool) (l : List Message) → length (filter p l) ≡ countb p l
 count_as p l = length-filter p l ∙ sym (is_count_by (countb p) p refl (λ x l. go (p x) (countb p l)) l)
   where
     go : (b : Bool) (n : ℕ) → cond b 1 0 + n ≡ cond b (1 + n) n
     go true n = refl
     go false n = omega arith
+
+-- one row more is counted
+pub count_next : (p : Message → Bool) (rs : List (List ℕ)) (i n : ℕ) → i < length rs → countb p (map of_row rs) ≡ n + countb p (drop i (map of_row rs))
+    → countb p (map of_row rs) ≡ n + bool_byte (p (of_row (get_or rs i []))) + countb p (drop (i + 1) (map of_row rs))
+count_next p rs i n h e =
+    let x = of_row (get_or rs i []) in
+    let l = drop (i + 1) (map of_row rs) in
+    let f : countb p (drop i (map of_row rs)) ≡ countb p (get_or (map of_row rs) i no_message ∷ l) = at_drop_more (countb p) (map of_row rs) i no_message (rw (length-map rs of_row) h) in
+    let m : countb p (drop i (map of_row rs)) ≡ cond (p x) 1 0 + countb p l = f ∙ ap (λ (y : Message). countb p (y ∷ l)) (get_or-map of_row rs i []) in
+    omega (arith, one_if (p x))
 
 -- ---- the quick pass: the mailbox's entries, and all states joined bit by bit
 -- an entry without a state is not expunged
@@ -42,21 +61,11 @@ at_rest id x h = let k : x.states % 2 ≡ 1 → ⊥ = λ z. omega arith in rw (n
     all false = refl
 
 -- where the join is zero, so are the states so far and those of the entry
-pub tally_next : (id : ℕ) (rs : List (List ℕ)) (i n s r : ℕ) → i < length rs
-    → (s ≡ 0 → countb (lives id) (map of_row rs) ≡ n + countb (lives id) (drop i (map of_row rs)))
-    → r ≡ cond (in_mailbox id (of_row (get_or rs i []))) 1 0 → bit_or s (of_row (get_or rs i [])).states ≡ 0
-    → countb (lives id) (map of_row rs) ≡ n + r + countb (lives id) (drop (i + 1) (map of_row rs))
-tally_next id rs i n s r h e q z =
-    let p : Message → Bool = lives id in
-    let x = of_row (get_or rs i []) in
+pub at_rest_here : (id s : ℕ) (x : Message) → bit_or s x.states ≡ 0 → (s ≡ 0) × (in_mailbox id x ≡ lives id x)
+at_rest_here id s x z =
     let a = join_l s x.states in
     let b = join_r s x.states in
-    let f : countb p (drop i (map of_row rs)) ≡ countb p (get_or (map of_row rs) i no_message ∷ drop (i + 1) (map of_row rs)) = at_drop_more (countb p) (map of_row rs) i no_message (rw (length-map rs of_row) h) in
-    let k : get_or (map of_row rs) i no_message ≡ x = get_or-map of_row rs i [] in
-    let g : r ≡ cond (p x) 1 0 = q ∙ ap (λ (c : Bool). cond c 1 0) (at_rest id x (omega arith)) in
-    let m : countb p (drop i (map of_row rs)) ≡ cond (p x) 1 0 + countb p (drop (i + 1) (map of_row rs)) = f ∙ ap (λ (y : Message). countb p (y ∷ drop (i + 1) (map of_row rs))) k in
-    let t = e (omega arith) in
-    omega arith
+    (omega arith, at_rest id x (omega arith))
 
 -- ---- a place in the view: one more than the mailbox's entries that are announced and have a lower UID
 abbrev pub before : ℕ → ℕ → ℕ → Message → Bool

@@ -148,7 +148,7 @@ pub fn find(words: &[u64], mailbox: u64, uid: Uid) -> Option<usize>
         .position(|row| stands(&of_row(row), mailbox, uid))
 }
 
-// How many entries a mailbox has, and the states of all entries, joined bit by bit.
+// How many entries a mailbox has, and all entries' states, joined bit by bit.
 #[derive(Clone, Copy)]
 struct Tally {
     count: u64,
@@ -169,18 +169,26 @@ fn tally_all(words: &[u64], mailbox: u64) -> Tally
     Tally { count, states }
 }
 
-// How many messages of a mailbox exist, each tested.
-fn count_each(words: &[u64], mailbox: u64) -> u64
-    ensures { result ≡ length (existing mailbox (messages words.now)) }
+// Whether it is a message of the mailbox, and exists.
+fn lives(e: &Message, mailbox: u64) -> bool
+    ensures { result ≡ lives mailbox e.now }
 {
-    rows(words)
-        .iter()
-        .map(of_row)
-        .filter(|e| e.mailbox == mailbox && !is_expunged(e))
-        .count() as u64
+    e.mailbox == mailbox && !is_expunged(e)
 }
 
-// How many messages of a mailbox exist. Where no entry has a state none is expunged, and the quick pass has the number.
+// The same with each tested.
+fn count_each(words: &[u64], mailbox: u64) -> u64
+    ensures { result ≡ countb (lives mailbox) (messages words.now) }
+{
+    let all = rows(words);
+    let mut count = 0;
+    for row in all {
+        count += u64::from(lives(&of_row(row), mailbox));
+    }
+    count
+}
+
+// How many messages of a mailbox exist. Where no entry has a state none is expunged, and the first pass has the number.
 pub fn count(words: &[u64], mailbox: u64) -> u64
     ensures { result ≡ length (existing mailbox (messages words.now)) }
 {
@@ -211,6 +219,6 @@ pub fn remove(words: &mut [u64], used: usize, k: usize)
     requires { (k < used) × (used * 6 ≤ length words.old) }
     ensures { words.new ≡ laid words.old (shut k used (messages words.old)) }
 {
-    words.copy_within((k + 1) * 6..used * 6, k * 6);
+    words[k * 6..used * 6].copy_within(6.., 0);
     put(words, used - 1, nothing());
 }

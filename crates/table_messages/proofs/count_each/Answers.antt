@@ -1,16 +1,12 @@
--- `count_each`: those that pass the test are as many as exist. Assumes nothing.
-use Rattle.std.proofs.Common.{rules, tests, ◌∙◌, ap, sym, length}
-use Rattle.std.specs.List.{filter}
-use Rattle.std.proofs.lemmas.Iterator.{YieldsList-from_slice, YieldsList-from_map}
-use Rattle.std.proofs.lemmas.Iterator.Consumers.{YieldsList-at, YieldsList-from_filter, count_from_yields_List}
-use Rattle.table_messages.specs.Words.{messages, of_row}
-use Rattle.table_messages.specs.Counted.{lives, count_as, existing-count}
+-- `count_each`: all are the count and those from here on. Assumes nothing.
+use Rattle.std.proofs.Common.{arith, get_or, []}
+use Rattle.table_messages.specs.Words.{of_row}
+use Rattle.table_messages.specs.Counted.{lives, count_next, one_most}
 use Rattle.table_messages.proofs.count_each.Goals as goal
 
-pub returns : goal.returns
-returns c =
+pub loop-row-preserved : goal.loop-row-preserved
+loop-row-preserved c =
     let p = lives c.args.mailbox in
-    (count_from_yields_List c.filter.result c.count.result c.count.ensures.ran
-    (YieldsList-from_filter _ p (YieldsList-at c.filter.ensures.source (YieldsList-from_map _ of_row (YieldsList-at c.map.ensures.source (YieldsList-from_slice c.rows.result.now cc)) c.map.ensures.closure (λ x r q k. search (rules, tests))))
-    c.filter.ensures.closure (λ x b q k. search (rules, tests)))
-    ∙ (ap (λ l. length (filter p l)) c.rows.ensures ∙ count_as p (messages c.args.words.now)) ∙ sym (existing-count c.args.mailbox (messages c.args.words.now)))
+    let b = p (of_row (get_or c.rows-all.result.now c.loop-row.row-index [])) in
+    rw (c.from-count.ensures, c.lives.ensures, c.of_row.ensures)
+    (omega (arith, one_most b), count_next p c.rows-all.result.now c.loop-row.row-index c.loop-row.count c.loop-row-test.true c.loop-row.invariant.1)

@@ -45,11 +45,9 @@ count_as p l = length-filter p l ∙ sym (is_count_by (countb p) p refl (λ x l.
 pub count_next : (p : Message → Bool) (rs : List (List ℕ)) (i n : ℕ) → i < length rs → countb p (map of_row rs) ≡ n + countb p (drop i (map of_row rs))
     → countb p (map of_row rs) ≡ n + bool_byte (p (of_row (get_or rs i []))) + countb p (drop (i + 1) (map of_row rs))
 count_next p rs i n h e =
-    let x = of_row (get_or rs i []) in
     let l = drop (i + 1) (map of_row rs) in
-    let f : countb p (drop i (map of_row rs)) ≡ countb p (get_or (map of_row rs) i no_message ∷ l) = at_drop_more (countb p) (map of_row rs) i no_message (rw (length-map rs of_row) h) in
-    let m : countb p (drop i (map of_row rs)) ≡ cond (p x) 1 0 + countb p l = f ∙ ap (λ (y : Message). countb p (y ∷ l)) (get_or-map of_row rs i []) in
-    omega (arith, one_if (p x))
+    let f = at_drop_more (countb p) (map of_row rs) i no_message (rw (length-map rs of_row) h) ∙ ap (λ (y : Message). countb p (y ∷ l)) (get_or-map of_row rs i []) in
+    omega (arith, f, one_if (p (of_row (get_or rs i []))))
 
 -- ---- the quick pass: the mailbox's entries, and all states joined bit by bit
 -- an entry without a state is not expunged

@@ -7,7 +7,7 @@ use Prim.Native.Nat.{ℕ, suc, ◌+◌, ◌*◌, ◌-◌, ◌<◌, ◌≤◌}
 use native.Mathlib.Omega.{arith}
 use Rattle.std.proofs.Math.ListN.{take, drop, length-drop}
 use Rattle.std.proofs.lemmas.List.{set_at, drop-take, drop-drop, drop-append-le, take-take, take-append-drop}
-use borrow.Rule.Slice.PartMut.{put_mid, same_len_mid}
+use borrow.Rule.Slice.PartMut.{mid_of, post_of, put_mid, same_len_mid, mid_len}
 use Rattle.std.proofs.Math.Seq.{take-append-add}
 use Rattle.std.specs.List.{copy_within}
 use Rattle.model.specs.Memory.{no_message}
@@ -34,26 +34,21 @@ shift_end k n j l h w e =
     ∙ rw (a, ← b))
 
 -- ---- what moves to the front of a part moves within the whole
-abbrev pub part : ℕ → ℕ → List ℕ → List ℕ
-part a l ws = take l (drop a ws)
-
-module _ (ws : List ℕ) (a s l i j : ℕ) (f : s ≤ l) (g : i ≡ a + s) (t : j ≡ a + l) (h : j ≤ length ws) where
-  part_moved : put_mid a l ws (copy_within (part a l ws) s (length (part a l ws)) 0) ≡ copy_within ws i j a
-  part_moved =
-      let n : ℕ = l - s in
-      let d = length-drop a ws in
-      let k : length (part a l ws) ≡ l = length-take-le l (drop a ws) (omega arith) in
-      let e₁ : length (part a l ws) - s ≡ n = omega arith in
-      let e₂ : j - i ≡ n = omega arith in
-      let e₃ : l ≡ s + n = omega arith in
-      let front : take n (drop s (part a l ws)) ≡ take n (drop i ws) =
-      ap (λ (m : ℕ). take n (drop s (take m (drop a ws)))) e₃
-      ∙ (ap (take n) (drop-take s n (drop a ws)) ∙ (take-take n n (drop s (drop a ws)) (omega arith) ∙ (ap (take n) (drop-drop s a ws) ∙ ap (λ (m : ℕ). take n (drop m ws)) (sym g)))) in
-      let back : drop n (part a l ws) ++ drop l (drop a ws) ≡ drop (a + n) ws =
-      sym (drop-append-le n (part a l ws) (drop l (drop a ws)) (omega arith)) ∙ (ap (drop n) (take-append-drop l (drop a ws)) ∙ drop-drop n a ws) in
-      rw (e₁, zero-add n, e₂, front)
-      (ap (λ (r : List ℕ). take a ws ++ r) (append_assoc (take n (drop i ws)) (drop n (part a l ws)) (drop l (drop a ws)) ∙ ap (λ (r : List ℕ). take n (drop i ws) ++ r) back)
-      ∙ sym (append_assoc (take a ws) (take n (drop i ws)) (drop (a + n) ws)))
+part_moved : (ws : List ℕ) (a s e : ℕ) → a + s ≤ e → e ≤ length ws
+    → let now = mid_of a (e - a) ws in put_mid a (e - a) ws (copy_within now s (length now) 0) ≡ copy_within ws (a + s) e a
+part_moved ws a s e h w =
+    let n : ℕ = e - (a + s) in
+    let now = mid_of a (e - a) ws in
+    let long = mid_len a e ws w in
+    let e₁ : length now - s ≡ n = omega arith in
+    let e₂ : e - a ≡ s + n = omega arith in
+    let front : take n (drop s now) ≡ take n (drop (a + s) ws) =
+    ap (λ (m : ℕ). take n (drop s (take m (drop a ws)))) e₂ ∙ (ap (take n) (drop-take s n (drop a ws)) ∙ (take-take n n (drop s (drop a ws)) (omega arith) ∙ ap (take n) (drop-drop s a ws))) in
+    let back : drop n now ++ post_of a (e - a) ws ≡ drop (a + n) ws =
+    sym (drop-append-le n now (post_of a (e - a) ws) (omega arith)) ∙ (ap (drop n) (take-append-drop (e - a) (drop a ws)) ∙ drop-drop n a ws) in
+    rw (e₁, zero-add n, front)
+    (ap (λ (r : List ℕ). take a ws ++ r) (append_assoc (take n (drop (a + s) ws)) (drop n now) (post_of a (e - a) ws) ∙ ap (λ (r : List ℕ). take n (drop (a + s) ws) ++ r) back)
+    ∙ sym (append_assoc (take a ws) (take n (drop (a + s) ws)) (drop (a + n) ws)))
 
 -- ---- words that move up by six places are entries that move up by one
 module _ (ws : List ℕ) (k used : ℕ) (h : k < used) (w : used * 6 ≤ length ws) where
@@ -82,15 +77,19 @@ module _ (ws : List ℕ) (k used : ℕ) (h : k < used) (w : used * 6 ≤ length 
       ∙ (flat_append (take k es) (take m (drop (suc k) es) ++ drop (used - 1) es) bs
       ∙ ap (λ (l : List Message). flat l ++ bs) (sym (append_assoc (take k es) (take m (drop (suc k) es)) (drop (used - 1) es)) ∙ ap (λ (l : List Message). l ++ drop (used - 1) es) (sym joined)))))
 
-  -- the code: the words from entry k on move up, and then the last entry is put
-  pub taken : (sub : List ℕ) (e : Message) → sub ≡ copy_within (part (k * 6) (used * 6 - k * 6) ws) 6 (length (part (k * 6) (used * 6 - k * 6) ws)) 0
-      → length sub ≡ length (part (k * 6) (used * 6 - k * 6) ws) → e ≡ no_message → stored (put_mid (k * 6) (used * 6 - k * 6) ws sub) (used - 1) e ≡ laid ws (shut k used (messages ws))
-  taken sub e q₁ l₁ z =
+  -- the words moved up, and then the last entry put
+  pub taken : (ws' : List ℕ) (e : Message) → ws' ≡ copy_within ws ((k + 1) * 6) (used * 6) (k * 6) → length ws' ≡ length ws → e ≡ no_message → stored ws' (used - 1) e ≡ laid ws (shut k used (messages ws))
+  taken ws' e q l z =
       let es = messages ws in
       let n = messages-length used ws w in
-      let ws' = put_mid (k * 6) (used * 6 - k * 6) ws sub in
-      let l : length ws' ≡ length ws = same_len_mid (k * 6) (used * 6 - k * 6) ws sub l₁ in
-      let q : ws' ≡ copy_within ws ((k + 1) * 6) (used * 6) (k * 6) =
-      ap (put_mid (k * 6) (used * 6 - k * 6) ws) q₁ ∙ part_moved ws (k * 6) 6 (used * 6 - k * 6) ((k + 1) * 6) (used * 6) (omega arith) (omega arith) (omega arith) w in
       laid_put ws ws' (over (without k es) es (used - 1)) (used - 1) e (q ∙ moved) (omega arith)
       ∙ ap (laid ws) (ap (set (over (without k es) es (used - 1)) (used - 1)) z ∙ shift_end k used (used - 1) es h n (omega arith))
+
+  -- the code: what stands from entry k on moves up within the slice that begins there
+  pub taken_part : (ps : List ℕ) (e : Message) → let now = mid_of (k * 6) (used * 6 - k * 6) ws in ps ≡ copy_within now 6 (length now) 0
+      → length ps ≡ length now → e ≡ no_message → stored (put_mid (k * 6) (used * 6 - k * 6) ws ps) (used - 1) e ≡ laid ws (shut k used (messages ws))
+  taken_part ps e q l z =
+      let next : k * 6 + 6 ≡ (k + 1) * 6 = omega arith in
+      taken (put_mid (k * 6) (used * 6 - k * 6) ws ps) e
+      (ap (put_mid (k * 6) (used * 6 - k * 6) ws) q ∙ (part_moved ws (k * 6) 6 (used * 6) (omega arith) w ∙ ap (λ (i : ℕ). copy_within ws i (used * 6) (k * 6)) next))
+      (same_len_mid (k * 6) (used * 6 - k * 6) ws ps l) z

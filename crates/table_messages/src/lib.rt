@@ -163,8 +163,9 @@ fn tally_all(words: &[u64], mailbox: u64) -> Tally
     let mut count = 0;
     let mut states = 0;
     for row in all {
-        count += u64::from(row[0] == mailbox);
-        states |= row[4];
+        let e = of_row(row);
+        count += u64::from(e.mailbox == mailbox);
+        states |= e.states;
     }
     Tally { count, states }
 }
@@ -176,7 +177,7 @@ fn lives(e: &Message, mailbox: u64) -> bool
     e.mailbox == mailbox && !is_expunged(e)
 }
 
-// The same with each tested.
+// How many messages of a mailbox exist, each tested.
 fn count_each(words: &[u64], mailbox: u64) -> u64
     ensures { result ≡ countb (lives mailbox) (messages words.now) }
 {
@@ -214,6 +215,7 @@ pub fn place_of(words: &[u64], mailbox: u64, told: Uid, uid: Uid) -> MessageNumb
 
 // ---- an entry taken out
 // Entry k leaves: those behind it move up, and the last becomes nothing.
+// They move within the slice that begins at the entry: there the compiler sees which way, and makes one block move of them.
 // Kept: who writes needs the words behind those in use too, so that `used` stands beside them.
 pub fn remove(words: &mut [u64], used: usize, k: usize)
     requires { (k < used) × (used * 6 ≤ length words.old) }

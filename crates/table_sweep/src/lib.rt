@@ -96,7 +96,7 @@ fn wipe(words: &mut [u64], from: usize, upto: usize)
 }
 
 // One pass: what goes is dropped, what stays moves up and is changed, what was freed is nothing. Answers how many stay.
-// Inlined: each caller knows what its pass is for, and one loop for all three would ask that of every entry.
+// Inlined, so that each caller has a loop for what its own pass is for: a shared one tests that at every entry.
 #[inline(always)]
 pub fn settle(words: &mut [u64], used: usize, sweep: Sweep) -> usize
     requires { used * 6 ≤ length words.old }

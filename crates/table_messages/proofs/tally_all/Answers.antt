@@ -7,7 +7,7 @@ use Rattle.table_messages.proofs.tally_all.Goals as goal
 pub loop-row-preserved : goal.loop-row-preserved
 loop-row-preserved c =
     let x = of_row (get_or c.rows-all.result.now c.loop-row.row-index []) in
-    rw c.from-count.ensures (
+    rw (c.from-count.ensures, c.of_row-e.ensures) (
       omega (arith, one_most (eqb x.mailbox c.args.mailbox)),
       λ z.
           let r = at_rest_here c.args.mailbox c.loop-row.states x z in

@@ -135,13 +135,16 @@ fn bit_of(k: u64, n: u64) -> bool
 }
 
 // The set at `at`, for a number and what `*` stands for.
+// By `get`, so that where its parts begin hangs on `at` alone: a beginning that is cut to `after` waits for the key's width to be read.
 fn set_at(cells: &[u64], at: usize, stop: usize, last: u64, n: u64) -> Outcome
     requires { ((at < stop) × (stop ≤ length cells.now)) × Counted (get_or cells.now at 0) }
     ensures { (Behind cells.now at stop result.after) × (TestsSet cells.now (at + 2) result.after last n result.holds) }
 {
     let after = behind(cells, at, stop);
-    let from = after.min(at + 2);
-    let holds = in_set(&cells[from..after], last, n);
+    let holds = match cells.get(at + 2..after) {
+        Some(parts) => in_set(parts, last, n),
+        None => false,
+    };
     Outcome { holds, after }
 }
 

@@ -78,12 +78,10 @@ module _ (last n : ℕ) where
   set_is [] g = refl
   set_is (p ∷ ps) g = ap₂ (λ (x y : Bool). x || y) (part_same last n p g.0.0 g.0.1) (set_is ps g.1)
 
-  pub tests_set : (cells : List ℕ) (at stop : ℕ) (r : Bool) → r ≡ set_by last n (take (stop - min stop at) (drop (min stop at) cells)) → TestsSet cells at stop last n r
+  pub tests_set : (cells : List ℕ) (at stop : ℕ) (r : Bool) → r ≡ set_by last n (take (stop - at) (drop at cells)) → TestsSet cells at stop last n r
   tests_set cells at stop r q ps rest e f g =
-      let m : min stop at ≡ at = omega arith in
       let k : stop - at ≡ length (part_cells ps) = omega arith in
-      q ∙ ap (λ (x : ℕ). set_by last n (take (stop - x) (drop x cells))) m
-      ∙ ap (λ (x : ℕ). set_by last n (take x (drop at cells))) k
+      q ∙ ap (λ (x : ℕ). set_by last n (take x (drop at cells))) k
       ∙ ap (λ (x : List ℕ). set_by last n (take (length (part_cells ps)) x)) e
       ∙ ap (set_by last n) (take-append_seam (part_cells ps) rest)
       ∙ set_is ps g
